@@ -1,0 +1,16 @@
+-- Names of tasks and their order: by job, then by index.
+use Rattle.std.specs.Prelude.{ℕ, Bool, List, ◌==◌, ◌&&◌, ◌||◌, nat_lt}
+use Rattle.std.specs.List.{list_any}
+use Rattle.omega_model.specs.declared.cells.TaskKey.{TaskKey}
+
+-- whether two names are of one task
+abbrev pub same_key : TaskKey → TaskKey → Bool
+same_key a b = a.job == b.job && a.index == b.index
+
+-- whether the first name stands before the second
+abbrev pub key_lt : TaskKey → TaskKey → Bool
+key_lt a b = nat_lt a.job b.job || (a.job == b.job && nat_lt a.index b.index)
+
+-- whether the name is among these
+abbrev pub is_among : TaskKey → List TaskKey → Bool
+is_among key keys = list_any (same_key key) keys

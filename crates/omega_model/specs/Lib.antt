@@ -1,0 +1,6 @@
+pub mod Need
+pub mod Policy
+pub mod Fields
+pub mod Stretch
+pub mod Keys
+pub mod Cell

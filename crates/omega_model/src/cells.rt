@@ -1,0 +1,111 @@
+//! Machines and running tasks, of which a cell is made.
+ghost use Rattle.std.specs.Prelude.{◌≡◌, ◌+◌, ◌<◌, ◌^◌, ◌↔◌, IsTrue};
+ghost use Rattle.omega_model.specs.Need.{Fits, plus};
+
+use crate::list::{Bytes, Copied, NoMemory, Seq};
+use std::alloc::Global;
+
+/// An amount of CPU and of memory, each in units of 10^-9 of the trace's normalised amount.
+#[derive(Clone, Copy, Debug, PartialEq, Eq)]
+pub struct Need {
+    pub cpu: u64,
+    pub mem: u64,
+}
+
+impl Need {
+    /// The sum, component by component.
+    pub fn plus(self, other: Need) -> Need
+        requires cpu { self.cpu + other.cpu < 2 ^ 64 }
+        requires mem { self.mem + other.mem < 2 ^ 64 }
+        ensures { result ≡ plus self other }
+    {
+        Need {
+            cpu: self.cpu + other.cpu,
+            mem: self.mem + other.mem,
+        }
+    }
+
+    /// Whether both components are at most those of `free`.
+    pub fn fits(self, free: Need) -> bool
+        ensures { IsTrue result ↔ Fits self free }
+    {
+        self.cpu <= free.cpu && self.mem <= free.mem
+    }
+}
+
+/// The name of a task: its job, and its index within the job.
+#[derive(Clone, Copy, Debug, PartialEq, Eq, PartialOrd, Ord, Hash)]
+pub struct TaskKey {
+    pub job: u64,
+    pub index: u32,
+}
+
+/// What a task asks for.
+#[derive(Clone, Copy, Debug, PartialEq, Eq)]
+pub struct Spec {
+    pub need: Need,
+    /// The precedence: a greater one may evict a lower one.
+    pub prec: u8,
+    /// The different-machines flag: no other task of the job may share the machine.
+    pub differ: bool,
+}
+
+/// An attribute of a machine. Both parts are bytes and need not be text.
+#[derive(Debug, Drop)]
+pub struct Attr {
+    pub name: Bytes,
+    pub value: Bytes,
+}
+
+/// A machine of a cell.
+#[derive(Debug, Drop)]
+pub struct Machine {
+    pub id: u64,
+    pub up: bool,
+    pub cap: Need,
+    pub attrs: Attrs,
+}
+
+/// A running task.
+#[derive(Clone, Copy, Debug, PartialEq, Eq)]
+pub struct Task {
+    pub key: TaskKey,
+    pub machine: u64,
+    pub spec: Spec,
+}
+
+pub type Attrs = Seq<Attr>;
+
+pub type Keys = Seq<TaskKey>;
+
+impl Copied for TaskKey {
+    fn copy(&self, _alloc: Global) -> Result<TaskKey, NoMemory> {
+        Ok(*self)
+    }
+}
+
+impl Copied for Attr {
+    fn copy(&self, alloc: Global) -> Result<Attr, NoMemory> {
+        Ok(Attr {
+            name: self.name.copy(alloc)?,
+            value: self.value.copy(alloc)?,
+        })
+    }
+}
+
+impl Copied for Machine {
+    fn copy(&self, alloc: Global) -> Result<Machine, NoMemory> {
+        Ok(Machine {
+            id: self.id,
+            up: self.up,
+            cap: self.cap,
+            attrs: self.attrs.copy(alloc)?,
+        })
+    }
+}
+
+impl Copied for Task {
+    fn copy(&self, _alloc: Global) -> Result<Task, NoMemory> {
+        Ok(*self)
+    }
+}

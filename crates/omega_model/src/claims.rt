@@ -1,0 +1,120 @@
+//! Transactions of schedulers, and what is answered to them.
+use crate::cells::{Keys, Need, Spec, TaskKey};
+use crate::list::{Copied, NoMemory, Seq};
+use std::alloc::Global;
+
+/// Puts one task on one machine, and takes the victims off it.
+#[derive(Debug, Drop)]
+pub struct Claim {
+    pub key: TaskKey,
+    pub machine: u64,
+    pub spec: Spec,
+    pub victims: Keys,
+}
+
+/// Which conflicts are detected: real ones alone, or any change of the machine since the copy.
+#[derive(Clone, Copy, Debug, PartialEq, Eq)]
+pub enum Rule {
+    Fine,
+    Coarse,
+}
+
+/// Whether a transaction keeps what could be placed, or is all or nothing.
+#[derive(Clone, Copy, Debug, PartialEq, Eq)]
+pub enum Mode {
+    Incremental,
+    Gang,
+}
+
+/// How a scheduler plans and commits.
+#[derive(Clone, Copy, Debug, PartialEq, Eq)]
+pub struct Policy {
+    pub rule: Rule,
+    pub mode: Mode,
+    pub preempt: bool,
+}
+
+/// The claims that a scheduler commits in one atomic step.
+#[derive(Debug, Drop)]
+pub struct Txn {
+    pub job: u64,
+    pub rule: Rule,
+    pub mode: Mode,
+    pub claims: Claims,
+}
+
+/// What is answered to one claim.
+#[derive(Clone, Copy, Debug, PartialEq, Eq)]
+pub enum Verdict {
+    Placed,
+    /// The machine isn't in the list or isn't up.
+    NoMachine,
+    /// The task runs already, on this machine.
+    AlreadyRunning(u64),
+    /// The machine changed since the copy: its sequence number now, and in the copy.
+    Changed { now: u64, copy: u64 },
+    /// The first victim that doesn't run on the machine.
+    VictimGone(TaskKey),
+    /// The first victim whose precedence isn't lower.
+    VictimRank(TaskKey),
+    /// A task of the same job that stays on the machine.
+    SameJob(TaskKey),
+    /// What is free on the machine, which is too little.
+    Full(Need),
+    /// The claim would be placed, but its gang is refused for the claim at this place.
+    Withdrawn(u32),
+}
+
+/// A task and the verdict on its claim.
+#[derive(Clone, Copy, Debug, PartialEq, Eq)]
+pub struct Outcome {
+    pub key: TaskKey,
+    pub verdict: Verdict,
+}
+
+/// The answer to a commit. `place` is that of its entry in the history, from 0.
+#[derive(Debug, Drop)]
+pub struct Reply {
+    pub place: u64,
+    pub outcomes: Outcomes,
+}
+
+pub type Claims = Seq<Claim>;
+
+pub type Verdicts = Seq<Verdict>;
+
+pub type Outcomes = Seq<Outcome>;
+
+impl Copied for Claim {
+    fn copy(&self, alloc: Global) -> Result<Claim, NoMemory> {
+        Ok(Claim {
+            key: self.key,
+            machine: self.machine,
+            spec: self.spec,
+            victims: self.victims.copy(alloc)?,
+        })
+    }
+}
+
+impl Copied for Txn {
+    fn copy(&self, alloc: Global) -> Result<Txn, NoMemory> {
+        Ok(Txn {
+            job: self.job,
+            rule: self.rule,
+            mode: self.mode,
+            claims: self.claims.copy(alloc)?,
+        })
+    }
+}
+
+impl Copied for Verdict {
+    fn copy(&self, _alloc: Global) -> Result<Verdict, NoMemory> {
+        Ok(*self)
+    }
+}
+
+impl Copied for Outcome {
+    fn copy(&self, _alloc: Global) -> Result<Outcome, NoMemory> {
+        Ok(*self)
+    }
+}

@@ -1,0 +1,32 @@
+//! The words of the whole program: cells, claims, histories, rows, settings and results.
+//!
+//! The definitions that every contract cites stand in `specs/`. They speak of plain lists and
+//! whole numbers, never of a counter, an index or a lock.
+#![tactic(auto)]
+
+mod cells;
+mod claims;
+mod delta;
+mod entries;
+mod list;
+mod results;
+mod rows;
+mod settings;
+mod text;
+mod wishes;
+
+pub use cells::{Attr, Attrs, Keys, Machine, Need, Spec, Task, TaskKey};
+pub use claims::{
+    Claim, Claims, Mode, Outcome, Outcomes, Policy, Reply, Rule, Txn, Verdict, Verdicts,
+};
+pub use delta::Delta;
+pub use entries::{Entries, Entry};
+pub use list::{Bytes, Copied, NoMemory, Seq};
+pub use results::{Cause, Done, Kind, Status};
+pub use rows::{
+    ActivityRow, AttrRow, ConstraintRow, MachineRow, Round, Rounds, Row, Rows, Table, TaskRow,
+    TraceTables,
+};
+pub use settings::{Command, Extra, Format, Preempt, Settings};
+pub use text::Text;
+pub use wishes::{Constraint, Constraints, Op, Request, Requests, Wish, Wishes};

@@ -1,0 +1,57 @@
+//! What the program answers.
+use crate::entries::Entries;
+use crate::rows::Table;
+use crate::settings::Settings;
+
+/// Why a row is refused.
+#[derive(Clone, Copy, Debug, PartialEq, Eq)]
+pub enum Cause {
+    /// The row has this number of fields.
+    Fields(u64),
+    /// The column isn't a whole number.
+    Number,
+    /// The column is a whole number above the greatest value.
+    Range,
+    /// The column isn't a quantity.
+    Quantity,
+}
+
+/// What there is too much of.
+#[derive(Clone, Copy, Debug, PartialEq, Eq)]
+pub enum Kind {
+    Rows,
+    Machines,
+}
+
+/// How a run ended.
+#[derive(Clone, Copy, Debug, PartialEq, Eq)]
+pub enum Status {
+    Done,
+    Usage,
+    ReadFault(Table),
+    TooLong(Table),
+    /// Rows count from 1, columns from 1; column 0 stands for the number of fields.
+    BadRow {
+        table: Table,
+        row: u64,
+        column: u32,
+        cause: Cause,
+    },
+    TooMany(Kind, u64),
+    /// The row at this number, from 1, is of a form that isn't built yet.
+    NotBuilt {
+        table: Table,
+        row: u64,
+    },
+    WriteFault,
+    NoMemory,
+}
+
+/// The answer of the top call.
+#[derive(Debug, Drop)]
+pub struct Done {
+    pub status: Status,
+    /// The settings of the words. `None` where the words were refused.
+    pub settings: Option<Settings>,
+    pub history: Entries,
+}

@@ -1,0 +1,93 @@
+//! What the words of the command line choose.
+ghost use Rattle.std.specs.Prelude.{◌≡◌, ◌<◌, ◌≤◌};
+ghost use Rattle.omega_model.specs.Policy.{policy_of, schedulers};
+
+use crate::claims::{Mode, Policy, Rule};
+
+/// What the program does.
+#[derive(Clone, Copy, Debug, PartialEq, Eq)]
+pub enum Command {
+    Replay,
+    Run,
+    Generate,
+}
+
+/// Which schedulers may evict tasks of lower precedence.
+#[derive(Clone, Copy, Debug, PartialEq, Eq)]
+pub enum Preempt {
+    Nobody,
+    Service,
+    All,
+}
+
+/// How many extra tasks a MapReduce job gets. `Cap` holds a percentage.
+#[derive(Clone, Copy, Debug, PartialEq, Eq)]
+pub enum Extra {
+    Max,
+    Cap(u32),
+    Relative,
+}
+
+/// The form of the report.
+#[derive(Clone, Copy, Debug, PartialEq, Eq)]
+pub enum Format {
+    Text,
+    Json,
+}
+
+/// Everything that a run depends on beside its tables.
+#[derive(Clone, Copy, Debug, PartialEq, Eq)]
+pub struct Settings {
+    pub command: Command,
+    pub seed: u64,
+    /// How many batch schedulers there are.
+    pub batch: u32,
+    pub rule: Rule,
+    pub mode: Mode,
+    pub preempt: Preempt,
+    pub extra: Extra,
+    /// How many attempts a request has in a round.
+    pub tries: u32,
+    /// After how many commits in a row that place nothing a job is given up.
+    pub give_up: u32,
+    /// The length of a round in microseconds of the trace.
+    pub window: u64,
+    pub format: Format,
+    /// How many machines are generated.
+    pub machines: u32,
+    /// How many jobs are generated.
+    pub jobs: u32,
+}
+
+impl Settings {
+    /// How many schedulers there are: one for services, the batch ones, one for MapReduce.
+    pub fn schedulers(&self) -> u32
+        requires { self.now.batch ≤ 30 }
+        ensures { result ≡ schedulers self.now }
+    {
+        self.batch + 2
+    }
+
+    /// How the scheduler of this number plans and commits.
+    pub fn policy(&self, scheduler: u32) -> Policy
+        requires batch { self.now.batch ≤ 30 }
+        requires scheduler { scheduler < schedulers self.now }
+        ensures { result ≡ policy_of self.now scheduler }
+    {
+        let mode = if scheduler == self.batch + 1 {
+            Mode::Incremental
+        } else {
+            self.mode
+        };
+        let preempt = match self.preempt {
+            Preempt::Nobody => false,
+            Preempt::Service => scheduler == 0,
+            Preempt::All => true,
+        };
+        Policy {
+            rule: self.rule,
+            mode,
+            preempt,
+        }
+    }
+}
