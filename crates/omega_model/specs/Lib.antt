@@ -4,3 +4,11 @@ pub mod Fields
 pub mod Stretch
 pub mod Keys
 pub mod Cell
+pub mod Machines
+pub mod Touches
+pub mod Judge
+pub mod Reply
+pub mod State
+pub mod Legal
+pub mod Plan
+pub mod Report
