@@ -12,3 +12,13 @@ pub mod State
 pub mod Legal
 pub mod Plan
 pub mod Report
+pub mod Feed
+pub mod Wanted
+pub mod Requests
+pub mod Start
+pub mod Work
+pub mod Lawful
+pub mod Turns
+pub mod Extras
+pub mod Copy
+pub mod World

@@ -1,0 +1,86 @@
+-- Which tasks are wanted after some rows, and which entries a row gives.
+use Rattle.std.specs.Prelude.{ℕ, Bool, List, [], ◌∷◌, ◌++◌, Option, Some, None, ◌==◌, ◌&&◌, not, nat_le, map, if◌then◌else◌}
+use Rattle.std.specs.List.{filter, fold, list_any}
+use Rattle.omega_model.specs.Fields.{MachineFields, AttrFields, TaskFields}
+use Rattle.omega_model.specs.Keys.{same_key, key_lt}
+use Rattle.omega_model.specs.Cell.{Cell, task_at}
+use Rattle.omega_model.specs.declared.cells.Spec.{Spec}
+use Rattle.omega_model.specs.declared.cells.Task.{Task}
+use Rattle.omega_model.specs.declared.cells.TaskKey.{TaskKey}
+use Rattle.omega_model.specs.declared.entries.Entry.{Entry}
+use Rattle.omega_model.specs.declared.entries.Entry.TheVariants.{MachineAdd, MachineUpdate, MachineRemove, AttrSet, AttrDelete, End}
+use Rattle.omega_model.specs.declared.rows.Row.{Row}
+use Rattle.omega_model.specs.declared.rows.Row.TheVariants.{Machine, Attr as AttrEvent, Task as TaskEvent}
+
+-- a task that is to run, and how
+pub record WantedTask : Type 0 where
+  pub key : TaskKey
+  pub spec : Spec
+
+-- whether a code of a task row asks for the task: it is submitted or scheduled
+abbrev pub submits : ℕ → Bool
+submits code = nat_le code 1
+
+-- whether a code of a task row ends the task: it failed, finished, was killed or lost
+abbrev pub ends : ℕ → Bool
+ends code = nat_le 3 code && nat_le code 6
+
+-- whether a code of a task row changes what the task asks for
+abbrev pub updates : ℕ → Bool
+updates code = nat_le 7 code
+
+-- whether this is the wanted task of this name
+abbrev pub is_named : TaskKey → WantedTask → Bool
+is_named key task = same_key task.key key
+
+-- the wanted tasks in order of key, with this one new or in the place of an older wish
+abbrev pub with_wanted : TaskKey → Spec → List WantedTask → List WantedTask
+with_wanted key spec wanted =
+    filter (λ other. key_lt other.key key) wanted ++ record { key = key; spec = spec } ∷ filter (λ other. key_lt key other.key) wanted
+
+-- the wanted tasks after a task row
+abbrev pub wanted_after_task : List WantedTask → TaskFields → List WantedTask
+wanted_after_task wanted row =
+    if submits row.code then with_wanted row.key row.spec wanted
+    else (if ends row.code then filter (λ task. not (is_named row.key task)) wanted
+    else (if updates row.code && list_any (is_named row.key) wanted then with_wanted row.key row.spec wanted else wanted))
+
+-- the wanted tasks after a row: a row of another table changes none
+abbrev pub wanted_after : List WantedTask → Row → List WantedTask
+wanted_after wanted (Machine row) = wanted
+wanted_after wanted (AttrEvent row) = wanted
+wanted_after wanted (TaskEvent row) = wanted_after_task wanted row
+
+-- the tasks that are wanted after these rows, in order of key
+abbrev pub wanted : List Row → List WantedTask
+wanted rows = fold wanted_after [] rows
+
+-- the entry of a machine row
+abbrev pub machine_entry : MachineFields → Entry
+machine_entry row =
+    if row.code == 0 then MachineAdd row.machine row.cap
+    else (if row.code == 1 then MachineRemove row.machine else MachineUpdate row.machine row.cap)
+
+-- the entry of an attribute row
+abbrev pub attr_entry : AttrFields → Entry
+attr_entry row = if row.deleted then AttrDelete row.machine row.name else AttrSet row.machine row.name row.value
+
+-- the end of a task, if it runs
+abbrev pub end_of : Option Task → List Entry
+end_of None = []
+end_of (Some task) = End task.key task.machine ∷ []
+
+-- the ends of a job's extra tasks, when nothing of the job is wanted any more: for now there are none
+abbrev pub extra_ends : Cell → List WantedTask → ℕ → List Entry
+extra_ends cell left job = []
+
+-- the entries of a task row on a cell, where the row leaves these tasks wanted
+abbrev pub task_entries : Cell → List WantedTask → TaskFields → List Entry
+task_entries cell left row =
+    if ends row.code then end_of (task_at cell.tasks row.key) ++ extra_ends cell left row.key.job else []
+
+-- the entries of a row on a cell, where the row leaves these tasks wanted
+abbrev pub row_entries : Cell → List WantedTask → Row → List Entry
+row_entries cell left (Machine row) = machine_entry row ∷ []
+row_entries cell left (AttrEvent row) = attr_entry row ∷ []
+row_entries cell left (TaskEvent row) = task_entries cell left row
