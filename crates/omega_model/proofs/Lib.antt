@@ -1,3 +1,4 @@
 mod Examples
 mod ExamplesFeed
 mod ExamplesWork
+mod ExamplesTurns
