@@ -1,20 +1,17 @@
 -- Worked answers: turns, extra tasks, and the lines of the report.
-use Rattle.std.proofs.Common.{◌≡◌, ◌≤◌, ℕ, Bool, true, false, List, [], ◌∷◌, ◌++◌, Option, Some, None, refl, take, codes, map}
-use Rattle.std.specs.List.{flat_map}
+use Rattle.std.proofs.Common.{◌≡◌, ℕ, false, List, [], ◌∷◌, refl, take, codes, lit<, lit≤}
 use Rattle.omega_model.specs.Extras.{extras}
-use Rattle.omega_model.specs.Report.{Line, Word, Name, Number, claim_lines, entry_lines, report_lines}
+use Rattle.omega_model.specs.Report.{Line, Word, Name, Number, claim_lines, report_lines, line_text, report}
+use Rattle.std.proofs.lemmas.Fmt.{decimal_digit, decimal_step}
 use Rattle.omega_model.specs.Turns.{Taken, round_commits, next_turn, turn_start}
 use Rattle.omega_model.specs.declared.cells.Need.{Need}
-use Rattle.omega_model.specs.declared.cells.Spec.{Spec}
 use Rattle.omega_model.specs.declared.cells.TaskKey.{TaskKey}
 use Rattle.omega_model.specs.declared.claims.Claim.{Claim}
 use Rattle.omega_model.specs.declared.claims.Mode.TheVariants.{Incremental, Gang}
 use Rattle.omega_model.specs.declared.claims.Rule.TheVariants.{Fine}
-use Rattle.omega_model.specs.declared.claims.Txn.{Txn}
-use Rattle.omega_model.specs.declared.claims.Verdict.{Verdict}
 use Rattle.omega_model.specs.declared.claims.Verdict.TheVariants.{Placed, NoMachine, AlreadyRunning, Changed, VictimGone, VictimRank, SameJob, Full, Withdrawn}
 use Rattle.omega_model.specs.declared.entries.Entry.{Entry}
-use Rattle.omega_model.specs.declared.entries.Entry.TheVariants.{Round, MachineAdd, End, Commit}
+use Rattle.omega_model.specs.declared.entries.Entry.TheVariants.{Round, MachineAdd, Commit}
 use Rattle.omega_model.specs.declared.settings.Extra.{Extra}
 use Rattle.omega_model.specs.declared.settings.Extra.TheVariants.{Max, Cap, Relative}
 
@@ -209,3 +206,11 @@ short_report : report_lines short ≡
     ∷ (Name (codes "commit") ∷ Number 1 ∷ Number 4 ∷ Number 1 ∷ []) ∷ []
 unfolding amount nothing_by key claim short
 short_report = refl
+
+-- the bytes of a report without entries: its first line alone
+empty_report : report [] ≡ codes "omega 1\n"
+empty_report = rw (decimal_digit 1 (lit< tt)) refl
+
+-- words are parted by one space, numbers are decimal, and a line ends with a line feed
+line_bytes : line_text (Name (codes "place") ∷ Number 12 ∷ Number 0 ∷ []) ≡ codes "place 12 0\n"
+line_bytes = rw (decimal_step 12 (lit≤ tt) (lit< tt), decimal_digit 1 (lit< tt), decimal_digit 0 (lit< tt)) refl

@@ -1,13 +1,13 @@
 -- Worked answers: requests, plans, and what is left of a scheduler's requests.
-use Rattle.std.proofs.Common.{◌≡◌, ℕ, Bool, true, false, List, [], ◌∷◌, ◌++◌, Option, Some, None, option_map, option_and_then, refl, take, length}
+use Rattle.std.proofs.Common.{◌≡◌, ℕ, Bool, true, false, List, [], ◌∷◌, ◌++◌, Option, Some, None, option_map, option_and_then, refl, take}
 use Rattle.std.specs.List.{fold}
-use Rattle.omega_model.specs.Fields.{TaskFields, MachineFields, ConstraintFields}
+use Rattle.omega_model.specs.Fields.{TaskFields}
 use Rattle.omega_model.specs.Cell.{Cell}
-use Rattle.omega_model.specs.Feed.{feed, rounds}
-use Rattle.omega_model.specs.Lawful.{Applied, opened, after_last}
+use Rattle.omega_model.specs.Feed.{feed}
+use Rattle.omega_model.specs.Lawful.{opened, after_last}
 use Rattle.omega_model.specs.Plan.{plan, victims}
-use Rattle.omega_model.specs.Requests.{requests, failed, given_up, jobs_in_order}
-use Rattle.omega_model.specs.State.{state, reply_of}
+use Rattle.omega_model.specs.Requests.{requests, failed, jobs_in_order}
+use Rattle.omega_model.specs.State.{state}
 use Rattle.omega_model.specs.Work.{Standing, fresh, after_outcomes, standing_of, planned, commits_of}
 use Rattle.omega_model.specs.declared.cells.Need.{Need}
 use Rattle.omega_model.specs.declared.cells.Spec.{Spec}
@@ -22,9 +22,8 @@ use Rattle.omega_model.specs.declared.claims.Txn.{Txn}
 use Rattle.omega_model.specs.declared.claims.Verdict.{Verdict}
 use Rattle.omega_model.specs.declared.claims.Verdict.TheVariants.{Placed, Full, Withdrawn}
 use Rattle.omega_model.specs.declared.entries.Entry.{Entry}
-use Rattle.omega_model.specs.declared.entries.Entry.TheVariants.{Round, MachineAdd, MachineRemove, End, Commit}
+use Rattle.omega_model.specs.declared.entries.Entry.TheVariants.{Round, MachineAdd, MachineRemove, Commit}
 use Rattle.omega_model.specs.declared.rows.Row.{Row}
-use Rattle.omega_model.specs.declared.rows.Row.TheVariants.{Machine, Task}
 use Rattle.omega_model.specs.declared.rows.TraceTables.{TraceTables}
 use Rattle.omega_model.specs.declared.settings.Settings.{Settings}
 use Rattle.omega_model.specs.declared.settings.Command.TheVariants.{Replay}

@@ -1,4 +1,5 @@
 mod Examples
+mod ExamplesCell
 mod ExamplesFeed
 mod ExamplesWork
 mod ExamplesTurns
