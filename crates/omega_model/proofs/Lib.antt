@@ -1,2 +1,6 @@
 mod Examples
 pub mod Growing
+mod ExamplesCell
+mod ExamplesFeed
+mod ExamplesWork
+mod ExamplesTurns

@@ -21,20 +21,15 @@ use Rattle.omega_model.specs.declared.wishes.Request.{Request}
 use Rattle.omega_model.specs.declared.wishes.Wish.{Wish}
 
 -- a scheduler's requests in the middle of a round: those that remain, how many attempts the first of
--- them has had, and how many commits for its job in a row placed nothing
+-- them has had, and for each job how many commits for it in a row placed nothing
 pub record Standing : Type 0 where
   pub requests : List Request
   pub taken : ℕ
-  pub failing : ℕ
-
--- the number of failed commits of the first request's job
-abbrev pub failing_first : (ℕ → ℕ) → List Request → ℕ
-failing_first failed_of [] = 0
-failing_first failed_of (request ∷ rest) = failed_of request.job
+  pub failing : ℕ → ℕ
 
 -- these requests before the first attempt on them
 abbrev pub fresh : (ℕ → ℕ) → List Request → Standing
-fresh failed_of left = record { requests = left; taken = 0; failing = failing_first failed_of left }
+fresh failing left = record { requests = left; taken = 0; failing = failing }
 
 -- whether the outcomes place this wish
 abbrev pub places_wish : List Outcome → Wish → Bool
@@ -49,6 +44,10 @@ rest_of request outcomes =
 abbrev pub failing_after : ℕ → List Outcome → ℕ
 failing_after count outcomes = if list_any (λ outcome. is_placed outcome.verdict) outcomes then 0 else count + 1
 
+-- the number of failed commits in a row of each job after these outcomes for one of them
+abbrev pub failing_with : (ℕ → ℕ) → ℕ → List Outcome → ℕ → ℕ
+failing_with failing job outcomes other = if other == job then failing_after (failing job) outcomes else failing other
+
 -- whether a list has no item
 abbrev pub is_empty : {X : Type 0} → List X → Bool
 is_empty items = length items == 0
@@ -60,40 +59,39 @@ ends_request settings taken failing request outcomes =
     is_empty (rest_of request outcomes).wishes || is_empty outcomes || nat_le settings.tries taken || nat_le settings.give_up failing
 
 -- the requests after an attempt on the first of them
-abbrev pub moved_on : Settings → (ℕ → ℕ) → Standing → Request → List Request → List Outcome → Standing
-moved_on settings failed_of standing request rest outcomes =
-    if ends_request settings (standing.taken + 1) (failing_after standing.failing outcomes) request outcomes
-    then fresh failed_of rest
+abbrev pub moved_on : Settings → Standing → Request → List Request → List Outcome → Standing
+moved_on settings standing request rest outcomes =
+    if ends_request settings (standing.taken + 1) (failing_after (standing.failing request.job) outcomes) request outcomes
+    then fresh (failing_with standing.failing request.job outcomes) rest
     else record {
       requests = rest_of request outcomes ∷ rest;
       taken = standing.taken + 1;
-      failing = failing_after standing.failing outcomes
+      failing = failing_with standing.failing request.job outcomes
     }
 
 -- the requests after one more list of outcomes; there is no answer where no request remains for it
-abbrev pub after_outcomes : Settings → (ℕ → ℕ) → Standing → List Request → List Outcome → Option Standing
-after_outcomes settings failed_of standing [] outcomes = None
-after_outcomes settings failed_of standing (request ∷ rest) outcomes =
-    Some (moved_on settings failed_of standing request rest outcomes)
+abbrev pub after_outcomes : Settings → Standing → List Request → List Outcome → Option Standing
+after_outcomes settings standing [] outcomes = None
+after_outcomes settings standing (request ∷ rest) outcomes = Some (moved_on settings standing request rest outcomes)
 
 -- the outcomes of a commit: each claim's task with its verdict
 abbrev pub outcomes_of : List Claim → List Verdict → List Outcome
 outcomes_of claims reply = map (λ decided. record { key = decided.0.key; verdict = decided.1 }) (zip claims reply)
 
 -- the requests of a scheduler after an entry: only its own commits change them
-abbrev pub after_entry : Settings → (ℕ → ℕ) → ℕ → Option Standing → Entry → Option Standing
-after_entry settings failed_of scheduler None entry = None
-after_entry settings failed_of scheduler (Some standing) (Commit by seen txn reply) =
+abbrev pub after_entry : Settings → ℕ → Option Standing → Entry → Option Standing
+after_entry settings scheduler None entry = None
+after_entry settings scheduler (Some standing) (Commit by seen txn reply) =
     if by == scheduler
-    then after_outcomes settings failed_of standing standing.requests (outcomes_of txn.claims reply)
+    then after_outcomes settings standing standing.requests (outcomes_of txn.claims reply)
     else Some standing
-after_entry settings failed_of scheduler (Some standing) _ = Some standing
+after_entry settings scheduler (Some standing) _ = Some standing
 
 -- the requests of a scheduler after the entries of a history from place opened on, at which the
 -- round's rows were applied
 abbrev pub standing_of : Settings → TraceTables → List Row → ℕ → ℕ → List Entry → Option Standing
 standing_of settings trace rows opened scheduler history =
-    fold (after_entry settings (failed (take opened history)) scheduler)
+    fold (after_entry settings scheduler)
     (Some (fresh (failed (take opened history)) (requests settings trace rows (take opened history) scheduler)))
     (drop opened history)
 

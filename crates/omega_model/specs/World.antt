@@ -13,6 +13,10 @@ pub record World : Type 0 where
   pub history : List Entry
   pub synced : ℕ → Option ℕ
 
+-- no scheduler has synced: so a round begins
+abbrev pub NobodySynced : World → Type 0
+NobodySynced world = (scheduler : ℕ) → world.synced scheduler ≡ None
+
 -- what a step did
 pub data StepAnswer : Type 0 where
   Idle : StepAnswer
