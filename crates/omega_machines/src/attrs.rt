@@ -7,10 +7,13 @@ use std::alloc::Global;
 use std::mem;
 
 /// The place of the attribute of this name.
-fn place_of(attrs: &[Attr], name: &[u8]) -> Option<usize>
+fn place_of(attrs: &Attrs, name: &Bytes) -> Option<usize>
     ensures { result ≡ position (λ attr. bytes_eq attr.name name.now) attrs.now }
 {
-    attrs.iter().position(|attr| attr.name.as_slice() == name)
+    attrs
+        .as_slice()
+        .iter()
+        .position(|attr| attr.name.as_slice() == name.as_slice())
 }
 
 /// Gives the attribute this value, in its place where it is set, else at the end.
@@ -24,7 +27,7 @@ pub(crate) fn set(
     ensures err { OnErr result (attrs.new ≡ attrs.old) }
 {
     let value = value.copy(alloc)?;
-    match place_of(attrs.as_slice(), name.as_slice()) {
+    match place_of(attrs, name) {
         Some(place) => {
             let mut items = mem::replace(attrs, Seq::new(alloc)).into_items();
             items[place].value = value;

@@ -1,0 +1,5 @@
+mod Places
+mod Rewriting
+mod Bounds
+mod Growing
+mod Attributes
