@@ -3,3 +3,4 @@ mod Rewriting
 mod Bounds
 mod Growing
 mod Attributes
+pub mod Laws

@@ -7,6 +7,9 @@
 mod attrs;
 mod table;
 
+#[cfg(test)]
+mod tests;
+
 use omega_model::{Machine, Need};
 pub use table::MachineTable;
 
