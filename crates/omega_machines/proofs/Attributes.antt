@@ -1,0 +1,51 @@
+-- The place of an attribute says how the list changes when it is set.
+use Rattle.std.proofs.Common.{◌≡◌, ℕ, zero, suc, ◌+◌, ◌<◌, ◌≤◌, Bool, true, false, cond, not, nat_lt, List, [], ◌∷◌, ◌++◌, length, get_or, set, position, bytes_eq, Option, Some, None, is_some, refl, sym, ap, ◌∙◌, arith, lt-ltb, true≢false}
+use Rattle.std.specs.List.{position_or_len}
+use Rattle.std.proofs.lemmas.Bool.{ltb-true, ltb-false}
+use Rattle.std.proofs.lemmas.Option.{cond_some, none-some}
+use Rattle.omega_model.specs.Machines.{with_attr}
+use Rattle.omega_model.specs.declared.cells.Attr.{Attr}
+use Rattle.omega_machines.proofs.Places.{by_answer}
+
+module _ (name value : List ℕ) where
+  -- whether an attribute has the name
+  abbrev named : Attr → Bool
+  named attr = bytes_eq attr.name name
+
+  -- the first attribute of the name takes the value
+  with_attr-first : (attrs : List Attr) (d : Attr) → position_or_len named attrs < length attrs
+      → with_attr name value attrs ≡ set attrs (position_or_len named attrs) (record (get_or attrs (position_or_len named attrs) d) { value = value })
+  with_attr-first [] d within = absurd (omega arith)
+  with_attr-first (attr ∷ attrs) d within =
+      by_answer (named attr)
+      (λ t. rw t refl)
+      (λ f.
+      let inside = rw f at within in
+      let next : suc (position_or_len named attrs) ≡ 1 + position_or_len named attrs = omega arith in
+      rw f (ap (λ rest. attr ∷ rest) (with_attr-first attrs d (omega (arith, inside))) ∙ ap (λ n. set (attr ∷ attrs) n (record (get_or (attr ∷ attrs) n d) { value = value })) next))
+
+  -- where no attribute has the name, it goes to the end
+  with_attr-last : (attrs : List Attr) → length attrs ≤ position_or_len named attrs → with_attr name value attrs ≡ attrs ++ record { name = name; value = value } ∷ []
+  with_attr-last [] none = refl
+  with_attr-last (attr ∷ attrs) none =
+      by_answer (named attr)
+      (λ t. absurd (let inside = rw t at none in omega (arith, inside)))
+      (λ f. let inside = rw f at none in rw f (ap (λ rest. attr ∷ rest) (with_attr-last attrs (omega (arith, inside)))))
+
+  pub with_attr-set : (attrs : List Attr) (place : ℕ) (attr : Attr) → Some place ≡ position named attrs → attr ≡ get_or attrs place attr
+      → set attrs place (record attr { value = value }) ≡ with_attr name value attrs
+  with_attr-set attrs place attr found is =
+      let parts = cond_some _ _ _ (sym found) in
+      let first : position_or_len named attrs ≡ place = parts.1 in
+      let within : position_or_len named attrs < length attrs = ltb-true _ _ parts.0 in
+      ap (λ (a : Attr). set attrs place (record a { value = value })) is
+      ∙ ap (λ n. set attrs n (record (get_or attrs n attr) { value = value })) (sym first) ∙ sym (with_attr-first attrs attr within)
+
+  pub with_attr-push : (attrs : List Attr) → None ≡ position named attrs → attrs ++ record { name = name; value = value } ∷ [] ≡ with_attr name value attrs
+  with_attr-push attrs none = sym (with_attr-last attrs past)
+    where
+      past : length attrs ≤ position_or_len named attrs
+      past =
+          by_answer (nat_lt (position_or_len named attrs) (length attrs))
+          (λ t. let some : None ≡ Some (position_or_len named attrs) = rw t at none in absurd (none-some _ some))
+          (λ f. ltb-false _ _ f)

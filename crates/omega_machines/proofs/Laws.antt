@@ -1,0 +1,134 @@
+-- What the words on tables say of one another, for proofs over a table.
+use Rattle.std.proofs.Common.{◌≡◌, ℕ, ◌+◌, ◌-◌, ◌≤◌, ◌≢◌, Bool, true, false, cond, ◌||◌, nat_eq, List, [], ◌∷◌, ◌++◌, map, length, Option, Some, None, is_some, IsTrue, IsSomeAnd, refl, sym, ap, ◌∙◌, subst, arith, true≢false, if◌then◌else◌, ◌==◌}
+use Rattle.std.specs.List.{All, find, list_any}
+use Rattle.std.specs.Option.{option_map, option_map_or, option_and_then}
+use Rattle.std.proofs.lemmas.Bool.{eqb-true, eq-eqb}
+use Rattle.std.proofs.lemmas.List.{length-map, map-append}
+use Rattle.std.proofs.lemmas.List.Elements.{All-nil, All-cons, All-head, All-tail}
+use Rattle.std.proofs.lemmas.List.Folds.{list_any-append}
+use Rattle.std.proofs.lemmas.Option.{none-some, same_Some}
+use Rattle.omega_model.specs.Cell.{machine_at}
+use Rattle.omega_model.specs.Fields.{greatest}
+use Rattle.omega_model.specs.Machines.{change, is_listed, new_machine, ensured}
+use Rattle.omega_model.specs.Need.{Fits, nothing}
+use Rattle.omega_model.specs.declared.cells.Need.{Need}
+use Rattle.omega_model.specs.declared.cells.Machine.{Machine}
+use Rattle.omega_machines.specs.Table.{MachineState, machines_of, state_at, used, use_at, free_if_up, free_at, change_state, new_state, ensured_states, charged, IsBounded, IsTable}
+use Rattle.omega_machines.proofs.Places.{by_answer}
+
+-- the machine of a number is that of its state
+pub machine_of_state : (table : List MachineState) (id : ℕ) → machine_at (machines_of table) id ≡ option_map (λ state. state.machine) (state_at table id)
+machine_of_state [] id = refl
+machine_of_state (s ∷ ss) id = by_answer (s.machine.id == id) (λ t. rw t refl) (λ f. rw f (machine_of_state ss id))
+
+-- a number is listed where it has a state
+pub listed_state : (table : List MachineState) (id : ℕ) → is_listed id (machines_of table) ≡ is_some (state_at table id)
+listed_state [] id = refl
+listed_state (s ∷ ss) id = by_answer (s.machine.id == id) (λ t. rw t refl) (λ f. rw f (listed_state ss id))
+
+module _ (id : ℕ) (changed : MachineState → MachineState) where
+  -- a change of a state that changes its machine is that change of the machine
+  pub machines_changed : (table : List MachineState) (on_machine : Machine → Machine) → ((state : MachineState) → (changed state).machine ≡ on_machine state.machine)
+      → machines_of (change_state id changed table) ≡ change id on_machine (machines_of table)
+  machines_changed [] on_machine same = refl
+  machines_changed (s ∷ ss) on_machine same =
+      by_answer (s.machine.id == id)
+      (λ t. rw t (λ i. same s i ∷ machines_changed ss on_machine same i))
+      (λ f. rw f (ap (λ ms. s.machine ∷ ms) (machines_changed ss on_machine same)))
+
+  -- one that leaves its machine leaves the machines
+  pub machines_same : (table : List MachineState) → ((state : MachineState) → (changed state).machine ≡ state.machine) → machines_of (change_state id changed table) ≡ machines_of table
+  machines_same [] same = refl
+  machines_same (s ∷ ss) same =
+      by_answer (s.machine.id == id)
+      (λ t. rw t (λ i. same s i ∷ machines_same ss same i))
+      (λ f. rw f (ap (λ ms. s.machine ∷ ms) (machines_same ss same)))
+
+  -- what each state keeps at a change, all keep
+  pub all_changed : (P : MachineState → Type 0) (table : List MachineState) → ((state : MachineState) → state.machine.id ≡ id → P state → P (changed state)) → All P table → All P (change_state id changed table)
+  all_changed P [] keeps all = All-nil P
+  all_changed P (s ∷ ss) keeps all =
+      let rest = all_changed P ss keeps (All-tail P s ss all) in
+      by_answer (s.machine.id == id)
+      (λ t. subst (All P) (λ i. cond (sym t i) (changed s) s ∷ change_state id changed ss) (All-cons P (changed s) _ (keeps s (eqb-true _ _ t) (All-head P s ss all)) rest))
+      (λ f. subst (All P) (λ i. cond (sym f i) (changed s) s ∷ change_state id changed ss) (All-cons P s _ (All-head P s ss all) rest))
+
+  module _ (keeps : (state : MachineState) → (changed state).machine.id ≡ state.machine.id) where
+    -- the state of the number is changed
+    pub state_changed : (table : List MachineState) → state_at (change_state id changed table) id ≡ option_map changed (state_at table id)
+    state_changed [] = refl
+    state_changed (s ∷ ss) =
+        by_answer (s.machine.id == id)
+        (λ t. let own : ((changed s).machine.id == id) ≡ true = ap (λ n. nat_eq n id) (keeps s) ∙ t in rw (t, own) refl)
+        (λ f. rw (f, f) (state_changed ss))
+
+    -- that of another number is not
+    pub others_unchanged : (table : List MachineState) (other : ℕ) → other ≢ id → state_at (change_state id changed table) other ≡ state_at table other
+    others_unchanged [] other differs = refl
+    others_unchanged (s ∷ ss) other differs =
+        by_answer (s.machine.id == id)
+        (λ t.
+          let own : (s.machine.id == other) ≡ false = by_answer (s.machine.id == other) (λ h. absurd (differs (sym (eqb-true _ _ h) ∙ eqb-true _ _ t))) (λ h. h) in
+          let kept : ((changed s).machine.id == other) ≡ false = ap (λ n. nat_eq n other) (keeps s) ∙ own in
+          rw (t, kept, own) (others_unchanged ss other differs))
+        (λ f. rw f (ap (cond (s.machine.id == other) (Some s)) (others_unchanged ss other differs)))
+
+    -- the same numbers are listed
+    pub listed_changed : (table : List MachineState) (other : ℕ) → is_listed other (machines_of (change_state id changed table)) ≡ is_listed other (machines_of table)
+    listed_changed [] other = refl
+    listed_changed (s ∷ ss) other =
+        by_answer (s.machine.id == id)
+        (λ t. rw t (λ i. nat_eq (keeps s i) other || listed_changed ss other i))
+        (λ f. rw f (ap (λ b. nat_eq s.machine.id other || b) (listed_changed ss other)))
+
+-- the machines of a table that is made to list a number
+pub machines_ensured : (id : ℕ) (table : List MachineState) → machines_of (ensured_states id table) ≡ ensured id (machines_of table)
+machines_ensured id table =
+    by_answer (is_listed id (machines_of table))
+    (λ t. rw t refl)
+    (λ f. rw f (map-append (λ (state : MachineState). state.machine) table (new_state id ∷ [])))
+
+-- which then lists it
+pub ensured_listed : (id : ℕ) (table : List MachineState) → IsTrue (is_listed id (machines_of (ensured_states id table)))
+ensured_listed id table =
+    let test : Machine → Bool = λ machine. machine.id == id in
+    by_answer (is_listed id (machines_of table))
+    (λ t. rw (t, t) refl)
+    (λ f. rw f (
+      ap (list_any test) (map-append (λ (state : MachineState). state.machine) table (new_state id ∷ []))
+      ∙ list_any-append test (machines_of table) (new_machine id ∷ [])
+      ∙ (λ i. f i || (eq-eqb id id refl i || false))))
+
+-- a state that is found in a table is within its bounds
+pub found_bounded : (table : List MachineState) (id : ℕ) (state : MachineState) → All IsBounded table → state_at table id ≡ Some state → IsBounded state
+found_bounded [] id state all found = absurd (none-some state found)
+found_bounded (s ∷ ss) id state all found =
+    by_answer (s.machine.id == id)
+    (λ t. subst IsBounded (same_Some s state (rw t at found)) (All-head IsBounded s ss all))
+    (λ f. found_bounded ss id state (All-tail IsBounded s ss all) (rw f at found))
+
+-- no more is in use on a machine than the greatest quantity
+pub use_bounded : (table : List MachineState) (id : ℕ) → IsTable table → Fits (use_at table id) greatest
+use_bounded table id held = by (state_at table id) refl
+  where
+    by : (o : Option MachineState) → state_at table id ≡ o → Fits (option_map_or used o nothing) greatest
+    by None found = (omega arith, omega arith)
+    by (Some state) found =
+        let bounded = found_bounded table id state held.bounded found in
+        (omega (arith, bounded.cap.0), omega (arith, bounded.cap.1))
+
+-- what was charged is in use
+pub use_charged : (table : List MachineState) (id : ℕ) (need : Need) → IsTable table → IsSomeAnd (free_at table id) (λ free. Fits need free)
+    → Fits need (use_at (change_state id (charged need) table) id)
+use_charged table id need held room =
+    subst (λ o. Fits need (option_map_or used o nothing)) (sym (state_changed id (charged need) (λ _. refl) table)) (by (state_at table id) refl room)
+  where
+    by : (o : Option MachineState) → state_at table id ≡ o → IsSomeAnd (option_and_then free_if_up o) (λ free. Fits need free) → Fits need (option_map_or used (option_map (charged need) o) nothing)
+    by None found there = absurd there
+    by (Some state) found there =
+        let bounded = found_bounded table id state held.bounded found in
+        by_answer state.machine.up
+        (λ t.
+          let fits : Fits need state.free = rw t at there in
+          (omega (arith, bounded.free.0, fits.0), omega (arith, bounded.free.1, fits.1)))
+        (λ f. absurd (rw f at there))

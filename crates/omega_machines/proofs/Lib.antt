@@ -1,0 +1,6 @@
+mod Places
+mod Rewriting
+mod Bounds
+mod Growing
+mod Attributes
+pub mod Laws

@@ -1,0 +1,114 @@
+-- A table in which the state of one machine is written anew.
+use Rattle.std.proofs.Common.{◌≡◌, ℕ, zero, suc, ◌+◌, ◌<◌, ◌≤◌, Bool, true, false, cond, nat_eq, List, [], ◌∷◌, map, length, get_or, set, slice_get, position, Some, None, refl, sym, ap, ◌∙◌, subst, arith, ◌==◌, if◌then◌else◌}
+use Rattle.std.specs.Cmp.{nat_eq_equiv}
+use Rattle.std.specs.List.{All, AllByRecursion, IsDistinct}
+use Rattle.std.specs.Map.{keys_of, values_of}
+use Rattle.std.specs.Option.{option_map}
+use Rattle.std.proofs.Math.ListN.{length-set}
+use Rattle.std.proofs.lemmas.Bool.{eqb-true, eq-eqb}
+use Rattle.std.proofs.lemmas.List.{set-get_or}
+use Rattle.std.proofs.lemmas.List.Elements.{All-set, All-get_or}
+use Rattle.std.proofs.lemmas.Option.{slice_get-map, same_Some, slice_get_within, get_or_from_slice_get, none-some}
+use Rattle.indexmap.specs.IndexMap.{set_value_at}
+use Rattle.omega_model.specs.Machines.{numbers_of}
+use Rattle.omega_machines.specs.Rows.{IsKept}
+use Rattle.omega_machines.specs.Table.{MachineState, machines_of, change_state, IsBounded, IsTable}
+use Rattle.omega_machines.proofs.Places.{Stands, stands}
+
+-- a value that is written in a row is written in the table
+values-set_value_at : (rows : List (ℕ × MachineState)) (place : ℕ) (next : MachineState) → values_of (set_value_at rows place next) ≡ set (values_of rows) place next
+values-set_value_at [] place next = refl
+values-set_value_at (row ∷ rows) zero next = refl
+values-set_value_at (row ∷ rows) (suc place) next = ap (λ states. row.1 ∷ states) (values-set_value_at rows place next)
+
+-- and leaves the keys
+keys-set_value_at : (rows : List (ℕ × MachineState)) (place : ℕ) (next : MachineState) → keys_of (set_value_at rows place next) ≡ keys_of rows
+keys-set_value_at [] place next = refl
+keys-set_value_at (row ∷ rows) zero next = refl
+keys-set_value_at (row ∷ rows) (suc place) next = ap (λ keys. row.0 ∷ keys) (keys-set_value_at rows place next)
+
+-- the numbers stay where the machine keeps its own
+numbers-set : (table : List MachineState) (place : ℕ) (state next : MachineState) → slice_get table place ≡ Some state → next.machine.id ≡ state.machine.id
+    → numbers_of (machines_of (set table place next)) ≡ numbers_of (machines_of table)
+numbers-set [] place state next at same = refl
+numbers-set (s ∷ ss) zero state next at same = ap (λ n. n ∷ numbers_of (machines_of ss)) (same ∙ ap (λ (t : MachineState). t.machine.id) (sym (same_Some s state at)))
+numbers-set (s ∷ ss) (suc place) state next at same = ap (λ ns. s.machine.id ∷ ns) (numbers-set ss place state next at same)
+
+-- a list of other numbers has no machine of this one
+unchanged : (id : ℕ) (changed : MachineState → MachineState) (table : List MachineState) → AllByRecursion (λ n. nat_eq id n ≡ false) (numbers_of (machines_of table)) → change_state id changed table ≡ table
+unchanged id changed [] apart = refl
+unchanged id changed (s ∷ ss) apart =
+    let other : nat_eq s.machine.id id ≡ false = nat_eq_equiv.symm s.machine.id id ∙ apart.0 in
+    (λ i. cond (other i) (changed s) s ∷ unchanged id changed ss apart.1 i)
+
+-- a number that others differ from differs from that of a machine among theirs
+apart_at : (id place : ℕ) (table : List MachineState) (state : MachineState) → AllByRecursion (λ n. nat_eq id n ≡ false) (numbers_of (machines_of table)) → slice_get table place ≡ Some state → nat_eq id state.machine.id ≡ false
+apart_at id place [] state apart at = absurd (none-some state at)
+apart_at id zero (s ∷ ss) state apart at = ap (λ (t : MachineState). nat_eq id t.machine.id) (sym (same_Some s state at)) ∙ apart.0
+apart_at id (suc place) (s ∷ ss) state apart at = apart_at id place ss state apart.1 at
+
+-- among distinct numbers, the write at the place of a machine changes that machine and no other
+pub set-change : (id : ℕ) (changed : MachineState → MachineState) (table : List MachineState) (place : ℕ) (state : MachineState) → IsDistinct nat_eq (numbers_of (machines_of table))
+    → slice_get table place ≡ Some state → state.machine.id ≡ id → set table place (changed state) ≡ change_state id changed table
+unfolding IsDistinct
+set-change id changed [] place state distinct at same = refl
+set-change id changed (s ∷ ss) zero state distinct at same =
+    let first = same_Some s state at in
+    let own : nat_eq s.machine.id id ≡ true = ap (λ (t : MachineState). nat_eq t.machine.id id) first ∙ eq-eqb _ _ same in
+    let named : s.machine.id ≡ id = eqb-true _ _ own in
+    let rest = unchanged id changed ss (subst (λ n. AllByRecursion (λ m. nat_eq n m ≡ false) (numbers_of (machines_of ss))) named distinct.0) in
+    ap (λ t. changed t ∷ ss) (sym first) ∙ (λ i. cond (sym own i) (changed s) s ∷ sym rest i)
+set-change id changed (s ∷ ss) (suc place) state distinct at same =
+    let other : nat_eq s.machine.id id ≡ false = ap (nat_eq s.machine.id) (sym same) ∙ apart_at s.machine.id place ss state distinct.0 at in
+    (λ i. cond (sym other i) (changed s) s ∷ set-change id changed ss place state distinct.1 at same i)
+
+-- a machine of a table is within its bounds
+pub bounded_at : (table : List MachineState) (place : ℕ) (state : MachineState) → IsTable table → slice_get table place ≡ Some state → IsBounded state
+bounded_at table place state held at =
+    subst IsBounded (get_or_from_slice_get table place state state at) (All-get_or IsBounded table place state (slice_get_within table place state at) held.bounded)
+
+-- and so is the machine of a row
+pub bounded_row : (rows : List (ℕ × MachineState)) (place key : ℕ) (state : MachineState) → IsKept rows → slice_get rows place ≡ Some (key, state) → IsBounded state
+bounded_row rows place key state kept row =
+    bounded_at (values_of rows) place state kept.table (slice_get-map (λ (e : ℕ × MachineState). e.1) rows place ∙ ap (option_map (λ (e : ℕ × MachineState). e.1)) row)
+
+-- the row of a machine written anew: the rows stay a table, and it is the table with this machine changed
+pub rewritten : (rows : List (ℕ × MachineState)) (table : List MachineState) (id place key : ℕ) (state next : MachineState) (changed : MachineState → MachineState)
+    → values_of rows ≡ table → IsKept rows → position (λ machine. machine.id == id) (machines_of table) ≡ Some place → slice_get rows place ≡ Some (key, state)
+    → changed state ≡ next → (changed state).machine.id ≡ state.machine.id → (Stands table id place state → IsBounded state → IsBounded (changed state))
+    → IsKept (set_value_at rows place next) × (values_of (set_value_at rows place next) ≡ change_state id changed table)
+rewritten rows table id place key state next changed seen kept placed row is same bounds =
+    subst (λ n. IsKept (set_value_at rows place n) × (values_of (set_value_at rows place n) ≡ change_state id changed table)) is (
+      record {
+        keyed = keys-set_value_at rows place written ∙ kept.keyed ∙ ap (λ t. numbers_of (machines_of t)) seen ∙ sym numbers ∙ ap (λ t. numbers_of (machines_of t)) (sym values);
+        table = subst IsTable (sym values) (record {
+          few = omega (arith, length-set {A = MachineState}, held.few);
+          distinct = subst (IsDistinct nat_eq) (sym numbers) held.distinct;
+          bounded = All-set IsBounded table place written (bounds here (bounded_at table place state held here.at)) held.bounded;
+        });
+      },
+      values ∙ set-change id changed table place state held.distinct here.at here.numbered,
+    )
+  where
+    written : MachineState
+    written = changed state
+
+    here : Stands table id place state
+    here = stands rows table id place key state seen placed row
+
+    held : IsTable table
+    held = subst IsTable seen kept.table
+
+    values : values_of (set_value_at rows place (changed state)) ≡ set table place (changed state)
+    values = values-set_value_at rows place (changed state) ∙ ap (λ t. set t place (changed state)) seen
+
+    numbers : numbers_of (machines_of (set table place (changed state))) ≡ numbers_of (machines_of table)
+    numbers = numbers-set table place state (changed state) here.at same
+
+-- a row written as it was leaves the table
+pub unwritten : (rows : List (ℕ × MachineState)) (table : List MachineState) (place key : ℕ) (state next : MachineState)
+    → values_of rows ≡ table → slice_get rows place ≡ Some (key, state) → next ≡ state → values_of (set_value_at rows place next) ≡ table
+unwritten rows table place key state next seen row same =
+    let at : slice_get table place ≡ Some state = ap (λ t. slice_get t place) (sym seen) ∙ slice_get-map (λ (e : ℕ × MachineState). e.1) rows place ∙ ap (option_map (λ (e : ℕ × MachineState). e.1)) row in
+    values-set_value_at rows place next ∙ (λ i. set (seen i) place (same i))
+    ∙ ap (set table place) (sym (get_or_from_slice_get table place state state at)) ∙ set-get_or table place state

@@ -1,0 +1,242 @@
+//! The table of machines.
+ghost use Rattle.std.specs.Prelude.{◌≡◌, ◌+◌, ◌-◌, ◌<◌, ◌^◌, ◌⊎◌, ◌==◌, [], Some, length, slice_get, option_map, position, is_some, IsTrue, IsSomeAnd, IsSome, IfSome, OnOk, OnErr};
+ghost use Rattle.omega_model.specs.Fields.{greatest};
+ghost use Rattle.omega_model.specs.Machines.{is_listed, removed, attr_set, attr_deleted};
+ghost use Rattle.omega_model.specs.Need.{Fits, nothing, minus};
+ghost use Rattle.omega_machines.specs.Table.{machines_of, use_at, free_at, seq_at, change_state, ensured_states, state_added, state_updated, with_machine, charged, released, touched, IsTable};
+
+use crate::{MachineState, attrs};
+use indexmap::IndexMap;
+use omega_model::{Bytes, Machine, Need, NoMemory, Seq};
+use std::alloc::Global;
+use std::marker::Model;
+
+const NOTHING: Need = Need { cpu: 0, mem: 0 };
+
+/// The machines of a cell in order of first mention, found by number.
+///
+/// A contract sees the list of their states. There are at most 65,536 of them, with distinct
+/// numbers and capacities of at most 1,000,000,000,000 units, and no more is in use on a machine
+/// than its capacity, nothing where it is down.
+#[derive(Drop)]
+pub struct MachineTable {
+    rows: IndexMap<u64, MachineState>,
+}
+
+impl Model for MachineTable {
+    ghost use Rattle.std.specs.Prelude.{List};
+    ghost use Rattle.indexmap.specs.IndexMap.{values};
+    ghost use Rattle.omega_machines.specs.Table.{MachineState};
+    ghost use Rattle.omega_machines.specs.Rows.{IsKept};
+
+    ghost Value = { List MachineState };
+
+    ghost view = { λ table. values table.rows };
+
+    ghost invariant = { λ table. IsKept table.rows.entries };
+}
+
+fn minus(a: Need, b: Need) -> Need
+    ensures { result ≡ minus a b }
+{
+    Need {
+        cpu: a.cpu.saturating_sub(b.cpu),
+        mem: a.mem.saturating_sub(b.mem),
+    }
+}
+
+impl MachineTable {
+    /// The table without machines. Takes no memory.
+    pub fn new(alloc: Global) -> MachineTable
+        ensures { result ≡ [] }
+    {
+        MachineTable {
+            rows: IndexMap::new(alloc),
+        }
+    }
+
+    /// How many machines there are.
+    pub fn len(&self) -> usize
+        ensures len { result ≡ length self.now }
+        ensures table { IsTable self.now }
+    {
+        self.rows.len()
+    }
+
+    /// The machine at a position in the list, counted from 0.
+    pub fn at(&self, position: usize) -> Option<&Machine>
+        ensures { option_map (λ machine. machine.now) result ≡ slice_get (machines_of self.now) position }
+    {
+        let entry = self.rows.get_index(position)?;
+        Some(&entry.1.machine)
+    }
+
+    /// The position of a machine in the list. `None` exactly where it isn't there.
+    pub fn position(&self, id: u64) -> Option<usize>
+        ensures listed { is_some result ≡ is_listed id (machines_of self.now) }
+        ensures place { result ≡ position (λ machine. machine.id == id) (machines_of self.now) }
+    {
+        self.rows.get_index_of(&id)
+    }
+
+    /// Puts a machine that isn't there at the end of the list: down, with no capacity and no
+    /// attributes. Refused, it leaves the table as it was.
+    pub fn ensure(&mut self, id: u64) -> Result<(), NoMemory>
+        requires { length self.old < 65536 ⊎ IsTrue (is_listed id (machines_of self.old)) }
+        ensures ok { OnOk result (self.new ≡ ensured_states id self.old) }
+        ensures err { OnErr result (self.new ≡ self.old) }
+        ensures table { IsTable self.new }
+    {
+        if self.position(id).is_some() {
+            return Ok(());
+        }
+        let machine = Machine {
+            id,
+            up: false,
+            cap: NOTHING,
+            attrs: Seq::new(*self.rows.allocator()),
+        };
+        let state = MachineState {
+            machine,
+            free: NOTHING,
+            seq: 0,
+        };
+        self.rows.insert(id, state)?;
+        Ok(())
+    }
+
+    /// Brings a machine up with a capacity. What is in use on it stays in use. Takes no memory.
+    pub fn add(&mut self, id: u64, cap: Need)
+        requires listed { IsTrue (is_listed id (machines_of self.old)) }
+        requires cap { Fits cap greatest }
+        requires in_use { Fits (use_at self.old id) cap }
+        ensures changed { self.new ≡ change_state id (state_added cap) self.old }
+        ensures table { IsTable self.new }
+    {
+        let place = self.place_of(id);
+        let (_, state) = self.rows.pair_mut(place);
+        state.free = minus(cap, minus(state.machine.cap, state.free));
+        state.machine.cap = cap;
+        state.machine.up = true;
+    }
+
+    /// Gives a machine another capacity; it stays up or down. What is in use on it stays in use.
+    /// Takes no memory.
+    pub fn update(&mut self, id: u64, cap: Need)
+        requires listed { IsTrue (is_listed id (machines_of self.old)) }
+        requires cap { Fits cap greatest }
+        requires in_use { Fits (use_at self.old id) cap }
+        ensures changed { self.new ≡ change_state id (state_updated cap) self.old }
+        ensures table { IsTable self.new }
+    {
+        let place = self.place_of(id);
+        let (_, state) = self.rows.pair_mut(place);
+        state.free = minus(cap, minus(state.machine.cap, state.free));
+        state.machine.cap = cap;
+    }
+
+    /// Takes a machine down on which nothing is in use. Its capacity and attributes stay. Takes no
+    /// memory.
+    pub fn remove(&mut self, id: u64)
+        requires listed { IsTrue (is_listed id (machines_of self.old)) }
+        requires in_use { use_at self.old id ≡ nothing }
+        ensures changed { self.new ≡ change_state id (with_machine removed) self.old }
+        ensures table { IsTable self.new }
+    {
+        let place = self.place_of(id);
+        let (_, state) = self.rows.pair_mut(place);
+        state.machine.up = false;
+    }
+
+    /// Gives an attribute of a machine a value, in its place where it is set, else after the
+    /// others. Refused, it leaves the table as it was. Costs the machine's attributes.
+    pub fn set_attr(&mut self, id: u64, name: &Bytes, value: &Bytes) -> Result<(), NoMemory>
+        requires { IsTrue (is_listed id (machines_of self.old)) }
+        ensures ok { OnOk result (self.new ≡ change_state id (with_machine (attr_set name.now value.now)) self.old) }
+        ensures err { OnErr result (self.new ≡ self.old) }
+        ensures table { IsTable self.new }
+    {
+        let place = self.place_of(id);
+        let alloc = *self.rows.allocator();
+        let (_, state) = self.rows.pair_mut(place);
+        attrs::set(&mut state.machine.attrs, alloc, name, value)
+    }
+
+    /// Unsets an attribute of a machine. Costs the machine's attributes. Takes no memory.
+    pub fn delete_attr(&mut self, id: u64, name: &Bytes)
+        requires { IsTrue (is_listed id (machines_of self.old)) }
+        ensures changed { self.new ≡ change_state id (with_machine (attr_deleted name.now)) self.old }
+        ensures table { IsTable self.new }
+    {
+        let place = self.place_of(id);
+        let alloc = *self.rows.allocator();
+        let (_, state) = self.rows.pair_mut(place);
+        attrs::delete(&mut state.machine.attrs, alloc, name);
+    }
+
+    /// What is free on a machine: its capacity less what is in use. `None` exactly where it isn't
+    /// up.
+    pub fn free(&self, id: u64) -> Option<Need>
+        ensures { result ≡ free_at self.now id }
+    {
+        let state = self.rows.get(&id)?;
+        if state.machine.up {
+            Some(state.free)
+        } else {
+            None
+        }
+    }
+
+    /// How many entries have touched a machine, 0 where it isn't there.
+    pub fn seq(&self, id: u64) -> u64
+        ensures { result ≡ seq_at self.now id }
+    {
+        match self.rows.get(&id) {
+            Some(state) => state.seq,
+            None => 0,
+        }
+    }
+
+    /// Counts one more entry that touches a machine. Takes no memory.
+    pub fn touch(&mut self, id: u64)
+        requires listed { IsTrue (is_listed id (machines_of self.old)) }
+        requires seq { seq_at self.old id < 2 ^ 64 - 1 }
+        ensures changed { self.new ≡ change_state id touched self.old }
+        ensures table { IsTable self.new }
+    {
+        let place = self.place_of(id);
+        let (_, state) = self.rows.pair_mut(place);
+        state.seq += 1;
+    }
+
+    /// Takes an amount of what is free on a machine that is up. Takes no memory.
+    pub fn charge(&mut self, id: u64, need: Need)
+        requires { IsSomeAnd (free_at self.old id) (λ free. Fits need free) }
+        ensures changed { self.new ≡ change_state id (charged need) self.old }
+        ensures table { IsTable self.new }
+    {
+        let place = self.place_of(id);
+        let (_, state) = self.rows.pair_mut(place);
+        state.free = minus(state.free, need);
+    }
+
+    /// Gives back an amount of what is in use on a machine. Takes no memory.
+    pub fn release(&mut self, id: u64, need: Need)
+        requires listed { IsTrue (is_listed id (machines_of self.old)) }
+        requires in_use { Fits need (use_at self.old id) }
+        ensures changed { self.new ≡ change_state id (released need) self.old }
+        ensures table { IsTable self.new }
+    {
+        let place = self.place_of(id);
+        let (_, state) = self.rows.pair_mut(place);
+        state.free = state.free.plus(need);
+    }
+
+    /// The place of a machine that is there.
+    fn place_of(&self, id: u64) -> usize
+        requires { IsTrue (is_listed id (machines_of self.now)) }
+        ensures { position (λ machine. machine.id == id) (machines_of self.now) ≡ Some result }
+    {
+        self.position(id).unwrap()
+    }
+}
