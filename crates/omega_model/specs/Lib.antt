@@ -4,3 +4,5 @@ pub mod Fields
 pub mod Stretch
 pub mod Keys
 pub mod Cell
+pub mod Numbers
+pub mod Eligible
