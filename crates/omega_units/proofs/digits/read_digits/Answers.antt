@@ -1,13 +1,15 @@
-use Rattle.std.proofs.Common.{rules, ◌≡◌, ◌+◌, ◌*◌, ◌^◌, ◌≤◌, ◌<◌, length, IfSome, ℕ, ◌-◌, arith, true, get_or, sym, ◌∙◌}
-use Rattle.std.proofs.lemmas.Grind.{common_steps}
+use Rattle.std.proofs.Common.{rules, ◌≡◌, length, arith, true, get_or, sym, ◌∙◌}
 use Rattle.std.specs.Char.{is_ascii_digit, IsAsciiDigit}
-use Rattle.omega_units.proofs.Reading.{number_after_place, room_now, room_after}
+use Rattle.omega_units.proofs.Reading.{number_after_place, room_now, room_after, room_last}
 use Rattle.omega_units.proofs.digits.read_digits.Goals as goal
 
 pub overflow_mul-value : goal.overflow_mul-value
 overflow_mul-value c =
     let room = room_now c.loop-byte.value c.loop-byte.byte-index (length c.args.text.now) _ c.loop-byte-test.true c.loop-byte.invariant.room in
     omega arith
+
+pub returns-clause-bound : goal.returns-clause-bound
+returns-clause-bound c = room_last c.loop-byte.value c.loop-byte.byte-index (length c.args.text.now) _ c.loop-byte-test.false c.loop-byte.invariant.room
 
 pub overflow_add-value : goal.overflow_add-value
 overflow_add-value c =
