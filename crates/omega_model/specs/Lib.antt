@@ -22,3 +22,5 @@ pub mod Turns
 pub mod Extras
 pub mod Copy
 pub mod World
+pub mod Numbers
+pub mod Eligible

@@ -1,0 +1,4 @@
+pub mod Reading
+pub mod Scaling
+pub mod Tens
+pub mod Parts

@@ -1,0 +1,59 @@
+//! Numbers in text, read exactly: whole numbers and quantities.
+#![tactic(auto)]
+
+ghost use Rattle.std.specs.Prelude.{◌≡◌};
+ghost use Rattle.std.specs.Result.{result_ok};
+ghost use Rattle.omega_model.specs.Numbers.{whole};
+ghost use Rattle.omega_units.specs.Units.{units};
+
+mod decimal;
+mod digits;
+
+/// Which way a quantity becomes a whole number of units.
+#[derive(Clone, Copy, Debug, PartialEq, Eq)]
+pub enum Rounding {
+    Up,
+    Down,
+}
+
+/// The text isn't a number of the kind that was asked for.
+#[derive(Clone, Copy, Debug, Drop, PartialEq, Eq)]
+pub struct BadNumber;
+
+/// A number has at most this many bytes.
+const LONGEST: usize = 32;
+
+/// The whole number that a text writes: ASCII digits alone, at least one and at most 32, and a
+/// value below 2^64. Leading zeros are allowed. One pass, takes no memory.
+pub fn read_u64(text: &[u8]) -> Result<u64, BadNumber>
+    ensures { result_ok result ≡ whole text.now }
+{
+    if text.len() > LONGEST {
+        return Err(BadNumber);
+    }
+    let Some(value) = digits::read_number(text) else {
+        return Err(BadNumber);
+    };
+    u64::try_from(value).map_err(|_| BadNumber)
+}
+
+/// The units of a quantity, each 10^-9: the exact value of the text times 10^9, rounded. The empty
+/// text is 0.
+///
+/// Any other text is digits with a point among them, in front of them or behind them, or none, and
+/// then `e` or `E`, a sign or none, and digits, or nothing. `BadNumber` where the text is no such
+/// thing, is longer than 32 bytes, or its exact value is above 1000. Takes no memory.
+pub fn read_quantity(text: &[u8], rounding: Rounding) -> Result<u64, BadNumber>
+    ensures { result_ok result ≡ units rounding text.now }
+{
+    if text.is_empty() {
+        return Ok(0);
+    }
+    if text.len() > LONGEST {
+        return Err(BadNumber);
+    }
+    let Some(decimal) = decimal::read_decimal(text) else {
+        return Err(BadNumber);
+    };
+    decimal.units(rounding).ok_or(BadNumber)
+}
