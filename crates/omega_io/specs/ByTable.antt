@@ -2,6 +2,7 @@
 use Rattle.std.specs.Prelude.{◌≡◌, ℕ, List, [], get_or}
 use Rattle.omega_model.specs.declared.rows.Table.{Table}
 use Rattle.omega_model.specs.declared.rows.Table.TheVariants.{MachineEvents, MachineAttributes, TaskEvents, TaskConstraints, MapreduceJobs}
+use Rattle.omega_model.specs.Trace.{place_of}
 use Rattle.omega_io.specs.declared.by_table.ByTable.{ByTable}
 
 -- the one of this table
@@ -23,14 +24,6 @@ put all MapreduceJobs one = record all { mapreduce_jobs = one }
 -- at most the one of this table has changed
 abbrev pub OnlyAt : {A : Type 0} → Table → ByTable A → ByTable A → Type 0
 OnlyAt table before now = now ≡ put before table (at now table)
-
--- the place of a table in the order of the five
-abbrev pub place_of : Table → ℕ
-place_of MachineEvents = 0
-place_of MachineAttributes = 1
-place_of TaskEvents = 2
-place_of TaskConstraints = 3
-place_of MapreduceJobs = 4
 
 -- the bytes of a table among those of the five in their order
 abbrev pub bytes_of : List (List ℕ) → Table → List ℕ

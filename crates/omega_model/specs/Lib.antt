@@ -4,3 +4,7 @@ pub mod Fields
 pub mod Stretch
 pub mod Keys
 pub mod Cell
+pub mod Rows
+pub mod FirstForm
+pub mod Trace
+pub mod Refusals
