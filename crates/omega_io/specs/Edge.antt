@@ -1,5 +1,6 @@
 -- What passes between the program and the outside: bytes, and counts of faults.
-use Rattle.std.specs.Prelude.{◌≡◌, ℕ, List, ◌++◌, ◌-◌, ◌^◌, ◌<◌, ◌≤◌, ◌⊎◌, Option, option_map, length, take}
+use Rattle.std.specs.Prelude.{◌≡◌, ℕ, List, ◌++◌, ◌-◌, ◌^◌, ◌<◌, ◌≤◌, ◌⊎◌, Option, Some, option_map, length, take}
+use Rattle.omega_model.specs.declared.rows.Table.{Table}
 
 -- a count of faults rose, or stands at its greatest value and can rise no further
 abbrev pub Rose : ℕ → ℕ → Type 0
@@ -16,3 +17,7 @@ Appends bytes before now = now ≡ option_map (λ written. written ++ bytes) bef
 -- the first of these bytes, but not all, were put at the end of what is written
 abbrev pub AppendsPart : List ℕ → Option (List ℕ) → Option (List ℕ) → Type 0
 AppendsPart bytes before now = (count : ℕ) × (count < length bytes) × Appends (take count bytes) before now
+
+-- the tables tell these bytes as what is left of each
+abbrev pub Tells : (Table → Option (List ℕ)) → (Table → List ℕ) → Type 0
+Tells rest bytes = (table : Table) → rest table ≡ Some (bytes table)

@@ -100,10 +100,15 @@ machine_row fields =
         (need_of (short_quantity (column fields 5)) (short_quantity (column fields 6)))
     else None
 
--- the row of a record of `task_events`: time 0, missing info, job, index, machine, event 0, user, class, priority, CPU, memory, disk, no restriction
+-- a submission at time 0 with no restriction: 13 fields, the first and the sixth 0, the last blank or 0
+abbrev pub is_submission : List (List ℕ) → Bool
+is_submission fields =
+    length fields == 13 && is_zero (column fields 1) && is_zero (column fields 6) && is_blank_or_zero (column fields 13)
+
+-- the row of a record of `task_events`: job and index in columns 3 and 4, then class, priority, CPU and memory in columns 8 to 11
 abbrev pub task_row : List (List ℕ) → Option TaskFields
 task_row fields =
-    if length fields == 13 && is_zero (column fields 1) && is_zero (column fields 6) && is_blank_or_zero (column fields 13)
+    if is_submission fields
     then submitted
         (key_of (whole_number 18446744073709551615 (column fields 3)) (whole_number 2147483647 (column fields 4)))
         (class_of (column fields 8))

@@ -22,9 +22,13 @@ abbrev pub rows_by : {A E : Type 0} → (List (List ℕ) → Result A E) → Lis
 rows_by row_of [] = Ok []
 rows_by row_of (fields ∷ others) = with_first (row_of fields) (rows_by row_of others)
 
+-- the row of a record, or that it is none
+abbrev pub row_or_none : {A : Type 0} → (List (List ℕ) → Option A) → List (List ℕ) → Result A (Unit {0})
+row_or_none row_of fields = ok_or (row_of fields) tt
+
 -- the typed rows of a table's bytes, or the place of the first record that is no row
 abbrev pub rows_in : {A : Type 0} → (List (List ℕ) → Option A) → List ℕ → Result (List A) (ℕ × Unit {0})
-rows_in row_of bytes = rows_by (λ fields. ok_or (row_of fields) tt) (records_of bytes)
+rows_in row_of bytes = rows_by (row_or_none row_of) (records_of bytes)
 
 -- the rows, and none where a record is no row
 abbrev pub rows_or_none : {A E : Type 0} → Result (List A) E → List A

@@ -1,13 +1,13 @@
-// A library with one function.
+//! The reading of the five tables of a trace.
+//!
+//! Each table is read to its end and cut into records, and each record becomes a typed row.
 #![tactic(auto)]
 
-ghost use Rattle.std.specs.Prelude.{◌≡◌};
-ghost use Rattle.omega_tables.specs.Echo.{echo_of};
+mod first_form;
+mod parsing;
+mod reading;
+mod refusal;
 
-// The `ensures` clause is the contract: what `echo` returns is `echo_of` of its argument, a definition
-// in `specs/Echo.antt`, which a caller's clause can cite too.
-pub fn echo(x: usize) -> usize
-    ensures { result ≡ echo_of x }
-{
-    x
-}
+pub use parsing::parse_table;
+pub use reading::read_bytes;
+pub use refusal::ReadRefusal;
