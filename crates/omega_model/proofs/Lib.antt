@@ -4,3 +4,5 @@ mod ExamplesCell
 mod ExamplesFeed
 mod ExamplesWork
 mod ExamplesTurns
+pub mod Records
+pub mod TypedRows

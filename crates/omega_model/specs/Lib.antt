@@ -24,3 +24,7 @@ pub mod Copy
 pub mod World
 pub mod Numbers
 pub mod Eligible
+pub mod Rows
+pub mod FirstForm
+pub mod Trace
+pub mod Refusals

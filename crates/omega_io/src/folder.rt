@@ -1,0 +1,183 @@
+//! The tables of a folder on disk.
+ghost use Rattle.std.specs.Prelude.{◌≡◌, ◌≤◌, length, IfOk};
+ghost use Rattle.omega_io.specs.ByTable.{at, OnlyAt};
+ghost use Rattle.omega_io.specs.Edge.{Rose};
+ghost use Rattle.omega_model.specs.declared.rows.Table.{Table};
+
+use crate::by_table::ByTable;
+use crate::edges::{Failed, Tables};
+use omega_model::{NoMemory, Table};
+use std::alloc::Global;
+use std::fs::File;
+use std::io;
+use std::io::{ErrorKind, Read};
+use std::path::{Path, PathBuf};
+
+// How far a table's file was opened.
+#[derive(Drop)]
+enum Access {
+    Unopened,
+    Open(File),
+    Missing,
+}
+
+// The file of one table.
+#[derive(Drop)]
+struct TableFile {
+    path: PathBuf,
+    needed: bool,
+    access: Access,
+}
+
+impl TableFile {
+    // The file of this name in a folder, not opened yet.
+    fn new(alloc: Global, folder: &str, name: &str, needed: bool) -> Result<TableFile, NoMemory> {
+        Ok(TableFile {
+            path: Path::new(folder).join(alloc, name)?,
+            needed,
+            access: Access::Unopened,
+        })
+    }
+
+    // Opens the file. One that is missing and isn't needed is an empty table.
+    fn open(&self, rt: &HostRuntime) -> io::Result<Access> {
+        match File::open(rt, self.path.as_path()) {
+            Ok(file) => Ok(Access::Open(file)),
+            Err(error) if !self.needed && error.kind() == ErrorKind::NotFound => {
+                Ok(Access::Missing)
+            }
+            Err(error) => Err(error),
+        }
+    }
+
+    // Reads on, and opens the file before its first read.
+    fn read(&mut self, rt: &HostRuntime, piece: &mut [u8]) -> io::Result<usize>
+        ensures { IfOk result (λ count. count ≤ length piece.new) }
+    {
+        if let Access::Unopened = self.access {
+            self.access = self.open(rt)?;
+        }
+        match &mut self.access {
+            Access::Open(file) => file.read(piece),
+            _ => Ok(0),
+        }
+    }
+}
+
+// The files of the five tables in a folder.
+fn files_in(alloc: Global, folder: &str) -> Result<ByTable<TableFile>, NoMemory> {
+    Ok(ByTable {
+        machine_events: TableFile::new(alloc, folder, "machine_events.csv", true)?,
+        machine_attributes: TableFile::new(alloc, folder, "machine_attributes.csv", false)?,
+        task_events: TableFile::new(alloc, folder, "task_events.csv", true)?,
+        task_constraints: TableFile::new(alloc, folder, "task_constraints.csv", false)?,
+        mapreduce_jobs: TableFile::new(alloc, folder, "mapreduce_jobs.csv", false)?,
+    })
+}
+
+// Reads on in one of the files.
+fn read_file(
+    rt: &HostRuntime,
+    files: &mut ByTable<TableFile>,
+    table: Table,
+    piece: &mut [u8],
+) -> io::Result<usize>
+    ensures { IfOk result (λ count. count ≤ length piece.new) }
+{
+    match table {
+        Table::MachineEvents => files.machine_events.read(rt, piece),
+        Table::MachineAttributes => files.machine_attributes.read(rt, piece),
+        Table::TaskEvents => files.task_events.read(rt, piece),
+        Table::TaskConstraints => files.task_constraints.read(rt, piece),
+        Table::MapreduceJobs => files.mapreduce_jobs.read(rt, piece),
+    }
+}
+
+// One more fault. A count stops at 2^64 - 1.
+fn count_one(faults: &mut u64)
+    ensures cause { Rose faults.old faults.new }
+    ensures later { faults.old ≤ faults.new }
+{
+    *faults = faults.saturating_add(1);
+}
+
+// One more fault of a table.
+fn count_fault(faults: &mut ByTable<u64>, table: Table)
+    ensures only { OnlyAt table faults.old faults.new }
+    ensures cause { Rose (at faults.old table) (at faults.new table) }
+    ensures later { at faults.old table ≤ at faults.new table }
+{
+    match table {
+        Table::MachineEvents => count_one(&mut faults.machine_events),
+        Table::MachineAttributes => count_one(&mut faults.machine_attributes),
+        Table::TaskEvents => count_one(&mut faults.task_events),
+        Table::TaskConstraints => count_one(&mut faults.task_constraints),
+        Table::MapreduceJobs => count_one(&mut faults.mapreduce_jobs),
+    }
+}
+
+/// The tables in a folder: `machine_events.csv`, `machine_attributes.csv`, `task_events.csv`,
+/// `task_constraints.csv` and `mapreduce_jobs.csv`. They tell no content.
+///
+/// Each file is opened at the first read after `enter` and read on from there. A missing file of
+/// attributes, constraints or jobs is an empty table. A missing file of the other two is a fault,
+/// as is a read before the first `enter`. The counts of faults stop at 2^64 - 1.
+#[derive(Drop)]
+pub struct FolderTables<'a> {
+    rt: &'a HostRuntime,
+    files: Option<ByTable<TableFile>>,
+    faults: ByTable<u64>,
+}
+
+impl<'a> FolderTables<'a> {
+    /// No folder yet, and no fault. Takes no memory.
+    pub fn new(rt: &'a HostRuntime) -> FolderTables<'a>
+        ensures { (t : Table) → at result.faults t ≡ 0 }
+    {
+        FolderTables {
+            rt,
+            files: None,
+            faults: ByTable {
+                machine_events: 0,
+                machine_attributes: 0,
+                task_events: 0,
+                task_constraints: 0,
+                mapreduce_jobs: 0,
+            },
+        }
+    }
+}
+
+impl<'a> Tables for FolderTables<'a> {
+    ghost use Rattle.std.specs.Prelude.{None};
+    ghost use Rattle.omega_io.specs.ByTable.{at};
+
+    ghost rest = { λ _ _. None };
+
+    ghost entered = { λ _. None };
+
+    ghost faults = { λ s t. at s.faults t };
+
+    fn enter(&mut self, folder: &str) -> Result<(), NoMemory> {
+        self.files = Some(files_in(self.rt.alloc(), folder)?);
+        Ok(())
+    }
+
+    fn read(&mut self, table: Table, piece: &mut [u8]) -> Result<usize, Failed> {
+        let answer = match &mut self.files {
+            Some(files) => read_file(self.rt, files, table, piece),
+            None => Err(io::Error::from(ErrorKind::NotFound)),
+        };
+        match answer {
+            Ok(count) => Ok(count),
+            Err(_) => {
+                count_fault(&mut self.faults, table);
+                Err(Failed)
+            }
+        }
+    }
+
+    fn faults(&self, table: Table) -> u64 {
+        *self.faults.get(table)
+    }
+}

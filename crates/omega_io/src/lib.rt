@@ -1,0 +1,23 @@
+//! The edges of the program: tables that are read, a sink that is written, and a gate.
+//!
+//! The three traits say what a read, a write and a gate may do. The objects in memory serve
+//! tests, the steady ones never fail, and the real ones read a folder and write to standard
+//! output.
+#![tactic(auto)]
+
+mod by_table;
+mod calls;
+mod edges;
+mod folder;
+mod memory;
+mod stdout;
+mod steady;
+mod unread;
+mod writing;
+
+pub use edges::{Failed, Gate, PassGate, Point, Sink, Tables};
+pub use folder::FolderTables;
+pub use memory::{MemorySink, MemoryTables};
+pub use stdout::StdoutSink;
+pub use steady::{SteadySink, SteadyTables};
+pub use writing::write_all;

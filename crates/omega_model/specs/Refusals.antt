@@ -1,0 +1,46 @@
+-- Which refusal comes first for the bytes of the five tables.
+use Rattle.std.specs.Prelude.{ℕ, ◌+◌, nat_lt, List, [], ◌∷◌, length, take, map, Option, Some, None, Result, Ok, Err, if◌then◌else◌}
+use Rattle.omega_model.specs.Trace.{machine_rows, attr_rows, task_rows, constraint_rows, activity_rows, tables_in_order, place_of}
+use Rattle.omega_model.specs.declared.rows.Table.{Table}
+use Rattle.omega_model.specs.declared.rows.Table.TheVariants.{MachineEvents, MachineAttributes, TaskEvents, TaskConstraints, MapreduceJobs}
+use Rattle.omega_model.specs.declared.results.Status.{Status}
+use Rattle.omega_model.specs.declared.results.Status.TheVariants.{TooLong, NotBuilt}
+
+-- the first refusal that stands
+abbrev pub first_of : List (Option Status) → Option Status
+first_of [] = None
+first_of (None ∷ others) = first_of others
+first_of (Some refusal ∷ others) = Some refusal
+
+-- a table of more than 268,435,456 bytes is too long
+abbrev pub length_refusal : Table → List ℕ → Option Status
+length_refusal table bytes = if nat_lt 268435456 (length bytes) then Some (TooLong table) else None
+
+-- the first record that is no row isn't built; records count from 1 here
+abbrev pub not_built : {A : Type 0} → Table → Result (List A) (ℕ × Unit {0}) → Option Status
+not_built table (Ok rows) = None
+not_built table (Err (place, why)) = Some (NotBuilt table (place + 1))
+
+-- the refusal of a table's rows
+abbrev pub row_refusal : Table → List ℕ → Option Status
+row_refusal MachineEvents bytes = not_built MachineEvents (machine_rows bytes)
+row_refusal MachineAttributes bytes = not_built MachineAttributes (attr_rows bytes)
+row_refusal TaskEvents bytes = not_built TaskEvents (task_rows bytes)
+row_refusal TaskConstraints bytes = not_built TaskConstraints (constraint_rows bytes)
+row_refusal MapreduceJobs bytes = not_built MapreduceJobs (activity_rows bytes)
+
+-- the refusal of a table: first its length, then its rows
+abbrev pub table_refusal : (Table → List ℕ) → Table → Option Status
+table_refusal bytes table = first_of (length_refusal table (bytes table) ∷ row_refusal table (bytes table) ∷ [])
+
+-- the first refusal of some tables in their order
+abbrev pub refusal_among : List Table → (Table → List ℕ) → Option Status
+refusal_among tables bytes = first_of (map (table_refusal bytes) tables)
+
+-- the first refusal of the tables that are read before this one
+abbrev pub refusal_before : Table → (Table → List ℕ) → Option Status
+refusal_before table bytes = refusal_among (take (place_of table) tables_in_order) bytes
+
+-- the first refusal of the five tables, if any stands
+abbrev pub first_refusal : (Table → List ℕ) → Option Status
+first_refusal bytes = refusal_among tables_in_order bytes

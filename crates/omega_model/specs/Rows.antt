@@ -1,0 +1,36 @@
+-- Records of a table's bytes, and the typed rows of records.
+use Rattle.std.specs.Prelude.{ℕ, ◌+◌, ◌-◌, List, [], ◌∷◌, Option, Some, None, Result, Ok, Err, get_or}
+use Rattle.std.specs.Option.{ok_or}
+use Rattle.csv.specs.Reading.{default_config, records, strip_bom}
+
+-- the records of a table: comma, double quote, no header row, a byte order mark dropped
+abbrev pub records_of : List ℕ → List (List (List ℕ))
+records_of bytes = records default_config (strip_bom bytes)
+
+-- the field in a column, counted from 1
+abbrev pub column : List (List ℕ) → ℕ → List ℕ
+column fields number = get_or fields (number - 1) []
+
+-- the first record's row, and then the rows of the others
+abbrev pub with_first : {A E : Type 0} → Result A E → Result (List A) (ℕ × E) → Result (List A) (ℕ × E)
+with_first (Err why) others = Err (0, why)
+with_first (Ok row) (Ok rows) = Ok (row ∷ rows)
+with_first (Ok row) (Err (place, why)) = Err (place + 1, why)
+
+-- the typed rows of records in their order, or the place of the first record that is no row, and why
+abbrev pub rows_by : {A E : Type 0} → (List (List ℕ) → Result A E) → List (List (List ℕ)) → Result (List A) (ℕ × E)
+rows_by row_of [] = Ok []
+rows_by row_of (fields ∷ others) = with_first (row_of fields) (rows_by row_of others)
+
+-- the row of a record, or that it is none
+abbrev pub row_or_none : {A : Type 0} → (List (List ℕ) → Option A) → List (List ℕ) → Result A (Unit {0})
+row_or_none row_of fields = ok_or (row_of fields) tt
+
+-- the typed rows of a table's bytes, or the place of the first record that is no row
+abbrev pub rows_in : {A : Type 0} → (List (List ℕ) → Option A) → List ℕ → Result (List A) (ℕ × Unit {0})
+rows_in row_of bytes = rows_by (row_or_none row_of) (records_of bytes)
+
+-- the rows, and none where a record is no row
+abbrev pub rows_or_none : {A E : Type 0} → Result (List A) E → List A
+rows_or_none (Ok rows) = rows
+rows_or_none (Err why) = []

@@ -1,0 +1,58 @@
+-- The trace: the typed rows of the bytes of the five tables.
+use Rattle.std.specs.Prelude.{ℕ, List, [], ◌∷◌, ◌++◌, Result}
+use Rattle.omega_model.specs.Rows.{rows_in, rows_or_none}
+use Rattle.omega_model.specs.FirstForm.{machine_row, task_row, no_row}
+use Rattle.omega_model.specs.Fields.{MachineFields, AttrFields, TaskFields, ConstraintFields, ActivityFields}
+use Rattle.omega_model.specs.declared.rows.Table.{Table}
+use Rattle.omega_model.specs.declared.rows.Table.TheVariants.{MachineEvents, MachineAttributes, TaskEvents, TaskConstraints, MapreduceJobs}
+use Rattle.omega_model.specs.declared.rows.TraceTables.{TraceTables}
+
+-- the five tables in the order in which they are read
+abbrev pub tables_in_order : List Table
+tables_in_order = MachineEvents ∷ MachineAttributes ∷ TaskEvents ∷ TaskConstraints ∷ MapreduceJobs ∷ []
+
+-- the place of a table in that order
+abbrev pub place_of : Table → ℕ
+place_of MachineEvents = 0
+place_of MachineAttributes = 1
+place_of TaskEvents = 2
+place_of TaskConstraints = 3
+place_of MapreduceJobs = 4
+
+-- the rows of each table, or the place of the first record that is no row
+abbrev pub machine_rows : List ℕ → Result (List MachineFields) (ℕ × Unit {0})
+machine_rows bytes = rows_in machine_row bytes
+
+abbrev pub attr_rows : List ℕ → Result (List AttrFields) (ℕ × Unit {0})
+attr_rows bytes = rows_in no_row bytes
+
+abbrev pub task_rows : List ℕ → Result (List TaskFields) (ℕ × Unit {0})
+task_rows bytes = rows_in task_row bytes
+
+abbrev pub constraint_rows : List ℕ → Result (List ConstraintFields) (ℕ × Unit {0})
+constraint_rows bytes = rows_in no_row bytes
+
+abbrev pub activity_rows : List ℕ → Result (List ActivityFields) (ℕ × Unit {0})
+activity_rows bytes = rows_in no_row bytes
+
+-- a trace without rows
+abbrev pub no_rows : TraceTables
+no_rows = record { machines = []; attrs = []; tasks = []; constraints = []; activities = [] }
+
+-- a trace with the rows of one table's bytes behind those that it has of that table
+abbrev pub with_rows : Table → List ℕ → TraceTables → TraceTables
+with_rows MachineEvents bytes trace = record trace { machines = trace.machines ++ rows_or_none (machine_rows bytes) }
+with_rows MachineAttributes bytes trace = record trace { attrs = trace.attrs ++ rows_or_none (attr_rows bytes) }
+with_rows TaskEvents bytes trace = record trace { tasks = trace.tasks ++ rows_or_none (task_rows bytes) }
+with_rows TaskConstraints bytes trace = record trace { constraints = trace.constraints ++ rows_or_none (constraint_rows bytes) }
+with_rows MapreduceJobs bytes trace = record trace { activities = trace.activities ++ rows_or_none (activity_rows bytes) }
+
+-- the trace of the bytes of the five tables
+abbrev pub trace_of : (Table → List ℕ) → TraceTables
+trace_of bytes = record {
+  machines = rows_or_none (machine_rows (bytes MachineEvents));
+  attrs = rows_or_none (attr_rows (bytes MachineAttributes));
+  tasks = rows_or_none (task_rows (bytes TaskEvents));
+  constraints = rows_or_none (constraint_rows (bytes TaskConstraints));
+  activities = rows_or_none (activity_rows (bytes MapreduceJobs));
+}
