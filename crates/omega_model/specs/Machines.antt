@@ -6,13 +6,10 @@ use Rattle.omega_model.specs.declared.cells.Need.{Need}
 use Rattle.omega_model.specs.declared.cells.Attr.{Attr}
 use Rattle.omega_model.specs.declared.cells.Machine.{Machine}
 
-<<<<<<< HEAD
-=======
 -- the numbers of some machines
 abbrev pub numbers_of : List Machine → List ℕ
 numbers_of machines = map (λ machine. machine.id) machines
 
->>>>>>> a2db7ce5e3b8135b9547a739c66184603605818a
 -- the machine of this number changed, all others as they are
 abbrev pub change : ℕ → (Machine → Machine) → List Machine → List Machine
 change id changed machines = map (λ machine. if machine.id == id then changed machine else machine) machines

@@ -1,2 +1,3 @@
 pub mod Replays
 pub mod Words
+pub mod Faults

@@ -51,6 +51,13 @@ impl Replay {
         &self.cell
     }
 
+    /// The entries in order.
+    pub fn history(&self) -> &[Entry]
+        ensures { result.now ≡ self.now }
+    {
+        self.entries.as_slice()
+    }
+
     /// The history itself, which is legal. Takes no memory.
     pub fn into_history(self) -> Entries
         ensures history { result ≡ self }
@@ -72,7 +79,8 @@ impl Replay {
     /// A machine is up with this capacity, before any task runs.
     pub fn with_machine(self, alloc: Global, id: u64, cap: Need) -> Result<Replay, NoMemory>
         requires { (state self).tasks ≡ [] }
-        ensures { IfOk result (λ replay. replay ≡ self ++ MachineAdd id cap ∷ []) }
+        ensures replay { IfOk result (λ replay. replay ≡ self ++ MachineAdd id cap ∷ []) }
+        ensures idle { IfOk result (λ replay. (state replay).tasks ≡ []) }
     {
         let Replay { cell, mut entries } = self;
         let cell = cell.with_machine(alloc, id, cap)?;
