@@ -3,3 +3,4 @@ mod ExamplesCell
 mod ExamplesFeed
 mod ExamplesWork
 mod ExamplesTurns
+mod ExamplesLawful
