@@ -1,18 +1,16 @@
 -- Worked answers: what entries make of a cell's machines and tasks, and which machines they touch.
 use Rattle.std.proofs.Common.{◌≡◌, ℕ, Bool, true, false, List, [], ◌∷◌, ◌++◌, refl}
-use Rattle.omega_model.specs.Cell.{keys_of, use_on, with_task}
+use Rattle.omega_model.specs.Cell.{keys_of}
 use Rattle.omega_model.specs.Touches.{seq}
 use Rattle.omega_model.specs.State.{state, reply_of}
 use Rattle.omega_model.specs.declared.cells.Attr.{Attr}
 use Rattle.omega_model.specs.declared.cells.Machine.{Machine}
 use Rattle.omega_model.specs.declared.cells.Need.{Need}
-use Rattle.omega_model.specs.declared.cells.Spec.{Spec}
 use Rattle.omega_model.specs.declared.cells.TaskKey.{TaskKey}
 use Rattle.omega_model.specs.declared.claims.Claim.{Claim}
 use Rattle.omega_model.specs.declared.claims.Mode.TheVariants.{Incremental}
 use Rattle.omega_model.specs.declared.claims.Rule.TheVariants.{Fine, Coarse}
 use Rattle.omega_model.specs.declared.claims.Txn.{Txn}
-use Rattle.omega_model.specs.declared.claims.Verdict.{Verdict}
 use Rattle.omega_model.specs.declared.claims.Verdict.TheVariants.{Placed, NoMachine, AlreadyRunning, Changed, VictimGone, VictimRank, SameJob, Full}
 use Rattle.omega_model.specs.declared.entries.Entry.{Entry}
 use Rattle.omega_model.specs.declared.entries.Entry.TheVariants.{Round, MachineAdd, MachineUpdate, MachineRemove, AttrSet, AttrDelete, End, Commit}

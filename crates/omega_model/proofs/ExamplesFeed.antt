@@ -61,7 +61,7 @@ without_gap : rounds mixed 10 ≡
       number = 0;
       rows = Machine (machine_row 0 2 0) ∷ Attr (attr_row 0 2 false) ∷ Task (task_row 0 0 0 4)
           ∷ Machine (machine_row 5 1 0) ∷ Machine (machine_row 5 3 0) ∷ Attr (attr_row 5 1 false)
-          ∷ Task (task_row 5 0 0 2) ∷ Task (task_row 5 1 0 3) ∷ []
+          ∷ Task (task_row 5 0 0 2) ∷ Task (task_row 5 1 0 3) ∷ [];
     }
     ∷ record { number = 2; rows = Task (task_row 25 0 0 1) ∷ [] } ∷ []
 unfolding amount task_key spec_of machine_row attr_row task_row mixed

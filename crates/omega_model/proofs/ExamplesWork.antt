@@ -54,8 +54,19 @@ asks job claims = record { job = job; rule = Fine; mode = Incremental; claims = 
 -- these many tries, and given up after so many commits that place nothing
 unfoldable settings_with : ℕ → ℕ → Settings
 settings_with tries give_up = record {
-  command = Replay; seed = 0; batch = 1; rule = Fine; mode = Incremental; preempt = Nobody; extra = Max;
-  tries = tries; give_up = give_up; window = 10; format = Text; machines = 0; jobs = 0
+  command = Replay;
+  seed = 0;
+  batch = 1;
+  rule = Fine;
+  mode = Incremental;
+  preempt = Nobody;
+  extra = Max;
+  tries = tries;
+  give_up = give_up;
+  window = 10;
+  format = Text;
+  machines = 0;
+  jobs = 0;
 }
 
 -- a row that submits a task of this need
@@ -181,7 +192,7 @@ unfoldable crowded : Cell
 crowded = state (
     MachineAdd 1 (amount 10) ∷ MachineAdd 2 (amount 10)
     ∷ Commit 1 2 (asks 10 (claim_on 1 10 0 3 2 ∷ claim_on 1 10 2 3 1 ∷ claim_on 1 10 1 2 1 ∷ claim_on 1 7 0 2 5 ∷ claim_on 2 11 0 9 1 ∷ []))
-      (Placed ∷ Placed ∷ Placed ∷ Placed ∷ Placed ∷ [])
+    (Placed ∷ Placed ∷ Placed ∷ Placed ∷ Placed ∷ [])
     ∷ [])
 
 -- a wish of job 7 with precedence 4

@@ -6,3 +6,4 @@ mod ExamplesWork
 mod ExamplesTurns
 pub mod Records
 pub mod TypedRows
+mod ExamplesLawful

@@ -25,7 +25,7 @@ abbrev pub read_entry : Reading → Entry → Reading
 read_entry reading (Round number) = record { place = reading.place + 1; commits = [] }
 read_entry reading (Commit scheduler seen txn reply) = record {
   place = reading.place + 1;
-  commits = reading.commits ++ record { place = reading.place; scheduler = scheduler; turn = next_turn scheduler reading.commits } ∷ []
+  commits = reading.commits ++ record { place = reading.place; scheduler = scheduler; turn = next_turn scheduler reading.commits } ∷ [];
 }
 read_entry reading _ = record { place = reading.place + 1; commits = reading.commits }
 

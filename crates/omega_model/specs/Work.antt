@@ -66,7 +66,7 @@ moved_on settings standing request rest outcomes =
     else record {
       requests = rest_of request outcomes ∷ rest;
       taken = standing.taken + 1;
-      failing = failing_with standing.failing request.job outcomes
+      failing = failing_with standing.failing request.job outcomes;
     }
 
 -- the requests after one more list of outcomes; there is no answer where no request remains for it
