@@ -12,7 +12,9 @@ use Rattle.omega_model.specs.declared.claims.Rule.TheVariants.{Fine}
 use Rattle.omega_model.specs.declared.claims.Verdict.TheVariants.{Placed, NoMachine, AlreadyRunning, Changed, VictimGone, VictimRank, SameJob, Full, Withdrawn}
 use Rattle.omega_model.specs.declared.entries.Entry.{Entry}
 use Rattle.omega_model.specs.declared.entries.Entry.TheVariants.{Round, MachineAdd, Commit}
+use Rattle.omega_model.specs.declared.rows.TraceTables.{TraceTables}
 use Rattle.omega_model.specs.declared.settings.Extra.{Extra}
+use Rattle.omega_model.specs.declared.settings.Settings.{Settings}
 use Rattle.omega_model.specs.declared.settings.Extra.TheVariants.{Max, Cap, Relative}
 
 unfoldable amount : ℕ → Need
@@ -194,7 +196,7 @@ short =
     ∷ nothing_by 1 4 ∷ []
 
 -- its lines
-short_report : report_lines short ≡
+short_report : (settings : Settings) (trace : TraceTables) → report_lines settings trace short ≡
     (Name (codes "omega") ∷ Number 1 ∷ [])
     ∷ (Name (codes "round") ∷ Number 3 ∷ [])
     ∷ (Name (codes "commit") ∷ Number 0 ∷ Number 2 ∷ Number 12 ∷ [])
@@ -205,11 +207,11 @@ short_report : report_lines short ≡
     ∷ (Name (codes "refuse") ∷ Number 12 ∷ Number 3 ∷ Number 5 ∷ Name (codes "no-machine") ∷ [])
     ∷ (Name (codes "commit") ∷ Number 1 ∷ Number 4 ∷ Number 1 ∷ []) ∷ []
 unfolding amount nothing_by key claim short
-short_report = refl
+short_report settings trace = refl
 
 -- the bytes of a report without entries: its first line alone
-empty_report : report [] ≡ codes "omega 1\n"
-empty_report = rw (decimal_digit 1 (lit< tt)) refl
+empty_report : (settings : Settings) (trace : TraceTables) → report settings trace [] ≡ codes "omega 1\n"
+empty_report settings trace = rw (decimal_digit 1 (lit< tt)) refl
 
 -- words are parted by one space, numbers are decimal, and a line ends with a line feed
 line_bytes : line_text (Name (codes "place") ∷ Number 12 ∷ Number 0 ∷ []) ≡ codes "place 12 0\n"

@@ -28,3 +28,4 @@ pub mod Rows
 pub mod FirstForm
 pub mod Trace
 pub mod Refusals
+pub mod Ranges

@@ -9,6 +9,8 @@ use Rattle.omega_model.specs.declared.claims.Verdict.{Verdict}
 use Rattle.omega_model.specs.declared.claims.Verdict.TheVariants.{Placed, NoMachine, AlreadyRunning, Changed, VictimGone, VictimRank, SameJob, Full, Withdrawn}
 use Rattle.omega_model.specs.declared.entries.Entry.{Entry}
 use Rattle.omega_model.specs.declared.entries.Entry.TheVariants.{Round, Commit}
+use Rattle.omega_model.specs.declared.rows.TraceTables.{TraceTables}
+use Rattle.omega_model.specs.declared.settings.Settings.{Settings}
 
 -- a word of a line
 pub data Word : Type 0 where
@@ -57,9 +59,13 @@ entry_lines (Commit scheduler seen txn reply) =
     ∷ flat_map claim_lines (zip txn.claims reply)
 entry_lines _ = []
 
--- the lines of the report of a history
-abbrev pub report_lines : List Entry → List Line
-report_lines history = (Name (codes "omega") ∷ Number 1 ∷ []) ∷ flat_map entry_lines history
+-- the first line, and the lines of the entries of a history
+abbrev pub history_lines : List Entry → List Line
+history_lines history = (Name (codes "omega") ∷ Number 1 ∷ []) ∷ flat_map entry_lines history
+
+-- the lines of the report of a history: so far those of its entries, whatever the settings and the trace
+abbrev pub report_lines : Settings → TraceTables → List Entry → List Line
+report_lines settings trace history = history_lines history
 
 -- the bytes of a word
 abbrev pub word_text : Word → List ℕ
@@ -71,5 +77,5 @@ abbrev pub line_text : Line → List ℕ
 line_text line = join_with_byte 32 (map word_text line) ++ 10 ∷ []
 
 -- the bytes of the report of a history
-abbrev pub report : List Entry → List ℕ
-report history = flat_map line_text (report_lines history)
+abbrev pub report : Settings → TraceTables → List Entry → List ℕ
+report settings trace history = flat_map line_text (report_lines settings trace history)

@@ -8,5 +8,7 @@ mod planning;
 mod replaying;
 mod reporting;
 mod status;
+mod top;
 
-pub use status::{Line, exit_status};
+pub use status::{Line, exit_status, fault_line};
+pub use top::{omega, omega_with};

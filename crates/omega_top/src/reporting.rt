@@ -1,7 +1,7 @@
 //! The report of a history, line by line.
 ghost use Rattle.std.specs.Prelude.{◌≡◌, ◌++◌, ◌∷◌, [], IfOk, OnOk, codes, map};
 ghost use Rattle.std.specs.List.{flat_map, zip};
-ghost use Rattle.omega_model.specs.Report.{Name, Number, claim_lines, entry_lines, line_text, report, task_words, word_text};
+ghost use Rattle.omega_model.specs.Report.{Name, Number, claim_lines, entry_lines, history_lines, line_text, task_words, word_text};
 ghost use Rattle.omega_top.specs.Words.{tail_text, word_of};
 
 use omega_model::{Bytes, Claim, Entry, NoMemory, Seq, TaskKey, Verdict};
@@ -16,7 +16,7 @@ pub enum Word<'a> {
 
 /// The bytes of the report of a history.
 pub fn report(alloc: Global, history: &[Entry]) -> Result<Bytes, NoMemory>
-    ensures { IfOk result (λ bytes. bytes ≡ report history.now) }
+    ensures { IfOk result (λ bytes. bytes ≡ flat_map line_text (history_lines history.now)) }
 {
     let mut out = Vec::new(alloc);
     push_line(&mut out, "omega", &[Word::Number(1)], &[])?;

@@ -1,0 +1,126 @@
+-- What the top call answers, and why.
+use Rattle.std.specs.Prelude.{◌≡◌, ◌≢◌, ℕ, List, [], ◌∷◌, Option, Some, None, codes, map, ⊤}
+use Rattle.omega_io.specs.Edge.{Appends, AppendsPart, Rose}
+use Rattle.omega_model.specs.Ranges.{IsInRange}
+use Rattle.omega_model.specs.Refusals.{first_refusal, refusal_before}
+use Rattle.omega_model.specs.declared.claims.Mode.TheVariants.{Incremental}
+use Rattle.omega_model.specs.declared.claims.Rule.TheVariants.{Fine}
+use Rattle.omega_model.specs.declared.entries.Entry.{Entry}
+use Rattle.omega_model.specs.declared.results.Status.{Status}
+use Rattle.omega_model.specs.declared.results.Status.TheVariants.{Done, Usage, ReadFault, TooLong, BadRow, TooMany, NotBuilt, WriteFault, NoMemory}
+use Rattle.omega_model.specs.declared.rows.Table.{Table}
+use Rattle.omega_model.specs.declared.settings.Command.TheVariants.{Replay}
+use Rattle.omega_model.specs.declared.settings.Extra.TheVariants.{Relative}
+use Rattle.omega_model.specs.declared.settings.Format.TheVariants.{Text}
+use Rattle.omega_model.specs.declared.settings.Preempt.TheVariants.{Nobody}
+use Rattle.omega_model.specs.declared.settings.Settings.{Settings}
+
+-- the words are the one list of words that is taken: `replay` alone
+abbrev pub SayReplay : List (List ℕ) → Type 0
+SayReplay words = words ≡ codes "replay" ∷ []
+
+-- the settings that these words give
+abbrev pub default_settings : Settings
+default_settings = record {
+  command = Replay;
+  seed = 0;
+  batch = 1;
+  rule = Fine;
+  mode = Incremental;
+  preempt = Nobody;
+  extra = Relative;
+  tries = 5;
+  give_up = 1000;
+  window = 300000000;
+  format = Text;
+  machines = 64;
+  jobs = 500
+}
+
+-- the settings are in their ranges, and what isn't built yet has its default
+pub record IsBuilt (settings : Settings) : Type 0 where
+  pub ranges : IsInRange settings
+  pub command : settings.command ≡ Replay
+  pub batch : settings.batch ≡ 1
+  pub rule : settings.rule ≡ Fine
+  pub mode : settings.mode ≡ Incremental
+  pub preempt : settings.preempt ≡ Nobody
+  pub format : settings.format ≡ Text
+
+-- what may be answered of tables that tell these bytes: the first refusal of theirs, a read that
+-- fails before any of them, or, where there is none, how the run ended
+abbrev pub Answers : (Table → List ℕ) → Status → Type 0
+Answers bytes Done = first_refusal bytes ≡ None
+Answers bytes WriteFault = first_refusal bytes ≡ None
+Answers bytes NoMemory = ⊤
+Answers bytes Usage = ⊥
+Answers bytes (ReadFault table) = refusal_before table bytes ≡ None
+Answers bytes (TooLong table) = first_refusal bytes ≡ Some (TooLong table)
+Answers bytes (BadRow table row column cause) = first_refusal bytes ≡ Some (BadRow table row column cause)
+Answers bytes (TooMany kind number) = first_refusal bytes ≡ Some (TooMany kind number)
+Answers bytes (NotBuilt table row) = first_refusal bytes ≡ Some (NotBuilt table row)
+
+-- a fault of reading is answered only where the count of its table rose
+abbrev pub HasReadCause : (Table → ℕ) → (Table → ℕ) → Status → Type 0
+HasReadCause before now Done = ⊤
+HasReadCause before now WriteFault = ⊤
+HasReadCause before now NoMemory = ⊤
+HasReadCause before now Usage = ⊤
+HasReadCause before now (ReadFault table) = Rose (before table) (now table)
+HasReadCause before now (TooLong table) = ⊤
+HasReadCause before now (BadRow table row column cause) = ⊤
+HasReadCause before now (TooMany kind number) = ⊤
+HasReadCause before now (NotBuilt table row) = ⊤
+
+-- of the report all is written in the end, a part of it where the sink fails, and else nothing
+abbrev pub Writes : List ℕ → Option (List ℕ) → Option (List ℕ) → Status → Type 0
+Writes report before now Done = Appends report before now
+Writes report before now WriteFault = AppendsPart report before now
+Writes report before now NoMemory = now ≡ before
+Writes report before now Usage = now ≡ before
+Writes report before now (ReadFault table) = now ≡ before
+Writes report before now (TooLong table) = now ≡ before
+Writes report before now (BadRow table row column cause) = now ≡ before
+Writes report before now (TooMany kind number) = now ≡ before
+Writes report before now (NotBuilt table row) = now ≡ before
+
+-- a history comes with a run that reached its report, and else none does
+abbrev pub HasHistory : List Entry → Status → Type 0
+HasHistory history Done = ⊤
+HasHistory history WriteFault = ⊤
+HasHistory history NoMemory = history ≡ []
+HasHistory history Usage = history ≡ []
+HasHistory history (ReadFault table) = history ≡ []
+HasHistory history (TooLong table) = history ≡ []
+HasHistory history (BadRow table row column cause) = history ≡ []
+HasHistory history (TooMany kind number) = history ≡ []
+HasHistory history (NotBuilt table row) = history ≡ []
+
+-- nothing is written by a run that doesn't reach its report
+abbrev pub WritesNothing : Option (List ℕ) → Option (List ℕ) → Status → Type 0
+WritesNothing before now Done = ⊤
+WritesNothing before now WriteFault = ⊤
+WritesNothing before now NoMemory = now ≡ before
+WritesNothing before now Usage = now ≡ before
+WritesNothing before now (ReadFault table) = now ≡ before
+WritesNothing before now (TooLong table) = now ≡ before
+WritesNothing before now (BadRow table row column cause) = now ≡ before
+WritesNothing before now (TooMany kind number) = now ≡ before
+WritesNothing before now (NotBuilt table row) = now ≡ before
+
+-- the end of a run whose tables were read
+abbrev pub EndsRun : Status → Type 0
+EndsRun Done = ⊤
+EndsRun WriteFault = ⊤
+EndsRun NoMemory = ⊤
+EndsRun Usage = ⊥
+EndsRun (ReadFault table) = ⊥
+EndsRun (TooLong table) = ⊥
+EndsRun (BadRow table row column cause) = ⊥
+EndsRun (TooMany kind number) = ⊥
+EndsRun (NotBuilt table row) = ⊥
+
+-- no count of faults rose
+pub record NoneRose (tables_before tables_now : Table → ℕ) (sink_before sink_now : ℕ) : Type 0 where
+  pub tables : (table : Table) → ¬ Rose (tables_before table) (tables_now table)
+  pub sink : ¬ Rose sink_before sink_now

@@ -1,0 +1,161 @@
+//! The top call.
+ghost use Rattle.std.specs.Prelude.{◌≡◌, ◌≢◌, ◌↔◌, ◌⊎◌, [], ◌∷◌, ℕ, List, None, Some, codes, map, IsTrue, IfOk, IfSome};
+ghost use Rattle.omega_io.specs.Edge.{Rose, Tells};
+ghost use Rattle.omega_model.specs.Legal.{Legal};
+ghost use Rattle.omega_model.specs.Refusals.{first_refusal};
+ghost use Rattle.omega_model.specs.Report.{report};
+ghost use Rattle.omega_model.specs.Trace.{trace_of};
+ghost use Rattle.omega_model.specs.declared.results.Status.TheVariants.{Done, Usage, WriteFault, NoMemory};
+ghost use Rattle.omega_model.specs.declared.rows.Table.{Table};
+ghost use Rattle.omega_top.specs.Answers.{Answers, EndsRun, HasHistory, HasReadCause, IsBuilt, NoneRose, SayReplay, Writes, WritesNothing, default_settings};
+
+use crate::attempts::replayed;
+use crate::reporting::report;
+use omega_io::{Gate, Sink, Tables, write_all};
+use omega_model::{
+    Command, Done, Extra, Format, Mode, Preempt, Rule, Seq, Settings, Status, TraceTables,
+};
+use omega_tables::read_tables;
+use std::alloc::Global;
+
+/// The settings of the one word `replay`.
+const DEFAULTS: Settings = Settings {
+    command: Command::Replay,
+    seed: 0,
+    batch: 1,
+    rule: Rule::Fine,
+    mode: Mode::Incremental,
+    preempt: Preempt::Nobody,
+    extra: Extra::Relative,
+    tries: 5,
+    give_up: 1000,
+    window: 300_000_000,
+    format: Format::Text,
+    machines: 64,
+    jobs: 500,
+};
+
+/// Does what the words say with the tables of a folder: replays them and writes the report of the
+/// history that it answers.
+///
+/// Of the refusals the first that stands is answered: that of the words, then for each table in
+/// order that of its reading, its length and its rows, then that of the writing. Want of memory
+/// alone may be answered at any place before the first write. The gate is for runs with threads,
+/// which aren't built yet.
+pub fn omega<T: Tables, K: Sink, G: Gate>(
+    alloc: Global,
+    words: &[&str],
+    tables: &mut T,
+    out: &mut K,
+    gate: &G,
+) -> Done
+    ensures usage { (result.status ≡ Usage) ↔ (¬ SayReplay (map (λ word. word.now) words.now)) }
+    ensures settings { SayReplay (map (λ word. word.now) words.now) → result.settings ≡ Some default_settings }
+    ensures no_settings { result.status ≡ Usage → result.settings ≡ None }
+    ensures folder { SayReplay (map (λ word. word.now) words.now) → result.status ≢ NoMemory → IfSome (T.entered tables.new) (λ folder. folder ≡ codes ".") }
+
+    ensures first { (bytes : Table → List ℕ) → Tells (T.rest tables.old) bytes → result.status ≢ Usage → Answers bytes result.status }
+    ensures read_fault { HasReadCause (T.faults tables.old) (T.faults tables.new) result.status }
+    ensures write_fault { result.status ≡ WriteFault → Rose (K.faults out.old) (K.faults out.new) }
+    ensures complete { (bytes : Table → List ℕ) → Tells (T.rest tables.old) bytes → first_refusal bytes ≡ None
+        → NoneRose (T.faults tables.old) (T.faults tables.new) (K.faults out.old) (K.faults out.new)
+        → result.status ≢ Usage → (result.status ≡ Done) ⊎ (result.status ≡ NoMemory) }
+
+    ensures legal { Legal result.history }
+    ensures history { HasHistory result.history result.status }
+    ensures written { (bytes : Table → List ℕ) → Tells (T.rest tables.old) bytes
+        → Writes (report default_settings (trace_of bytes) result.history) (K.written out.old) (K.written out.new) result.status }
+    ensures nothing { WritesNothing (K.written out.old) (K.written out.new) result.status }
+    ensures to_end { (bytes : Table → List ℕ) → Tells (T.rest tables.old) bytes → result.status ≡ Done → Tells (T.rest tables.new) (λ table. []) }
+{
+    if !say_replay(words) {
+        return refused(alloc, Status::Usage, None);
+    }
+    if tables.enter(".").is_err() {
+        return refused(alloc, Status::NoMemory, Some(DEFAULTS));
+    }
+    omega_with(alloc, &DEFAULTS, tables, out, gate)
+}
+
+/// What `omega` does once the words are read and the folder is entered, under any settings that
+/// are built.
+pub fn omega_with<T: Tables, K: Sink, G: Gate>(
+    alloc: Global,
+    settings: &Settings,
+    tables: &mut T,
+    out: &mut K,
+    _gate: &G,
+) -> Done
+    requires { IsBuilt settings.now }
+    ensures settings { result.settings ≡ Some settings.now }
+    ensures folder { T.entered tables.new ≡ T.entered tables.old }
+
+    ensures first { (bytes : Table → List ℕ) → Tells (T.rest tables.old) bytes → Answers bytes result.status }
+    ensures not_usage { result.status ≢ Usage }
+    ensures read_fault { HasReadCause (T.faults tables.old) (T.faults tables.new) result.status }
+    ensures write_fault { result.status ≡ WriteFault → Rose (K.faults out.old) (K.faults out.new) }
+
+    ensures legal { Legal result.history }
+    ensures history { HasHistory result.history result.status }
+    ensures written { (bytes : Table → List ℕ) → Tells (T.rest tables.old) bytes
+        → Writes (report settings.now (trace_of bytes) result.history) (K.written out.old) (K.written out.new) result.status }
+    ensures nothing { WritesNothing (K.written out.old) (K.written out.new) result.status }
+    ensures to_end { (bytes : Table → List ℕ) → Tells (T.rest tables.old) bytes → result.status ≡ Done → Tells (T.rest tables.new) (λ table. []) }
+{
+    match read_tables(alloc, tables) {
+        Ok(trace) => replay_and_write(alloc, settings, &trace, out),
+        Err(refusal) => refused(alloc, Status::from(refusal), Some(*settings)),
+    }
+}
+
+// Whether the words are the one word that is built.
+fn say_replay(words: &[&str]) -> bool
+    ensures { IsTrue result ↔ SayReplay (map (λ word. word.now) words.now) }
+{
+    match words {
+        [word] => *word == "replay",
+        _ => false,
+    }
+}
+
+// A run that ends with nothing written and without a history.
+fn refused(alloc: Global, status: Status, settings: Option<Settings>) -> Done
+    ensures { result ≡ record { status = status; settings = settings; history = [] } }
+{
+    Done {
+        status,
+        settings,
+        history: Seq::new(alloc),
+    }
+}
+
+// Replays the tables and writes the report.
+fn replay_and_write<K: Sink>(
+    alloc: Global,
+    settings: &Settings,
+    trace: &TraceTables,
+    out: &mut K,
+) -> Done
+    ensures settings { result.settings ≡ Some settings.now }
+    ensures ends { EndsRun result.status }
+    ensures cause { result.status ≡ WriteFault → Rose (K.faults out.old) (K.faults out.new) }
+    ensures legal { Legal result.history }
+    ensures history { HasHistory result.history result.status }
+    ensures written { Writes (report settings.now trace.now result.history) (K.written out.old) (K.written out.new) result.status }
+{
+    let Ok(history) = replayed(alloc, settings, trace) else {
+        return refused(alloc, Status::NoMemory, Some(*settings));
+    };
+    let Ok(bytes) = report(alloc, history.as_slice()) else {
+        return refused(alloc, Status::NoMemory, Some(*settings));
+    };
+    let status = match write_all(out, bytes.as_slice()) {
+        Ok(()) => Status::Done,
+        Err(_) => Status::WriteFault,
+    };
+    Done {
+        status,
+        settings: Some(*settings),
+        history,
+    }
+}
