@@ -7,3 +7,4 @@ mod ExamplesTurns
 pub mod Records
 pub mod TypedRows
 mod ExamplesLawful
+pub mod FirstRefusal

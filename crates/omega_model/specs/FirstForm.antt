@@ -96,8 +96,8 @@ abbrev pub machine_row : List (List ℕ) → Option MachineFields
 machine_row fields =
     if length fields == 6 && is_zero (column fields 1) && is_zero (column fields 3)
     then added
-        (whole_number 18446744073709551615 (column fields 2))
-        (need_of (short_quantity (column fields 5)) (short_quantity (column fields 6)))
+    (whole_number 18446744073709551615 (column fields 2))
+    (need_of (short_quantity (column fields 5)) (short_quantity (column fields 6)))
     else None
 
 -- a submission at time 0 with no restriction: 13 fields, the first and the sixth 0, the last blank or 0
@@ -110,9 +110,9 @@ abbrev pub task_row : List (List ℕ) → Option TaskFields
 task_row fields =
     if is_submission fields
     then submitted
-        (key_of (whole_number 18446744073709551615 (column fields 3)) (whole_number 2147483647 (column fields 4)))
-        (class_of (column fields 8))
-        (spec_of (need_of (short_quantity (column fields 10)) (short_quantity (column fields 11))) (priority_of (column fields 9)))
+    (key_of (whole_number 18446744073709551615 (column fields 3)) (whole_number 2147483647 (column fields 4)))
+    (class_of (column fields 8))
+    (spec_of (need_of (short_quantity (column fields 10)) (short_quantity (column fields 11))) (priority_of (column fields 9)))
     else None
 
 -- no record of the other tables is of the first form

@@ -30,12 +30,12 @@ row_refusal TaskConstraints bytes = not_built TaskConstraints (constraint_rows b
 row_refusal MapreduceJobs bytes = not_built MapreduceJobs (activity_rows bytes)
 
 -- the refusal of a table: first its length, then its rows
-abbrev pub table_refusal : (Table → List ℕ) → Table → Option Status
-table_refusal bytes table = first_of (length_refusal table (bytes table) ∷ row_refusal table (bytes table) ∷ [])
+abbrev pub table_refusal : Table → List ℕ → Option Status
+table_refusal table bytes = first_of (length_refusal table bytes ∷ row_refusal table bytes ∷ [])
 
 -- the first refusal of some tables in their order
 abbrev pub refusal_among : List Table → (Table → List ℕ) → Option Status
-refusal_among tables bytes = first_of (map (table_refusal bytes) tables)
+refusal_among tables bytes = first_of (map (λ table. table_refusal table (bytes table)) tables)
 
 -- the first refusal of the tables that are read before this one
 abbrev pub refusal_before : Table → (Table → List ℕ) → Option Status

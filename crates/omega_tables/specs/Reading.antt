@@ -1,7 +1,7 @@
 -- What the reading of tables may answer.
 use Rattle.std.specs.Prelude.{◌≡◌, ◌<◌, ℕ, List, length, Option, Some, None, IfSome, ⊤}
 use Rattle.omega_io.specs.Edge.{Rose}
-use Rattle.omega_model.specs.Refusals.{first_refusal, refusal_before}
+use Rattle.omega_model.specs.Refusals.{first_refusal, refusal_before, table_refusal}
 use Rattle.omega_model.specs.declared.rows.Table.{Table}
 use Rattle.omega_model.specs.declared.results.Status.{Status}
 use Rattle.omega_model.specs.declared.results.Status.TheVariants as status
@@ -34,6 +34,15 @@ Stands refusal (BadRow table row column cause) = refusal ≡ Some (status.BadRow
 Stands refusal (TooMany kind number) = refusal ≡ Some (status.TooMany kind number)
 Stands refusal (NotBuilt table row) = refusal ≡ Some (status.NotBuilt table row)
 Stands refusal NoMemory = ⊤
+
+-- why a table with these bytes wasn't read: a read of it failed, or its refusal stands
+abbrev pub StopsAt : Table → List ℕ → ReadRefusal → Type 0
+StopsAt table bytes (Fault other) = other ≡ table
+StopsAt table bytes (TooLong other) = Stands (table_refusal table bytes) (TooLong other)
+StopsAt table bytes (BadRow other row column cause) = Stands (table_refusal table bytes) (BadRow other row column cause)
+StopsAt table bytes (TooMany kind number) = Stands (table_refusal table bytes) (TooMany kind number)
+StopsAt table bytes (NotBuilt other row) = Stands (table_refusal table bytes) (NotBuilt other row)
+StopsAt table bytes NoMemory = ⊤
 
 -- the answer comes first for these bytes: before a fault no refusal of an earlier table stands
 abbrev pub ComesFirst : (Table → List ℕ) → ReadRefusal → Type 0

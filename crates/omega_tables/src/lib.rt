@@ -9,5 +9,5 @@ mod reading;
 mod refusal;
 
 pub use parsing::parse_table;
-pub use reading::read_bytes;
+pub use reading::{read_bytes, read_tables};
 pub use refusal::ReadRefusal;

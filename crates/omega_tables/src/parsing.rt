@@ -9,7 +9,9 @@ ghost use Rattle.omega_tables.specs.Reading.{Stands};
 use crate::first_form::{machine_row, task_row};
 use crate::refusal::ReadRefusal;
 use csv::{ByteRecord, ReaderBuilder};
-use omega_model::{ActivityRow, AttrRow, ConstraintRow, MachineRow, Seq, Table, TaskRow, TraceTables};
+use omega_model::{
+    ActivityRow, AttrRow, ConstraintRow, MachineRow, Seq, Table, TaskRow, TraceTables,
+};
 use std::alloc::Global;
 use std::mem;
 

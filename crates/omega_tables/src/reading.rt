@@ -1,10 +1,10 @@
 //! The reading of whole tables.
-ghost use Rattle.std.specs.Prelude.{◌≡◌, ◌≢◌, ◌≤◌, ℕ, List, [], length, Some, None, IfOk, OnOk, IfErr, IfSome};
+ghost use Rattle.std.specs.Prelude.{◌≡◌, ◌≢◌, ◌≤◌, ℕ, List, [], length, Some, None, IfOk, OnOk, OnErr, IfErr, IfSome};
 ghost use Rattle.omega_io.specs.Edge.{Tells};
 ghost use Rattle.omega_model.specs.Trace.{trace_of, with_rows};
 ghost use Rattle.omega_model.specs.Refusals.{first_refusal, table_refusal};
 ghost use Rattle.omega_model.specs.declared.rows.Table.{Table};
-ghost use Rattle.omega_tables.specs.Reading.{StopsReading, ComesFirst, HasCause};
+ghost use Rattle.omega_tables.specs.Reading.{StopsReading, StopsAt, ComesFirst, HasCause};
 
 use crate::parsing::parse_table;
 use crate::refusal::ReadRefusal;
@@ -14,6 +14,15 @@ use std::alloc::Global;
 
 // The greatest length of a table in bytes.
 const MOST_BYTES: usize = 268_435_456;
+
+// The order in which the tables are read.
+const IN_ORDER: [Table; 5] = [
+    Table::MachineEvents,
+    Table::MachineAttributes,
+    Table::TaskEvents,
+    Table::TaskConstraints,
+    Table::MapreduceJobs,
+];
 
 /// The whole rest of a table. `Fault` comes only where the count of that table rose, or can rise
 /// no further. `TooLong` comes exactly where no fault is answered and the rest has more than
@@ -43,4 +52,47 @@ pub fn read_bytes<T: Tables>(
         bytes.extend_from_slice(&piece[..count])?;
     }
     Err(ReadRefusal::TooLong(table))
+}
+
+// Reads one table to its end and appends its rows.
+fn read_table<T: Tables>(
+    alloc: Global,
+    tables: &mut T,
+    table: Table,
+    into: &mut TraceTables,
+) -> Result<(), ReadRefusal>
+    ensures rows { OnOk result (IfSome (T.rest tables.old table) (λ bytes. into.new ≡ with_rows table bytes into.old)) }
+    ensures none { OnOk result (IfSome (T.rest tables.old table) (λ bytes. table_refusal table bytes ≡ None)) }
+    ensures to_end { OnOk result (IfSome (T.rest tables.old table) (λ bytes. T.rest tables.new table ≡ Some [])) }
+    ensures refusal { IfErr result (λ refusal. IfSome (T.rest tables.old table) (λ bytes. StopsAt table bytes refusal)) }
+    ensures cause { IfErr result (λ refusal. HasCause (T.faults tables.old) (T.faults tables.new) refusal) }
+    ensures later { T.faults tables.old table ≤ T.faults tables.new table }
+    ensures other_rests { (t : Table) → t ≢ table → T.rest tables.new t ≡ T.rest tables.old t }
+    ensures other_counts { (t : Table) → t ≢ table → T.faults tables.new t ≡ T.faults tables.old t }
+    ensures folder { T.entered tables.new ≡ T.entered tables.old }
+{
+    let bytes = read_bytes(alloc, tables, table)?;
+    parse_table(alloc, table, bytes.as_slice(), into)
+}
+
+/// Reads the five tables, each to its end, in the order of `Table`, and makes their rows.
+///
+/// A refusal is the first one that stands: for each table in order first a read that fails, then
+/// its length, then its rows. `Fault` comes only where the count of its table rose, or can rise
+/// no further. After any refusal the bytes taken so far are gone. Holds the text of one table at
+/// a time.
+pub fn read_tables<T: Tables>(alloc: Global, tables: &mut T) -> Result<TraceTables, ReadRefusal>
+    ensures trace { (bytes : Table → List ℕ) → Tells (T.rest tables.old) bytes → IfOk result (λ trace. trace ≡ trace_of bytes) }
+    ensures none { (bytes : Table → List ℕ) → Tells (T.rest tables.old) bytes → OnOk result (first_refusal bytes ≡ None) }
+    ensures to_end { (bytes : Table → List ℕ) → Tells (T.rest tables.old) bytes → OnOk result (Tells (T.rest tables.new) (λ table. [])) }
+    ensures refusal { (bytes : Table → List ℕ) → Tells (T.rest tables.old) bytes → IfErr result (λ refusal. ComesFirst bytes refusal) }
+    ensures cause { IfErr result (λ refusal. HasCause (T.faults tables.old) (T.faults tables.new) refusal) }
+    ensures later { (t : Table) → T.faults tables.old t ≤ T.faults tables.new t }
+    ensures folder { T.entered tables.new ≡ T.entered tables.old }
+{
+    let mut trace = TraceTables::new(alloc);
+    for table in IN_ORDER {
+        read_table(alloc, tables, table, &mut trace)?;
+    }
+    Ok(trace)
 }

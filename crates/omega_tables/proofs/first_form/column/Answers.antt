@@ -1,4 +1,4 @@
-use Rattle.std.proofs.Common.{◌≡◌, ◌∙◌, ◌-◌, ap, List, ℕ, Option, [], Bor}
+use Rattle.std.proofs.Common.{◌∙◌, ◌-◌, ap, List, ℕ, Option, [], Bor}
 use Rattle.std.specs.Option.{unwrap_or}
 use Rattle.csv.specs.Records.{fields_of}
 use Rattle.omega_tables.proofs.Columns.{field_or_none, now_or}

@@ -1,4 +1,4 @@
-use Rattle.std.proofs.Common.{◌≤◌, ◌<◌, arith}
+use Rattle.std.proofs.Common.{◌≤◌, arith}
 use Rattle.omega_tables.proofs.Digits.{below_32}
 use Rattle.omega_tables.proofs.first_form.number_of.Goals as goal
 

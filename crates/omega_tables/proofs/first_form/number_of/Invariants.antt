@@ -1,4 +1,4 @@
-use Rattle.std.proofs.Common.{◌≡◌, ◌^◌, ◌<◌, length, drop}
+use Rattle.std.proofs.Common.{◌≡◌, ◌^◌, ◌<◌, drop}
 use Rattle.std.specs.List.{fold, list_all}
 use Rattle.omega_model.specs.FirstForm.{is_digit, number_of, then_digit}
 use Rattle.omega_tables.proofs.first_form.number_of.Given as goal

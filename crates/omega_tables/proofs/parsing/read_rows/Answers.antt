@@ -1,5 +1,4 @@
-use Rattle.std.proofs.Common.{◌≡◌, ◌∙◌, ◌+◌, ◌++◌, ℕ, List, [], ◌∷◌, Option, Some, Bor, length, refl, sym, ap, inl, inr, append_assoc}
-use Rattle.std.specs.Prelude.{Result, Ok}
+use Rattle.std.proofs.Common.{◌≡◌, ◌∙◌, ◌+◌, ◌++◌, ℕ, List, [], ◌∷◌, Option, Some, Bor, refl, sym, ap, inl, inr, append_assoc}
 use Rattle.std.specs.Option.{ok_or}
 use Rattle.std.proofs.lemmas.List.{length_push}
 use Rattle.csv.specs.Reading.{Reached, default_config, strip_bom, records}
@@ -8,7 +7,7 @@ use Rattle.csv.specs.declared.parser.State.TheVariants as st
 use Rattle.csv.proofs.ReadFacts.{rows-end, rows-more}
 use Rattle.omega_model.proofs.Records.{begins, are_all}
 use Rattle.omega_model.proofs.TypedRows.{rows_push, rows_stop}
-use Rattle.omega_model.specs.Rows.{records_of, row_or_none, rows_by}
+use Rattle.omega_model.specs.Rows.{row_or_none, rows_by}
 use Rattle.omega_model.specs.Refusals.{not_built}
 use Rattle.omega_model.specs.declared.results.Status.TheVariants.{NotBuilt}
 use Rattle.omega_tables.proofs.parsing.read_rows.Goals as goal

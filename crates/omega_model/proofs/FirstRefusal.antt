@@ -1,0 +1,28 @@
+-- The first refusal of tables that are read one after the other.
+use Rattle.std.proofs.Common.{◌≡◌, ◌∙◌, ◌++◌, ℕ, List, [], ◌∷◌, Option, Some, None, map, refl, ap}
+use Rattle.std.specs.Option.{option_or}
+use Rattle.std.proofs.lemmas.List.{map-append}
+use Rattle.omega_model.specs.Refusals.{first_of, refusal_among, table_refusal}
+use Rattle.omega_model.specs.declared.rows.Table.{Table}
+use Rattle.omega_model.specs.declared.results.Status.{Status}
+
+first_of-append : (xs ys : List (Option Status)) → first_of (xs ++ ys) ≡ option_or (first_of xs) (first_of ys)
+first_of-append [] ys = refl
+first_of-append (None ∷ xs) ys = first_of-append xs ys
+first_of-append (Some refusal ∷ xs) ys = refl
+
+pub refusal_among-append : (tables others : List Table) (bytes : Table → List ℕ)
+    → refusal_among (tables ++ others) bytes ≡ option_or (refusal_among tables bytes) (refusal_among others bytes)
+refusal_among-append tables others bytes =
+    let f = λ (table : Table). table_refusal table (bytes table) in
+    ap first_of (map-append f tables others) ∙ first_of-append (map f tables) (map f others)
+
+-- one more table that isn't refused
+pub among_push : (tables : List Table) (table : Table) (bytes : Table → List ℕ)
+    → refusal_among tables bytes ≡ None → table_refusal table (bytes table) ≡ None → refusal_among (tables ++ table ∷ []) bytes ≡ None
+among_push tables table bytes before this = refusal_among-append tables (table ∷ []) bytes ∙ rw (before, this) refl
+
+-- a table that is refused, whatever follows
+pub among_stop : (tables : List Table) (table : Table) (others : List Table) (bytes : Table → List ℕ) (refusal : Status)
+    → refusal_among tables bytes ≡ None → table_refusal table (bytes table) ≡ Some refusal → refusal_among (tables ++ table ∷ others) bytes ≡ Some refusal
+among_stop tables table others bytes refusal before this = refusal_among-append tables (table ∷ others) bytes ∙ rw (before, this) refl

@@ -1,0 +1,40 @@
+use Rattle.std.proofs.Common.{◌≡◌, ◌∙◌, ◌<◌, arith}
+use Rattle.std.proofs.lemmas.Result.{err_from_is_err_and}
+use Rattle.omega_tables.proofs.InOrder.{none_more, trace_more, done_more, left_more, later_more, stops_first}
+use Rattle.omega_tables.proofs.reading.read_tables.Goals as goal
+
+pub returns-clause-trace : goal.returns-clause-trace
+returns-clause-trace g c =
+    let five : c.loop-table.table-index ≡ 5 = omega arith in
+    λ bytes told. rw five at (c.loop-table.invariant.trace bytes told)
+
+pub returns-clause-none : goal.returns-clause-none
+returns-clause-none g c =
+    let five : c.loop-table.table-index ≡ 5 = omega arith in
+    λ bytes told. rw five at (c.loop-table.invariant.none bytes told)
+
+pub loop-table-preserved : goal.loop-table-preserved
+loop-table-preserved g c =
+    let inv = c.loop-table.invariant in
+    let read = c.in_ok-read_table.ensures in
+    let i = c.loop-table.table-index in
+    let first = g.T.Tables.rest c.args.tables.now in
+    let now = g.T.Tables.rest c.loop-table.tables in
+    let next = g.T.Tables.rest c.read_table.new.tables in
+    let below : i < 5 = omega arith in
+    record {
+      none = λ bytes told. none_more first now i bytes below inv.left told (inv.none bytes told) read.none;
+      trace = λ bytes told. trace_more first now i bytes c.loop-table.trace c.read_table.new.into below inv.left told (inv.trace bytes told) read.rows;
+      done = done_more first now next i below inv.done inv.left read.to_end read.other_rests;
+      left = left_more first now next i below inv.left read.other_rests;
+      later = later_more (g.T.Tables.faults c.args.tables.now) (g.T.Tables.faults c.loop-table.tables) (g.T.Tables.faults c.read_table.new.tables) i below inv.later read.later read.other_counts;
+      folder = read.folder ∙ inv.folder;
+    }
+
+pub returns-in_err-read_table-clause-refusal : goal.returns-in_err-read_table-clause-refusal
+returns-in_err-read_table-clause-refusal g c =
+    let inv = c.loop-table.invariant in
+    let i = c.loop-table.table-index in
+    let below : i < 5 = omega arith in
+    let kept = err_from_is_err_and c.from_residual.result c.from_residual.ensures.1 in
+    λ bytes told. rw (kept.1, kept.2) (stops_first (g.T.Tables.rest c.args.tables.now) (g.T.Tables.rest c.loop-table.tables) i bytes c.in_err-read_table.field-0.0 below inv.left told (inv.none bytes told) c.in_err-read_table.ensures.refusal)
