@@ -1,3 +1,6 @@
 pub mod Pushing
 pub mod Trying
 pub mod Lines
+pub mod Words
+pub mod Refusing
+pub mod Completing

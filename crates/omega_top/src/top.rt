@@ -5,7 +5,7 @@ ghost use Rattle.omega_model.specs.Legal.{Legal};
 ghost use Rattle.omega_model.specs.Refusals.{first_refusal};
 ghost use Rattle.omega_model.specs.Report.{report};
 ghost use Rattle.omega_model.specs.Trace.{trace_of};
-ghost use Rattle.omega_model.specs.declared.results.Status.TheVariants.{Done, Usage, WriteFault, NoMemory};
+ghost use Rattle.omega_model.specs.declared.results.Status.TheVariants.{Usage, WriteFault, NoMemory};
 ghost use Rattle.omega_model.specs.declared.rows.Table.{Table};
 ghost use Rattle.omega_top.specs.Answers.{Answers, EndsRun, HasHistory, HasReadCause, IsBuilt, NoneRose, SayReplay, Writes, WritesNothing, default_settings};
 
@@ -59,14 +59,14 @@ pub fn omega<T: Tables, K: Sink, G: Gate>(
     ensures write_fault { result.status ≡ WriteFault → Rose (K.faults out.old) (K.faults out.new) }
     ensures complete { (bytes : Table → List ℕ) → Tells (T.rest tables.old) bytes → first_refusal bytes ≡ None
         → NoneRose (T.faults tables.old) (T.faults tables.new) (K.faults out.old) (K.faults out.new)
-        → result.status ≢ Usage → (result.status ≡ Done) ⊎ (result.status ≡ NoMemory) }
+        → result.status ≢ Usage → (result.status ≡ Status.Done) ⊎ (result.status ≡ NoMemory) }
 
     ensures legal { Legal result.history }
     ensures history { HasHistory result.history result.status }
     ensures written { (bytes : Table → List ℕ) → Tells (T.rest tables.old) bytes
         → Writes (report default_settings (trace_of bytes) result.history) (K.written out.old) (K.written out.new) result.status }
     ensures nothing { WritesNothing (K.written out.old) (K.written out.new) result.status }
-    ensures to_end { (bytes : Table → List ℕ) → Tells (T.rest tables.old) bytes → result.status ≡ Done → Tells (T.rest tables.new) (λ table. []) }
+    ensures to_end { (bytes : Table → List ℕ) → Tells (T.rest tables.old) bytes → result.status ≡ Status.Done → Tells (T.rest tables.new) (λ table. []) }
 {
     if !say_replay(words) {
         return refused(alloc, Status::Usage, None);
@@ -100,7 +100,7 @@ pub fn omega_with<T: Tables, K: Sink, G: Gate>(
     ensures written { (bytes : Table → List ℕ) → Tells (T.rest tables.old) bytes
         → Writes (report settings.now (trace_of bytes) result.history) (K.written out.old) (K.written out.new) result.status }
     ensures nothing { WritesNothing (K.written out.old) (K.written out.new) result.status }
-    ensures to_end { (bytes : Table → List ℕ) → Tells (T.rest tables.old) bytes → result.status ≡ Done → Tells (T.rest tables.new) (λ table. []) }
+    ensures to_end { (bytes : Table → List ℕ) → Tells (T.rest tables.old) bytes → result.status ≡ Status.Done → Tells (T.rest tables.new) (λ table. []) }
 {
     match read_tables(alloc, tables) {
         Ok(trace) => replay_and_write(alloc, settings, &trace, out),

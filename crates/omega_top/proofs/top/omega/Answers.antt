@@ -1,0 +1,19 @@
+use Rattle.std.proofs.Common.{◌∙◌}
+use Rattle.omega_top.proofs.Completing.{completes}
+use Rattle.omega_top.proofs.top.omega.Goals as goal
+
+-- entering a folder leaves what is told of the tables
+pub returns-clause-first : goal.returns-clause-first
+returns-clause-first g c bytes told taken = c.omega_with.ensures.first bytes (λ table. c.enter.ensures.rests table ∙ told table)
+
+pub returns-clause-complete : goal.returns-clause-complete
+returns-clause-complete g c bytes told clean none taken =
+    completes bytes _ _ _ _ _ _ clean none c.enter.ensures.counts
+    (c.omega_with.ensures.first bytes (λ table. c.enter.ensures.rests table ∙ told table))
+    c.omega_with.ensures.read_fault c.omega_with.ensures.write_fault
+
+pub returns-clause-written : goal.returns-clause-written
+returns-clause-written g c bytes told = c.omega_with.ensures.written bytes (λ table. c.enter.ensures.rests table ∙ told table)
+
+pub returns-clause-to_end : goal.returns-clause-to_end
+returns-clause-to_end g c bytes told done = c.omega_with.ensures.to_end bytes (λ table. c.enter.ensures.rests table ∙ told table) done

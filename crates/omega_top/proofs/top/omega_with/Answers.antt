@@ -1,0 +1,6 @@
+use Rattle.omega_top.proofs.Refusing.{answers_refusal}
+use Rattle.omega_top.proofs.top.omega_with.Goals as goal
+
+pub returns-in-Err-clause-first : goal.returns-in-Err-clause-first
+returns-in-Err-clause-first g c bytes told =
+    rw (c.refused.ensures, c.from.ensures) (answers_refusal bytes c.in-Err.refusal (c.in-Err.ensures.refusal bytes told))
