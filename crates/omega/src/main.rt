@@ -1,12 +1,52 @@
-//! `omega`: a cluster scheduler simulator that replays traces through schedulers that share a cell.
+//! `omega`: replays a trace through cluster schedulers that share one cell, and prints what came of
+//! it.
+//!
+//! A thin program over `omega_top`: it makes the real tables, the real sink and a gate that lets
+//! all pass, and calls the top call with its words.
 #![tactic(auto)]
 
 use omega_io::{FolderTables, PassGate, StdoutSink};
+use omega_model::{NoMemory, Status};
 use omega_top::{exit_status, fault_line, omega};
 use std::env;
-use std::io::Write;
 use std::process::ExitCode;
 
 fn main(rt: HostRuntime) -> ExitCode {
-    ExitCode::SUCCESS
+    let status = run(&rt);
+    let line = fault_line(&status);
+    if !line.as_bytes().is_empty() {
+        // Where even this can't be written, the exit status still tells.
+        let _ = eprintln!(rt; "{}", line.as_str());
+    }
+    ExitCode::from(exit_status(&status))
+}
+
+// Calls the top call with the words that follow the program's name. Words that can't be had as
+// text are words that are refused.
+fn run(rt: &HostRuntime) -> Status {
+    let Ok(arguments) = env::args(rt) else {
+        return Status::Usage;
+    };
+    let mut texts = Vec::new(rt.alloc());
+    for argument in arguments {
+        if texts.push(argument).is_err() {
+            return Status::NoMemory;
+        }
+    }
+    let Ok(words) = words_of(rt, texts.as_slice()) else {
+        return Status::NoMemory;
+    };
+    let mut tables = FolderTables::new(rt);
+    let mut out = StdoutSink::new(rt);
+    let done = omega(rt.alloc(), words.as_slice(), &mut tables, &mut out, &PassGate);
+    done.status
+}
+
+// The words after the first.
+fn words_of<'a>(rt: &HostRuntime, texts: &'a [String]) -> Result<Vec<&'a str>, NoMemory> {
+    let mut words = Vec::new(rt.alloc());
+    for text in texts.iter().skip(1) {
+        words.push(text.as_str())?;
+    }
+    Ok(words)
 }

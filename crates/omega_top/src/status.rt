@@ -36,6 +36,13 @@ impl Line {
         self.text.as_str().as_bytes()
     }
 
+    /// The text itself.
+    pub fn as_str(&self) -> &str
+        ensures { result.now ≡ self.now }
+    {
+        self.text.as_str()
+    }
+
     fn with(self, text: &str) -> Line
         requires { length self + length text.now ≤ 96 }
         ensures line { result ≡ self ++ text.now }
