@@ -4,3 +4,4 @@ pub mod Fields
 pub mod Stretch
 pub mod Keys
 pub mod Cell
+pub mod Jobs
