@@ -29,3 +29,4 @@ pub mod FirstForm
 pub mod Trace
 pub mod Refusals
 pub mod Ranges
+pub mod Jobs
