@@ -3,3 +3,4 @@ pub mod Scaling
 pub mod Tens
 pub mod Parts
 pub mod Writing
+mod Examples

@@ -1,5 +1,5 @@
 -- Numbers times a power of ten, over a power of ten.
-use Rattle.std.proofs.Common.{◌≡◌, ℕ, ◌+◌, ◌*◌, ◌/◌, ◌%◌, ◌^◌, ◌<◌, ◌≤◌, min, nat_le, true, false, Some, None, if◌then◌else◌, refl, sym, ap, ◌∙◌, arith, inl, inr}
+use Rattle.std.proofs.Common.{◌≡◌, ℕ, ◌+◌, ◌-◌, ◌*◌, ◌/◌, ◌%◌, ◌^◌, ◌<◌, ◌≤◌, min, nat_le, true, false, Some, None, if◌then◌else◌, refl, sym, ap, ◌∙◌, arith, inl, inr}
 use Rattle.std.proofs.Math.Nat.{pow-le-pow_right, one-le-pow, mul-le-mul, mul-div_cancel, div-eq_of_lt, mod-eq_of_lt}
 use Rattle.std.proofs.lemmas.Nat.{pow-add}
 use Rattle.std.proofs.lemmas.Bool.{cases_lt, lt-leb, le-leb}
@@ -107,3 +107,31 @@ rounded_zero rounding r l =
     let all : quotient rounding 0 (10 ^ l) ≡ 0 = ap (λ x. quotient rounding x (10 ^ l)) same ∙ quotient_multiple rounding 0 (10 ^ l) (ten_pos l) in
     let bound : nat_le 0 (1000 * 10 ^ l) ≡ true = le-leb 0 (1000 * 10 ^ l) (omega arith) in
     rw (none, bound, all) refl
+
+-- an exponent far below rounds as 10 ^ 32 does
+pub far_below : (rounding : Rounding) (n l : ℕ) → n < 10 ^ 32 → 41 ≤ l
+    → rounded rounding (record { over = n; under = ten_to l }) ≡ Some (quotient rounding n (10 ^ 32))
+far_below rounding n l small deep =
+    let over : n ≡ n * 10 ^ 0 = omega arith in
+    let left : 0 + 9 + (l - 9) ≡ l = omega arith in
+    let power : 10 ^ 32 ≤ 10 ^ (l - 9) = let at : 32 ≤ l - 9 = omega arith in pow-le-pow_right (omega arith) at in
+    let bound : nat_le n (1000000000000 * 10 ^ (l - 9)) ≡ true = le-leb n (1000000000000 * 10 ^ (l - 9)) (omega (arith, power)) in
+    let same = quotient_below rounding n (10 ^ (l - 9)) (10 ^ 32) (omega (arith, power)) small in
+    ap (λ x. rounded rounding (record { over = x; under = ten_to l })) over
+    ∙ ap (λ x. rounded rounding (record { over = n * 10 ^ 0; under = x })) (ten_to_is l)
+    ∙ rounded_lowered rounding n 0 l (l - 9) left ∙ rw (bound, same) refl
+
+-- an exponent far above is out of bounds, unless the number is 0
+pub far_above : (rounding : Rounding) (n r l : ℕ) → 0 < n → l + 4 ≤ r → rounded rounding (record { over = n * ten_to r; under = ten_to l }) ≡ None
+far_above rounding n r l some high =
+    let left : r + 9 ≡ l + (r + 9 - l) = omega arith in
+    let bound = too_high n (r + 9 - l) some (omega arith) in
+    ap (λ x. rounded rounding (record { over = n * x; under = ten_to l })) (ten_to_is r)
+    ∙ ap (λ x. rounded rounding (record { over = n * 10 ^ r; under = x })) (ten_to_is l)
+    ∙ rounded_raised rounding n r l (r + 9 - l) left ∙ rw bound refl
+
+-- 0 is 0 units whatever its exponent
+pub zero_value : (rounding : Rounding) (r l : ℕ) → rounded rounding (record { over = 0 * ten_to r; under = ten_to l }) ≡ Some 0
+zero_value rounding r l =
+    ap (λ x. rounded rounding (record { over = 0 * x; under = ten_to l })) (ten_to_is r)
+    ∙ ap (λ x. rounded rounding (record { over = 0 * 10 ^ r; under = x })) (ten_to_is l) ∙ rounded_zero rounding r l
