@@ -1,5 +1,5 @@
 -- Texts and their values, by computing the definitions.
-use Rattle.std.proofs.Common.{◌≡◌, ℕ, ◌+◌, ◌-◌, ◌*◌, ◌^◌, ◌<◌, ◌≤◌, List, codes, Some, None, refl, sym, ap, ◌∙◌, arith}
+use Rattle.std.proofs.Common.{◌≡◌, ◌-◌, ◌^◌, codes, Some, None, refl, ◌∙◌, arith}
 use Rattle.omega_model.specs.Numbers.{whole, units_up, units_down, ten_to}
 use Rattle.omega_units.specs.declared.Rounding.TheVariants.{Up, Down}
 use Rattle.omega_units.proofs.Tens.{far_below, far_above, zero_value}

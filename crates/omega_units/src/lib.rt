@@ -1,7 +1,7 @@
 //! Numbers in text, read exactly: whole numbers and quantities.
 #![tactic(auto)]
 
-ghost use Rattle.std.specs.Prelude.{◌≡◌};
+ghost use Rattle.std.specs.Prelude.{◌≡◌, ◌≤◌, ◌^◌, IfOk};
 ghost use Rattle.std.specs.Result.{result_ok};
 ghost use Rattle.omega_model.specs.Numbers.{whole};
 ghost use Rattle.omega_units.specs.Units.{units};
@@ -47,7 +47,8 @@ pub fn read_u64(text: &[u8]) -> Result<u64, BadNumber>
 /// then `e` or `E`, a sign or none, and digits, or nothing. `BadNumber` where the text is no such
 /// thing, is longer than 32 bytes, or its exact value is above 1000. Takes no memory.
 pub fn read_quantity(text: &[u8], rounding: Rounding) -> Result<u64, BadNumber>
-    ensures { result_ok result ≡ units rounding text.now }
+    ensures value { result_ok result ≡ units rounding text.now }
+    ensures bound { IfOk result (λ units. units ≤ 10 ^ 12) }
 {
     if text.is_empty() {
         return Ok(0);
