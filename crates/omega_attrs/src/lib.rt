@@ -72,3 +72,6 @@ fn whole(text: &[u8]) -> Option<u64>
 {
     read_u64(text).ok()
 }
+
+#[cfg(test)]
+mod tests;
