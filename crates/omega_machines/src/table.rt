@@ -177,7 +177,8 @@ impl MachineTable {
     /// What is free on a machine: its capacity less what is in use. `None` exactly where it isn't
     /// up.
     pub fn free(&self, id: u64) -> Option<Need>
-        ensures { result ≡ free_at self.now id }
+        ensures free { result ≡ free_at self.now id }
+        ensures table { IsTable self.now }
     {
         let state = self.rows.get(&id)?;
         if state.machine.up {
