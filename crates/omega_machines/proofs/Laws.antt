@@ -68,9 +68,9 @@ module _ (id : ℕ) (changed : MachineState → MachineState) where
     others_unchanged (s ∷ ss) other differs =
         by_answer (s.machine.id == id)
         (λ t.
-          let own : (s.machine.id == other) ≡ false = by_answer (s.machine.id == other) (λ h. absurd (differs (sym (eqb-true _ _ h) ∙ eqb-true _ _ t))) (λ h. h) in
-          let kept : ((changed s).machine.id == other) ≡ false = ap (λ n. nat_eq n other) (keeps s) ∙ own in
-          rw (t, kept, own) (others_unchanged ss other differs))
+        let own : (s.machine.id == other) ≡ false = by_answer (s.machine.id == other) (λ h. absurd (differs (sym (eqb-true _ _ h) ∙ eqb-true _ _ t))) (λ h. h) in
+        let kept : ((changed s).machine.id == other) ≡ false = ap (λ n. nat_eq n other) (keeps s) ∙ own in
+        rw (t, kept, own) (others_unchanged ss other differs))
         (λ f. rw f (ap (cond (s.machine.id == other) (Some s)) (others_unchanged ss other differs)))
 
     -- the same numbers are listed
@@ -95,9 +95,9 @@ ensured_listed id table =
     by_answer (is_listed id (machines_of table))
     (λ t. rw (t, t) refl)
     (λ f. rw f (
-      ap (list_any test) (map-append (λ (state : MachineState). state.machine) table (new_state id ∷ []))
-      ∙ list_any-append test (machines_of table) (new_machine id ∷ [])
-      ∙ (λ i. f i || (eq-eqb id id refl i || false))))
+    ap (list_any test) (map-append (λ (state : MachineState). state.machine) table (new_state id ∷ []))
+    ∙ list_any-append test (machines_of table) (new_machine id ∷ [])
+    ∙ (λ i. f i || (eq-eqb id id refl i || false))))
 
 -- a state that is found in a table is within its bounds
 pub found_bounded : (table : List MachineState) (id : ℕ) (state : MachineState) → All IsBounded table → state_at table id ≡ Some state → IsBounded state
@@ -129,6 +129,6 @@ use_charged table id need held room =
         let bounded = found_bounded table id state held.bounded found in
         by_answer state.machine.up
         (λ t.
-          let fits : Fits need state.free = rw t at there in
-          (omega (arith, bounded.free.0, fits.0), omega (arith, bounded.free.1, fits.1)))
+        let fits : Fits need state.free = rw t at there in
+        (omega (arith, bounded.free.0, fits.0), omega (arith, bounded.free.1, fits.1)))
         (λ f. absurd (rw f at there))

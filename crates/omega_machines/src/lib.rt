@@ -6,7 +6,6 @@
 
 mod attrs;
 mod table;
-
 #[cfg(test)]
 mod tests;
 

@@ -36,6 +36,7 @@ impl Model for MachineTable {
     ghost invariant = { λ table. IsKept table.rows.entries };
 }
 
+/// What is left of `a` when `b` is taken off it; a component stops at 0.
 fn minus(a: Need, b: Need) -> Need
     ensures { result ≡ minus a b }
 {
@@ -43,6 +44,15 @@ fn minus(a: Need, b: Need) -> Need
         cpu: a.cpu.saturating_sub(b.cpu),
         mem: a.mem.saturating_sub(b.mem),
     }
+}
+
+/// Gives a machine a capacity. What is in use on it stays in use.
+fn set_cap(state: &mut MachineState, cap: Need)
+    ensures { state.new ≡ state_updated cap state.old }
+{
+    let used = minus(state.machine.cap, state.free);
+    state.free = minus(cap, used);
+    state.machine.cap = cap;
 }
 
 impl MachineTable {
@@ -115,8 +125,7 @@ impl MachineTable {
     {
         let place = self.place_of(id);
         let (_, state) = self.rows.pair_mut(place);
-        state.free = minus(cap, minus(state.machine.cap, state.free));
-        state.machine.cap = cap;
+        set_cap(state, cap);
         state.machine.up = true;
     }
 
@@ -131,8 +140,7 @@ impl MachineTable {
     {
         let place = self.place_of(id);
         let (_, state) = self.rows.pair_mut(place);
-        state.free = minus(cap, minus(state.machine.cap, state.free));
-        state.machine.cap = cap;
+        set_cap(state, cap);
     }
 
     /// Takes a machine down on which nothing is in use. Its capacity and attributes stay. Takes no
@@ -177,7 +185,8 @@ impl MachineTable {
     /// What is free on a machine: its capacity less what is in use. `None` exactly where it isn't
     /// up.
     pub fn free(&self, id: u64) -> Option<Need>
-        ensures { result ≡ free_at self.now id }
+        ensures free { result ≡ free_at self.now id }
+        ensures table { IsTable self.now }
     {
         let state = self.rows.get(&id)?;
         if state.machine.up {
