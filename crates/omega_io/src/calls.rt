@@ -1,5 +1,6 @@
-//! The counting of calls, and the one that is to fail.
-use std::option::Option;
+//! The counting of calls and of faults.
+ghost use Rattle.std.specs.Prelude.{◌≤◌};
+ghost use Rattle.omega_io.specs.Edge.{Rose};
 
 // How many calls were made, and the place of the one that fails.
 #[derive(Clone, Copy)]
@@ -23,4 +24,12 @@ impl Calls {
         self.made = self.made.saturating_add(1);
         fails
     }
+}
+
+// One more fault. A count stops at 2^64 - 1.
+pub fn count_one(faults: &mut u64)
+    ensures cause { Rose faults.old faults.new }
+    ensures later { faults.old ≤ faults.new }
+{
+    *faults = faults.saturating_add(1);
 }

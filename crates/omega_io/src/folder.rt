@@ -5,6 +5,7 @@ ghost use Rattle.omega_io.specs.Edge.{Rose};
 ghost use Rattle.omega_model.specs.declared.rows.Table.{Table};
 
 use crate::by_table::ByTable;
+use crate::calls::count_one;
 use crate::edges::{Failed, Tables};
 use omega_model::{NoMemory, Table};
 use std::alloc::Global;
@@ -91,14 +92,6 @@ fn read_file(
         Table::TaskConstraints => files.task_constraints.read(rt, piece),
         Table::MapreduceJobs => files.mapreduce_jobs.read(rt, piece),
     }
-}
-
-// One more fault. A count stops at 2^64 - 1.
-fn count_one(faults: &mut u64)
-    ensures cause { Rose faults.old faults.new }
-    ensures later { faults.old ≤ faults.new }
-{
-    *faults = faults.saturating_add(1);
 }
 
 // One more fault of a table.

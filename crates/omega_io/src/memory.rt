@@ -4,7 +4,7 @@ ghost use Rattle.omega_io.specs.Edge.{Rose};
 ghost use Rattle.omega_io.specs.ByTable.{at, OnlyAt};
 
 use crate::by_table::ByTable;
-use crate::calls::Calls;
+use crate::calls::{Calls, count_one};
 use crate::edges::{Failed, Sink, Tables};
 use crate::unread::Unread;
 use omega_model::{Bytes, NoMemory, Seq, Table, Text};
@@ -38,7 +38,7 @@ impl Held {
         ensures later { self.old.faults ≤ self.new.faults }
     {
         if fails {
-            self.faults = self.faults.saturating_add(1);
+            count_one(&mut self.faults);
             return Err(Failed);
         }
         Ok(self.unread.hand_over(most, piece))
@@ -221,7 +221,7 @@ impl MemorySink {
         ensures cause { Rose self.old.faults self.new.faults }
         ensures later { self.old.faults ≤ self.new.faults }
     {
-        self.faults = self.faults.saturating_add(1);
+        count_one(&mut self.faults);
         Failed
     }
 }
