@@ -8,3 +8,5 @@ pub mod Records
 pub mod TypedRows
 mod ExamplesLawful
 pub mod FirstRefusal
+pub mod Standing
+pub mod Attempts
