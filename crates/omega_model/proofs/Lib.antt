@@ -10,3 +10,4 @@ mod ExamplesLawful
 pub mod FirstRefusal
 pub mod Standing
 pub mod Attempts
+pub mod RoundsInOrder
