@@ -2,6 +2,7 @@
 #![tactic(auto)]
 
 mod attempts;
+mod failures;
 mod judging;
 mod plain;
 mod planning;

@@ -1,11 +1,14 @@
 //! A history that grows entry by entry, with the cell after it.
 ghost use Rattle.std.specs.Prelude.{◌≡◌, ◌++◌, ◌∷◌, [], ◌≤◌, IfOk, length, map};
-ghost use Rattle.std.specs.List.{fold, zip};
+ghost use Rattle.std.specs.List.{fold, list_any, zip};
 ghost use Rattle.omega_model.specs.declared.entries.Entry.TheVariants.{Round, MachineAdd, Commit};
 ghost use Rattle.omega_model.specs.Legal.{Legal};
 ghost use Rattle.omega_model.specs.Reply.{all_or_nothing, by_mode, first_refusal, reply_on, tasks_after_claim, verdicts, withdrawn_for};
+ghost use Rattle.omega_model.specs.Requests.{failed};
 ghost use Rattle.omega_model.specs.State.{reply_of, state};
+ghost use Rattle.omega_model.specs.Touches.{is_placed};
 
+use crate::failures::Failures;
 use crate::judging::{is_placed, judge};
 use crate::plain::PlainCell;
 use omega_model::{
@@ -18,6 +21,7 @@ use std::marker::Model;
 #[derive(Debug, Drop)]
 pub struct Replay {
     cell: PlainCell,
+    failures: Failures,
     entries: Vec<Entry>,
 }
 
@@ -30,7 +34,7 @@ impl Model for Replay {
 
     ghost view = { λ r. r.entries.items };
 
-    ghost invariant = { λ r. Replays r.cell r.entries.items };
+    ghost invariant = { λ r. Replays r.cell r.failures r.entries.items };
 }
 
 impl Replay {
@@ -40,6 +44,7 @@ impl Replay {
     {
         Replay {
             cell: PlainCell::new(alloc),
+            failures: Failures::new(alloc),
             entries: Vec::new(alloc),
         }
     }
@@ -49,6 +54,13 @@ impl Replay {
         ensures { result.now ≡ state self.now }
     {
         &self.cell
+    }
+
+    /// How often in a row the commits for a job placed nothing.
+    pub fn failed(&self, job: u64) -> u64
+        ensures { result ≡ failed self.now job }
+    {
+        self.failures.of(job)
     }
 
     /// The entries in order.
@@ -63,7 +75,7 @@ impl Replay {
         ensures history { result ≡ self }
         ensures legal { Legal result }
     {
-        let Replay { cell: _, entries } = self;
+        let Replay { entries, .. } = self;
         Seq::of(entries)
     }
 
@@ -71,9 +83,17 @@ impl Replay {
     pub fn with_round(self, number: u64) -> Result<Replay, NoMemory>
         ensures { IfOk result (λ replay. replay ≡ self ++ Round number ∷ []) }
     {
-        let Replay { cell, mut entries } = self;
+        let Replay {
+            cell,
+            failures,
+            mut entries,
+        } = self;
         entries.push(Entry::Round { number })?;
-        Ok(Replay { cell, entries })
+        Ok(Replay {
+            cell,
+            failures,
+            entries,
+        })
     }
 
     /// A machine is up with this capacity, before any task runs.
@@ -82,28 +102,52 @@ impl Replay {
         ensures replay { IfOk result (λ replay. replay ≡ self ++ MachineAdd id cap ∷ []) }
         ensures idle { IfOk result (λ replay. (state replay).tasks ≡ []) }
     {
-        let Replay { cell, mut entries } = self;
+        let Replay {
+            cell,
+            failures,
+            mut entries,
+        } = self;
         let cell = cell.with_machine(alloc, id, cap)?;
         entries.push(Entry::MachineAdd { machine: id, cap })?;
-        Ok(Replay { cell, entries })
+        Ok(Replay {
+            cell,
+            failures,
+            entries,
+        })
     }
 
     /// A scheduler that has seen the whole history commits a transaction.
     pub fn with_commit(self, alloc: Global, scheduler: u32, txn: Txn) -> Result<Replay, NoMemory>
         ensures { IfOk result (λ replay. replay ≡ self ++ Commit scheduler (length self) txn (reply_of self (length self) txn) ∷ []) }
     {
-        let Replay { cell, mut entries } = self;
+        let Replay {
+            cell,
+            failures,
+            mut entries,
+        } = self;
         let seen = entries.len();
         let reply = replied(alloc, entries.as_slice(), seen, &cell, &txn)?;
         let cell = after_claims(alloc, cell, txn.claims.as_slice(), reply.as_slice())?;
+        let failures = failures.noted(txn.job, any_placed(reply.as_slice()))?;
         entries.push(Entry::Commit {
             scheduler,
             seen: seen as u64,
             txn,
             reply,
         })?;
-        Ok(Replay { cell, entries })
+        Ok(Replay {
+            cell,
+            failures,
+            entries,
+        })
     }
+}
+
+// Whether a reply places a claim.
+fn any_placed(reply: &[Verdict]) -> bool
+    ensures { result ≡ list_any is_placed reply.now }
+{
+    reply.iter().any(|verdict| is_placed(*verdict))
 }
 
 /// The reply to a transaction on a history and the cell after it.

@@ -12,4 +12,4 @@ invariant_of-result c =
     let due = rw c.as_slice.ensures.value at c.in_ok-reply.ensures in
     let reply : c.in_ok-reply.reply ≡ reply_of c.self.inside.entries.items c.len-seen.result c.args.txn =
         due ∙ ap (λ (cell : Cell). reply_on c.self.inside.entries.items cell c.len-seen.result c.args.txn) c.self.invariant.current in
-    rw c.in_ok-push.ensures.items (replays_push _ _ _ _ c.self.invariant stepped (seen, reply))
+    rw c.in_ok-push.ensures.items (replays_push _ _ _ _ _ _ c.self.invariant stepped (seen, reply) ?)
