@@ -1,3 +1,4 @@
 pub mod Records
 pub mod TypedRows
 pub mod FirstRefusal
+mod TableExamples
