@@ -1,9 +1,9 @@
 -- Worked answers on records, rows of the first form, and the first refusal.
-use Rattle.std.proofs.Common.{◌≡◌, ℕ, List, [], ◌∷◌, ◌++◌, Option, Some, None, refl, false}
+use Rattle.std.proofs.Common.{◌≡◌, ℕ, List, [], ◌∷◌, ◌++◌, Some, None, refl, false}
 use Rattle.std.specs.Prelude.{codes}
 use Rattle.csv.proofs.OnLiterals.{csv_on_literals}
 use Rattle.omega_model.specs.Rows.{records_of}
-use Rattle.omega_model.specs.FirstForm.{whole_number, short_quantity, class_of, priority_of, machine_row, task_row}
+use Rattle.omega_model.specs.FirstForm.{whole_number, short_quantity, class_of, priority_of}
 use Rattle.omega_model.specs.Trace.{trace_of, no_rows}
 use Rattle.omega_model.specs.Refusals.{first_refusal, refusal_before}
 use Rattle.omega_model.specs.declared.rows.Table.{Table}
@@ -79,7 +79,10 @@ tables added submitted MapreduceJobs = []
 example : trace_of (tables machines first_task) ≡ record no_rows {
   machines = record { time = 0; machine = 1; code = 0; cap = record { cpu = 500000000; mem = 500000000 } } ∷ [];
   tasks = record {
-    time = 0; key = record { job = 10; index = 0 }; code = 0; class = 0;
+    time = 0;
+    key = record { job = 10; index = 0 };
+    code = 0;
+    class = 0;
     spec = record { need = record { cpu = 250000000; mem = 250000000 }; prec = 1; differ = false };
   } ∷ [];
 }
