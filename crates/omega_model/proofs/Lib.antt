@@ -11,3 +11,4 @@ pub mod FirstRefusal
 pub mod Standing
 pub mod Attempts
 pub mod RoundsInOrder
+mod TableExamples

@@ -1,5 +1,5 @@
 -- Records of a table's bytes, and the typed rows of records.
-use Rattle.std.specs.Prelude.{ℕ, ◌+◌, ◌-◌, List, [], ◌∷◌, Option, Some, None, Result, Ok, Err, get_or}
+use Rattle.std.specs.Prelude.{ℕ, ◌+◌, ◌-◌, List, [], ◌∷◌, Option, Result, Ok, Err, get_or}
 use Rattle.std.specs.Option.{ok_or}
 use Rattle.csv.specs.Reading.{default_config, records, strip_bom}
 

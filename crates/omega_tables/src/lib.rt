@@ -11,3 +11,6 @@ mod refusal;
 pub use parsing::parse_table;
 pub use reading::{read_bytes, read_tables};
 pub use refusal::ReadRefusal;
+
+#[cfg(test)]
+mod tests;

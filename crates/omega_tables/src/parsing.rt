@@ -110,7 +110,7 @@ fn read_rows<R: FromRecord + Drop>(
     Err(ReadRefusal::NoMemory)
 }
 
-// Appends the rows of a table's text to a list.
+// Appends the rows of a table's text to a list. An empty list takes them over without a copy.
 fn append_rows<R: FromRecord + Drop>(
     alloc: Global,
     table: Table,
@@ -123,6 +123,10 @@ fn append_rows<R: FromRecord + Drop>(
     ensures stays { OnErr result (into.new ≡ into.old) }
 {
     let mut rows = read_rows(alloc, table, text)?;
+    if into.is_empty() {
+        *into = Seq::of(rows);
+        return Ok(());
+    }
     let mut items = mem::replace(into, Seq::new(alloc)).into_items();
     let appended = items.append(&mut rows);
     *into = Seq::of(items);

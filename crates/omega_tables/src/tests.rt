@@ -7,6 +7,7 @@ use std::test::Fail;
 
 // One machine of the example, and one task.
 const MACHINES: &[u8] = b"0,1,0,p,0.5,0.25\n";
+
 const TASKS: &[u8] = b"0,,10,0,,0,u,1,9,0.25,0.125,0.001,0\n";
 
 // Five tables, of which the others are empty.
@@ -21,7 +22,11 @@ fn five(alloc: Global, machines: &[u8], tasks: &[u8]) -> Result<[Bytes; 5], Allo
 }
 
 // The refusal of two tables, if there is one.
-fn refusal(alloc: Global, machines: &[u8], tasks: &[u8]) -> Result<Option<ReadRefusal>, AllocError> {
+fn refusal(
+    alloc: Global,
+    machines: &[u8],
+    tasks: &[u8],
+) -> Result<Option<ReadRefusal>, AllocError> {
     let mut tables = SteadyTables::new(alloc, five(alloc, machines, tasks)?);
     Ok(match read_tables(alloc, &mut tables) {
         Ok(_) => None,
@@ -40,14 +45,29 @@ fn single_bytes(rt: HostRuntime) -> Result<(), Fail> {
         };
         assert_eq!(rt; trace.machines.len(), 1);
         assert_eq!(rt; trace.tasks.len(), 1);
-        assert_eq!(rt; trace.attrs.len() + trace.constraints.len() + trace.activities.len(), 0);
+        assert_eq!(rt;
+            trace.attrs.len() + trace.constraints.len() + trace.activities.len(),
+            0
+        );
         let machine = trace.machines.as_slice()[0];
         assert_eq!(rt; (machine.time, machine.machine, machine.code), (0, 1, 0));
-        assert_eq!(rt; machine.cap, Need { cpu: 500_000_000, mem: 250_000_000 });
+        assert_eq!(rt;
+            machine.cap,
+            Need {
+                cpu: 500_000_000,
+                mem: 250_000_000
+            }
+        );
         let task = trace.tasks.as_slice()[0];
         assert_eq!(rt; task.key, TaskKey { job: 10, index: 0 });
         assert_eq!(rt; (task.time, task.code, task.class), (0, 0, 1));
-        assert_eq!(rt; task.spec.need, Need { cpu: 250_000_000, mem: 125_000_000 });
+        assert_eq!(rt;
+            task.spec.need,
+            Need {
+                cpu: 250_000_000,
+                mem: 125_000_000
+            }
+        );
         assert_eq!(rt; (task.spec.prec, task.spec.differ), (9, false));
     }
     Ok(())
@@ -93,14 +113,32 @@ fn rows_of_machines(rt: HostRuntime) -> Result<(), Fail> {
     let bad = |row| at(Table::MachineEvents, row);
     let cases = [
         (b"".as_slice(), None),
-        (b"\n\n0,1,0,p,1,0\r\n\"0\",\"1\",0,\"a,b\",0.5,0.123456789".as_slice(), None),
-        (b"\xef\xbb\xbf0,18446744073709551615,0,,1,1".as_slice(), None),
-        (b"0,00000000000000000000000000000007,0,,1,1".as_slice(), None),
-        (b"0,000000000000000000000000000000007,0,,1,1".as_slice(), bad(1)),
+        (
+            b"\n\n0,1,0,p,1,0\r\n\"0\",\"1\",0,\"a,b\",0.5,0.123456789".as_slice(),
+            None,
+        ),
+        (
+            b"\xef\xbb\xbf0,18446744073709551615,0,,1,1".as_slice(),
+            None,
+        ),
+        (
+            b"0,00000000000000000000000000000007,0,,1,1".as_slice(),
+            None,
+        ),
+        (
+            b"0,000000000000000000000000000000007,0,,1,1".as_slice(),
+            bad(1),
+        ),
         (b"0,18446744073709551616,0,,1,1".as_slice(), bad(1)),
         (b"0,,0,,1,1".as_slice(), bad(1)),
-        (b"0,1,0,p,1,1\n1,1,0,p,1,1\n0,1,0,p,1,x\n".as_slice(), bad(2)),
-        (b"0,1,0,p,1,1\n0,2,0,p,1,1\n0,1,1,p,1,1\n".as_slice(), bad(3)),
+        (
+            b"0,1,0,p,1,1\n1,1,0,p,1,1\n0,1,0,p,1,x\n".as_slice(),
+            bad(2),
+        ),
+        (
+            b"0,1,0,p,1,1\n0,2,0,p,1,1\n0,1,1,p,1,1\n".as_slice(),
+            bad(3),
+        ),
         (b"00,1,0,p,1,1".as_slice(), bad(1)),
         (b"0,1,0,p,1".as_slice(), bad(1)),
         (b"0,1,0,p,1,1,".as_slice(), bad(1)),
@@ -129,12 +167,18 @@ fn rows_of_tasks(rt: HostRuntime) -> Result<(), Fail> {
         (b"0,,10,1,,0,,0,0,0,1,,1".as_slice(), bad(1)),
         (b"0,,10,1,,1,,0,0,0,1,,0".as_slice(), bad(1)),
         (b"0,,10,1,,0,,0,0,0,1,".as_slice(), bad(1)),
-        (b"0,,10,0,,0,u,0,1,0.25,0.25,,0\n5,,10,1,,0,u,0,1,0.25,0.25,,0".as_slice(), bad(2)),
+        (
+            b"0,,10,0,,0,u,0,1,0.25,0.25,,0\n5,,10,1,,0,u,0,1,0.25,0.25,,0".as_slice(),
+            bad(2),
+        ),
     ];
     for (text, want) in cases {
         assert_eq!(rt; refusal(rt.alloc(), MACHINES, text)?, want);
     }
-    assert_eq!(rt; refusal(rt.alloc(), TASKS, MACHINES)?, at(Table::MachineEvents, 1));
+    assert_eq!(rt;
+        refusal(rt.alloc(), TASKS, MACHINES)?,
+        at(Table::MachineEvents, 1)
+    );
     Ok(())
 }
 

@@ -1,4 +1,4 @@
-use Rattle.std.proofs.Common.{◌≡◌, ◌∙◌, ◌+◌, ◌++◌, ℕ, List, [], ◌∷◌, Option, Some, Bor, refl, sym, ap, inl, inr, append_assoc}
+use Rattle.std.proofs.Common.{◌∙◌, ◌+◌, ◌++◌, ℕ, List, [], ◌∷◌, Option, Some, Bor, refl, sym, ap, inl, inr}
 use Rattle.std.specs.Option.{ok_or}
 use Rattle.std.proofs.lemmas.List.{length_push}
 use Rattle.csv.specs.Reading.{Reached, default_config, strip_bom, records}
@@ -6,10 +6,9 @@ use Rattle.csv.specs.Records.{fields_of}
 use Rattle.csv.specs.declared.parser.State.TheVariants as st
 use Rattle.csv.proofs.ReadFacts.{rows-end, rows-more}
 use Rattle.omega_model.proofs.Records.{begins, are_all}
-use Rattle.omega_model.proofs.TypedRows.{rows_push, rows_stop}
+use Rattle.omega_model.proofs.FirstRefusal.{not_built_at}
+use Rattle.omega_model.proofs.TypedRows.{rows_push}
 use Rattle.omega_model.specs.Rows.{row_or_none, rows_by}
-use Rattle.omega_model.specs.Refusals.{not_built}
-use Rattle.omega_model.specs.declared.results.Status.TheVariants.{NotBuilt}
 use Rattle.omega_tables.proofs.parsing.read_rows.Goals as goal
 
 pub loop-number-init : goal.loop-number-init
@@ -49,11 +48,8 @@ returns-in-None-clause-refusal g c =
     let r = c.in-Ok-true.ensures.reads inv.0 inv.1 in
     let m = rows-more (λ (s : Bor (List ℕ)). Some s.now) c.loop-number.reader c.read_byte_record.new.self fields default_config st.StartRecord text inv.6 inv.4 inv.2 inv.7 inv.8 (rw c.in-Ok-true.field-0-test at r) in
     let whole = begins default_config text (inv.4 ++ fields ∷ []) c.read_byte_record.new.self.state m.0 m.2 in
-    let split : records default_config text ≡ inv.4 ++ fields ∷ whole.0 = whole.1 ∙ append_assoc inv.4 (fields ∷ []) whole.0 in
     let none = ap (λ (o : Option _). ok_or o tt) (sym c.from_record.ensures ∙ c.in-None.is) in
-    let stop = rows_stop (row_or_none g.R.FromRecord.row_of) inv.4 c.loop-number.rows.items fields whole.0 tt inv.5 none in
-    ap (not_built c.args.table) (ap (rows_by (row_or_none g.R.FromRecord.row_of)) split ∙ stop)
-    ∙ ap (λ (n : ℕ). Some (NotBuilt c.args.table (n + 1))) (sym inv.3)
+    not_built_at (row_or_none g.R.FromRecord.row_of) c.args.table (records default_config text) inv.4 c.loop-number.rows.items fields whole.0 c.loop-number.number whole.1 inv.5 none inv.3
 
 pub returns-in-Ok-false-clause-rows : goal.returns-in-Ok-false-clause-rows
 returns-in-Ok-false-clause-rows g c =
