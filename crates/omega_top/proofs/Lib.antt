@@ -4,3 +4,4 @@ pub mod Lines
 pub mod Words
 pub mod Refusing
 pub mod Completing
+pub mod Attempting

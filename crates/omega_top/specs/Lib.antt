@@ -3,3 +3,4 @@ pub mod Words
 pub mod Faults
 pub mod Answers
 pub mod Counts
+pub mod Attempts

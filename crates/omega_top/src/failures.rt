@@ -1,5 +1,5 @@
 //! How often in a row the commits for each job placed nothing.
-ghost use Rattle.std.specs.Prelude.{◌≡◌, ◌+◌, ◌-◌, ◌<◌, ◌^◌, ◌==◌, ℕ, IfOk, if◌then◌else◌};
+ghost use Rattle.std.specs.Prelude.{◌≡◌, ℕ, IfOk};
 ghost use Rattle.omega_top.specs.Counts.{count_of, Notes};
 
 use omega_model::NoMemory;
@@ -29,12 +29,16 @@ impl Failures {
         self.counts.get(&job).copied().unwrap_or(0)
     }
 
-    /// One more commit for a job, which placed something or nothing.
+    /// One more commit for a job, which placed something or nothing. So many commits that a count
+    /// can't hold them don't fit into memory either.
     pub fn noted(self, job: u64, placed: bool) -> Result<Failures, NoMemory>
-        requires { count_of self job < 2 ^ 64 - 1 }
         ensures { IfOk result (λ failures. Notes self failures job placed) }
     {
-        let count = if placed { 0 } else { self.of(job) + 1 };
+        let count = if placed {
+            0
+        } else {
+            self.of(job).checked_add(1).ok_or(NoMemory)?
+        };
         let mut counts = self.counts;
         counts.insert(job, count)?;
         Ok(Failures { counts })

@@ -8,6 +8,7 @@ mod plain;
 mod planning;
 mod replaying;
 mod reporting;
+mod rounds;
 mod status;
 mod top;
 

@@ -116,22 +116,36 @@ impl Replay {
         })
     }
 
-    /// A scheduler that has seen the whole history commits a transaction.
-    pub fn with_commit(self, alloc: Global, scheduler: u32, txn: Txn) -> Result<Replay, NoMemory>
-        ensures { IfOk result (λ replay. replay ≡ self ++ Commit scheduler (length self) txn (reply_of self (length self) txn) ∷ []) }
+    /// The reply to a transaction of a scheduler that has seen the whole history.
+    pub fn reply(&self, alloc: Global, txn: &Txn) -> Result<Verdicts, NoMemory>
+        ensures { IfOk result (λ reply. reply ≡ reply_of self.now (length self.now) txn.now) }
+    {
+        let history = self.entries.as_slice();
+        replied(alloc, history, history.len(), &self.cell, txn)
+    }
+
+    /// A scheduler that has seen the whole history commits a transaction, whose reply this is.
+    pub fn with_commit(
+        self,
+        alloc: Global,
+        scheduler: u32,
+        txn: Txn,
+        reply: Verdicts,
+    ) -> Result<Replay, NoMemory>
+        requires { reply ≡ reply_of self (length self) txn }
+        ensures { IfOk result (λ replay. replay ≡ self ++ Commit scheduler (length self) txn reply ∷ []) }
     {
         let Replay {
             cell,
             failures,
             mut entries,
         } = self;
-        let seen = entries.len();
-        let reply = replied(alloc, entries.as_slice(), seen, &cell, &txn)?;
+        let seen = entries.len() as u64;
         let cell = after_claims(alloc, cell, txn.claims.as_slice(), reply.as_slice())?;
         let failures = failures.noted(txn.job, any_placed(reply.as_slice()))?;
         entries.push(Entry::Commit {
             scheduler,
-            seen: seen as u64,
+            seen,
             txn,
             reply,
         })?;

@@ -9,8 +9,8 @@ ghost use Rattle.omega_model.specs.declared.results.Status.TheVariants.{Usage, W
 ghost use Rattle.omega_model.specs.declared.rows.Table.{Table};
 ghost use Rattle.omega_top.specs.Answers.{Answers, EndsRun, HasHistory, HasReadCause, IsBuilt, NoneRose, SayReplay, Writes, WritesNothing, default_settings};
 
-use crate::attempts::replayed;
 use crate::reporting::report;
+use crate::rounds::replayed;
 use omega_io::{Gate, Sink, Tables, write_all};
 use omega_model::{
     Command, Done, Extra, Format, Mode, Preempt, Rule, Seq, Settings, Status, TraceTables,
@@ -136,6 +136,7 @@ fn replay_and_write<K: Sink>(
     trace: &TraceTables,
     out: &mut K,
 ) -> Done
+    requires { IsBuilt settings.now }
     ensures settings { result.settings ≡ Some settings.now }
     ensures ends { EndsRun result.status }
     ensures cause { result.status ≡ WriteFault → Rose (K.faults out.old) (K.faults out.new) }
