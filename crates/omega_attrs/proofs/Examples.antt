@@ -1,5 +1,5 @@
 -- The answers of each operator, by computing the definitions.
-use Rattle.std.proofs.Common.{◌≡◌, ℕ, Bool, true, false, List, [], ◌∷◌, codes, refl}
+use Rattle.std.proofs.Common.{◌≡◌, ℕ, true, false, List, [], ◌∷◌, codes, refl}
 use Rattle.omega_model.specs.Eligible.{holds, eligible}
 use Rattle.omega_model.specs.declared.cells.Attr.{Attr}
 use Rattle.omega_model.specs.declared.wishes.Op.{Op}

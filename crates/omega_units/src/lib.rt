@@ -45,7 +45,8 @@ pub fn read_u64(text: &[u8]) -> Result<u64, BadNumber>
 ///
 /// Any other text is digits with a point among them, in front of them or behind them, or none, and
 /// then `e` or `E`, a sign or none, and digits, or nothing. `BadNumber` where the text is no such
-/// thing, is longer than 32 bytes, or its exact value is above 1000. Takes no memory.
+/// thing, is longer than 32 bytes, or its exact value is above 1000, which is judged before the
+/// rounding. Looks at each byte at most three times, takes no memory.
 pub fn read_quantity(text: &[u8], rounding: Rounding) -> Result<u64, BadNumber>
     ensures value { result_ok result ≡ units rounding text.now }
     ensures bound { IfOk result (λ units. units ≤ 10 ^ 12) }
