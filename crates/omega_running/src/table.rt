@@ -72,9 +72,9 @@ impl Running {
         self.count
     }
 
-    /// Makes room for `n` tasks in all that are yet to come. The tasks stay as they are, also
-    /// where memory runs out, and no room is lost then. Takes the memory and time of the room that
-    /// is missing.
+    /// Makes room for at least `n` more tasks. The tasks stay as they are, also where memory runs
+    /// out, and no room is lost then. Takes the memory and time of the room that is missing, and
+    /// none where there is enough.
     pub fn reserve(&mut self, alloc: Global, n: usize) -> Result<(), NoMemory>
         ensures tasks { self.new.tasks ≡ self.old.tasks }
         ensures spare { OnOk result (self.new.spare ≡ max self.old.spare n) }

@@ -1,4 +1,4 @@
-use Rattle.std.proofs.Common.{◌≡◌, ◌+◌, length, None, sym, arith}
+use Rattle.std.proofs.Common.{◌≡◌, ◌+◌, length, None, arith}
 use Rattle.omega_model.specs.Cell.{task_at}
 use Rattle.omega_running.specs.Tree.{tasks_of}
 use Rattle.omega_running.proofs.Kept.{put_is, put_rises, put_rises_too, put_same}

@@ -1,4 +1,4 @@
-use Rattle.std.proofs.Common.{◌≡◌, ◌+◌, length, Some, sym, arith}
+use Rattle.std.proofs.Common.{◌≡◌, ◌+◌, length, Some, arith}
 use Rattle.omega_model.specs.Cell.{task_at}
 use Rattle.omega_running.specs.declared.orders.Order.TheVariants.{ByKey, ByMachine}
 use Rattle.omega_running.specs.Tree.{tasks_of}
