@@ -8,7 +8,7 @@ ghost use Rattle.omega_running.specs.Tree.{tasks_of, tasks_at};
 
 use crate::orders::{Order, is_among, is_before, is_behind, key_lt};
 use omega_model::{Keys, Need, NoMemory, Spec, Task, TaskKey};
-use std::alloc::{AllocFailed, Global};
+use std::alloc::Global;
 use std::mem;
 
 /// A tree of tasks, from left to right in an order. Where a change makes one side of a node higher
