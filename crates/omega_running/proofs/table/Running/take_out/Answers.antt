@@ -5,6 +5,9 @@ use Rattle.omega_running.specs.Tree.{tasks_of}
 use Rattle.omega_running.proofs.Kept.{taken_is, taken_rises, taken_same, there, there_too}
 use Rattle.omega_running.proofs.table.Running.take_out.Goals as goal
 
+pub remove-rest-requires-clause-ordered : goal.remove-rest-requires-clause-ordered
+remove-rest-requires-clause-ordered c = rw c.take.ensures.taken c.self.invariant.keys_rise
+
 pub remove-rest-requires-clause-there : goal.remove-rest-requires-clause-there
 remove-rest-requires-clause-there c =
     let keys = tasks_of c.self.inside.by_key in
