@@ -1,5 +1,5 @@
 //! The counting of calls and of faults.
-ghost use Rattle.std.specs.Prelude.{◌≤◌};
+ghost use Rattle.std.specs.Prelude.{◌≡◌, ◌≤◌, ◌↔◌, IsTrue, Some, None};
 ghost use Rattle.omega_io.specs.Edge.{Rose};
 
 // How many calls were made, and the place of the one that fails.
@@ -11,7 +11,9 @@ pub struct Calls {
 
 impl Calls {
     // No call was made and none fails.
-    pub fn new() -> Calls {
+    pub fn new() -> Calls
+        ensures { result ≡ record { made = 0; failing = None } }
+    {
         Calls {
             made: 0,
             failing: None,
@@ -19,7 +21,10 @@ impl Calls {
     }
 
     // Whether the call that is made now fails.
-    pub fn next_fails(&mut self) -> bool {
+    pub fn next_fails(&mut self) -> bool
+        ensures fails { IsTrue result ↔ (self.old.failing ≡ Some self.old.made) }
+        ensures failing { self.new.failing ≡ self.old.failing }
+    {
         let fails = self.failing == Some(self.made);
         self.made = self.made.saturating_add(1);
         fails

@@ -125,7 +125,7 @@ pub struct FolderTables<'a> {
 impl<'a> FolderTables<'a> {
     /// No folder yet, and no fault. Takes no memory.
     pub fn new(rt: &'a HostRuntime) -> FolderTables<'a>
-        ensures { (t : Table) → at result.faults t ≡ 0 }
+        ensures { (t : Table) → ⟦<FolderTables<'a> as Tables>⟧.faults result t ≡ 0 }
     {
         FolderTables {
             rt,

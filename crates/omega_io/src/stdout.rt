@@ -28,7 +28,7 @@ fn write_some(rt: &HostRuntime, piece: &[u8]) -> io::Result<usize>
 impl<'a> StdoutSink<'a> {
     /// Standard output, with no fault so far.
     pub fn new(rt: &'a HostRuntime) -> StdoutSink<'a>
-        ensures { result.faults ≡ 0 }
+        ensures { ⟦<StdoutSink<'a> as Sink>⟧.faults result ≡ 0 }
     {
         StdoutSink { rt, faults: 0 }
     }
