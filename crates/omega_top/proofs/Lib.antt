@@ -1,7 +1,9 @@
-pub mod Pushing
-pub mod Trying
 pub mod Lines
 pub mod Words
 pub mod Refusing
 pub mod Completing
 pub mod Attempting
+pub mod Pushing
+pub mod Placing
+pub mod Appending
+pub mod Trying

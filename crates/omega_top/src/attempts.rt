@@ -9,15 +9,15 @@ ghost use Rattle.omega_model.specs.declared.wishes.Request.{Request};
 ghost use Rattle.omega_top.specs.Answers.{IsBuilt};
 ghost use Rattle.omega_top.specs.Attempts.{IsSettingOf, attempted, outcomes_for};
 
-use crate::judging::is_placed;
-use crate::plain::same_key;
-use crate::planning::plan;
+use crate::claims::{is_placed, same_key};
 use crate::replaying::Replay;
-use omega_model::{Claim, NoMemory, Outcome, Request, Requests, Seq, Settings, Verdict, Wish};
+use omega_model::{
+    Claim, Entry, NoMemory, Outcome, Request, Requests, Seq, Settings, Verdict, Wish,
+};
 use std::alloc::Global;
 
-// The scheduler on whose requests the replay works.
-const SCHEDULER: u32 = 1;
+/// The scheduler on whose requests the replay works.
+pub const SCHEDULER: u32 = 1;
 
 // What came of an attempt.
 #[derive(Drop)]
@@ -84,10 +84,18 @@ fn attempted(
     ensures history { IfOk result (λ attempt. attempt.replay ≡ attempted settings.now 1 replay request.now) }
     ensures outcomes { IfOk result (λ attempt. attempt.outcomes.items ≡ outcomes_for settings.now 1 replay request.now) }
 {
-    let txn = plan(alloc, replay.cell(), request, settings.policy(SCHEDULER))?;
+    let mut replay = replay;
+    let seen = replay.len() as u64;
+    let txn = replay.plan(alloc, request, settings.policy(SCHEDULER))?;
     let reply = replay.reply(alloc, &txn)?;
     let outcomes = outcomes_of(alloc, txn.claims.as_slice(), reply.as_slice())?;
-    let replay = replay.with_commit(alloc, SCHEDULER, txn, reply)?;
+    let commit = Entry::Commit {
+        scheduler: SCHEDULER,
+        seen,
+        txn,
+        reply,
+    };
+    let replay = replay.with_entry(alloc, commit)?;
     Ok(Attempt { replay, outcomes })
 }
 

@@ -2,13 +2,14 @@
 #![tactic(auto)]
 
 mod attempts;
+mod claims;
 mod failures;
-mod judging;
-mod plain;
 mod planning;
 mod replaying;
+mod replying;
 mod reporting;
 mod rounds;
+mod scratch;
 mod status;
 mod top;
 

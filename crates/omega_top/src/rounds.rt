@@ -1,89 +1,121 @@
-//! The replay of tables whose machines are added and whose tasks are submitted at one time.
-ghost use Rattle.std.specs.Prelude.{◌≡◌, [], IfOk};
+//! The replay of a trace, round by round.
+//!
+//! A round's rows are applied in order; then the scheduler works on the requests that follow from
+//! them.
+ghost use Rattle.std.specs.Prelude.{◌≡◌, ◌++◌, [], ℕ, IfOk, OnOk, not, take};
+ghost use Rattle.std.specs.List.{filter};
+ghost use Rattle.omega_model.specs.Feed.{feed};
+ghost use Rattle.omega_model.specs.Lawful.{Lawful, opened};
 ghost use Rattle.omega_model.specs.Legal.{Legal};
+ghost use Rattle.omega_model.specs.OpenRequests.{is_worked_on};
+ghost use Rattle.omega_model.specs.State.{state};
+ghost use Rattle.omega_model.specs.Wanted.{row_entries, wanted};
 ghost use Rattle.omega_top.specs.Answers.{IsBuilt};
+ghost use Rattle.omega_top.specs.Replays.{IsInRange, MayAppendAll};
 
-use crate::attempts::worked;
+use crate::attempts::{SCHEDULER, worked};
 use crate::replaying::Replay;
+use omega_feed::{Wanted, rounds};
 use omega_model::{
-    Entries, MachineRow, NoMemory, Request, Requests, Seq, Settings, TaskRow, TraceTables, Wish,
-    Wishes,
+    Entries, Entry, MachineRow, NoMemory, Request, Requests, Round, Row, Seq, Settings,
+    TraceTables,
 };
 use std::alloc::Global;
-use std::mem;
 
-/// The history of the tables under these settings.
+/// The history of a trace under these settings.
 pub fn replayed(
     alloc: Global,
     settings: &Settings,
     trace: &TraceTables,
 ) -> Result<Entries, NoMemory>
     requires { IsBuilt settings.now }
-    ensures { IfOk result (λ history. Legal history) }
+    ensures lawful { IfOk result (λ history. Lawful settings.now trace.now history) }
+    ensures legal { IfOk result (λ history. Legal history) }
 {
-    let machines = trace.machines.as_slice();
-    let tasks = trace.tasks.as_slice();
+    let rounds = rounds(alloc, trace, settings.window)?;
+    let mut wanted = Wanted::new(alloc, trace, settings)?;
     let mut replay = Replay::new(alloc);
-    if machines.is_empty() && tasks.is_empty() {
-        return Ok(replay.into_history());
+    for round in rounds.as_slice() {
+        replay = opened(alloc, replay, &mut wanted, round)?;
+        let asked = wanted.requests(alloc, SCHEDULER, replay.board())?;
+        let requests = not_given_up(alloc, settings, &replay, asked)?;
+        replay = worked(alloc, settings, replay, requests)?;
     }
-    replay = opened(alloc, replay, machines)?;
-    let requests = requests_of(alloc, tasks)?;
-    replay = worked(alloc, settings, replay, requests)?;
     Ok(replay.into_history())
 }
 
-// The history once the round has begun and the machines are added.
-fn opened(alloc: Global, replay: Replay, rows: &[MachineRow]) -> Result<Replay, NoMemory>
-    requires { replay ≡ [] }
+// The history once a round has begun and its rows are applied.
+fn opened(
+    alloc: Global,
+    replay: Replay,
+    wanted: &mut Wanted,
+    round: &Round,
+) -> Result<Replay, NoMemory>
+    requires { (n : ℕ) × (wanted.old.rows ++ round.now.rows ≡ take n (feed wanted.old.trace)) }
+    ensures history { IfOk result (λ after. after ≡ (opened wanted.old.rows replay round.now).history) }
+    ensures wanted { OnOk result (wanted.new ≡ record { trace = wanted.old.trace; settings = wanted.old.settings; rows = wanted.old.rows ++ round.now.rows }) }
 {
-    let mut opened = replay.with_round(0)?;
-    for row in rows {
-        opened = opened.with_machine(alloc, row.machine, row.cap)?;
+    let begin = Entry::Round {
+        number: round.number,
+    };
+    let mut opened = replay.with_entry(alloc, begin)?;
+    for row in round.rows.as_slice() {
+        wanted.take(row)?;
+        opened = with_row(alloc, opened, wanted, row)?;
     }
     Ok(opened)
 }
 
-// The requests of the jobs in order of their first row, each with its tasks by index.
-fn requests_of(alloc: Global, rows: &[TaskRow]) -> Result<Requests, NoMemory> {
-    let mut requests: Vec<Request> = Vec::new(alloc);
-    for row in rows {
-        let place = requests
-            .iter()
-            .position(|request| request.job == row.key.job);
-        match place {
-            Some(place) => {
-                let request = &mut requests[place];
-                let wishes = mem::replace(&mut request.wishes, Seq::new(alloc));
-                request.wishes = with_wish(alloc, wishes, row)?;
-            }
-            None => requests.push(Request {
-                job: row.key.job,
-                wishes: with_wish(alloc, Seq::new(alloc), row)?,
-            })?,
-        }
-    }
-    Ok(Seq::of(requests))
+// The history with the entries of the row that was taken last.
+fn with_row(
+    alloc: Global,
+    replay: Replay,
+    wanted: &Wanted,
+    row: &Row,
+) -> Result<Replay, NoMemory>
+    requires { (n : ℕ) × (n < length wanted.now.rows) × (wanted.now.rows ≡ take n wanted.now.rows ++ row.now ∷ []) }
+    ensures { IfOk result (λ after. after ≡ replay ++ row_entries (state replay) (wanted wanted.now.rows) row.now) }
+{
+    check_range(row);
+    let entries = wanted.entries(alloc, row, replay.board())?;
+    with_entries(alloc, replay, entries)
 }
 
-// The wishes by index, with that of a row new or in the place of an older one.
-fn with_wish(alloc: Global, wishes: Wishes, row: &TaskRow) -> Result<Wishes, NoMemory> {
-    let mut all = Vec::new(alloc);
-    let mut rest = Vec::new(alloc);
-    for wish in wishes.into_items() {
-        if wish.key.index < row.key.index {
-            all.push(wish)?;
-        } else if wish.key.index > row.key.index {
-            rest.push(wish)?;
+// What a row keeps by its type.
+fn check_range(row: &Row)
+    ensures { IsInRange row.now }
+{
+    if let Row::Machine(row) = row {
+        let _cap = row.cap;
+    }
+}
+
+// The history with more entries.
+fn with_entries(alloc: Global, replay: Replay, entries: Entries) -> Result<Replay, NoMemory>
+    requires { MayAppendAll replay entries }
+    ensures { IfOk result (λ after. after ≡ replay ++ entries) }
+{
+    let mut replay = replay;
+    for entry in entries.into_items() {
+        replay = replay.with_entry(alloc, entry)?;
+    }
+    Ok(replay)
+}
+
+// The requests without those of jobs that are given up.
+fn not_given_up(
+    alloc: Global,
+    settings: &Settings,
+    replay: &Replay,
+    requests: Requests,
+) -> Result<Requests, NoMemory>
+    ensures { IfOk result (λ kept. kept ≡ filter (is_worked_on settings.now replay.now) requests) }
+{
+    let mut kept = Vec::new(alloc);
+    for request in requests.into_items() {
+        if replay.failed(request.job) < u64::from(settings.give_up) {
+            kept.push(request)?;
         }
     }
-    all.push(Wish {
-        key: row.key,
-        spec: row.spec,
-        constraints: Seq::new(alloc),
-    })?;
-    for wish in rest {
-        all.push(wish)?;
-    }
-    Ok(Seq::of(all))
+    Ok(Seq::of(kept))
 }
