@@ -28,3 +28,5 @@ pub mod Rows
 pub mod FirstForm
 pub mod Trace
 pub mod Refusals
+pub mod Jobs
+pub mod JudgeOn
