@@ -20,6 +20,14 @@ abbrev pub lead : Order → Task → ℕ
 lead ByKey task = task.key.job
 lead ByMachine task = task.machine
 
+-- whether a task stands before all of a job's tasks on a machine, by machine and key
+abbrev pub is_before : Task → ℕ → ℕ → Bool
+is_before task machine job = nat_lt task.machine machine || (task.machine == machine && nat_lt task.key.job job)
+
+-- whether a task stands behind all of a job's tasks on a machine, by machine and key
+abbrev pub is_behind : Task → ℕ → ℕ → Bool
+is_behind task machine job = nat_lt machine task.machine || (machine == task.machine && nat_lt job task.key.job)
+
 -- each element has P
 abbrev pub Each : {X : Type 0} → (X → Type 0) → List X → Type 0
 Each P [] = Unit {0}

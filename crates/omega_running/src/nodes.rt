@@ -6,7 +6,7 @@ ghost use Rattle.omega_running.specs.declared.orders.Order.TheVariants.{ByKey, B
 ghost use Rattle.omega_running.specs.Order.{IsInOrder, put_in, taken_out, has_place, led_by};
 ghost use Rattle.omega_running.specs.Tree.{tasks_of, tasks_at};
 
-use crate::orders::{Order, is_among, key_lt};
+use crate::orders::{Order, is_among, is_before, is_behind, key_lt};
 use omega_model::{Keys, Need, NoMemory, Spec, Task, TaskKey};
 use std::alloc::{AllocFailed, Global};
 use std::mem;
@@ -166,18 +166,18 @@ impl Tree {
         let Tree::Fork(node) = self else {
             return None;
         };
-        let task = &node.task;
-        if task.machine < machine || (task.machine == machine && task.key.job < job) {
+        if is_before(&node.task, machine, job) {
             return node.right.other_of_job(job, machine, gone);
         }
-        if machine < task.machine || job < task.key.job {
+        if is_behind(&node.task, machine, job) {
             return node.left.other_of_job(job, machine, gone);
         }
-        if let Some(key) = node.left.other_of_job(job, machine, gone) {
-            return Some(key);
+        let earlier = node.left.other_of_job(job, machine, gone);
+        if earlier.is_some() {
+            return earlier;
         }
-        if !is_among(task.key, gone) {
-            return Some(task.key);
+        if !is_among(node.task.key, gone) {
+            return Some(node.task.key);
         }
         node.right.other_of_job(job, machine, gone)
     }

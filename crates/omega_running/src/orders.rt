@@ -1,7 +1,7 @@
 //! The two orders in which the running tasks are kept.
 ghost use Rattle.std.specs.Prelude.{◌≡◌};
 ghost use Rattle.omega_model.specs.Keys.{key_lt, is_among};
-ghost use Rattle.omega_running.specs.Order.{precedes, lead};
+ghost use Rattle.omega_running.specs.Order.{precedes, lead, is_before, is_behind};
 
 use omega_model::{Keys, Task, TaskKey};
 
@@ -41,6 +41,20 @@ pub fn key_lt(a: TaskKey, b: TaskKey) -> bool
     ensures { result ≡ key_lt a b }
 {
     a.job < b.job || (a.job == b.job && a.index < b.index)
+}
+
+/// Whether the task stands before all tasks of the job on the machine, by machine and key.
+pub fn is_before(task: &Task, machine: u64, job: u64) -> bool
+    ensures { result ≡ is_before task.now machine job }
+{
+    task.machine < machine || (task.machine == machine && task.key.job < job)
+}
+
+/// Whether the task stands behind all tasks of the job on the machine, by machine and key.
+pub fn is_behind(task: &Task, machine: u64, job: u64) -> bool
+    ensures { result ≡ is_behind task.now machine job }
+{
+    machine < task.machine || (machine == task.machine && job < task.key.job)
 }
 
 /// Whether the key is among these. Looks at each of them at most once.

@@ -1,5 +1,5 @@
 //! The running tasks.
-ghost use Rattle.std.specs.Prelude.{◌≡◌, ◌+◌, ◌≤◌, ◌<◌, [], ◌∷◌, max, length, option_map, IsOk, IfOk, OnOk, IsSome, is_some, None, if◌then◌else◌};
+ghost use Rattle.std.specs.Prelude.{◌≡◌, ◌+◌, ◌≤◌, ◌<◌, [], ◌∷◌, max, length, option_map, IsOk, IfOk, OnOk, IsSome, is_some, None, Some, vec_len, vec_capacity, if◌then◌else◌};
 ghost use Rattle.std.specs.List.{filter};
 ghost use Rattle.omega_model.specs.Cell.{task_at, with_task, without, is_on, by_rank, keys_of};
 ghost use Rattle.omega_model.specs.Jobs.{is_of_job, other_of_job};
@@ -30,15 +30,15 @@ pub struct Running {
 }
 
 impl Model for Running {
-    ghost use Rattle.std.specs.Prelude.{length, vec_capacity};
+    ghost use Rattle.std.specs.Prelude.{vec_len, vec_capacity};
     ghost use Rattle.omega_running.specs.Kept.{RunningTasks, AreKept};
     ghost use Rattle.omega_running.specs.Tree.{tasks_of};
 
     ghost Value = { RunningTasks };
 
-    ghost view = { λ r. record { tasks = tasks_of r.by_key; spare = length r.pool.items } };
+    ghost view = { λ r. record { tasks = tasks_of r.by_key; spare = vec_len r.pool } };
 
-    ghost invariant = { λ r. AreKept (tasks_of r.by_key) (tasks_of r.by_machine) r.count (length r.pool.items) (vec_capacity r.pool) };
+    ghost invariant = { λ r. AreKept (tasks_of r.by_key) (tasks_of r.by_machine) r.count (vec_len r.pool) (vec_capacity r.pool) };
 }
 
 impl Running {
@@ -89,12 +89,7 @@ impl Running {
             return Err(NoMemory);
         };
         self.pool.reserve(room)?;
-        for _made in spare..n {
-            let by_key = Node::free(alloc)?;
-            let by_machine = Node::free(alloc)?;
-            self.pool.push_reserved(Pair { by_key, by_machine });
-        }
-        Ok(())
+        fill(&mut self.pool, alloc, n)
     }
 
     /// Puts a task in, for which room was reserved. Takes no memory, and time logarithmic in the
@@ -190,10 +185,31 @@ impl Running {
     }
 }
 
+/// Makes nodes until there are those for `n` tasks, for which the pool has room. Takes their
+/// memory. What was made stays where memory runs out.
+fn fill(pool: &mut Vec<Pair>, alloc: Global, n: usize) -> Result<(), NoMemory>
+    requires short { vec_len pool.old ≤ n }
+    requires room { n ≤ vec_capacity pool.old }
+    ensures full { OnOk result (vec_len pool.new ≡ n) }
+    ensures longer { vec_len pool.old ≤ vec_len pool.new }
+    ensures within { vec_len pool.new ≤ n }
+    ensures capacity { vec_capacity pool.new ≡ vec_capacity pool.old }
+{
+    for _made in pool.len()..n {
+        let by_key = Node::free(alloc)?;
+        let by_machine = Node::free(alloc)?;
+        pool.push_reserved(Pair { by_key, by_machine });
+    }
+    Ok(())
+}
+
 /// The keys of some tasks.
 fn keys_of(alloc: Global, tasks: &[Task]) -> Result<Keys, NoMemory>
     ensures { IfOk result (λ keys. keys ≡ keys_of tasks.now) }
 {
-    let keys = tasks.iter().map(|task| task.key).collect(alloc)?;
+    let mut keys = Vec::new(alloc);
+    for task in tasks {
+        keys.push(task.key)?;
+    }
     Ok(Seq::of(keys))
 }
