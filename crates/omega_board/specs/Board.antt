@@ -6,7 +6,8 @@ use Rattle.omega_model.specs.Cell.{Cell, machine_at, use_on}
 use Rattle.omega_model.specs.Judge.{is_up}
 use Rattle.omega_model.specs.declared.cells.Machine.{Machine}
 use Rattle.omega_model.specs.declared.cells.Task.{Task}
-use Rattle.omega_machines.specs.Table.{MachineState, machines_of, IsTable}
+use Rattle.omega_machines.specs.declared.MachineState.{MachineState}
+use Rattle.omega_machines.specs.Table.{machines_of, IsTable}
 use Rattle.omega_running.specs.Order.{IsInOrder}
 use Rattle.omega_running.specs.declared.orders.Order.TheVariants.{ByKey}
 

@@ -61,14 +61,4 @@ impl Board {
     {
         &self.running
     }
-
-    /// An equal board, with no room for more tasks. Costs the whole board.
-    pub fn copy(&self, alloc: Global) -> Result<Board, NoMemory>
-        ensures { IfOk result (λ copied. copied ≡ record self.now { spare = 0 }) }
-    {
-        Ok(Board {
-            table: self.table.copy(alloc)?,
-            running: self.running.copy(alloc)?,
-        })
-    }
 }

@@ -1,15 +1,25 @@
 //! Entries, applied to the board.
-ghost use Rattle.std.specs.Prelude.{◌≡◌, ◌+◌, ℕ, OnOk, OnErr, IfOk, if◌then◌else◌};
-ghost use Rattle.omega_machines.specs.Table.{seq_at};
-ghost use Rattle.omega_model.specs.Cell.{keys_of};
-ghost use Rattle.omega_model.specs.State.{step, displaced};
-ghost use Rattle.omega_model.specs.Touches.{touches};
-ghost use Rattle.omega_board.specs.Board.{cell_of};
-ghost use Rattle.omega_board.specs.Entries.{MayApply};
+ghost use Rattle.std.specs.Prelude.{◌≡◌, ◌≤◌, [], sum_by, ◌+◌, ◌-◌, ◌<◌, ◌^◌, ◌⊎◌, ℕ, List, length, OnOk, OnErr, IfOk, IsTrue, IsSomeAnd, if◌then◌else◌};
+ghost use Rattle.std.specs.List.{filter, zip, fold, list_any};
+ghost use Rattle.omega_machines.specs.Table.{machines_of, ensured_states, change_state, touched, state_added, state_updated, with_machine, seq_at};
+ghost use Rattle.omega_model.specs.Cell.{keys_of, is_on, total, use_on, without, task_at};
+ghost use Rattle.omega_model.specs.Fields.{greatest};
+ghost use Rattle.omega_model.specs.Machines.{is_listed, removed, attr_deleted};
+ghost use Rattle.omega_model.specs.Need.{Fits, nothing, minus};
+ghost use Rattle.omega_model.specs.Reply.{tasks_after_claim};
+ghost use Rattle.omega_model.specs.State.{step, displaced, excess, ranked_on};
+ghost use Rattle.omega_model.specs.Touches.{touches, places_on};
+ghost use Rattle.omega_board.specs.Board.{cell_of, table_with};
+ghost use Rattle.omega_board.specs.Undo.{IsUndoOf};
+ghost use Rattle.omega_board.specs.Entries.{MayApply, HasRoomFor, MayPlaceAll};
 
 use crate::Board;
-use omega_model::{Entry, Keys, NoMemory};
+use crate::placing::is_placed;
+use crate::undo::Undo;
+use omega_model::{Bytes, Claims, Entry, Keys, Need, NoMemory, Seq, TaskKey, Verdicts};
 use std::alloc::Global;
+
+const NOTHING: Need = Need { cpu: 0, mem: 0 };
 
 impl Board {
     /// Applies an entry: the cell is one step on, and each machine that the entry touches counts one
@@ -25,6 +35,196 @@ impl Board {
         ensures table { OnErr result (self.new.table ≡ self.old.table) }
         ensures tasks { OnErr result (self.new.tasks ≡ self.old.tasks) }
     {
-        todo!()
+        match entry {
+            Entry::Round { .. } => Ok(Seq::new(alloc)),
+            Entry::MachineAdd { machine, cap } => self.add_machine(alloc, *machine, *cap),
+            Entry::MachineUpdate { machine, cap } => self.update_machine(alloc, *machine, *cap),
+            Entry::MachineRemove { machine } => self.remove_machine(alloc, *machine),
+            Entry::AttrSet { .. } => Ok(Seq::new(alloc)),
+            Entry::AttrDelete { machine, name } => self.delete_attr(alloc, *machine, name),
+            Entry::End { key, machine } => Ok(self.end(alloc, *key, *machine)),
+            Entry::Commit { txn, reply, .. } => self.commit(alloc, &txn.claims, reply),
+        }
+    }
+
+    fn add_machine(&mut self, alloc: Global, machine: u64, cap: Need) -> Result<Keys, NoMemory>
+        requires { MayApply self.old (Entry.MachineAdd machine cap) }
+        ensures cell { OnOk result (cell_of self.new ≡ step (cell_of self.old) (Entry.MachineAdd machine cap)) }
+        ensures seqs { OnOk result ((id : ℕ) → seq_at self.new.table id ≡ seq_at self.old.table id + (if touches id (Entry.MachineAdd machine cap) then 1 else 0)) }
+        ensures displaced { IfOk result (λ keys. keys ≡ keys_of (displaced self.old.tasks (Entry.MachineAdd machine cap))) }
+        ensures table { OnErr result (self.new.table ≡ self.old.table) }
+        ensures tasks { OnErr result (self.new.tasks ≡ self.old.tasks) }
+    {
+        let gone = self.excess(alloc, machine, cap)?;
+        self.list(machine)?;
+        self.stop_all(gone.as_slice());
+        self.table.add(machine, cap);
+        self.touch(machine);
+        Ok(gone)
+    }
+
+    fn update_machine(&mut self, alloc: Global, machine: u64, cap: Need) -> Result<Keys, NoMemory>
+        requires { MayApply self.old (Entry.MachineUpdate machine cap) }
+        ensures cell { OnOk result (cell_of self.new ≡ step (cell_of self.old) (Entry.MachineUpdate machine cap)) }
+        ensures seqs { OnOk result ((id : ℕ) → seq_at self.new.table id ≡ seq_at self.old.table id + (if touches id (Entry.MachineUpdate machine cap) then 1 else 0)) }
+        ensures displaced { IfOk result (λ keys. keys ≡ keys_of (displaced self.old.tasks (Entry.MachineUpdate machine cap))) }
+        ensures table { OnErr result (self.new.table ≡ self.old.table) }
+        ensures tasks { OnErr result (self.new.tasks ≡ self.old.tasks) }
+    {
+        let gone = self.excess(alloc, machine, cap)?;
+        self.list(machine)?;
+        self.stop_all(gone.as_slice());
+        self.table.update(machine, cap);
+        self.touch(machine);
+        Ok(gone)
+    }
+
+    fn remove_machine(&mut self, alloc: Global, machine: u64) -> Result<Keys, NoMemory>
+        requires { MayApply self.old (Entry.MachineRemove machine) }
+        ensures cell { OnOk result (cell_of self.new ≡ step (cell_of self.old) (Entry.MachineRemove machine)) }
+        ensures seqs { OnOk result ((id : ℕ) → seq_at self.new.table id ≡ seq_at self.old.table id + (if touches id (Entry.MachineRemove machine) then 1 else 0)) }
+        ensures displaced { IfOk result (λ keys. keys ≡ keys_of (displaced self.old.tasks (Entry.MachineRemove machine))) }
+        ensures table { OnErr result (self.new.table ≡ self.old.table) }
+        ensures tasks { OnErr result (self.new.tasks ≡ self.old.tasks) }
+    {
+        let gone = self.running.on_machine(alloc, machine)?;
+        self.list(machine)?;
+        self.stop_all(gone.as_slice());
+        self.table.remove(machine);
+        self.touch(machine);
+        Ok(gone)
+    }
+
+    fn delete_attr(&mut self, alloc: Global, machine: u64, name: &Bytes) -> Result<Keys, NoMemory>
+        requires { MayApply self.old (Entry.AttrDelete machine name.now) }
+        ensures cell { OnOk result (cell_of self.new ≡ step (cell_of self.old) (Entry.AttrDelete machine name.now)) }
+        ensures seqs { OnOk result ((id : ℕ) → seq_at self.new.table id ≡ seq_at self.old.table id + (if touches id (Entry.AttrDelete machine name.now) then 1 else 0)) }
+        ensures displaced { IfOk result (λ keys. keys ≡ []) }
+        ensures table { OnErr result (self.new.table ≡ self.old.table) }
+        ensures tasks { OnErr result (self.new.tasks ≡ self.old.tasks) }
+    {
+        self.list(machine)?;
+        self.table.delete_attr(machine, name);
+        self.touch(machine);
+        Ok(Seq::new(alloc))
+    }
+
+    // The task of this name stops, which runs on this machine.
+    fn end(&mut self, alloc: Global, key: TaskKey, machine: u64) -> Keys
+        requires { MayApply self.old (Entry.End key machine) }
+        ensures cell { cell_of self.new ≡ step (cell_of self.old) (Entry.End key machine) }
+        ensures seqs { (id : ℕ) → seq_at self.new.table id ≡ seq_at self.old.table id + (if touches id (Entry.End key machine) then 1 else 0) }
+        ensures displaced { result ≡ [] }
+    {
+        self.stop(key);
+        self.touch(machine);
+        Seq::new(alloc)
+    }
+
+    // A commit: its placed claims are placed in order.
+    fn commit(&mut self, alloc: Global, claims: &Claims, reply: &Verdicts) -> Result<Keys, NoMemory>
+        requires seqs { (id : ℕ) → IsTrue (list_any (places_on id) (zip claims.now reply.now)) → seq_at self.old.table id < 2 ^ 64 - 1 }
+        requires places { MayPlaceAll (cell_of self.old) (zip claims.now reply.now) }
+        ensures machines { machines_of self.new.table ≡ machines_of self.old.table }
+        ensures tasks { OnOk result (self.new.tasks ≡ fold tasks_after_claim self.old.tasks (zip claims.now reply.now)) }
+        ensures seqs { OnOk result ((id : ℕ) → seq_at self.new.table id ≡ seq_at self.old.table id + (if list_any (places_on id) (zip claims.now reply.now) then 1 else 0)) }
+        ensures displaced { IfOk result (λ keys. keys ≡ []) }
+        ensures no_table { OnErr result (self.new.table ≡ self.old.table) }
+        ensures no_tasks { OnErr result (self.new.tasks ≡ self.old.tasks) }
+    {
+        let mut undo = self.reserve(alloc, claims)?;
+        self.place_all(claims, reply, &mut undo);
+        self.touch_placed(claims, reply);
+        Ok(Seq::new(alloc))
+    }
+
+    // The machine is in the list, at its end where it wasn't there.
+    fn list(&mut self, id: u64) -> Result<(), NoMemory>
+        requires { HasRoomFor self.old.table id }
+        ensures ok { OnOk result (self.new ≡ record self.old { table = ensured_states id self.old.table }) }
+        ensures err { OnErr result (self.new ≡ self.old) }
+    {
+        self.table.ensure(id)
+    }
+
+    // The names of the tasks that stop where the machine has this capacity, in order of eviction.
+    fn excess(&self, alloc: Global, machine: u64, cap: Need) -> Result<Keys, NoMemory>
+        ensures { IfOk result (λ keys. keys ≡ keys_of (excess cap (ranked_on machine self.now.tasks))) }
+    {
+        let used = self.use_on(machine);
+        if used.fits(cap) {
+            return Ok(Seq::new(alloc));
+        }
+        let ranked = self.running.on_machine(alloc, machine)?;
+        let count = self.excess_len(machine, ranked.as_slice(), used, cap);
+        let mut keys = ranked.into_items();
+        keys.truncate(count);
+        Ok(Seq::of(keys))
+    }
+
+    // How many of a machine's tasks stop where it has this capacity.
+    fn excess_len(&self, machine: u64, ranked: &[TaskKey], used: Need, cap: Need) -> usize
+        requires ranked { ranked.now ≡ keys_of (ranked_on machine self.now.tasks) }
+        requires used { used ≡ use_on self.now.tasks machine }
+        ensures { result ≡ length (excess cap (ranked_on machine self.now.tasks)) }
+    {
+        let mut left = used;
+        for (i, key) in ranked.iter().enumerate() {
+            if left.fits(cap) {
+                return i;
+            }
+            left = minus(left, self.need_of(*key));
+        }
+        ranked.len()
+    }
+
+    // What the tasks on a machine use.
+    fn use_on(&self, machine: u64) -> Need
+        ensures { result ≡ use_on self.now.tasks machine }
+    {
+        let (Some(free), Some(place)) = (self.table.free(machine), self.table.position(machine)) else {
+            return NOTHING;
+        };
+        match self.table.at(place) {
+            Some(machine) => minus(machine.cap, free),
+            None => NOTHING,
+        }
+    }
+
+    // These tasks stop.
+    fn stop_all(&mut self, keys: &[TaskKey])
+        ensures tasks { self.new.tasks ≡ without keys.now self.old.tasks }
+        ensures table { self.new.table ≡ table_with self.new.tasks self.old.table }
+    {
+        for key in keys {
+            self.stop(*key);
+        }
+    }
+
+    // The placed claims, in order.
+    fn place_all(&mut self, claims: &Claims, reply: &Verdicts, undo: &mut Undo)
+        requires places { MayPlaceAll (cell_of self.old) (zip claims.now reply.now) }
+        requires undo { IsUndoOf self.old undo.old }
+        requires claims { length claims.now ≤ undo.old.claims }
+        requires victims { sum_by (λ claim. length claim.victims) claims.now ≤ undo.old.victims }
+        ensures machines { machines_of self.new.table ≡ machines_of self.old.table }
+        ensures tasks { self.new.tasks ≡ fold tasks_after_claim self.old.tasks (zip claims.now reply.now) }
+        ensures seqs { (id : ℕ) → seq_at self.new.table id ≡ seq_at self.old.table id }
+    {
+        let reply = reply.as_slice();
+        for (i, claim) in claims.as_slice().iter().enumerate() {
+            if i < reply.len() && is_placed(reply[i]) {
+                self.apply_placed(claim, undo);
+            }
+        }
+    }
+}
+
+fn minus(a: Need, b: Need) -> Need
+    ensures { result ≡ minus a b }
+{
+    Need {
+        cpu: a.cpu.saturating_sub(b.cpu),
+        mem: a.mem.saturating_sub(b.mem),
     }
 }

@@ -1,7 +1,9 @@
 //! The verdict on a claim, part by part.
-ghost use Rattle.std.specs.Prelude.{◌≡◌, [], None, option_map};
+ghost use Rattle.std.specs.Prelude.{◌≡◌, [], None, Some, option_map, is_some, IsTrue};
 ghost use Rattle.omega_machines.specs.Table.{seq_at};
+ghost use Rattle.omega_model.specs.Cell.{task_at};
 ghost use Rattle.omega_model.specs.Judge.{no_machine, already_running, victim_gone, victim_rank, same_job, full, free_after, runs_on, withstands};
+ghost use Rattle.omega_model.specs.Cell.{task_at};
 ghost use Rattle.omega_model.specs.JudgeOn.{changed_on, judge_on};
 ghost use Rattle.omega_model.specs.Keys.{is_among};
 ghost use Rattle.omega_board.specs.Board.{cell_of};
@@ -155,7 +157,7 @@ impl Board {
     }
 
     // What a running task needs.
-    fn need_of(&self, key: TaskKey) -> Need
+    pub(crate) fn need_of(&self, key: TaskKey) -> Need
         requires { IsTrue (is_some (task_at self.now.tasks key)) }
         ensures { Some result ≡ option_map (λ task. task.spec.need) (task_at self.now.tasks key) }
     {
