@@ -1,6 +1,6 @@
 -- The board: the machines of a cell, each with what is free on it and how often it was touched, and
 -- the running tasks.
-use Rattle.std.specs.Prelude.{◌≡◌, ℕ, Bool, List, All, map, IsTrue}
+use Rattle.std.specs.Prelude.{◌≡◌, ℕ, Bool, List, map, IsTrue}
 use Rattle.omega_model.specs.Need.{plus, minus}
 use Rattle.omega_model.specs.Cell.{Cell, machine_at, use_on}
 use Rattle.omega_model.specs.Judge.{is_up}
@@ -8,7 +8,7 @@ use Rattle.omega_model.specs.declared.cells.Machine.{Machine}
 use Rattle.omega_model.specs.declared.cells.Task.{Task}
 use Rattle.omega_machines.specs.declared.MachineState.{MachineState}
 use Rattle.omega_machines.specs.Table.{machines_of, IsTable}
-use Rattle.omega_running.specs.Order.{IsInOrder}
+use Rattle.omega_running.specs.Order.{Each, IsInOrder}
 use Rattle.omega_running.specs.declared.orders.Order.TheVariants.{ByKey}
 
 -- a board, and for how many more tasks it has room
@@ -34,8 +34,8 @@ IsCounted tasks state = plus state.free (use_on tasks state.machine.id) ≡ stat
 pub record IsBoard (table : List MachineState) (tasks : List Task) : Type 0 where
   pub bounded : IsTable table
   pub ordered : IsInOrder ByKey tasks
-  pub placed : All (λ task. IsTrue (is_on_up (machines_of table) task)) tasks
-  pub counted : All (IsCounted tasks) table
+  pub placed : Each (λ task. IsTrue (is_on_up (machines_of table) task)) tasks
+  pub counted : Each (IsCounted tasks) table
 
 -- a machine with so much free as these tasks leave of its capacity
 abbrev pub recounted : List Task → MachineState → MachineState

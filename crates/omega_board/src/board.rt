@@ -1,8 +1,8 @@
 //! The board.
-ghost use Rattle.std.specs.Prelude.{◌≡◌, [], IfOk, All};
+ghost use Rattle.std.specs.Prelude.{◌≡◌, [], IfOk};
 ghost use Rattle.omega_model.specs.Legal.{Sound};
 ghost use Rattle.omega_running.specs.declared.orders.Order.TheVariants.{ByKey};
-ghost use Rattle.omega_running.specs.Order.{IsInOrder};
+ghost use Rattle.omega_running.specs.Order.{Each, IsInOrder};
 ghost use Rattle.omega_board.specs.Board.{cell_of, IsCounted};
 
 use omega_machines::MachineTable;
@@ -47,7 +47,7 @@ impl Board {
     pub fn machines(&self) -> &MachineTable
         ensures table { result.now ≡ self.now.table }
         ensures sound { Sound (cell_of self.now) }
-        ensures counted { All (IsCounted self.now.tasks) self.now.table }
+        ensures counted { Each (IsCounted self.now.tasks) self.now.table }
     {
         &self.table
     }
