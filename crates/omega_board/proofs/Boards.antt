@@ -21,7 +21,7 @@ use Rattle.omega_machines.proofs.Laws.{machine_of_state, listed_state, machines_
 use Rattle.omega_running.specs.declared.orders.Order.TheVariants.{ByKey}
 use Rattle.omega_running.specs.Order.{Each, IsInOrder}
 use Rattle.omega_running.proofs.Lists.{each_map, each_both, each_append, each_of, find_first, filter_none}
-use Rattle.omega_board.specs.Board.{IsBoard, IsCounted, is_on_up, recounted, table_with}
+use Rattle.omega_board.specs.Board.{BoardState, IsBoard, IsCounted, is_on_up, recounted, table_with}
 use Rattle.omega_board.proofs.Tasks.{each_filter, each_found, each_with, key_same, without_ordered, with_ordered, without_absent}
 use Rattle.omega_board.proofs.Uses.{need_is, plus-assoc, plus-nothing, share, total-with, total-without}
 
@@ -322,3 +322,7 @@ module _ (table : List MachineState) (tasks : List Task) (board : IsBoard table 
   -- a board with one more entry counted on a machine keeps what every board keeps
   pub touched_board : (id : ℕ) → IsTable (change_state id touched table) → IsBoard (change_state id touched table) tasks
   touched_board id bounded = changed_board id touched (λ s. refl) (λ s _ was. was) (each_of _ (λ t _ s up. up) tasks) bounded
+
+-- what a board keeps, of its value
+pub at_now : (view now : BoardState) → view ≡ now → IsBoard view.table view.tasks → IsBoard now.table now.tasks
+at_now view now same kept = subst (λ (b : BoardState). IsBoard b.table b.tasks) same kept

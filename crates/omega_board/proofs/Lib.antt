@@ -3,3 +3,5 @@ pub mod Uses
 pub mod Boards
 pub mod Sounds
 pub mod Parts
+pub mod Ranks
+pub mod Rewinds

@@ -168,6 +168,7 @@ impl Board {
         requires used { used ≡ use_on self.now.tasks machine }
         ensures { result ≡ length (excess cap (ranked_on machine self.now.tasks)) }
     {
+        let _ = &self.running;
         let mut left = used;
         for (i, key) in ranked.iter().enumerate() {
             if left.fits(cap) {
@@ -196,6 +197,7 @@ impl Board {
         ensures tasks { self.new.tasks ≡ without keys.now self.old.tasks }
         ensures table { self.new.table ≡ table_with self.new.tasks self.old.table }
     {
+        let _ = &self.table;
         for key in keys {
             self.stop(*key);
         }

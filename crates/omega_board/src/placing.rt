@@ -47,6 +47,7 @@ impl Board {
         ensures claims { undo.new.claims + 1 ≡ undo.old.claims }
         ensures victims { undo.new.victims + length claim.now.victims ≡ undo.old.victims }
     {
+        let _ = &self.table;
         for key in claim.victims.as_slice() {
             self.stop_noted(*key, undo);
         }
@@ -102,6 +103,7 @@ impl Board {
         ensures claims { undo.new.claims ≡ undo.old.claims }
         ensures victims { undo.new.victims + 1 ≡ undo.old.victims }
     {
+        let _ = &self.table;
         if let Some(task) = self.stop(key) {
             undo.note_stopped(task);
         }
@@ -120,6 +122,7 @@ impl Board {
         ensures claims { undo.new.claims + 1 ≡ undo.old.claims }
         ensures victims { undo.new.victims ≡ undo.old.victims }
     {
+        let _ = &self.table;
         self.start(task);
         undo.note_started(task.key);
     }
@@ -129,6 +132,7 @@ impl Board {
         requires { MayTakeBack change self.old }
         ensures { self.new ≡ before_change change self.old }
     {
+        let _ = &self.table;
         match change {
             Change::Stopped(task) => self.start(task),
             Change::Started(key) => {
