@@ -5,3 +5,5 @@ pub mod Sounds
 pub mod Parts
 pub mod Ranks
 pub mod Rewinds
+pub mod Claims
+pub mod Counts

@@ -255,3 +255,13 @@ used_found board kept id place free machine is placed here =
     let same : machine ≡ known.0.machine = same_Some _ _ (sym at ∙ machine_of_state board.table id ∙ ap (option_map (λ (s : MachineState). s.machine)) known.1) in
     ap₂ (λ (m : Machine) f. minus m.cap f) same (sym known.3)
     ∙ need_is _ _ (omega (arith, ap (λ (n : Need). n.cpu) counted)) (omega (arith, ap (λ (n : Need). n.mem) counted))
+
+-- a machine on which something is free stands at its position
+pub found_there : (table : List MachineState) (id place : ℕ) (free : Need) → Some free ≡ free_at table id
+    → Some place ≡ position (λ m. m.id == id) (machines_of table) → None ≡ slice_get (machines_of table) place → ⊥
+found_there table id place free is placed none =
+    let test : Machine → Bool = λ m. m.id == id in
+    let known = state_free table id free (sym is) in
+    let at : machine_at (machines_of table) id ≡ None =
+    find_at test (machines_of table) ∙ ap (slice_get (machines_of table)) (cond_some _ _ _ (sym placed)).1 ∙ sym none in
+    none-some known.0.machine (sym at ∙ machine_of_state table id ∙ ap (option_map (λ (s : MachineState). s.machine)) known.1)
