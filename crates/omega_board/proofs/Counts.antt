@@ -19,7 +19,7 @@ pub seq_touched : (table : List MachineState) (id other : ℕ) → IsTrue (is_li
 seq_touched table id other listed =
     by_answer (id == other)
     (λ t. rw t (subst (λ n. seq_at (change_state id touched table) n ≡ seq_at table n + 1) (eqb-true _ _ t) own))
-    (λ f. rw f (ap (option_map_or (λ (s : MachineState). s.seq) ) (others_unchanged id touched (λ s. refl) table other (λ same. both_ways _ f (eq-eqb _ _ (sym same)))) ∙ omega arith))
+    (λ f. rw f (ap (λ o. option_map_or (λ (s : MachineState). s.seq) o 0) (others_unchanged id touched (λ s. refl) table other (λ same. both_ways _ f (eq-eqb _ _ (sym same)))) ∙ omega arith))
   where
     by : (o : Option MachineState) → is_some o ≡ true → option_map_or (λ s. s.seq) (option_map touched o) 0 ≡ option_map_or (λ s. s.seq) o 0 + 1
     by None e = absurd (both_ways false refl e)
@@ -42,25 +42,25 @@ zip_take (x ∷ xs) (y ∷ ys) (suc i) d e below_xs below_ys =
     let next : suc i + 1 ≡ suc (i + 1) = omega arith in
     rw next (ap (λ ps. (x, y) ∷ ps) (zip_take xs ys i d e (omega arith) (omega arith)))
 
+zip-nil : (X Y : Type 0) (zs : List X) → let none : List Y = [] in zip zs none ≡ []
+zip-nil X Y [] = refl
+zip-nil X Y (z ∷ zs) = refl
+
+nil-zip : (X Y : Type 0) (ys : List Y) (i : ℕ) → let none : List X = [] in zip (take i none) (take i ys) ≡ zip none ys
+nil-zip X Y ys zero = refl
+nil-zip X Y ys (suc i) = refl
+
 pub zip_past : {X Y : Type 0} (xs : List X) (ys : List Y) (i : ℕ) → min (length xs) (length ys) ≤ i → zip (drop i xs) (drop i ys) ≡ []
 zip_past [] [] zero past = refl
 zip_past [] (y ∷ ys) zero past = refl
 zip_past (x ∷ xs) [] zero past = refl
 zip_past (x ∷ xs) (y ∷ ys) zero past = absurd (omega arith)
 zip_past [] ys (suc i) past = refl
-zip_past (x ∷ xs) [] (suc i) past = zip-nil (drop i xs)
-  where
-    zip-nil : {X Y : Type 0} (zs : List X) → zip {X} {Y} zs [] ≡ []
-    zip-nil [] = refl
-    zip-nil (z ∷ zs) = refl
+zip_past {X} {Y} (x ∷ xs) [] (suc i) past = zip-nil X Y (drop i xs)
 zip_past (x ∷ xs) (y ∷ ys) (suc i) past = zip_past xs ys i (omega arith)
 
 pub zip_all : {X Y : Type 0} (xs : List X) (ys : List Y) (i : ℕ) → min (length xs) (length ys) ≤ i → zip (take i xs) (take i ys) ≡ zip xs ys
-zip_all [] ys i past = zero_left i
-  where
-    zero_left : (j : ℕ) → zip (take j []) (take j ys) ≡ zip [] ys
-    zero_left zero = refl
-    zero_left (suc j) = refl
+zip_all {X} {Y} [] ys i past = nil-zip X Y ys i
 zip_all (x ∷ xs) [] zero past = refl
 zip_all (x ∷ xs) [] (suc i) past = refl
 zip_all (x ∷ xs) (y ∷ ys) zero past = absurd (omega arith)
