@@ -7,3 +7,4 @@ pub mod Ranks
 pub mod Rewinds
 pub mod Claims
 pub mod Counts
+pub mod Entering

@@ -1,13 +1,13 @@
 -- The board: the machines of a cell, each with what is free on it and how often it was touched, and
 -- the running tasks.
-use Rattle.std.specs.Prelude.{◌≡◌, ℕ, Bool, List, map, IsTrue}
+use Rattle.std.specs.Prelude.{◌≡◌, ℕ, ◌+◌, Bool, List, map, IsTrue, ◌==◌, if◌then◌else◌}
 use Rattle.omega_model.specs.Need.{plus, minus}
 use Rattle.omega_model.specs.Cell.{Cell, machine_at, use_on}
 use Rattle.omega_model.specs.Judge.{is_up}
 use Rattle.omega_model.specs.declared.cells.Machine.{Machine}
 use Rattle.omega_model.specs.declared.cells.Task.{Task}
 use Rattle.omega_machines.specs.declared.MachineState.{MachineState}
-use Rattle.omega_machines.specs.Table.{machines_of, IsTable}
+use Rattle.omega_machines.specs.Table.{machines_of, seq_at, IsTable}
 use Rattle.omega_running.specs.Order.{Each, IsInOrder}
 use Rattle.omega_running.specs.declared.orders.Order.TheVariants.{ByKey}
 
@@ -44,3 +44,7 @@ recounted tasks state = record state { free = minus state.machine.cap (use_on ta
 -- the machines as they are while these tasks run
 abbrev pub table_with : List Task → List MachineState → List MachineState
 table_with tasks table = map (recounted tasks) table
+
+-- one more entry is counted on this machine, and on no other
+abbrev pub CountsOn : ℕ → List MachineState → List MachineState → Type 0
+CountsOn machine before after = (id : ℕ) → seq_at after id ≡ seq_at before id + (if machine == id then 1 else 0)

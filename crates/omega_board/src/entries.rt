@@ -9,14 +9,14 @@ ghost use Rattle.omega_model.specs.Need.{Fits, nothing, minus};
 ghost use Rattle.omega_model.specs.Reply.{tasks_after_claim};
 ghost use Rattle.omega_model.specs.State.{step, displaced, excess, ranked_on};
 ghost use Rattle.omega_model.specs.Touches.{touches, places_on};
-ghost use Rattle.omega_board.specs.Board.{cell_of, table_with};
+ghost use Rattle.omega_board.specs.Board.{cell_of, CountsOn};
 ghost use Rattle.omega_board.specs.Undo.{IsUndoOf};
 ghost use Rattle.omega_board.specs.Entries.{MayApply, HasRoomFor, MayPlaceAll};
 
 use crate::Board;
 use crate::placing::is_placed;
 use crate::undo::Undo;
-use omega_model::{Bytes, Claims, Entry, Keys, Need, NoMemory, Seq, TaskKey, Verdicts};
+use omega_model::{Bytes, Claim, Claims, Entry, Keys, Need, NoMemory, Seq, TaskKey, Verdict, Verdicts};
 use std::alloc::Global;
 
 const NOTHING: Need = Need { cpu: 0, mem: 0 };
@@ -50,62 +50,55 @@ impl Board {
     fn add_machine(&mut self, alloc: Global, machine: u64, cap: Need) -> Result<Keys, NoMemory>
         requires { MayApply self.old (Entry.MachineAdd machine cap) }
         ensures cell { OnOk result (cell_of self.new ≡ step (cell_of self.old) (Entry.MachineAdd machine cap)) }
-        ensures seqs { OnOk result ((id : ℕ) → seq_at self.new.table id ≡ seq_at self.old.table id + (if touches id (Entry.MachineAdd machine cap) then 1 else 0)) }
+        ensures seqs { OnOk result (CountsOn machine self.old.table self.new.table) }
         ensures displaced { IfOk result (λ keys. keys ≡ keys_of (displaced self.old.tasks (Entry.MachineAdd machine cap))) }
         ensures table { OnErr result (self.new.table ≡ self.old.table) }
         ensures tasks { OnErr result (self.new.tasks ≡ self.old.tasks) }
     {
         let gone = self.excess(alloc, machine, cap)?;
-        self.list(machine)?;
-        self.stop_all(gone.as_slice());
-        self.table.add(machine, cap);
-        self.touch(machine);
+        self.displace(machine, gone.as_slice())?;
+        self.bring_up(machine, cap);
         Ok(gone)
     }
 
     fn update_machine(&mut self, alloc: Global, machine: u64, cap: Need) -> Result<Keys, NoMemory>
         requires { MayApply self.old (Entry.MachineUpdate machine cap) }
         ensures cell { OnOk result (cell_of self.new ≡ step (cell_of self.old) (Entry.MachineUpdate machine cap)) }
-        ensures seqs { OnOk result ((id : ℕ) → seq_at self.new.table id ≡ seq_at self.old.table id + (if touches id (Entry.MachineUpdate machine cap) then 1 else 0)) }
+        ensures seqs { OnOk result (CountsOn machine self.old.table self.new.table) }
         ensures displaced { IfOk result (λ keys. keys ≡ keys_of (displaced self.old.tasks (Entry.MachineUpdate machine cap))) }
         ensures table { OnErr result (self.new.table ≡ self.old.table) }
         ensures tasks { OnErr result (self.new.tasks ≡ self.old.tasks) }
     {
         let gone = self.excess(alloc, machine, cap)?;
-        self.list(machine)?;
-        self.stop_all(gone.as_slice());
-        self.table.update(machine, cap);
-        self.touch(machine);
+        self.displace(machine, gone.as_slice())?;
+        self.resize(machine, cap);
         Ok(gone)
     }
 
     fn remove_machine(&mut self, alloc: Global, machine: u64) -> Result<Keys, NoMemory>
         requires { MayApply self.old (Entry.MachineRemove machine) }
         ensures cell { OnOk result (cell_of self.new ≡ step (cell_of self.old) (Entry.MachineRemove machine)) }
-        ensures seqs { OnOk result ((id : ℕ) → seq_at self.new.table id ≡ seq_at self.old.table id + (if touches id (Entry.MachineRemove machine) then 1 else 0)) }
+        ensures seqs { OnOk result (CountsOn machine self.old.table self.new.table) }
         ensures displaced { IfOk result (λ keys. keys ≡ keys_of (displaced self.old.tasks (Entry.MachineRemove machine))) }
         ensures table { OnErr result (self.new.table ≡ self.old.table) }
         ensures tasks { OnErr result (self.new.tasks ≡ self.old.tasks) }
     {
         let gone = self.running.on_machine(alloc, machine)?;
-        self.list(machine)?;
-        self.stop_all(gone.as_slice());
-        self.table.remove(machine);
-        self.touch(machine);
+        self.displace(machine, gone.as_slice())?;
+        self.take_down(machine);
         Ok(gone)
     }
 
     fn delete_attr(&mut self, alloc: Global, machine: u64, name: &Bytes) -> Result<Keys, NoMemory>
         requires { MayApply self.old (Entry.AttrDelete machine name.now) }
         ensures cell { OnOk result (cell_of self.new ≡ step (cell_of self.old) (Entry.AttrDelete machine name.now)) }
-        ensures seqs { OnOk result ((id : ℕ) → seq_at self.new.table id ≡ seq_at self.old.table id + (if touches id (Entry.AttrDelete machine name.now) then 1 else 0)) }
+        ensures seqs { OnOk result (CountsOn machine self.old.table self.new.table) }
         ensures displaced { IfOk result (λ keys. keys ≡ []) }
         ensures table { OnErr result (self.new.table ≡ self.old.table) }
         ensures tasks { OnErr result (self.new.tasks ≡ self.old.tasks) }
     {
-        self.list(machine)?;
-        self.table.delete_attr(machine, name);
-        self.touch(machine);
+        self.displace(machine, &[])?;
+        self.unset_attr(machine, name);
         Ok(Seq::new(alloc))
     }
 
@@ -113,7 +106,7 @@ impl Board {
     fn end(&mut self, alloc: Global, key: TaskKey, machine: u64) -> Keys
         requires { MayApply self.old (Entry.End key machine) }
         ensures cell { cell_of self.new ≡ step (cell_of self.old) (Entry.End key machine) }
-        ensures seqs { (id : ℕ) → seq_at self.new.table id ≡ seq_at self.old.table id + (if touches id (Entry.End key machine) then 1 else 0) }
+        ensures seqs { CountsOn machine self.old.table self.new.table }
         ensures displaced { result ≡ [] }
     {
         self.stop(key);
@@ -133,18 +126,9 @@ impl Board {
         ensures no_tasks { OnErr result (self.new.tasks ≡ self.old.tasks) }
     {
         let mut undo = self.reserve(alloc, claims)?;
-        self.place_all(claims, reply, &mut undo);
+        self.place_all(claims.as_slice(), reply.as_slice(), &mut undo);
         self.touch_placed(claims, reply);
         Ok(Seq::new(alloc))
-    }
-
-    // The machine is in the list, at its end where it wasn't there.
-    fn list(&mut self, id: u64) -> Result<(), NoMemory>
-        requires { HasRoomFor self.old.table id }
-        ensures ok { OnOk result (self.new ≡ record self.old { table = ensured_states id self.old.table }) }
-        ensures err { OnErr result (self.new ≡ self.old) }
-    {
-        self.table.ensure(id)
     }
 
     // The names of the tasks that stop where the machine has this capacity, in order of eviction.
@@ -192,19 +176,8 @@ impl Board {
         }
     }
 
-    // These tasks stop.
-    fn stop_all(&mut self, keys: &[TaskKey])
-        ensures tasks { self.new.tasks ≡ without keys.now self.old.tasks }
-        ensures table { self.new.table ≡ table_with self.new.tasks self.old.table }
-    {
-        let _ = &self.table;
-        for key in keys {
-            self.stop(*key);
-        }
-    }
-
     // The placed claims, in order.
-    fn place_all(&mut self, claims: &Claims, reply: &Verdicts, undo: &mut Undo)
+    fn place_all(&mut self, claims: &[Claim], reply: &[Verdict], undo: &mut Undo)
         requires places { MayPlaceAll (cell_of self.old) (zip claims.now reply.now) }
         requires undo { IsUndoOf self.old undo.old }
         requires claims { length claims.now ≤ undo.old.claims }
@@ -213,10 +186,10 @@ impl Board {
         ensures tasks { self.new.tasks ≡ fold tasks_after_claim self.old.tasks (zip claims.now reply.now) }
         ensures seqs { (id : ℕ) → seq_at self.new.table id ≡ seq_at self.old.table id }
     {
-        let reply = reply.as_slice();
-        for (i, claim) in claims.as_slice().iter().enumerate() {
-            if i < reply.len() && is_placed(reply[i]) {
-                self.apply_placed(claim, undo);
+        let count = claims.len().min(reply.len());
+        for i in 0..count {
+            if is_placed(reply[i]) {
+                self.apply_placed(&claims[i], undo);
             }
         }
     }

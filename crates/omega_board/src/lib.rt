@@ -7,6 +7,7 @@
 #![tactic(auto)]
 
 mod board;
+mod changes;
 mod entries;
 mod judging;
 mod placing;
