@@ -8,3 +8,4 @@ pub mod Rewinds
 pub mod Claims
 pub mod Counts
 pub mod Entering
+pub mod Commits

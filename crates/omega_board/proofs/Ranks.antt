@@ -1,22 +1,23 @@
 -- The tasks on a machine in order of eviction.
-use Rattle.std.proofs.Common.{◌≡◌, ℕ, zero, suc, ◌+◌, ◌-◌, ◌<◌, ◌≤◌, Bool, true, false, cond, not, ◌||◌, ◌&&◌, nat_le, List, [], ◌∷◌, ◌++◌, length, get_or, take, drop, map, Option, Some, None, is_some, IsTrue, refl, sym, ap, ap₂, ◌∙◌, subst, arith, leb-true, le-leb}
+use Rattle.std.proofs.Common.{◌≡◌, ℕ, zero, suc, ◌+◌, ◌-◌, ◌<◌, ◌≤◌, Bool, true, false, cond, not, ◌||◌, ◌&&◌, nat_le, List, [], ◌∷◌, ◌++◌, length, get_or, take, drop, map, Option, Some, None, is_some, IsTrue, IsSomeAnd, refl, sym, ap, ap₂, ◌∙◌, subst, arith, ◌==◌, leb-true, le-leb}
 use Rattle.std.specs.List.{filter, find, list_any}
 use Rattle.std.specs.Option.{option_map}
 use Rattle.std.proofs.lemmas.Bool.{both_ways, eq-eqb, and_parts, and_from, or_from, or_left, or_right, not_from_true, not_from_false}
 use Rattle.std.proofs.lemmas.List.{drop_more, drop_all, length-map, take_at, take-map, get_or-map, get_or_default}
 use Rattle.std.proofs.lemmas.List.Elements.{filter-append}
+use Rattle.std.proofs.lemmas.Option.{same_Some}
 use Rattle.omega_model.specs.Need.{Fits, fits, nothing, plus, minus}
 use Rattle.omega_model.specs.Keys.{same_key, key_lt, is_among}
 use Rattle.omega_model.specs.Cell.{task_at, without, total, is_on, use_on, keys_of, goes_before, put_by_rank, by_rank}
-use Rattle.omega_model.specs.State.{excess, ranked_on}
+use Rattle.omega_model.specs.State.{excess, ranked_on, goes_on}
 use Rattle.omega_model.specs.declared.cells.Need.{Need}
 use Rattle.omega_model.specs.declared.cells.TaskKey.{TaskKey}
 use Rattle.omega_model.specs.declared.cells.Task.{Task}
 use Rattle.omega_machines.proofs.Places.{by_answer}
 use Rattle.omega_running.specs.declared.orders.Order.TheVariants.{ByKey}
 use Rattle.omega_running.specs.Order.{Each, IsInOrder}
-use Rattle.omega_running.proofs.Lists.{each_map, each_both, each_of, each_back, filter_every, filter_none}
-use Rattle.omega_board.proofs.Tasks.{each_filter, filter_and, filter_alike, key_same, key_differs, key_differs_back}
+use Rattle.omega_running.proofs.Lists.{each_map, each_both, each_of, each_back, filter_every, filter_none, filter_where}
+use Rattle.omega_board.proofs.Tasks.{stays, each_filter, filter_and, filter_alike, key_same, key_differs, key_differs_back}
 use Rattle.omega_board.proofs.Uses.{need_is, plus-swap, share, total-cons, total-append}
 
 -- the test of an amount says what it says
@@ -214,3 +215,62 @@ ranked_at tasks id i d order below =
       named = get_or-map (λ (x : Task). x.key) ranked i none d below;
       found = each_at (λ x. task_at tasks x.key ≡ Some x) ranked i none (ranked_found tasks id order) below;
     }
+
+-- what holds of each in order of eviction holds of each
+each_unput : (P : Task → Type 0) (t : Task) (tasks : List Task) → Each P (put_by_rank t tasks) → P t × Each P tasks
+each_unput P t [] each = each
+each_unput P t (o ∷ tasks) each =
+    by_answer (goes_before o t)
+    (λ h. let parts = rw h at each in let rest = each_unput P t tasks parts.1 in (rest.0, (parts.0, rest.1)))
+    (λ h. let parts = rw h at each in (parts.0, parts.1))
+
+pub each_unrank : (P : Task → Type 0) (tasks : List Task) → Each P (by_rank tasks) → Each P tasks
+each_unrank P [] each = tt
+each_unrank P (t ∷ tasks) each = let parts = each_unput P t (by_rank tasks) each in (parts.0, each_unrank P tasks parts.1)
+
+-- once all on a machine stopped, none is there
+pub none-without : (tasks : List Task) (id : ℕ) → filter (is_on id) (without (keys_of (ranked_on id tasks)) tasks) ≡ []
+none-without tasks id =
+    let names = keys_of (ranked_on id tasks) in
+    let stay : Task → Bool = λ t. not (is_among t.key names) in
+    filter_swap (is_on id) stay tasks
+    ∙ filter_none stay (filter (is_on id) tasks)
+    (each_map (λ t. is_among t.key names ≡ true) (λ t. stay t ≡ false) (λ t h. not_from_true _ h) (filter (is_on id) tasks)
+    (each_unrank (λ t. is_among t.key names ≡ true) (filter (is_on id) tasks) (each_among (ranked_on id tasks))))
+
+-- once those in excess stopped, the use fits
+pub excess_fits : (tasks : List Task) (id : ℕ) (cap : Need) → IsInOrder ByKey tasks → Fits (use_on (without (keys_of (excess cap (ranked_on id tasks))) tasks) id) cap
+excess_fits tasks id cap order =
+    let known = excess_first cap (ranked_on id tasks) in
+    subst (λ n. Fits n cap) (sym (use-without tasks id (excess cap (ranked_on id tasks)) known.others order known.parts)) known.fit
+
+-- where all fit, no name is in excess
+pub excess_no_keys : (tasks : List Task) (id : ℕ) (cap amount : Need) → amount ≡ use_on tasks id → Fits amount cap → [] ≡ keys_of (excess cap (ranked_on id tasks))
+excess_no_keys tasks id cap amount is fits =
+    sym (ap keys_of (excess_none cap (ranked_on id tasks) (subst (λ n. Fits n cap) (is ∙ sym (total-ranked tasks id)) fits)))
+
+-- a task that ends on its machine is the one of its name
+pub end_is : (tasks : List Task) (key : TaskKey) (machine : ℕ) (t : Task) → IsInOrder ByKey tasks → task_at tasks key ≡ Some t → t.machine ≡ machine → without (key ∷ []) tasks ≡ filter (goes_on key machine) tasks
+end_is tasks key machine t order found on =
+    filter_where (stays key) (goes_on key machine) tasks
+    (each_map (λ y. task_at tasks y.key ≡ Some y) (λ y. stays key y ≡ goes_on key machine y)
+    (λ y here.
+    by_answer (same_key y.key key)
+    (λ h.
+    let same : y ≡ t = same_Some y t (sym here ∙ ap (task_at tasks) (key_same y.key key h) ∙ found) in
+    let there : (y.machine == machine) ≡ true = eq-eqb _ _ (ap (λ (x : Task). x.machine) same ∙ on) in
+    rw (h, there) refl)
+    (λ h. rw h refl)) tasks (each_here tasks order))
+
+-- the task that an end names
+pub record IsEnding (tasks : List Task) (key : TaskKey) (machine : ℕ) : Type 0 where
+  pub task : Task
+  pub found : task_at tasks key ≡ Some task
+  pub on : task.machine ≡ machine
+
+pub ending : (tasks : List Task) (key : TaskKey) (machine : ℕ) → IsSomeAnd (task_at tasks key) (λ task. task.machine ≡ machine) → IsEnding tasks key machine
+ending tasks key machine ends = by (task_at tasks key) refl ends
+  where
+    by : (o : Option Task) → task_at tasks key ≡ o → IsSomeAnd o (λ task. task.machine ≡ machine) → IsEnding tasks key machine
+    by None is e = absurd e
+    by (Some t) is e = record { task = t; found = is; on = e }

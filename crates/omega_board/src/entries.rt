@@ -55,6 +55,7 @@ impl Board {
         ensures table { OnErr result (self.new.table ≡ self.old.table) }
         ensures tasks { OnErr result (self.new.tasks ≡ self.old.tasks) }
     {
+        let _ = &self.table;
         let gone = self.excess(alloc, machine, cap)?;
         self.displace(machine, gone.as_slice())?;
         self.bring_up(machine, cap);
@@ -69,6 +70,7 @@ impl Board {
         ensures table { OnErr result (self.new.table ≡ self.old.table) }
         ensures tasks { OnErr result (self.new.tasks ≡ self.old.tasks) }
     {
+        let _ = &self.table;
         let gone = self.excess(alloc, machine, cap)?;
         self.displace(machine, gone.as_slice())?;
         self.resize(machine, cap);
@@ -109,6 +111,7 @@ impl Board {
         ensures seqs { CountsOn machine self.old.table self.new.table }
         ensures displaced { result ≡ [] }
     {
+        let _ = &self.table;
         self.stop(key);
         self.touch(machine);
         Seq::new(alloc)
