@@ -128,3 +128,9 @@ placed_listed cell ((claim, verdict) ∷ decided) id places any =
     not_refused : (up : Bool) → refusal_if (not up) NoMachine ≡ None → up ≡ true
     not_refused true e = refl
     not_refused false e = absurd (none-some NoMachine (sym e))
+
+-- the claim at a place
+pub claim_at : (claims : List Claim) (i : ℕ) → i < length claims → (claim : Claim) × (claim ≡ get_or claims i claim)
+claim_at [] i below = absurd (omega arith)
+claim_at (c ∷ claims) zero below = (c, refl)
+claim_at (c ∷ claims) (suc i) below = claim_at claims i (omega arith)
