@@ -11,3 +11,6 @@ mod orders;
 mod table;
 
 pub use table::Running;
+
+#[cfg(test)]
+mod tests;
