@@ -1,5 +1,5 @@
 -- A table with a new machine at its end.
-use Rattle.std.proofs.Common.{◌≡◌, ◌⊎◌, inl, inr, ℕ, ◌+◌, ◌<◌, ◌≤◌, Bool, true, false, nat_eq, List, [], ◌∷◌, ◌++◌, map, length, get_or, take, drop, slice_get, suc, refl, sym, ap, ◌∙◌, subst, arith, true≢false, Option, Some, None, is_some, IsTrue, length-append, if◌then◌else◌}
+use Rattle.std.proofs.Common.{◌≡◌, ◌⊎◌, inl, inr, ℕ, ◌+◌, ◌<◌, false, nat_eq, List, [], ◌∷◌, ◌++◌, length, get_or, take, drop, slice_get, suc, refl, sym, ap, ◌∙◌, subst, arith, true≢false, Option, Some, None, is_some, IsTrue, length-append, if◌then◌else◌}
 use Rattle.std.specs.Cmp.{nat_eq_equiv}
 use Rattle.std.specs.List.{IsDistinct, list_any}
 use Rattle.std.specs.Map.{keys_of, values_of, lookup}
@@ -8,15 +8,14 @@ use Rattle.std.proofs.lemmas.List.{map-append, take_more, take-append-drop}
 use Rattle.std.proofs.lemmas.List.Elements.{All-push}
 use Rattle.std.proofs.lemmas.Map.Keys.{IsDistinct-push}
 use Rattle.std.proofs.lemmas.Map.Made.{is_some-lookup}
-use Rattle.std.proofs.lemmas.Option.{none-some, slice_get_within, get_or_from_slice_get}
-use Rattle.indexmap.specs.IndexMap.{insert_entry}
+use Rattle.std.proofs.lemmas.Option.{slice_get_within, get_or_from_slice_get}
 use Rattle.indexmap.proofs.MapLemmas.{absent_before}
 use Rattle.omega_model.specs.Machines.{is_listed, numbers_of}
 use Rattle.omega_model.specs.Need.{nothing}
 use Rattle.omega_model.specs.declared.cells.Attr.{Attr}
 use Rattle.omega_machines.specs.Rows.{IsKept}
 use Rattle.omega_machines.specs.Table.{MachineState, machines_of, new_state, ensured_states, IsBounded, IsTable}
-use Rattle.omega_machines.proofs.Places.{by_answer, listed-keys}
+use Rattle.omega_machines.proofs.Places.{listed-keys}
 
 -- a new machine is within its bounds
 bounded-new : (id : ℕ) → IsBounded (new_state id)

@@ -1,4 +1,4 @@
-mod Places
+pub mod Places
 mod Rewriting
 mod Bounds
 mod Growing

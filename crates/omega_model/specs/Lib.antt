@@ -31,3 +31,4 @@ pub mod Refusals
 pub mod Ranges
 pub mod Jobs
 pub mod Working
+pub mod JudgeOn
