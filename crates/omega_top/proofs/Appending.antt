@@ -33,7 +33,7 @@ commit_may history scheduler txn fine = record {
   follows = (omega arith, refl);
   capacity = tt;
   ends = tt;
-  places = reply_places history (state history) (length history) txn fine
+  places = reply_places history (state history) (length history) txn fine;
 }
 
 -- a test passes or fails
@@ -54,12 +54,13 @@ second_true false b both = cc
 pub find-passes : {X : Type 0} (test : X → Bool) (xs : List X) (x : X) → find test xs ≡ Some x → test x ≡ true
 find-passes test [] x found = cc
 find-passes test (y ∷ xs) x found =
-    elim (bool_cases (test y))
-    [ inl yes ↦
-        let here : Some y ≡ Some x = sym (ap (λ (t : Bool). if t then Some y else find test xs) yes) ∙ found in
-        let same : y ≡ x = cc in
-        sym (ap test (sym same)) ∙ yes
-    | inr no ↦ find-passes test xs x (sym (ap (λ (t : Bool). if t then Some y else find test xs) no) ∙ found) ]
+    elim (bool_cases (test y)) [
+      | inl yes ↦
+          let here : Some y ≡ Some x = sym (ap (λ (t : Bool). if t then Some y else find test xs) yes) ∙ found in
+          let same : y ≡ x = cc in
+          sym (ap test (sym same)) ∙ yes
+      | inr no ↦ find-passes test xs x (sym (ap (λ (t : Bool). if t then Some y else find test xs) no) ∙ found)
+    ]
 
 -- one name is that of a task where the test says so
 pub same_key-true : (a b : TaskKey) → same_key a b ≡ true → a ≡ b
@@ -78,7 +79,7 @@ end_may history key task found =
       follows = tt;
       capacity = tt;
       ends = subst (λ (o : Option Task). IsSomeAnd o (λ (t : Task). t.machine ≡ task.machine)) (sym again) refl;
-      places = tt
+      places = tt;
     }
 
 -- the ends of a task that may run may be appended
@@ -91,19 +92,22 @@ ends_may history key (Some task) is = (end_may history key task is, tt)
 pub machine_may : (history : List Entry) (row : MachineFields) → Fits row.cap greatest → MayAppend history (machine_entry row)
 machine_may history row fits =
     elim (row.code == 0) as (λ adds. MayAppend history (if adds then MachineAdd row.machine row.cap
-    else (if row.code == 1 then MachineRemove row.machine else MachineUpdate row.machine row.cap)))
-    [ true ↦ record { follows = tt; capacity = fits; ends = tt; places = tt }
-    | false ↦
-        elim (row.code == 1) as (λ removes. MayAppend history (if removes then MachineRemove row.machine else MachineUpdate row.machine row.cap))
-        [ true ↦ record { follows = tt; capacity = tt; ends = tt; places = tt }
-        | false ↦ record { follows = tt; capacity = fits; ends = tt; places = tt } ] ]
+    else (if row.code == 1 then MachineRemove row.machine else MachineUpdate row.machine row.cap))) [
+      | true ↦ record { follows = tt; capacity = fits; ends = tt; places = tt }
+      | false ↦
+          elim (row.code == 1) as (λ removes. MayAppend history (if removes then MachineRemove row.machine else MachineUpdate row.machine row.cap)) [
+            | true ↦ record { follows = tt; capacity = tt; ends = tt; places = tt }
+            | false ↦ record { follows = tt; capacity = fits; ends = tt; places = tt }
+          ]
+    ]
 
 -- the entry of an attribute row may be appended
 pub attr_may : (history : List Entry) (row : AttrFields) → MayAppend history (attr_entry row)
 attr_may history row =
-    elim row.deleted as (λ deleted. MayAppend history (if deleted then AttrDelete row.machine row.name else AttrSet row.machine row.name row.value))
-    [ true ↦ record { follows = tt; capacity = tt; ends = tt; places = tt }
-    | false ↦ record { follows = tt; capacity = tt; ends = tt; places = tt } ]
+    elim row.deleted as (λ deleted. MayAppend history (if deleted then AttrDelete row.machine row.name else AttrSet row.machine row.name row.value)) [
+      | true ↦ record { follows = tt; capacity = tt; ends = tt; places = tt }
+      | false ↦ record { follows = tt; capacity = tt; ends = tt; places = tt }
+    ]
 
 -- the entries of a row may be appended to the history on whose state they are made
 pub row_may : (history : List Entry) (left : List WantedTask) (row : Row) → IsInRange row

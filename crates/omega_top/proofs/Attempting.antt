@@ -40,11 +40,11 @@ attempt_moves at history request rest taken known working =
       job = refl;
       rule = refl;
       mode = refl;
-      claims = ap (λ (seen : List Entry). planned at.settings at.scheduler (commits_of at.scheduler history) seen request.wishes) (sym (take-length history))
+      claims = ap (λ (seen : List Entry). planned at.settings at.scheduler (commits_of at.scheduler history) seen request.wishes) (sym (take-length history));
     } in
     let moved = working_commit at history request rest taken (attempt_of at.settings at.scheduler history request) known working agrees in
     let counted = failed_commit history at.scheduler (length history) (attempt_of at.settings at.scheduler history request)
-        (answer_of at.settings at.scheduler history request) (length-reply_of history (length history) (attempt_of at.settings at.scheduler history request)) in
+    (answer_of at.settings at.scheduler history request) (length-reply_of history (length history) (attempt_of at.settings at.scheduler history request)) in
     subst (λ (failing : ℕ). Working at (attempted at.settings at.scheduler history request)
     (next_position at.settings taken failing request rest (outcomes_for at.settings at.scheduler history request))) (sym counted) moved
 
@@ -58,7 +58,7 @@ attempt_of_built at settings history request rest taken built is working =
     let batch : settings.batch ≡ 1 = built.batch in
     let one : 1 < schedulers settings = omega arith in
     let known : at.scheduler < schedulers at.settings =
-        subst (λ (s : Settings). at.scheduler < schedulers s) (sym is.settings) (subst (λ (n : ℕ). n < schedulers settings) (sym is.scheduler) one) in
+    subst (λ (s : Settings). at.scheduler < schedulers s) (sym is.settings) (subst (λ (n : ℕ). n < schedulers settings) (sym is.scheduler) one) in
     subst (λ (n : ℕ). Working at (attempted settings n history request)
     (next_position settings taken (failed (attempted settings n history request) request.job) request rest (outcomes_for settings n history request))) is.scheduler
     (subst (λ (s : Settings). Working at (attempted s at.scheduler history request)
@@ -80,10 +80,10 @@ pub position_after : (settings : Settings) (history : List Entry) (request : Req
     ≡ (if ended then record { requests = rest; taken = 0 } else record { requests = left ∷ rest; taken = taken + 1 })
 position_after settings history request rest taken after outcomes left failing ended is =
     let count : failed (attempted settings 1 history request) request.job ≡ failing =
-        sym (is.failing_is ∙ ap₂ (λ (h : List Entry) (r : Request). failed h r.job) is.history_is is.left_is) in
+    sym (is.failing_is ∙ ap₂ (λ (h : List Entry) (r : Request). failed h r.job) is.history_is is.left_is) in
     let here : next_position settings taken (failed (attempted settings 1 history request) request.job) request rest (outcomes_for settings 1 history request)
-        ≡ next_position settings taken failing request rest outcomes =
-        ap₂ (λ (f : ℕ) (o : List Outcome). next_position settings taken f request rest o) count (sym is.outcomes_are) in
+    ≡ next_position settings taken failing request rest outcomes =
+    ap₂ (λ (f : ℕ) (o : List Outcome). next_position settings taken f request rest o) count (sym is.outcomes_are) in
     here ∙ rw (← is.ended_is, ← is.left_is) refl
 
 -- an attempt that ends the request leads on to the next one

@@ -53,9 +53,10 @@ verdicts-fine history seen cell (claim ∷ claims) =
 -- the claims that the verdicts place can be placed in order
 pub verdicts_place : (cell : Cell) (claims : List Claim) → MayPlaceAll cell (zip claims (verdicts [] 0 cell Fine claims))
 verdicts_place cell [] = tt
-verdicts_place cell (claim ∷ claims) =
-    ( (λ (yes : is_placed (judge [] 0 cell Fine claim) ≡ true). placed_is (judge [] 0 cell Fine claim) yes)
-    , verdicts_place (after_claim cell (claim, judge [] 0 cell Fine claim)) claims )
+verdicts_place cell (claim ∷ claims) = (
+  (λ (yes : is_placed (judge [] 0 cell Fine claim) ≡ true). placed_is (judge [] 0 cell Fine claim) yes),
+  verdicts_place (after_claim cell (claim, judge [] 0 cell Fine claim)) claims,
+)
 
 -- where every claim is withdrawn or refused none is placed
 pub withdrawn_place : (cell : Cell) (place : ℕ) (claims : List Claim) (reply : List Verdict)
@@ -65,9 +66,10 @@ withdrawn_place cell place (claim ∷ claims) [] = tt
 withdrawn_place cell place (claim ∷ claims) (verdict ∷ reply) =
     let not_placed : is_placed (withdrawn_for place verdict) ≡ false = withdrawn_not place verdict in
     let stays : after_claim cell (claim, withdrawn_for place verdict) ≡ cell =
-        ap (λ (test : Bool). let after : Cell = record { machines = cell.machines; tasks = (if test then tasks_placed cell.tasks claim else cell.tasks) } in after) not_placed in
-    ( (λ (yes : is_placed (withdrawn_for place verdict) ≡ true). cc)
-    , subst (λ (after : Cell). MayPlaceAll after (zip claims (map (withdrawn_for place) reply))) (sym stays) (withdrawn_place cell place claims reply) )
+    ap (λ (test : Bool). let after : Cell = record { machines = cell.machines; tasks = (if test then tasks_placed cell.tasks claim else cell.tasks) } in after) not_placed in (
+      (λ (yes : is_placed (withdrawn_for place verdict) ≡ true). cc),
+      subst (λ (after : Cell). MayPlaceAll after (zip claims (map (withdrawn_for place) reply))) (sym stays) (withdrawn_place cell place claims reply),
+    )
 
 -- so it is in either mode
 pub mode_places : (cell : Cell) (claims : List Claim) (mode : Mode)
@@ -76,15 +78,16 @@ mode_places cell claims Incremental = verdicts_place cell claims
 mode_places cell claims Gang =
     elim (first_refusal (verdicts [] 0 cell Fine claims) == length (verdicts [] 0 cell Fine claims))
     as (λ test. MayPlaceAll cell (zip claims (if test then verdicts [] 0 cell Fine claims
-    else map (withdrawn_for (first_refusal (verdicts [] 0 cell Fine claims))) (verdicts [] 0 cell Fine claims))))
-    [ true ↦ verdicts_place cell claims
-    | false ↦ withdrawn_place cell (first_refusal (verdicts [] 0 cell Fine claims)) claims (verdicts [] 0 cell Fine claims) ]
+    else map (withdrawn_for (first_refusal (verdicts [] 0 cell Fine claims))) (verdicts [] 0 cell Fine claims)))) [
+      | true ↦ verdicts_place cell claims
+      | false ↦ withdrawn_place cell (first_refusal (verdicts [] 0 cell Fine claims)) claims (verdicts [] 0 cell Fine claims)
+    ]
 
 -- the claims that a reply places can be placed in order
 pub reply_places : (history : List Entry) (cell : Cell) (seen : ℕ) (txn : Txn) → txn.rule ≡ Fine
     → MayPlaceAll cell (zip txn.claims (reply_on history cell seen txn))
 reply_places history cell seen txn fine =
     let verdicts_are : verdicts history seen cell txn.rule txn.claims ≡ verdicts [] 0 cell Fine txn.claims =
-        ap (λ (rule : Rule). verdicts history seen cell rule txn.claims) fine ∙ verdicts-fine history seen cell txn.claims in
+    ap (λ (rule : Rule). verdicts history seen cell rule txn.claims) fine ∙ verdicts-fine history seen cell txn.claims in
     subst (λ (reply : List Verdict). MayPlaceAll cell (zip txn.claims (by_mode txn.mode reply))) (sym verdicts_are)
     (mode_places cell txn.claims txn.mode)

@@ -37,7 +37,7 @@ replays_push board after failures counts history entry replays follows stepped n
   current = stepped ∙ ap (λ (c : Cell). step c entry) replays.current ∙ sym (state_push history entry);
   numbered = λ id. numbered id ∙ ap (λ (n : ℕ). n + (if touches id entry then 1 else 0)) (replays.numbered id) ∙ sym (seq_push history entry id);
   legal = legal_push history entry replays.legal follows;
-  counted = λ job. counted job ∙ ap (λ (count : ℕ). failed_after job count entry) (replays.counted job) ∙ sym (failed_push history entry job)
+  counted = λ job. counted job ∙ ap (λ (count : ℕ). failed_after job count entry) (replays.counted job) ∙ sym (failed_push history entry job);
 }
 
 -- an entry that may be appended to a history may be applied to its board, where it has room
@@ -52,7 +52,7 @@ may_apply board failures history entry replays may room short = record {
       let same : seq_at board.table id ≡ seq history id = replays.numbered id in
       omega arith;
   ends = subst (λ (cell : Cell). EndsRunning cell.tasks entry) (sym replays.current) may.ends;
-  places = subst (λ (cell : Cell). PlacesInOrder cell entry) (sym replays.current) may.places
+  places = subst (λ (cell : Cell). PlacesInOrder cell entry) (sym replays.current) may.places;
 }
 
 -- another board with the same machines and tasks serves as well
@@ -62,5 +62,5 @@ replays_same board after failures history replays table tasks = record {
   current = ap₂ (λ (t : List MachineState) (u : List Task). let cell : Cell = record { machines = machines_of t; tasks = u } in cell) table tasks ∙ replays.current;
   numbered = λ id. ap (λ (t : List MachineState). seq_at t id) table ∙ replays.numbered id;
   legal = replays.legal;
-  counted = replays.counted
+  counted = replays.counted;
 }

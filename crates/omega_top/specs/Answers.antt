@@ -34,7 +34,7 @@ default_settings = record {
   window = 300000000;
   format = Text;
   machines = 64;
-  jobs = 500
+  jobs = 500;
 }
 
 -- the settings are in their ranges, and what isn't built yet has its default

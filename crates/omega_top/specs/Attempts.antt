@@ -23,7 +23,7 @@ attempt_of settings scheduler history request = record {
   job = request.job;
   rule = (policy_of settings scheduler).rule;
   mode = (policy_of settings scheduler).mode;
-  claims = planned settings scheduler (commits_of scheduler history) history request.wishes
+  claims = planned settings scheduler (commits_of scheduler history) history request.wishes;
 }
 
 -- the reply that is due to it

@@ -100,11 +100,7 @@ fn attempted(
 }
 
 // The outcomes of claims with these verdicts.
-fn outcomes_of(
-    alloc: Global,
-    claims: &[Claim],
-    reply: &[Verdict],
-) -> Result<Vec<Outcome>, NoMemory>
+fn outcomes_of(alloc: Global, claims: &[Claim], reply: &[Verdict]) -> Result<Vec<Outcome>, NoMemory>
     ensures { IfOk result (λ outcomes. outcomes.items ≡ outcomes_of claims.now reply.now) }
 {
     let mut outcomes = Vec::new(alloc);
@@ -141,9 +137,7 @@ fn rest_of(alloc: Global, request: Request, outcomes: &[Outcome]) -> Result<Requ
 fn places_wish(outcomes: &[Outcome], wish: &Wish) -> bool
     ensures { result ≡ places_wish outcomes.now wish.now }
 {
-    outcomes
-        .iter()
-        .any(|outcome| is_placed(outcome.verdict) && same_key(&outcome.key, &wish.key))
+    outcomes.iter().any(|outcome| is_placed(outcome.verdict) && same_key(&outcome.key, &wish.key))
 }
 
 // Whether outcomes end a request of which these wishes are left.

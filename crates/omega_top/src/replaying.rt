@@ -12,8 +12,7 @@ ghost use Rattle.omega_top.specs.Replays.{MayAppend};
 
 use crate::claims::any_placed;
 use crate::failures::Failures;
-use crate::planning;
-use crate::replying;
+use crate::{planning, replying};
 use omega_board::Board;
 use omega_model::{Entries, Entry, NoMemory, Policy, Request, Seq, Txn, Verdicts};
 use std::alloc::Global;
