@@ -1,11 +1,11 @@
 -- A change of one machine that is counted on it.
-use Rattle.std.proofs.Common.{◌≡◌, ◌≢◌, ℕ, ◌+◌, ◌-◌, ◌<◌, ◌≤◌, Bool, true, false, cond, not, ◌||◌, nat_eq, List, [], ◌∷◌, ◌++◌, length, map, Option, Some, None, is_some, IsTrue, refl, sym, ap, ap₂, ◌∙◌, subst, arith, if◌then◌else◌, ◌==◌}
+use Rattle.std.proofs.Common.{◌≡◌, ◌≢◌, ℕ, ◌+◌, ◌-◌, ◌<◌, ◌≤◌, Bool, true, false, cond, not, ◌||◌, nat_eq, List, [], ◌∷◌, ◌++◌, length, map, Option, Some, None, is_some, IsTrue, refl, sym, ap, ap₂, ◌∙◌, subst, arith, if◌then◌else◌, ◌==◌, ◌⊎◌}
 use Rattle.std.specs.List.{filter, find, list_any}
 use Rattle.std.specs.Option.{option_map, option_map_or}
 use Rattle.std.proofs.lemmas.Bool.{both_ways, eqb-true, eq-eqb}
 use Rattle.omega_model.specs.Need.{Fits, nothing, plus, minus}
 use Rattle.omega_model.specs.Cell.{total, is_on, use_on}
-use Rattle.omega_model.specs.Machines.{is_listed, change, ensured, added, updated, removed, attr_deleted}
+use Rattle.omega_model.specs.Machines.{is_listed, change, ensured, added, updated, removed, attr_set, attr_deleted}
 use Rattle.omega_model.specs.declared.cells.Need.{Need}
 use Rattle.omega_model.specs.declared.cells.Machine.{Machine}
 use Rattle.omega_model.specs.declared.cells.Task.{Task}
@@ -13,11 +13,12 @@ use Rattle.omega_machines.specs.declared.MachineState.{MachineState}
 use Rattle.omega_machines.specs.Table.{machines_of, state_at, use_at, seq_at, change_state, new_state, ensured_states, touched, used, state_added, state_updated, with_machine, IsTable}
 use Rattle.omega_machines.proofs.Places.{by_answer}
 use Rattle.omega_machines.proofs.Laws.{listed_state, machines_changed, machines_same, state_changed, others_unchanged, listed_changed}
+use Rattle.omega_machines.proofs.Ensuring.{table_ensured}
 use Rattle.omega_running.specs.Order.{Each}
 use Rattle.omega_running.proofs.Lists.{each_of, find_past}
 use Rattle.omega_board.specs.Board.{BoardState, IsBoard, IsCounted, CountsOn}
 use Rattle.omega_board.proofs.Uses.{need_is}
-use Rattle.omega_board.proofs.Boards.{in_use, changed_board, touched_board}
+use Rattle.omega_board.proofs.Boards.{in_use, ensured_board, changed_board, touched_board}
 use Rattle.omega_board.proofs.Counts.{seq_touched}
 
 -- a machine that is listed has a state
@@ -50,6 +51,10 @@ seq_ensured id table other =
     grown : (t : List MachineState) → seq_at (t ++ new_state id ∷ []) other ≡ seq_at t other
     grown [] = by_answer (id == other) (λ h. rw h refl) (λ h. rw h refl)
     grown (s ∷ ss) = by_answer (s.machine.id == other) (λ h. rw h refl) (λ h. rw h (grown ss))
+
+-- a count from a table with the same numbers
+pub counts_from : (id : ℕ) (before same after : List MachineState) → ((other : ℕ) → seq_at before other ≡ seq_at same other) → CountsOn id before after → CountsOn id same after
+counts_from id before same after seqs counts = λ other. counts other ∙ ap (λ n. n + (if id == other then 1 else 0)) (seqs other)
 
 -- what comes of a change of one machine that is then counted on it
 pub record IsChange (id : ℕ) (on_machine : Machine → Machine) (table first last : List MachineState) : Type 0 where
@@ -123,4 +128,12 @@ module _ (table : List MachineState) (tasks : List Task) (board : IsBoard table 
   unset_board name first last changed counted bounded bounded_last =
       let kept : IsBoard first tasks = subst (λ t. IsBoard t tasks) (sym changed)
       (changed_board table tasks board id (with_machine (attr_deleted name)) (λ s. refl) (λ s _ was. was) (each_of _ (λ t _ s up. up) tasks) (subst IsTable changed bounded)) in
+      subst (λ t. IsBoard t tasks) (sym counted) (touched_board first tasks kept id (subst IsTable counted bounded_last))
+
+  pub attr_board : (name value : List ℕ) (first last : List MachineState) → length table < 65536 ⊎ IsTrue (is_listed id (machines_of table))
+      → first ≡ change_state id (with_machine (attr_set name value)) (ensured_states id table) → last ≡ change_state id touched first → IsTable first → IsTable last → IsBoard last tasks
+  attr_board name value first last room changed counted bounded bounded_last =
+      let there : IsBoard (ensured_states id table) tasks = ensured_board table tasks board id (table_ensured id table board.bounded room) in
+      let kept : IsBoard first tasks = subst (λ t. IsBoard t tasks) (sym changed)
+      (changed_board (ensured_states id table) tasks there id (with_machine (attr_set name value)) (λ s. refl) (λ s _ was. was) (each_of _ (λ t _ s up. up) tasks) (subst IsTable changed bounded)) in
       subst (λ t. IsBoard t tasks) (sym counted) (touched_board first tasks kept id (subst IsTable counted bounded_last))

@@ -8,8 +8,8 @@ use Rattle.omega_model.specs.declared.cells.Machine.{Machine}
 use Rattle.omega_model.specs.declared.cells.Task.{Task}
 use Rattle.omega_machines.specs.declared.MachineState.{MachineState}
 use Rattle.omega_machines.specs.Table.{machines_of, seq_at, IsTable}
-use Rattle.omega_running.specs.Order.{Each, IsInOrder}
-use Rattle.omega_running.specs.declared.orders.Order.TheVariants.{ByKey}
+use Rattle.omega_running.specs.Kept.{KeysRise}
+use Rattle.omega_running.specs.Order.{Each}
 
 -- a board, and for how many more tasks it has room
 pub record BoardState : Type 0 where
@@ -33,7 +33,7 @@ IsCounted tasks state = plus state.free (use_on tasks state.machine.id) ≡ stat
 -- machine, and on each machine what is free and what is used are the capacity
 pub record IsBoard (table : List MachineState) (tasks : List Task) : Type 0 where
   pub bounded : IsTable table
-  pub ordered : IsInOrder ByKey tasks
+  pub ordered : KeysRise tasks
   pub placed : Each (λ task. IsTrue (is_on_up (machines_of table) task)) tasks
   pub counted : Each (IsCounted tasks) table
 

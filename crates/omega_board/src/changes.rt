@@ -4,7 +4,7 @@ ghost use Rattle.std.specs.List.{filter};
 ghost use Rattle.omega_machines.specs.Table.{machines_of, ensured_states, seq_at};
 ghost use Rattle.omega_model.specs.Cell.{is_on, use_on, without};
 ghost use Rattle.omega_model.specs.Fields.{greatest};
-ghost use Rattle.omega_model.specs.Machines.{is_listed, change, ensured, added, updated, removed, attr_deleted};
+ghost use Rattle.omega_model.specs.Machines.{is_listed, change, ensured, added, updated, removed, attr_set, attr_deleted};
 ghost use Rattle.omega_model.specs.Need.{Fits};
 ghost use Rattle.omega_board.specs.Board.{table_with, CountsOn};
 ghost use Rattle.omega_board.specs.Entries.{HasRoomFor};
@@ -85,6 +85,20 @@ impl Board {
     {
         self.table.remove(id);
         self.table.touch(id);
+    }
+
+    // The machine is in the list, with this value for the attribute.
+    pub(crate) fn put_attr(&mut self, id: u64, name: &Bytes, value: &Bytes) -> Result<(), NoMemory>
+        requires room { HasRoomFor self.old.table id }
+        requires seq { seq_at self.old.table id < 2 ^ 64 - 1 }
+        ensures machines { OnOk result (machines_of self.new.table ≡ change id (attr_set name.now value.now) (ensured id (machines_of self.old.table))) }
+        ensures seqs { OnOk result (CountsOn id self.old.table self.new.table) }
+        ensures tasks { self.new.tasks ≡ self.old.tasks }
+        ensures err { OnErr result (self.new ≡ self.old) }
+    {
+        self.table.ensure_attr(id, name, value)?;
+        self.table.touch(id);
+        Ok(())
     }
 
     // The machine is without the attribute.

@@ -40,7 +40,11 @@ impl Board {
             Entry::MachineAdd { machine, cap } => self.add_machine(alloc, *machine, *cap),
             Entry::MachineUpdate { machine, cap } => self.update_machine(alloc, *machine, *cap),
             Entry::MachineRemove { machine } => self.remove_machine(alloc, *machine),
-            Entry::AttrSet { .. } => Ok(Seq::new(alloc)),
+            Entry::AttrSet {
+                machine,
+                name,
+                value,
+            } => self.set_attr(alloc, *machine, name, value),
             Entry::AttrDelete { machine, name } => self.delete_attr(alloc, *machine, name),
             Entry::End { key, machine } => Ok(self.end(alloc, *key, *machine)),
             Entry::Commit { txn, reply, .. } => self.commit(alloc, &txn.claims, reply),
@@ -89,6 +93,24 @@ impl Board {
         self.displace(machine, gone.as_slice())?;
         self.take_down(machine);
         Ok(gone)
+    }
+
+    fn set_attr(
+        &mut self,
+        alloc: Global,
+        machine: u64,
+        name: &Bytes,
+        value: &Bytes,
+    ) -> Result<Keys, NoMemory>
+        requires { MayApply self.old (Entry.AttrSet machine name.now value.now) }
+        ensures cell { OnOk result (cell_of self.new ≡ step (cell_of self.old) (Entry.AttrSet machine name.now value.now)) }
+        ensures seqs { OnOk result (CountsOn machine self.old.table self.new.table) }
+        ensures displaced { IfOk result (λ keys. keys ≡ []) }
+        ensures table { OnErr result (self.new.table ≡ self.old.table) }
+        ensures tasks { OnErr result (self.new.tasks ≡ self.old.tasks) }
+    {
+        self.put_attr(machine, name, value)?;
+        Ok(Seq::new(alloc))
     }
 
     fn delete_attr(&mut self, alloc: Global, machine: u64, name: &Bytes) -> Result<Keys, NoMemory>

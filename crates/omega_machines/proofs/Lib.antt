@@ -4,3 +4,5 @@ mod Bounds
 mod Growing
 mod Attributes
 pub mod Laws
+mod Shortening
+pub mod Ensuring

@@ -1,5 +1,5 @@
 //! The table of machines.
-ghost use Rattle.std.specs.Prelude.{◌≡◌, ◌-◌, ◌<◌, ◌^◌, ◌⊎◌, ◌==◌, [], ◌∷◌, ◌++◌, None, Some, nat_eq, length, slice_get, option_map, position, is_some, IsTrue, IsSomeAnd, OnOk, OnErr};
+ghost use Rattle.std.specs.Prelude.{◌≡◌, ◌-◌, ◌<◌, ◌^◌, ◌⊎◌, ◌==◌, [], ◌∷◌, ◌++◌, None, Some, nat_eq, length, take, slice_get, option_map, position, is_some, IsTrue, IsSomeAnd, OnOk, OnErr};
 ghost use Rattle.indexmap.specs.IndexMap.{get, IsUnchanged};
 ghost use Rattle.omega_model.specs.Fields.{greatest};
 ghost use Rattle.omega_model.specs.Machines.{is_listed, removed, attr_set, attr_deleted};
@@ -187,6 +187,24 @@ impl MachineTable {
         attrs::set(&mut state.machine.attrs, alloc, name, value)
     }
 
+    /// Gives an attribute of a machine a value, as `set_attr` does, and puts the machine at the end
+    /// of the list first where it isn't there. Refused, it leaves the table as it was. Costs the
+    /// machine's attributes.
+    pub fn ensure_attr(&mut self, id: u64, name: &Bytes, value: &Bytes) -> Result<(), NoMemory>
+        requires { length self.old < 65536 ⊎ IsTrue (is_listed id (machines_of self.old)) }
+        ensures ok { OnOk result (self.new ≡ change_state id (with_machine (attr_set name.now value.now)) (ensured_states id self.old)) }
+        ensures err { OnErr result (self.new ≡ self.old) }
+        ensures table { IsTable self.new }
+    {
+        let count = self.len();
+        self.ensure(id)?;
+        let set = self.set_attr(id, name, value);
+        if set.is_err() {
+            self.forget_after(count);
+        }
+        set
+    }
+
     /// Unsets an attribute of a machine. Costs the machine's attributes.
     pub fn delete_attr(&mut self, id: u64, name: &Bytes)
         requires { IsTrue (is_listed id (machines_of self.old)) }
@@ -256,6 +274,14 @@ impl MachineTable {
         let place = self.place_of(id);
         let (_, state) = self.rows.pair_mut(place);
         state.free = state.free.plus(need);
+    }
+
+    /// The first so many machines alone. Takes no memory.
+    fn forget_after(&mut self, count: usize)
+        ensures first { self.new ≡ take count self.old }
+        ensures table { IsTable self.new }
+    {
+        self.rows.truncate(count);
     }
 
     /// The place of a machine that is there.

@@ -12,13 +12,13 @@ use Rattle.omega_board.proofs.board.Board.free_after.Goals as goal
 
 pub unwrap-free-requires : goal.unwrap-free-requires
 unwrap-free-requires c =
-    ap is_some (c.free.ensures ∙ ap (λ (board : BoardState). free_at board.table c.args.claim.now.machine) c.self.view_is)
+    ap is_some (c.free.ensures.free ∙ ap (λ (board : BoardState). free_at board.table c.args.claim.now.machine) c.self.view_is)
     ∙ some_free c.args.self.now.table c.args.claim.now.machine c.requires.up
 
 pub loop-key-init : goal.loop-key-init
 loop-key-init c =
     freed_none c.args.self.now (at_now _ _ c.self.view_is c.self.invariant) c.args.claim.now.machine c.unwrap-free.result
-    (sym (ap (λ (board : BoardState). free_at board.table c.args.claim.now.machine) c.self.view_is) ∙ sym c.free.ensures ∙ c.unwrap-free.ensures)
+    (sym (ap (λ (board : BoardState). free_at board.table c.args.claim.now.machine) c.self.view_is) ∙ sym c.free.ensures.free ∙ c.unwrap-free.ensures)
 
 pub need_of-requires : goal.need_of-requires
 need_of-requires c =

@@ -6,10 +6,10 @@ use Rattle.omega_board.proofs.board.Board.no_machine.Goals as goal
 
 pub returns-in-Some : goal.returns-in-Some
 returns-in-Some c =
-    up_where_free c.self.inside.table c.args.claim.now.machine c.in-Some.field-0 c.in-Some.ensures
+    up_where_free c.self.inside.table c.args.claim.now.machine c.in-Some.field-0 c.in-Some.ensures.free
     ∙ ap (λ (board : BoardState). no_machine (cell_of board) c.args.claim.now) c.self.view_is
 
 pub returns-in-None : goal.returns-in-None
 returns-in-None c =
-    down_where_none c.self.inside.table c.args.claim.now.machine c.in-None.ensures
+    down_where_none c.self.inside.table c.args.claim.now.machine c.in-None.ensures.free
     ∙ ap (λ (board : BoardState). no_machine (cell_of board) c.args.claim.now) c.self.view_is
