@@ -55,11 +55,11 @@ pub find-passes : {X : Type 0} (test : X → Bool) (xs : List X) (x : X) → fin
 find-passes test [] x found = cc
 find-passes test (y ∷ xs) x found =
     elim (bool_cases (test y)) [
-      | inl yes ↦
-          let here : Some y ≡ Some x = sym (ap (λ (t : Bool). if t then Some y else find test xs) yes) ∙ found in
+      | inl passes ↦
+          let here : Some y ≡ Some x = sym (ap (λ (t : Bool). if t then Some y else find test xs) passes) ∙ found in
           let same : y ≡ x = cc in
-          sym (ap test (sym same)) ∙ yes
-      | inr no ↦ find-passes test xs x (sym (ap (λ (t : Bool). if t then Some y else find test xs) no) ∙ found)
+          ap test (sym same) ∙ passes
+      | inr fails ↦ find-passes test xs x (sym (ap (λ (t : Bool). if t then Some y else find test xs) fails) ∙ found)
     ]
 
 -- one name is that of a task where the test says so

@@ -1,6 +1,6 @@
 -- The claims that a reply places can be placed one after the other.
 use Rattle.std.proofs.Common.{◌≡◌, ℕ, Bool, true, false, List, [], ◌∷◌, ◌++◌, map, length, None, refl, ap, subst, sym, ◌∙◌}
-use Rattle.std.specs.Prelude.{◌==◌, if◌then◌else◌}
+use Rattle.std.specs.Prelude.{◌==◌, if◌then◌else◌, IfOk, Result, Ok, Err}
 use Rattle.std.specs.List.{zip}
 use Rattle.omega_board.specs.Entries.{MayPlaceAll}
 use Rattle.omega_model.specs.Cell.{Cell}
@@ -20,15 +20,15 @@ use Rattle.omega_model.specs.declared.entries.Entry.{Entry}
 
 -- a verdict that admits its claim is the one
 pub placed_is : (verdict : Verdict) → is_placed verdict ≡ true → verdict ≡ Placed
-placed_is Placed yes = refl
-placed_is NoMachine yes = cc
-placed_is (AlreadyRunning machine) yes = cc
-placed_is (Changed now copy) yes = cc
-placed_is (VictimGone key) yes = cc
-placed_is (VictimRank key) yes = cc
-placed_is (SameJob key) yes = cc
-placed_is (Full free) yes = cc
-placed_is (Withdrawn place) yes = cc
+placed_is Placed passes = refl
+placed_is NoMachine passes = cc
+placed_is (AlreadyRunning machine) passes = cc
+placed_is (Changed now copy) passes = cc
+placed_is (VictimGone key) passes = cc
+placed_is (VictimRank key) passes = cc
+placed_is (SameJob key) passes = cc
+placed_is (Full free) passes = cc
+placed_is (Withdrawn place) passes = cc
 
 -- a withdrawn claim isn't placed
 pub withdrawn_not : (place : ℕ) (verdict : Verdict) → is_placed (withdrawn_for place verdict) ≡ false
@@ -54,7 +54,7 @@ verdicts-fine history seen cell (claim ∷ claims) =
 pub verdicts_place : (cell : Cell) (claims : List Claim) → MayPlaceAll cell (zip claims (verdicts [] 0 cell Fine claims))
 verdicts_place cell [] = tt
 verdicts_place cell (claim ∷ claims) = (
-  (λ (yes : is_placed (judge [] 0 cell Fine claim) ≡ true). placed_is (judge [] 0 cell Fine claim) yes),
+  (λ (passes : is_placed (judge [] 0 cell Fine claim) ≡ true). placed_is (judge [] 0 cell Fine claim) passes),
   verdicts_place (after_claim cell (claim, judge [] 0 cell Fine claim)) claims,
 )
 
@@ -67,7 +67,7 @@ withdrawn_place cell place (claim ∷ claims) (verdict ∷ reply) =
     let not_placed : is_placed (withdrawn_for place verdict) ≡ false = withdrawn_not place verdict in
     let stays : after_claim cell (claim, withdrawn_for place verdict) ≡ cell =
     ap (λ (test : Bool). let after : Cell = record { machines = cell.machines; tasks = (if test then tasks_placed cell.tasks claim else cell.tasks) } in after) not_placed in (
-      (λ (yes : is_placed (withdrawn_for place verdict) ≡ true). cc),
+      (λ (passes : is_placed (withdrawn_for place verdict) ≡ true). cc),
       subst (λ (after : Cell). MayPlaceAll after (zip claims (map (withdrawn_for place) reply))) (sym stays) (withdrawn_place cell place claims reply),
     )
 
@@ -83,11 +83,21 @@ mode_places cell claims Gang =
       | false ↦ withdrawn_place cell (first_refusal (verdicts [] 0 cell Fine claims)) claims (verdicts [] 0 cell Fine claims)
     ]
 
+-- what holds of a value holds of it in other words
+pub if_ok_map : {T E : Type 0} {P Q : T → Type 0} (result : Result T E) → ((value : T) → P value → Q value) → IfOk result P → IfOk result Q
+if_ok_map (Ok value) same holds = same value holds
+if_ok_map (Err error) same holds = tt
+
+-- under the fine rule a reply is that of the verdicts without a history
+pub reply-fine : (history : List Entry) (cell : Cell) (seen : ℕ) (txn : Txn) → txn.rule ≡ Fine
+    → by_mode txn.mode (verdicts [] 0 cell Fine txn.claims) ≡ reply_on history cell seen txn
+reply-fine history cell seen txn fine =
+    ap (by_mode txn.mode)
+    (sym (ap (λ (rule : Rule). verdicts history seen cell rule txn.claims) fine ∙ verdicts-fine history seen cell txn.claims))
+
 -- the claims that a reply places can be placed in order
 pub reply_places : (history : List Entry) (cell : Cell) (seen : ℕ) (txn : Txn) → txn.rule ≡ Fine
     → MayPlaceAll cell (zip txn.claims (reply_on history cell seen txn))
 reply_places history cell seen txn fine =
-    let verdicts_are : verdicts history seen cell txn.rule txn.claims ≡ verdicts [] 0 cell Fine txn.claims =
-    ap (λ (rule : Rule). verdicts history seen cell rule txn.claims) fine ∙ verdicts-fine history seen cell txn.claims in
-    subst (λ (reply : List Verdict). MayPlaceAll cell (zip txn.claims (by_mode txn.mode reply))) (sym verdicts_are)
+    subst (λ (reply : List Verdict). MayPlaceAll cell (zip txn.claims reply)) (reply-fine history cell seen txn fine)
     (mode_places cell txn.claims txn.mode)

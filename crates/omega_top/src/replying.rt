@@ -1,13 +1,12 @@
 //! What is answered to a transaction.
 //!
 //! The claims are tried on the board itself and taken back again.
-ghost use Rattle.std.specs.Prelude.{◌≡◌, ◌≤◌, [], ◌∷◌, ◌++◌, IfOk, length, map, ℕ, List};
+ghost use Rattle.std.specs.Prelude.{◌≡◌, ◌≤◌, [], ◌∷◌, ◌++◌, IfOk, length, map};
 ghost use Rattle.std.specs.List.{sum_by};
 ghost use Rattle.omega_board.specs.Board.{cell_of};
 ghost use Rattle.omega_board.specs.Undo.{IsUndoOf, at_reserve};
-ghost use Rattle.omega_model.specs.Reply.{all_or_nothing, first_refusal, reply_on, verdicts, withdrawn_for};
+ghost use Rattle.omega_model.specs.Reply.{all_or_nothing, by_mode, first_refusal, verdicts, withdrawn_for};
 ghost use Rattle.omega_model.specs.declared.claims.Rule.TheVariants.{Fine};
-ghost use Rattle.omega_model.specs.declared.entries.Entry.{Entry};
 
 use crate::claims::is_placed;
 use crate::scratch::place;
@@ -21,7 +20,7 @@ pub fn reply(alloc: Global, board: &mut Board, txn: &Txn) -> Result<Verdicts, No
     requires { txn.now.rule ≡ Fine }
     ensures table { board.new.table ≡ board.old.table }
     ensures tasks { board.new.tasks ≡ board.old.tasks }
-    ensures reply { (history : List Entry) (seen : ℕ) → IfOk result (λ reply. reply ≡ reply_on history (cell_of board.old) seen txn.now) }
+    ensures reply { IfOk result (λ reply. reply ≡ by_mode txn.now.mode (verdicts [] 0 (cell_of board.old) Fine txn.now.claims)) }
 {
     let mut undo = board.reserve(alloc, &txn.claims)?;
     let reply = verdicts(alloc, board, txn.claims.as_slice(), &mut undo);

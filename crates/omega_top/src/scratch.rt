@@ -4,13 +4,14 @@ ghost use Rattle.omega_board.specs.Board.{cell_of};
 ghost use Rattle.omega_board.specs.Undo.{IsUndoOf, at_reserve};
 ghost use Rattle.omega_model.specs.JudgeOn.{judge_on};
 ghost use Rattle.omega_model.specs.Reply.{tasks_placed};
+ghost use Rattle.omega_model.specs.declared.claims.Verdict.TheVariants.{Placed};
 
 use omega_board::{Board, Undo};
 use omega_model::Claim;
 
 /// Places a claim that was judged so, and notes how it is taken back.
 pub fn place(board: &mut Board, claim: &Claim, undo: &mut Undo)
-    requires placed { judge_on (cell_of board.old) 0 None claim.now ≡ Verdict.Placed }
+    requires placed { judge_on (cell_of board.old) 0 None claim.now ≡ Placed }
     requires undo { IsUndoOf board.old undo.old }
     requires claims { 0 < undo.old.claims }
     requires victims { length claim.now.victims ≤ undo.old.victims }
