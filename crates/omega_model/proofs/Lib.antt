@@ -8,3 +8,4 @@ pub mod Records
 pub mod TypedRows
 mod ExamplesLawful
 pub mod FirstRefusal
+pub mod OpenRequests

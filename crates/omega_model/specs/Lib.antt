@@ -30,3 +30,4 @@ pub mod Trace
 pub mod Refusals
 pub mod Ranges
 pub mod Jobs
+pub mod OpenRequests
