@@ -78,10 +78,10 @@ closed_front : (w n : ℕ) (x : Row) (rows rest : List Row) → Each (λ r. roun
     → closed n (x ∷ rows) ++ gathered w rest ≡ gathered w ((x ∷ rows) ++ rest)
 closed_front w n x rows rest e f =
     let later = map_where (round_at w rest) (round_at w ((x ∷ rows) ++ rest)) (each_once (map (round_number w) rest))
-        (each_map (λ m. n < m) (λ m. round_at w rest m ≡ round_at w ((x ∷ rows) ++ rest) m) (λ m p. sym (later_round w n m (x ∷ rows) rest p e)) _
-        (each_of_once (λ m. n < m) (map (round_number w) rest) (each_of_map (λ m. n < m) (round_number w) rest f))) in
+    (each_map (λ m. n < m) (λ m. round_at w rest m ≡ round_at w ((x ∷ rows) ++ rest) m) (λ m p. sym (later_round w n m (x ∷ rows) rest p e)) _
+    (each_of_once (λ m. n < m) (map (round_number w) rest) (each_of_map (λ m. n < m) (round_number w) rest f))) in
     let here : closed n (x ∷ rows) ≡ round_at w ((x ∷ rows) ++ rest) n ∷ [] =
-        ap (λ z. let round : Round = record { number = n; rows = z } in round ∷ []) (sym (closed_rows w n (x ∷ rows) rest e f)) in
+    ap (λ z. let round : Round = record { number = n; rows = z } in round ∷ []) (sym (closed_rows w n (x ∷ rows) rest e f)) in
     ap (λ z. z ++ gathered w rest) here
     ∙ ap (λ z. round_at w ((x ∷ rows) ++ rest) n ∷ z) later
     ∙ sym (ap (λ z. map (round_at w ((x ∷ rows) ++ rest)) z) (once_of w n x rows rest e f))
@@ -94,16 +94,16 @@ cut_from w n x rows (y ∷ rest) e f r =
     by_cases (round_number w y == n) refl
     (λ is. cut_from w n x (rows ++ y ∷ []) rest (e.0, each_append (λ r. round_number w r ≡ n) rows (y ∷ []) e.1 (is, tt)) f.1 r.1)
     (cut_from w (round_number w y) y [] rest (refl, tt) r.0 r.1) where
-  by_cases : (b : Bool) → round_number w y == n ≡ b
-      → (round_number w y ≡ n → cut w n (x ∷ (rows ++ y ∷ [])) rest ≡ gathered w ((x ∷ (rows ++ y ∷ [])) ++ rest))
-      → cut w (round_number w y) (y ∷ []) rest ≡ gathered w (y ∷ rest)
-      → cond b (cut w n (x ∷ (rows ++ y ∷ [])) rest) (closed n (x ∷ rows) ++ cut w (round_number w y) (y ∷ []) rest)
-      ≡ gathered w ((x ∷ rows) ++ y ∷ rest)
-  by_cases true is same new = same (eqb-true _ _ is) ∙ ap (λ z. gathered w (x ∷ z)) (append_assoc rows (y ∷ []) rest)
-  by_cases false is same new =
-      let above : n < round_number w y = let ne = eqb-false _ _ is in let low = f.0 in omega arith in
-      ap (λ z. closed n (x ∷ rows) ++ z) new
-      ∙ closed_front w n x rows (y ∷ rest) e (above, each_map (λ s. round_number w y ≤ round_number w s) (λ s. n < round_number w s) (λ s p. omega arith) rest r.0)
+      by_cases : (b : Bool) → round_number w y == n ≡ b
+          → (round_number w y ≡ n → cut w n (x ∷ (rows ++ y ∷ [])) rest ≡ gathered w ((x ∷ (rows ++ y ∷ [])) ++ rest))
+          → cut w (round_number w y) (y ∷ []) rest ≡ gathered w (y ∷ rest)
+          → cond b (cut w n (x ∷ (rows ++ y ∷ [])) rest) (closed n (x ∷ rows) ++ cut w (round_number w y) (y ∷ []) rest)
+          ≡ gathered w ((x ∷ rows) ++ y ∷ rest)
+      by_cases true is same new = same (eqb-true _ _ is) ∙ ap (λ z. gathered w (x ∷ z)) (append_assoc rows (y ∷ []) rest)
+      by_cases false is same new =
+          let above : n < round_number w y = let ne = eqb-false _ _ is in let low = f.0 in omega arith in
+          ap (λ z. closed n (x ∷ rows) ++ z) new
+          ∙ closed_front w n x rows (y ∷ rest) e (above, each_map (λ s. round_number w y ≤ round_number w s) (λ s. n < round_number w s) (λ s p. omega arith) rest r.0)
 
 quotients_rise : (w a b : ℕ) → 0 < w → a ≤ b → a / w ≤ b / w
 quotients_rise w a b h p =
@@ -114,9 +114,10 @@ quotients_rise w a b h p =
 
 rise_quotients : (w : ℕ) → 0 < w → (rows : List Row) → Rise time_of rows → Rise (round_number w) rows
 rise_quotients w h [] r = tt
-rise_quotients w h (row ∷ rows) r =
-    (each_map (λ y. time_of row ≤ time_of y) (λ y. round_number w row ≤ round_number w y) (λ y p. quotients_rise w _ _ h p) rows r.0
-    , rise_quotients w h rows r.1)
+rise_quotients w h (row ∷ rows) r = (
+  each_map (λ y. time_of row ≤ time_of y) (λ y. round_number w row ≤ round_number w y) (λ y p. quotients_rise w _ _ h p) rows r.0,
+  rise_quotients w h rows r.1,
+)
 
 cut_all : (w : ℕ) (rows : List Row) → Rise (round_number w) rows → cut w 0 [] rows ≡ gathered w rows
 cut_all w [] r = refl

@@ -22,9 +22,10 @@ at key n x = eqb (key x) n
 
 pub none_below : {X : Type 0} (key : X → ℕ) (n : ℕ) (x : X) (xs : List X) → n < key x → Rise key (x ∷ xs) → filter (at key n) (x ∷ xs) ≡ []
 none_below {X} key n x xs h r =
-    filter_none (at key n) (x ∷ xs)
-    (ne_eqb (key x) n (λ e. omega arith)
-    , each_map (λ y. key x ≤ key y) (λ y. at key n y ≡ false) (λ y p. ne_eqb (key y) n (λ e. omega arith)) xs r.0)
+    filter_none (at key n) (x ∷ xs) (
+      ne_eqb (key x) n (λ e. omega arith),
+      each_map (λ y. key x ≤ key y) (λ y. at key n y ≡ false) (λ y p. ne_eqb (key y) n (λ e. omega arith)) xs r.0,
+    )
 
 -- what has the number of the first item isn't nothing
 some_at : {X : Type 0} (key : X → ℕ) (x : X) (xs : List X) → filter (at key (key x)) (x ∷ xs) ≡ x ∷ filter (at key (key x)) xs
@@ -38,8 +39,8 @@ not_above key x y xs ys r same =
       | inr (inl less) ↦ absurd (nothing (sym (some_at key x xs) ∙ same ∙ none_below key (key x) y ys less r))
       | inr (inr more) ↦ omega arith
     ] where
-  nothing : x ∷ filter (at key (key x)) xs ≡ [] → ⊥
-  nothing e = cc
+      nothing : x ∷ filter (at key (key x)) xs ≡ [] → ⊥
+      nothing e = cc
 
 same_tail : {X : Type 0} (b : Bool) (x : X) (xs ys : List X) → cond b (x ∷ xs) xs ≡ cond b (x ∷ ys) ys → xs ≡ ys
 same_tail true x xs ys e = cc
@@ -57,21 +58,22 @@ one_order {X} key (x ∷ xs) (y ∷ ys) r s same =
     let level : key y ≡ key x = omega arith in
     let first : x ≡ y = firsts (sym (some_at key x xs) ∙ same x ∙ rw (eq-eqb (key y) (key x) level) refl) in
     rw (sym first) (ap (λ zs. x ∷ zs) (one_order key xs ys r.1 s.1 (λ z. rest z first))) where
-  firsts : x ∷ filter (at key (key x)) xs ≡ y ∷ filter (at key (key x)) ys → x ≡ y
-  firsts e = cc
-  rest : (z : X) → x ≡ y → filter (at key (key z)) xs ≡ filter (at key (key z)) ys
-  rest z e =
-      same_tail (at key (key z) x) x _ _
-      (same z ∙ rw (sym e) refl)
+      firsts : x ∷ filter (at key (key x)) xs ≡ y ∷ filter (at key (key x)) ys → x ≡ y
+      firsts e = cc
+
+      rest : (z : X) → x ≡ y → filter (at key (key z)) xs ≡ filter (at key (key z)) ys
+      rest z e =
+          same_tail (at key (key z) x) x _ _
+          (same z ∙ rw (sym e) refl)
 
 -- what a sort by number says
 rise_from_indices : {X : Type 0} (key : X → ℕ) (xs : List X) → IsNonDecreasingBy key xs → Rise key xs
 rise_from_indices key [] h = tt
 rise_from_indices key (x ∷ xs) h =
     (bounds xs (λ j d p. h 0 (suc j) d (omega arith) (omega arith)), rise_from_indices key xs (λ i j d p q. h (suc i) (suc j) d (omega arith) (omega arith))) where
-  bounds : (ys : List _) → ((j : ℕ) (d : _) → j < length ys → key x ≤ key (get_or ys j d)) → Each (λ y. key x ≤ key y) ys
-  bounds [] g = tt
-  bounds (y ∷ ys) g = (g 0 y (omega arith), bounds ys (λ j d p. g (suc j) d (omega arith)))
+      bounds : (ys : List _) → ((j : ℕ) (d : _) → j < length ys → key x ≤ key (get_or ys j d)) → Each (λ y. key x ≤ key y) ys
+      bounds [] g = tt
+      bounds (y ∷ ys) g = (g 0 y (omega arith), bounds ys (λ j d p. g (suc j) d (omega arith)))
 
 pub rise_from_sort : {X : Type 0} (key : X → ℕ) (xs : List X) → IsSortedByKey key nat_cmp xs → Rise key xs
 rise_from_sort key xs h = rise_from_indices key xs (IsNonDecreasingBy-from_sort key xs h)
@@ -103,14 +105,14 @@ rise_put : (row : Row) (rows : List Row) → Rise time_of rows → Rise time_of 
 rise_put row [] r = (tt, tt)
 rise_put row (other ∷ rows) r =
     by_cases (ltb (time_of other) (time_of row)) refl (rise_put row rows r.1) where
-  by_cases : (b : Bool) → ltb (time_of other) (time_of row) ≡ b → Rise time_of (put_by_time row rows)
-      → Rise time_of (cond b (other ∷ put_by_time row rows) (row ∷ other ∷ rows))
-  by_cases true is s =
-      let h : time_of other < time_of row = ltb-true _ _ is in
-      (each_put (λ y. time_of other ≤ time_of y) row rows (omega arith) r.0, s)
-  by_cases false is s =
-      let h : time_of row ≤ time_of other = ltb-false _ _ is in
-      ((h, each_map (λ y. time_of other ≤ time_of y) (λ y. time_of row ≤ time_of y) (λ y p. omega arith) rows r.0), r)
+      by_cases : (b : Bool) → ltb (time_of other) (time_of row) ≡ b → Rise time_of (put_by_time row rows)
+          → Rise time_of (cond b (other ∷ put_by_time row rows) (row ∷ other ∷ rows))
+      by_cases true is s =
+          let h : time_of other < time_of row = ltb-true _ _ is in
+          (each_put (λ y. time_of other ≤ time_of y) row rows (omega arith) r.0, s)
+      by_cases false is s =
+          let h : time_of row ≤ time_of other = ltb-false _ _ is in
+          ((h, each_map (λ y. time_of other ≤ time_of y) (λ y. time_of row ≤ time_of y) (λ y p. omega arith) rows r.0), r)
 
 swapped : (n : ℕ) (other row : Row) (F G : List Row) → time_of other < time_of row → F ≡ cond (at time_of n row) (row ∷ G) G
     → cond (at time_of n other) (other ∷ F) F ≡ cond (at time_of n row) (row ∷ cond (at time_of n other) (other ∷ G) G) (cond (at time_of n other) (other ∷ G) G)

@@ -5,6 +5,8 @@
 //! scheduler is asked to place.
 #![tactic(auto)]
 
+mod jobs;
 mod ordered;
 
+pub use jobs::RoutedJob;
 pub use ordered::rounds;
