@@ -65,8 +65,8 @@ unknown places jobs found job none =
       | inl e ↦ let at = at_any job jobs e in let some = (found job at.0).1 at.1 in absurd (nothing at.0 (sym none ∙ some))
       | inr e ↦ e
     ] where
-  nothing : (place : ℕ) → None ≡ Some place → ⊥
-  nothing place e = cc
+      nothing : (place : ℕ) → None ≡ Some place → ⊥
+      nothing place e = cc
 
 apart : (a b : ℕ) → (a ≡ b → ⊥) → tree.is_at (nat_cmp a) b ≡ false
 apart a b ne =
@@ -91,25 +91,28 @@ found_more places more jobs new n found none end u job place =
       | inl same ↦ (λ is. there same is, λ is. here same is)
       | inr ne ↦ (λ is. kept_at job jobs new place ((found job place).0 (sym (u.2 job (apart _ _ ne)) ∙ is)), λ is. back ne is)
     ] where
-  there : new.job ≡ job → tree.get nat_cmp more job ≡ Some place → job_at (jobs ++ new ∷ []) place ≡ Some job
-  there same is =
-      let one : Some n ≡ Some place = sym u.1 ∙ ap (λ z. tree.get nat_cmp more z) same ∙ is in
-      let at : length jobs ≡ place = cc in
-      ap (λ z. job_at (jobs ++ new ∷ []) z) (sym at) ∙ new_at jobs new ∙ ap Some same
-  nothing : None ≡ Some place → ⊥
-  nothing e = cc
-  here : new.job ≡ job → job_at (jobs ++ new ∷ []) place ≡ Some job → tree.get nat_cmp more job ≡ Some place
-  here same is =
-      elim (which_at job jobs new place is) [
-        | inl e ↦ absurd (nothing (sym none ∙ ap (λ z. tree.get nat_cmp places z) same ∙ (found job place).1 e))
-        | inr e ↦ ap (λ z. tree.get nat_cmp more z) (sym same) ∙ u.1 ∙ ap Some (end ∙ sym e.0)
-      ]
-  back : (new.job ≡ job → ⊥) → job_at (jobs ++ new ∷ []) place ≡ Some job → tree.get nat_cmp more job ≡ Some place
-  back ne is =
-      elim (which_at job jobs new place is) [
-        | inl e ↦ u.2 job (apart _ _ ne) ∙ (found job place).1 e
-        | inr e ↦ absurd (ne e.1)
-      ]
+      there : new.job ≡ job → tree.get nat_cmp more job ≡ Some place → job_at (jobs ++ new ∷ []) place ≡ Some job
+      there same is =
+          let one : Some n ≡ Some place = sym u.1 ∙ ap (λ z. tree.get nat_cmp more z) same ∙ is in
+          let at : length jobs ≡ place = cc in
+          ap (λ z. job_at (jobs ++ new ∷ []) z) (sym at) ∙ new_at jobs new ∙ ap Some same
+
+      nothing : None ≡ Some place → ⊥
+      nothing e = cc
+
+      here : new.job ≡ job → job_at (jobs ++ new ∷ []) place ≡ Some job → tree.get nat_cmp more job ≡ Some place
+      here same is =
+          elim (which_at job jobs new place is) [
+            | inl e ↦ absurd (nothing (sym none ∙ ap (λ z. tree.get nat_cmp places z) same ∙ (found job place).1 e))
+            | inr e ↦ ap (λ z. tree.get nat_cmp more z) (sym same) ∙ u.1 ∙ ap Some (end ∙ sym e.0)
+          ]
+
+      back : (new.job ≡ job → ⊥) → job_at (jobs ++ new ∷ []) place ≡ Some job → tree.get nat_cmp more job ≡ Some place
+      back ne is =
+          elim (which_at job jobs new place is) [
+            | inl e ↦ u.2 job (apart _ _ ne) ∙ (found job place).1 e
+            | inr e ↦ absurd (ne e.1)
+          ]
 
 -- one more number at the end, unless it is there
 abbrev add_once : List ℕ → ℕ → List ℕ
@@ -140,12 +143,13 @@ newer acc n m =
       | inl e ↦ rw (list_any-append (λ k. k == m) acc (n ∷ []), eq-eqb m n e, eq-eqb n m (sym e)) (shut (list_any (λ k. k == m) acc))
       | inr ne ↦ rw (list_any-append (λ k. k == m) acc (n ∷ []), ne_eqb m n ne, ne_eqb n m (λ e. ne (sym e))) (open' (list_any (λ k. k == m) acc))
     ] where
-  shut : (b : Bool) → false ≡ not (b || true)
-  shut true = refl
-  shut false = refl
-  open' : (b : Bool) → not b ≡ not (b || false)
-  open' true = refl
-  open' false = refl
+      shut : (b : Bool) → false ≡ not (b || true)
+      shut true = refl
+      shut false = refl
+
+      open' : (b : Bool) → not b ≡ not (b || false)
+      open' true = refl
+      open' false = refl
 
 fold_once : (acc ns : List ℕ) → fold add_once acc ns ≡ acc ++ filter (is_new acc) (each_once ns)
 fold_once acc [] = sym (append-nil acc)

@@ -1,3 +1,4 @@
 pub mod Rising
 pub mod Cutting
 pub mod JobList
+pub mod TaskMap

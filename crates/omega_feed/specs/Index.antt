@@ -1,11 +1,12 @@
 -- How what is asked for is kept so that it is found.
-use Rattle.std.specs.Prelude.{◌≡◌, ℕ, Bool, true, List, [], Option, Some, None, map, slice_get, option_map, ◌↔◌, IsTrue}
+use Rattle.std.specs.Prelude.{◌≡◌, ℕ, Bool, true, List, [], Option, Some, None, map, slice_get, option_map, ◌↔◌, ◌<◌, ◌^◌}
 use Rattle.std.specs.BTreeMap as tree
 use Rattle.std.specs.BTreeSet as set
 use Rattle.std.specs.BTreeMap.{BTreeMap}
 use Rattle.std.specs.BTreeSet.{BTreeSet}
-use Rattle.std.specs.List.{filter, list_any}
-use Rattle.std.specs.Ordering.{nat_cmp}
+use Rattle.std.specs.List.{All, list_any}
+use Rattle.std.specs.Ordering.{nat_cmp, ordering_then}
+use Rattle.std.specs.declared.cmp.Ordering.{Ordering}
 use Rattle.omega_model.specs.Wanted.{WantedTask}
 use Rattle.omega_model.specs.declared.cells.Spec.{Spec}
 use Rattle.omega_model.specs.declared.cells.TaskKey.{TaskKey}
@@ -15,6 +16,15 @@ use Rattle.omega_feed.specs.declared.jobs.RoutedJob.{RoutedJob}
 -- a wanted task from its key and what it asks for
 abbrev pub wanted_task : TaskKey × Spec → WantedTask
 wanted_task entry = record { key = entry.0; spec = entry.1 }
+
+-- the order of keys: by job, then by index
+abbrev pub key_cmp : TaskKey → TaskKey → Ordering
+key_cmp a b = ordering_then (nat_cmp a.job b.job) (nat_cmp a.index b.index)
+
+-- the keys rise, and their indexes fit 32 bits
+pub record AreKeys (specs : BTreeMap TaskKey Spec) : Type 0 where
+  pub ordered : tree.IsOrdered key_cmp specs
+  pub narrow : All (λ key. key.index < 2 ^ 32) (tree.keys specs)
 
 -- the job at a place
 abbrev pub job_at : List RoutedJob → ℕ → Option ℕ

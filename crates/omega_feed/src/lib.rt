@@ -7,6 +7,7 @@
 
 mod jobs;
 mod ordered;
+mod tasks;
 
 pub use jobs::RoutedJob;
 pub use ordered::rounds;

@@ -7,8 +7,8 @@ use Rattle.omega_feed.proofs.jobs.Jobs.add.Goals as goal
 pub returns-then-contains_key-clause-ok : goal.returns-then-contains_key-clause-ok
 returns-then-contains_key-clause-ok c =
     let there : list_any (is_job c.args.job.job) c.args.self.now ≡ true =
-        ap (λ z. list_any (is_job c.args.job.job) z) (sym c.self.view_is)
-        ∙ known c.self.inside.places c.self.inside.list.items c.self.invariant c.args.job.job (sym c.if-contains_key.ensures) in
+    ap (λ z. list_any (is_job c.args.job.job) z) (sym c.self.view_is)
+    ∙ known c.self.inside.places c.self.inside.list.items c.self.invariant c.args.job.job (sym c.if-contains_key.ensures) in
     rw there refl
 
 pub invariant_of-self-else-is_err : goal.invariant_of-self-else-is_err
