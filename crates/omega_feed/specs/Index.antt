@@ -1,5 +1,5 @@
 -- How what is asked for is kept so that it is found.
-use Rattle.std.specs.Prelude.{◌≡◌, ℕ, Bool, true, List, [], Option, Some, None, map, slice_get, option_map, ◌↔◌, ◌<◌, ◌^◌}
+use Rattle.std.specs.Prelude.{◌≡◌, ℕ, Bool, true, List, [], Option, Some, None, map, slice_get, option_map, option_and_then, ◌==◌, if◌then◌else◌, ◌↔◌, ◌<◌, ◌^◌}
 use Rattle.std.specs.BTreeMap as tree
 use Rattle.std.specs.BTreeSet as set
 use Rattle.std.specs.BTreeMap.{BTreeMap}
@@ -10,7 +10,9 @@ use Rattle.std.specs.declared.cmp.Ordering.{Ordering}
 use Rattle.omega_model.specs.Wanted.{WantedTask}
 use Rattle.omega_model.specs.declared.cells.Spec.{Spec}
 use Rattle.omega_model.specs.declared.cells.TaskKey.{TaskKey}
-use Rattle.omega_feed.specs.Asked.{is_task_of}
+use Rattle.omega_model.specs.Cell.{Cell}
+use Rattle.omega_model.specs.declared.wishes.Request.{Request}
+use Rattle.omega_feed.specs.Asked.{Asked, is_task_of, job_request}
 use Rattle.omega_feed.specs.declared.jobs.RoutedJob.{RoutedJob}
 
 -- a wanted task from its key and what it asks for
@@ -37,3 +39,8 @@ AreFound places jobs = (job place : ℕ) → (tree.get nat_cmp places job ≡ So
 -- the place of each job that has a wanted task is among these
 abbrev pub AreActive : BTreeSet ℕ → List RoutedJob → List WantedTask → Type 0
 AreActive places jobs tasks = (job place : ℕ) → job_at jobs place ≡ Some job → list_any (is_task_of job) tasks ≡ true → set.contains nat_cmp places place ≡ true
+
+-- the request of the job at a place, if it stands there and is this scheduler's
+abbrev pub place_request : Asked → Cell → ℕ → ℕ → Option Request
+place_request asked cell scheduler place =
+    option_and_then (λ job. if job.scheduler == scheduler then job_request asked cell job else None) (slice_get asked.jobs place)

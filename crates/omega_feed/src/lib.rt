@@ -5,9 +5,13 @@
 //! scheduler is asked to place.
 #![tactic(auto)]
 
+mod constraints;
+mod entries;
 mod jobs;
 mod ordered;
 mod tasks;
+mod wanted;
 
 pub use jobs::RoutedJob;
 pub use ordered::rounds;
+pub use wanted::Wanted;
