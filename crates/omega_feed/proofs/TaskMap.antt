@@ -29,10 +29,10 @@ use Rattle.omega_feed.specs.Asked.{is_task_of}
 use Rattle.omega_feed.specs.Index.{wanted_task, key_cmp}
 
 -- what the order of two keys says of their tests
-abbrev Facts : Ordering → TaskKey → TaskKey → Type 0
-Facts Less a b = (key_lt a b ≡ true) × (key_lt b a ≡ false) × (same_key b a ≡ false)
+abbrev pub Facts : Ordering → TaskKey → TaskKey → Type 0
+Facts Less a b = (key_lt a b ≡ true) × (key_lt b a ≡ false) × (same_key b a ≡ false) × (same_key a b ≡ false)
 Facts Equal a b = a ≡ b
-Facts Greater a b = (key_lt a b ≡ false) × (key_lt b a ≡ true) × (same_key b a ≡ false)
+Facts Greater a b = (key_lt a b ≡ false) × (key_lt b a ≡ true) × (same_key b a ≡ false) × (same_key a b ≡ false)
 
 one_key : (a b : TaskKey) → a.job ≡ b.job → a.index ≡ b.index → a ≡ b
 one_key a b p q =
@@ -62,16 +62,16 @@ by_index a b e less =
     let m = ne_eqb a.index b.index (λ d. omega arith) in
     (rw (s, u, p) refl, rw (t, v, q, n) refl, rw (s, u, p) refl, rw (t, v, q) refl, rw (v, n) refl, rw (u, m) refl)
 
-facts : (a b : TaskKey) → Facts (key_cmp a b) a b
+pub facts : (a b : TaskKey) → Facts (key_cmp a b) a b
 facts a b =
     elim (cases_order a.job b.job) [
       | inl e ↦ elim (cases_order a.index b.index) [
         | inl d ↦ at_facts a b Equal (rw (le-ltb a.job b.job (omega arith), eq-eqb a.job b.job e, le-ltb a.index b.index (omega arith), eq-eqb a.index b.index d) refl) (one_key a b e d)
-        | inr (inl less) ↦ let f = by_index a b e less in at_facts a b Less f.0 (f.2, f.3, f.4)
-        | inr (inr more) ↦ let f = by_index b a (sym e) more in at_facts a b Greater f.1 (f.3, f.2, f.5)
+        | inr (inl less) ↦ let f = by_index a b e less in at_facts a b Less f.0 (f.2, f.3, f.4, f.5)
+        | inr (inr more) ↦ let f = by_index b a (sym e) more in at_facts a b Greater f.1 (f.3, f.2, f.5, f.4)
       ]
-      | inr (inl less) ↦ let f = by_job a b less in at_facts a b Less f.0 (f.2, f.3, f.4)
-      | inr (inr more) ↦ let f = by_job b a more in at_facts a b Greater f.1 (f.3, f.2, f.5)
+      | inr (inl less) ↦ let f = by_job a b less in at_facts a b Less f.0 (f.2, f.3, f.4, f.5)
+      | inr (inr more) ↦ let f = by_job b a more in at_facts a b Greater f.1 (f.3, f.2, f.5, f.4)
     ]
 
 less_facts : (a b : TaskKey) → key_cmp a b ≡ Less → Facts Less a b
@@ -92,7 +92,7 @@ key_asym a b p = lex_asym a.job b.job _ _ (lt_asym a.index b.index) p
 key_irrefl : (a : TaskKey) → key_lt a a ≡ false
 key_irrefl a = elim (cases_Bool (key_lt a a)) [ inl e ↦ key_asym a a e | inr e ↦ e ]
 
-same_refl : (a : TaskKey) → same_key a a ≡ true
+pub same_refl : (a : TaskKey) → same_key a a ≡ true
 same_refl a = rw (eq-eqb a.job a.job refl, eq-eqb a.index a.index refl) refl
 
 each_keys : (P : TaskKey → Type 0) (es : List (TaskKey × Spec)) → AllByRecursion P (keys_of es) → Each (λ e. P e.0) es

@@ -13,16 +13,21 @@ pub fn entries_of(alloc: Global, row: &Row, running: &Running) -> Result<Entries
     ensures { IfOk result (λ entries. (machines : List Machine) (left : List WantedTask) → entries ≡ row_entries (record { machines = machines; tasks = running.now.tasks }) left row.now) }
 {
     let mut entries = Entries::new(alloc);
-    match row {
-        Row::Machine(row) => entries.push(machine_entry(row))?,
-        Row::Attr(row) => entries.push(attr_entry(alloc, row)?)?,
-        Row::Task(row) => {
-            if let Some(entry) = end_entry(row, running) {
-                entries.push(entry)?;
-            }
-        }
+    if let Some(entry) = entry_of(alloc, row, running)? {
+        entries.push(entry)?;
     }
     Ok(entries)
+}
+
+/// The entry of a row: each gives one at most.
+fn entry_of(alloc: Global, row: &Row, running: &Running) -> Result<Option<Entry>, NoMemory>
+    ensures { IfOk result (λ entry. (machines : List Machine) (left : List WantedTask) → option_to_list entry ≡ row_entries (record { machines = machines; tasks = running.now.tasks }) left row.now) }
+{
+    match row {
+        Row::Machine(row) => Ok(Some(machine_entry(row))),
+        Row::Attr(row) => Ok(Some(attr_entry(alloc, row)?)),
+        Row::Task(row) => Ok(end_entry(row, running)),
+    }
 }
 
 /// The entry of a machine row, by its code.

@@ -91,7 +91,8 @@ impl Wanted {
         if let Some(place) = self.jobs.place(key.job) {
             self.active.insert(place)?;
         }
-        self.tasks.insert(key, spec)
+        self.tasks.insert(key, spec)?;
+        Ok(())
     }
 
     fn end(&mut self, key: TaskKey)
