@@ -1,7 +1,7 @@
 ghost use Rattle.std.specs.Prelude.{◌≡◌};
 
 use crate::MachineTable;
-use omega_model::{Bytes, Need, NoMemory, Seq};
+use omega_model::{Bytes, Copied, Need, NoMemory, Seq};
 use std::alloc::{AllocError, Global};
 use std::test::Fail;
 
@@ -117,6 +117,24 @@ fn attributes_are_set_and_unset(rt: HostRuntime) -> Result<(), Fail> {
     table.delete_attr(4, &b);
     assert_eq!(rt; told(alloc, &table, 1)?.as_slice(), b"abb.bb.".as_slice());
     assert_eq!(rt; told(alloc, &table, 0)?.as_slice(), b"".as_slice());
+    Ok(())
+}
+
+#[test]
+fn a_copy_is_equal(rt: HostRuntime) -> Result<(), Fail> {
+    let alloc = rt.alloc();
+    let name = bytes(alloc, b"a")?;
+    let mut table = MachineTable::new(alloc);
+    table.ensure(3)?;
+    table.ensure(4)?;
+    table.touch(4);
+    table.set_attr(4, &name, &name)?;
+    let copied = table.copy(alloc)?;
+    assert_eq!(rt;
+        (copied.position(4), copied.seq(4), copied.free(4)),
+        (Some(1), 1, None)
+    );
+    assert_eq!(rt; told(alloc, &copied, 1)?.as_slice(), b"aa.".as_slice());
     Ok(())
 }
 

@@ -31,3 +31,4 @@ pub mod Refusals
 pub mod Ranges
 pub mod Jobs
 pub mod OpenRequests
+pub mod JudgeOn

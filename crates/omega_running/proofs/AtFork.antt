@@ -1,9 +1,9 @@
 -- What is known of a tree in order, once it is a fork: d are its tasks, l and r those at the sides of x.
-use Rattle.std.proofs.Common.{◌≡◌, ℕ, ◌<◌, ◌≤◌, Bool, true, false, ◌||◌, ◌&&◌, not, eqb, ltb, List, [], ◌∷◌, ◌++◌, Option, Some, None, Box, refl, ap, sym, ◌∙◌, subst, append_assoc, arith, inl, inr}
-use Rattle.std.specs.List.{filter, find, list_any}
+use Rattle.std.proofs.Common.{◌≡◌, ℕ, ◌<◌, ◌≤◌, Bool, true, false, ◌&&◌, not, eqb, ltb, List, [], ◌∷◌, ◌++◌, Option, Some, None, Box, refl, ap, sym, ◌∙◌, subst, append_assoc, arith, inl, inr}
+use Rattle.std.specs.List.{find}
 use Rattle.std.specs.Option.{option_map, option_or, is_some}
 use Rattle.std.specs.declared.alloc.Global.{Global}
-use Rattle.std.proofs.lemmas.Bool.{ne_eqb, eq-eqb, eqb-true, ltb-true, and_parts, or_cases, and_cases, le-ltb, ltb-false, both_ways, or_left, or_right, or_parts, or_from, and_left, and_right, not_from_true, not-false, not-true}
+use Rattle.std.proofs.lemmas.Bool.{ne_eqb, eq-eqb, ltb-true, and_parts, or_cases, or_left, or_right, or_from, and_left, and_right, not_from_true, not-false, not-true}
 use Rattle.std.proofs.lemmas.List.Elements.{filter-append}
 use Rattle.std.proofs.lemmas.List.Folds.{find-append}
 use Rattle.omega_model.specs.Keys.{key_lt, same_key, is_among}
@@ -16,12 +16,12 @@ use Rattle.omega_running.specs.declared.orders.Order.TheVariants.{ByKey, ByMachi
 use Rattle.omega_running.specs.declared.nodes.Tree.{Tree}
 use Rattle.omega_running.specs.declared.nodes.Node.{Node}
 use Rattle.omega_running.specs.declared.nodes.Tree.TheVariants.{Fork}
-use Rattle.omega_running.specs.Order.{Each, Rises, IsInOrder, precedes, lead, put_in, taken_out, has_place, led_by, is_before, is_behind}
+use Rattle.omega_running.specs.Order.{Each, IsInOrder, precedes, lead, put_in, taken_out, has_place, led_by, is_before, is_behind}
 use Rattle.omega_running.specs.Tree.{tasks_of}
-use Rattle.omega_running.proofs.Lists.{each_map, each_append, find_left, find_right, find_first, find_past, filter_left, filter_right}
-use Rattle.omega_running.proofs.Strict.{AreSides, sides, trans, behind, ahead, put_left, put_right, keep_left, keep_right, keep_here, has_left, has_right}
+use Rattle.omega_running.proofs.Lists.{each_map, each_append, find_left, find_right, filter_left, filter_right}
+use Rattle.omega_running.proofs.Strict.{sides, trans, behind, put_left, put_right, keep_left, keep_right, keep_here, has_left, has_right}
 use Rattle.omega_running.proofs.InOrder.{strict, key_strict, lead_rises, key_apart}
-use Rattle.omega_running.proofs.Lex.{lex, lex_gt, lex_trans, lex_apart, lex_rises, lt_trans, trans_lt, lt_apart}
+use Rattle.omega_running.proofs.Lex.{lex_trans, lex_apart, lt_trans, trans_lt, lt_apart}
 
 pub record AtFork (order : Order) (d l : List Task) (x : Task) (r : List Task) : Type 0 where
   pub is : d ≡ l ++ x ∷ r
@@ -104,15 +104,15 @@ is_other job machine gone task = is_of_job job task && stays_on machine gone tas
 other_not_behind : (job machine : ℕ) (gone : List TaskKey) (y : Task) → is_behind y machine job ≡ true → is_other job machine gone y ≡ false
 other_not_behind job machine gone y p =
     elim (or_cases (ltb machine y.machine) (eqb machine y.machine && ltb job y.key.job) p) [
-      | inl e ↦ let h : machine < y.machine = ltb-true _ _ e in and_right (is_of_job job y) _ (and_left _ _ (ne_eqb y.machine machine (omega arith)))
-      | inr e ↦ let h : job < y.key.job = ltb-true _ _ (and_parts _ _ e).1 in and_left _ (stays_on machine gone y) (ne_eqb y.key.job job (omega arith))
+      | inl e ↦ let h : machine < y.machine = ltb-true machine y.machine e in and_right (is_of_job job y) _ (and_left _ _ (ne_eqb y.machine machine (omega arith)))
+      | inr e ↦ let h : job < y.key.job = ltb-true job y.key.job (and_parts (eqb machine y.machine) (ltb job y.key.job) e).1 in and_left _ (stays_on machine gone y) (ne_eqb y.key.job job (omega arith))
     ]
 
 other_not_before : (job machine : ℕ) (gone : List TaskKey) (y : Task) → is_before y machine job ≡ true → is_other job machine gone y ≡ false
 other_not_before job machine gone y p =
     elim (or_cases (ltb y.machine machine) (eqb y.machine machine && ltb y.key.job job) p) [
-      | inl e ↦ let h : y.machine < machine = ltb-true _ _ e in and_right (is_of_job job y) _ (and_left _ _ (ne_eqb y.machine machine (omega arith)))
-      | inr e ↦ let h : y.key.job < job = ltb-true _ _ (and_parts _ _ e).1 in and_left _ (stays_on machine gone y) (ne_eqb y.key.job job (omega arith))
+      | inl e ↦ let h : y.machine < machine = ltb-true y.machine machine e in and_right (is_of_job job y) _ (and_left _ _ (ne_eqb y.machine machine (omega arith)))
+      | inr e ↦ let h : y.key.job < job = ltb-true y.key.job job (and_parts (eqb y.machine machine) (ltb y.key.job job) e).1 in and_left _ (stays_on machine gone y) (ne_eqb y.key.job job (omega arith))
     ]
 
 behind_more : (job machine : ℕ) (x y : Task) → is_behind x machine job ≡ true → precedes ByMachine x y ≡ true → is_behind y machine job ≡ true

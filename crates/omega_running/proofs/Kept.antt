@@ -1,5 +1,5 @@
 -- What keeps the two lists of tasks the same when one is put in or taken out.
-use Rattle.std.proofs.Common.{◌≡◌, ℕ, Bool, true, false, ◌||◌, ◌&&◌, not, cond, eqb, ltb, List, [], ◌∷◌, ◌++◌, Option, Some, None, refl, ap, ap₂, sym, ◌∙◌, ◌⊎◌, inl, inr, arith}
+use Rattle.std.proofs.Common.{◌≡◌, ℕ, Bool, true, false, ◌||◌, ◌&&◌, not, cond, eqb, List, [], ◌∷◌, ◌++◌, Some, None, refl, ap, ap₂, sym, ◌∙◌, ◌⊎◌, inl, inr}
 use Rattle.std.specs.List.{filter, find, list_any}
 use Rattle.std.specs.Option.{option_map}
 use Rattle.std.proofs.lemmas.Bool.{both_ways, eqb-true, eq-eqb, and_parts, or_cases, or_left, or_right, or_from, not_from_true, not_from_false, not-false, false_from_ne_true}
@@ -15,7 +15,7 @@ use Rattle.omega_running.specs.Order.{Each, Rises, IsInOrder, precedes, is_apart
 use Rattle.omega_running.proofs.Lists.{each_map, each_both, each_append, each_of, filter_every, filter_none, filter_where}
 use Rattle.omega_running.proofs.Strict.{IsStrict, trans, put, apart}
 use Rattle.omega_running.proofs.InOrder.{strict, key_asym, key_apart, apart_by_machine}
-use Rattle.omega_running.proofs.Lex.{lex, lex_same}
+use Rattle.omega_running.proofs.Lex.{lex_same}
 
 -- a search that finds nothing
 absent_each : {X : Type 0} (p : X → Bool) (xs : List X) → find p xs ≡ None → Each (λ x. p x ≡ false) xs

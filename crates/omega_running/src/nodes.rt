@@ -8,10 +8,11 @@ ghost use Rattle.omega_running.specs.Tree.{tasks_of, tasks_at};
 
 use crate::orders::{Order, is_among, is_before, is_behind, key_lt};
 use omega_model::{Keys, Need, NoMemory, Spec, Task, TaskKey};
-use std::alloc::{AllocFailed, Global};
+use std::alloc::Global;
 use std::mem;
 
-/// A tree of tasks. The heights of the two sides of a node differ by at most one.
+/// A tree of tasks, from left to right in an order. Where a change makes one side of a node higher
+/// than the other by two, the node is turned, so that a way down stays logarithmic.
 #[cycle(tree)]
 #[derive(Debug, Drop)]
 pub enum Tree {
@@ -136,8 +137,8 @@ impl Tree {
         Some(&node.task)
     }
 
-    /// Appends, in order, the tasks that the order's first number puts together. Costs what they
-    /// are and the height of the tree.
+    /// Appends, in order, the tasks of which the order's first number is this one. Costs what they
+    /// are, and one way down.
     pub fn collect(&self, order: Order, number: u64, found: &mut Vec<Task>) -> Result<(), NoMemory>
         requires { IsInOrder order (tasks_of self.now) }
         ensures { OnOk result (found.new.items ≡ found.old.items ++ led_by order number (tasks_of self.now)) }
@@ -157,8 +158,8 @@ impl Tree {
         node.right.collect(order, number, found)
     }
 
-    /// The first of the job's tasks on the machine that isn't in `gone`. Looks at those before it
-    /// alone, and at the height of the tree.
+    /// The first of the job's tasks on the machine that isn't in `gone`. Costs those up to it, each
+    /// looked up in `gone`, and one way down.
     pub fn other_of_job(&self, job: u64, machine: u64, gone: &Keys) -> Option<TaskKey>
         requires { IsInOrder ByMachine (tasks_of self.now) }
         ensures { result ≡ other_of_job (tasks_of self.now) job machine gone.now }

@@ -1,10 +1,9 @@
 //! The running tasks.
-ghost use Rattle.std.specs.Prelude.{◌≡◌, ◌+◌, ◌≤◌, ◌<◌, [], ◌∷◌, max, length, option_map, IsOk, IfOk, OnOk, IsSome, is_some, None, Some, vec_len, vec_capacity, if◌then◌else◌};
+ghost use Rattle.std.specs.Prelude.{◌≡◌, ◌+◌, ◌≤◌, ◌<◌, [], ◌∷◌, max, length, option_map, IsOk, IfOk, OnOk, is_some, None, Some, vec_len, vec_capacity, if◌then◌else◌};
 ghost use Rattle.std.specs.List.{filter};
 ghost use Rattle.omega_model.specs.Cell.{task_at, with_task, without, is_on, by_rank, keys_of};
 ghost use Rattle.omega_model.specs.Jobs.{is_of_job, other_of_job};
-ghost use Rattle.omega_running.specs.declared.orders.Order.TheVariants.{ByKey};
-ghost use Rattle.omega_running.specs.Order.{IsInOrder};
+ghost use Rattle.omega_running.specs.Kept.{KeysRise};
 
 use crate::nodes::{Node, Tree};
 use crate::orders::Order;
@@ -59,7 +58,7 @@ impl Running {
     /// time logarithmic in the number of tasks.
     pub fn get(&self, key: TaskKey) -> Option<&Task>
         ensures task { option_map (λ task. task.now) result ≡ task_at self.now.tasks key }
-        ensures ordered { IsInOrder ByKey self.now.tasks }
+        ensures ordered { KeysRise self.now.tasks }
     {
         self.by_key.find(key)
     }
@@ -67,14 +66,14 @@ impl Running {
     /// How many tasks run. Takes no memory, and time that doesn't depend on their number.
     pub fn count(&self) -> usize
         ensures count { result ≡ length self.now.tasks }
-        ensures ordered { IsInOrder ByKey self.now.tasks }
+        ensures ordered { KeysRise self.now.tasks }
     {
         self.count
     }
 
-    /// Makes room for `n` tasks in all that are yet to come. The tasks stay as they are, also
-    /// where memory runs out, and no room is lost then. Takes the memory and time of the room that
-    /// is missing.
+    /// Makes room for at least `n` more tasks. The tasks stay as they are, also where memory runs
+    /// out, and no room is lost then. Takes the memory and time of the room that is missing, and
+    /// none where there is enough.
     pub fn reserve(&mut self, alloc: Global, n: usize) -> Result<(), NoMemory>
         ensures tasks { self.new.tasks ≡ self.old.tasks }
         ensures spare { OnOk result (self.new.spare ≡ max self.old.spare n) }

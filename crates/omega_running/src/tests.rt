@@ -77,15 +77,16 @@ fn answers_by_key_by_machine_and_by_job(rt: HostRuntime) -> Result<(), NoMemory>
     Ok(())
 }
 
-// 100,000 tasks on 10,000 machines: 1,000 jobs of 100 tasks, ten tasks on each machine.
+// 100,000 tasks on 10,000 machines: 1,000 jobs of 100 tasks, ten tasks on each machine. They come
+// and go in order of key, which would make a tree that isn't kept balanced a list.
 #[test]
 fn keeps_many_tasks(rt: HostRuntime) -> Result<(), NoMemory> {
     let alloc = rt.alloc();
     let mut running = Running::new(alloc);
     running.reserve(alloc, 100_000)?;
-    for index in 0..100_u32 {
-        for job in 0..1_000_u64 {
-            let machine = (u64::from(index) * 1_000 + job) * 7 % 10_000;
+    for job in 0..1_000_u64 {
+        for index in 0..100_u32 {
+            let machine = (job * 100 + u64::from(index)) * 7 % 10_000;
             assert!(rt; put(&mut running, alloc, task(job, index, machine, 0))?);
         }
     }

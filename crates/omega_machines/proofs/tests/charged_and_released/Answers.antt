@@ -1,8 +1,7 @@
 use Rattle.std.proofs.Common.{◌∙◌, refl, sym, ap, subst, IsSomeAnd}
 use Rattle.omega_model.specs.Machines.{is_listed}
 use Rattle.omega_model.specs.Need.{Fits}
-use Rattle.omega_model.specs.declared.cells.Need.{Need}
-use Rattle.omega_machines.specs.Table.{machines_of, use_at, free_at, charged}
+use Rattle.omega_machines.specs.Table.{machines_of, use_at, charged}
 use Rattle.omega_machines.proofs.Places.{listed_from_free}
 use Rattle.omega_machines.proofs.Laws.{listed_changed, use_charged}
 use Rattle.omega_machines.proofs.tests.charged_and_released.Goals as goal

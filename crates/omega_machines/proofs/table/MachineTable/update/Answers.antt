@@ -1,5 +1,5 @@
 use Rattle.std.proofs.Common.{refl, sym}
-use Rattle.omega_machines.specs.Table.{MachineState, state_updated}
+use Rattle.omega_machines.specs.Table.{state_updated}
 use Rattle.omega_machines.proofs.Bounds.{bounded-updated}
 use Rattle.omega_machines.proofs.Rewriting.{rewritten}
 use Rattle.omega_machines.proofs.table.MachineTable.update.Goals as goal

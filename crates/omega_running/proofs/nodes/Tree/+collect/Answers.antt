@@ -1,8 +1,8 @@
-use Rattle.std.proofs.Common.{◌≡◌, ◌<◌, sym, ◌∙◌, rules, arith}
+use Rattle.std.proofs.Common.{◌≡◌, ◌<◌, rules}
 use Rattle.omega_running.specs.Order.{IsInOrder, lead}
 use Rattle.omega_running.specs.Tree.{tasks_of}
 use Rattle.omega_running.specs.declared.nodes.Tree.{the_lemmas}
-use Rattle.omega_running.proofs.AtFork.{at_fork, led_at_left, led_at_right, led_here}
+use Rattle.omega_running.proofs.AtFork.{at_fork, led_at_left, led_at_right}
 use Rattle.omega_running.proofs.nodes.Tree.+collect.Goals as goal
 
 pub collect-requires : goal.collect-requires

@@ -14,7 +14,7 @@ find-requires t c =
 
 pub returns-then-key_lt : goal.returns-then-key_lt
 returns-then-key_lt t c =
-    let f = at_fork c.requires c.in-Fork.is in
+    let f = at_fork {order = ByKey} c.requires c.in-Fork.is in
     let p : key_lt c.args.key c.in-Fork.node.value.task.key ≡ true = cc in
     c.find.ensures ∙ rw c.deref-then-key_lt.ensures (sym (found_at_left c.args.key f p))
 
@@ -25,13 +25,13 @@ find-requires-then-key_lt-2 t c =
 
 pub returns-then-key_lt-2 : goal.returns-then-key_lt-2
 returns-then-key_lt-2 t c =
-    let f = at_fork c.requires c.in-Fork.is in
+    let f = at_fork {order = ByKey} c.requires c.in-Fork.is in
     let p : key_lt c.in-Fork.node.value.task.key c.args.key ≡ true = cc in
     c.find-then-key_lt-2.ensures ∙ rw c.deref-then-key_lt-2.ensures (sym (found_at_right c.args.key f p))
 
 pub returns : goal.returns
 returns t c =
-    let f = at_fork c.requires c.in-Fork.is in
+    let f = at_fork {order = ByKey} c.requires c.in-Fork.is in
     let p : key_lt c.args.key c.in-Fork.node.value.task.key ≡ false = cc in
     let q : key_lt c.in-Fork.node.value.task.key c.args.key ≡ false = cc in
     rw c.deref-3.ensures (sym (found_here c.args.key f p q))

@@ -16,7 +16,7 @@ other_of_job-requires t c =
 
 pub returns-then-is_before : goal.returns-then-is_before
 returns-then-is_before t c =
-    let f = at_fork c.requires c.in-Fork.is in
+    let f = at_fork {order = ByMachine} c.requires c.in-Fork.is in
     let p : is_before c.in-Fork.node.value.task c.args.machine c.args.job ≡ true = cc in
     c.other_of_job.ensures ∙ rw c.deref-then-is_before.ensures (sym (other_at_right c.args.job c.args.machine c.args.gone.now f p))
 
@@ -27,7 +27,7 @@ other_of_job-requires-then-is_behind t c =
 
 pub returns-then-is_behind : goal.returns-then-is_behind
 returns-then-is_behind t c =
-    let f = at_fork c.requires c.in-Fork.is in
+    let f = at_fork {order = ByMachine} c.requires c.in-Fork.is in
     let p : is_behind c.in-Fork.node.value.task c.args.machine c.args.job ≡ true = cc in
     c.other_of_job-then-is_behind.ensures ∙ rw c.deref-then-is_behind.ensures (sym (other_at_left c.args.job c.args.machine c.args.gone.now f p))
 
@@ -38,14 +38,14 @@ other_of_job-earlier-requires t c =
 
 pub returns-then-is_some : goal.returns-then-is_some
 returns-then-is_some t c =
-    let f = at_fork c.requires c.in-Fork.is in
+    let f = at_fork {order = ByMachine} c.requires c.in-Fork.is in
     let e : c.other_of_job-earlier.result ≡ other_of_job (tasks_of c.in-Fork.node.value.left) c.args.job c.args.machine c.args.gone.now = rw c.deref-3.ensures at c.other_of_job-earlier.ensures in
     let some : is_some (other_of_job (tasks_of c.in-Fork.node.value.left) c.args.job c.args.machine c.args.gone.now) ≡ true = cc in
     e ∙ sym (other_earlier c.args.job c.args.machine c.args.gone.now f some)
 
 pub returns-then-not-is_among : goal.returns-then-not-is_among
 returns-then-not-is_among t c =
-    let f = at_fork c.requires c.in-Fork.is in
+    let f = at_fork {order = ByMachine} c.requires c.in-Fork.is in
     let p : is_before c.in-Fork.node.value.task c.args.machine c.args.job ≡ false = cc in
     let q : is_behind c.in-Fork.node.value.task c.args.machine c.args.job ≡ false = cc in
     let e : c.other_of_job-earlier.result ≡ other_of_job (tasks_of c.in-Fork.node.value.left) c.args.job c.args.machine c.args.gone.now = rw c.deref-3.ensures at c.other_of_job-earlier.ensures in
@@ -60,7 +60,7 @@ other_of_job-requires-2 t c =
 
 pub returns : goal.returns
 returns t c =
-    let f = at_fork c.requires c.in-Fork.is in
+    let f = at_fork {order = ByMachine} c.requires c.in-Fork.is in
     let e : c.other_of_job-earlier.result ≡ other_of_job (tasks_of c.in-Fork.node.value.left) c.args.job c.args.machine c.args.gone.now = rw c.deref-3.ensures at c.other_of_job-earlier.ensures in
     let none : is_some (other_of_job (tasks_of c.in-Fork.node.value.left) c.args.job c.args.machine c.args.gone.now) ≡ false = cc in
     let among : is_among c.in-Fork.node.value.task.key c.args.gone.now ≡ true = cc in

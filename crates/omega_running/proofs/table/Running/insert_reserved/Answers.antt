@@ -1,8 +1,11 @@
-use Rattle.std.proofs.Common.{◌≡◌, ◌+◌, length, None, sym, arith}
+use Rattle.std.proofs.Common.{◌≡◌, ◌+◌, length, None, arith}
 use Rattle.omega_model.specs.Cell.{task_at}
 use Rattle.omega_running.specs.Tree.{tasks_of}
 use Rattle.omega_running.proofs.Kept.{put_is, put_rises, put_rises_too, put_same}
 use Rattle.omega_running.proofs.table.Running.insert_reserved.Goals as goal
+
+pub insert-requires : goal.insert-requires
+insert-requires c = rw c.take.ensures.taken c.self.invariant.keys_rise
 
 pub invariant_of-self : goal.invariant_of-self
 invariant_of-self c =

@@ -1,4 +1,4 @@
-use Rattle.std.proofs.Common.{◌≡◌, Some, None, sym, subst, ◌∙◌, rules}
+use Rattle.std.proofs.Common.{◌≡◌, Some, None, sym, subst}
 use Rattle.omega_model.specs.Cell.{task_at}
 use Rattle.omega_model.specs.declared.cells.TaskKey.{TaskKey}
 use Rattle.omega_running.specs.Tree.{tasks_of}

@@ -1,9 +1,12 @@
-use Rattle.std.proofs.Common.{◌≡◌, ◌+◌, length, Some, sym, arith}
+use Rattle.std.proofs.Common.{◌≡◌, ◌+◌, length, Some, arith}
 use Rattle.omega_model.specs.Cell.{task_at}
 use Rattle.omega_running.specs.declared.orders.Order.TheVariants.{ByKey, ByMachine}
 use Rattle.omega_running.specs.Tree.{tasks_of}
 use Rattle.omega_running.proofs.Kept.{taken_is, taken_rises, taken_same, there, there_too}
 use Rattle.omega_running.proofs.table.Running.take_out.Goals as goal
+
+pub remove-rest-requires-clause-ordered : goal.remove-rest-requires-clause-ordered
+remove-rest-requires-clause-ordered c = rw c.take.ensures.taken c.self.invariant.keys_rise
 
 pub remove-rest-requires-clause-there : goal.remove-rest-requires-clause-there
 remove-rest-requires-clause-there c =
