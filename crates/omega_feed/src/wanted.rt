@@ -4,6 +4,7 @@ ghost use Rattle.std.specs.List.{filter};
 ghost use Rattle.omega_model.specs.Requests.{is_waiting};
 ghost use Rattle.omega_model.specs.Wanted.{wanted_after, wanted_after_task, with_wanted, is_named, row_entries};
 ghost use Rattle.omega_model.specs.declared.cells.Machine.{Machine};
+ghost use Rattle.omega_board.specs.Board.{cell_of};
 ghost use Rattle.omega_feed.specs.Asked.{asked_after, asked_requests, asked_wish};
 ghost use Rattle.omega_feed.specs.Index.{place_request};
 
@@ -11,6 +12,7 @@ use crate::constraints::TaskConstraints;
 use crate::entries::entries_of;
 use crate::jobs::{Jobs, RoutedJob};
 use crate::tasks::WantedTasks;
+use omega_board::Board;
 use omega_model::{
     Entries, NoMemory, Request, Requests, Row, Settings, Spec, TaskKey, TaskRow, TraceTables, Wish,
     Wishes,
@@ -107,17 +109,27 @@ impl Wanted {
         }
     }
 
-    /// The entries of a row that was just taken, where these tasks run. Costs the logarithm of their
-    /// number.
-    fn entries_beside(
+    /// The entries of the row that was taken last, on the cell of a board. Costs the logarithm of the
+    /// number of running tasks.
+    pub fn entries(&self, alloc: Global, row: &Row, board: &Board) -> Result<Entries, NoMemory>
+        ensures { IfOk result (λ entries. entries ≡ row_entries (cell_of board.now) self.now.tasks row.now) }
+    {
+        entries_of(alloc, row, board.running())
+    }
+
+    /// What a scheduler is asked to place on the cell of a board: its jobs in order of their first
+    /// task row, each with its wanted tasks that don't run, by index. A job without such a task is
+    /// left out, one that is given up is not. Costs the wanted tasks of the scheduler's jobs, also
+    /// those that run, each times the logarithm of the number of all, and the jobs that have any.
+    pub fn requests(
         &self,
         alloc: Global,
-        row: &Row,
-        running: &Running,
-    ) -> Result<Entries, NoMemory>
-        ensures { IfOk result (λ entries. (machines : List Machine) → entries ≡ row_entries (record { machines = machines; tasks = running.now.tasks }) self.now.tasks row.now) }
+        scheduler: u32,
+        board: &Board,
+    ) -> Result<Requests, NoMemory>
+        ensures { IfOk result (λ requests. requests ≡ asked_requests self.now (cell_of board.now) scheduler) }
     {
-        entries_of(alloc, row, running)
+        self.requests_beside(alloc, scheduler, board.running())
     }
 
     /// The requests of a scheduler, where these tasks run.
