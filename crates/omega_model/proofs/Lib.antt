@@ -12,3 +12,4 @@ pub mod Standing
 pub mod Attempts
 pub mod RoundsInOrder
 mod TableExamples
+pub mod OpenRequests

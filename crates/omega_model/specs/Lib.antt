@@ -32,3 +32,4 @@ pub mod Ranges
 pub mod Jobs
 pub mod Working
 pub mod JudgeOn
+pub mod OpenRequests
