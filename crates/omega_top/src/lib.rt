@@ -15,3 +15,6 @@ mod top;
 
 pub use status::{Line, exit_status, fault_line};
 pub use top::{omega, omega_with};
+
+#[cfg(test)]
+mod tests;
