@@ -7,7 +7,7 @@ ghost use Rattle.omega_model.specs.Report.{report};
 ghost use Rattle.omega_model.specs.Trace.{trace_of};
 ghost use Rattle.omega_model.specs.declared.results.Status.TheVariants.{Usage, WriteFault, NoMemory};
 ghost use Rattle.omega_model.specs.declared.rows.Table.{Table};
-ghost use Rattle.omega_top.specs.Answers.{Answers, EndsRun, HasHistory, HasReadCause, IsBuilt, NoneRose, SayReplay, Writes, WritesNothing, default_settings};
+ghost use Rattle.omega_top.specs.Answers.{Answers, EndsRun, HasHistory, HasReadCause, IsBuilt, IsWholeRun, NoneRose, SayReplay, Writes, WritesNothing, default_settings};
 
 use crate::reporting::report;
 use crate::rounds::replayed;
@@ -61,6 +61,7 @@ pub fn omega<T: Tables, K: Sink, G: Gate>(
         → NoneRose (T.faults tables.old) (T.faults tables.new) (K.faults out.old) (K.faults out.new)
         → result.status ≢ Usage → (result.status ≡ Status.Done) ⊎ (result.status ≡ NoMemory) }
 
+    ensures lawful { (bytes : Table → List ℕ) → Tells (T.rest tables.old) bytes → IsWholeRun default_settings (trace_of bytes) result.history result.status }
     ensures legal { Legal result.history }
     ensures history { HasHistory result.history result.status }
     ensures written { (bytes : Table → List ℕ) → Tells (T.rest tables.old) bytes
@@ -95,6 +96,7 @@ pub fn omega_with<T: Tables, K: Sink, G: Gate>(
     ensures read_fault { HasReadCause (T.faults tables.old) (T.faults tables.new) result.status }
     ensures write_fault { result.status ≡ WriteFault → Rose (K.faults out.old) (K.faults out.new) }
 
+    ensures lawful { (bytes : Table → List ℕ) → Tells (T.rest tables.old) bytes → IsWholeRun settings.now (trace_of bytes) result.history result.status }
     ensures legal { Legal result.history }
     ensures history { HasHistory result.history result.status }
     ensures written { (bytes : Table → List ℕ) → Tells (T.rest tables.old) bytes
@@ -140,6 +142,7 @@ fn replay_and_write<K: Sink>(
     ensures settings { result.settings ≡ Some settings.now }
     ensures ends { EndsRun result.status }
     ensures cause { result.status ≡ WriteFault → Rose (K.faults out.old) (K.faults out.new) }
+    ensures lawful { IsWholeRun settings.now trace.now result.history result.status }
     ensures legal { Legal result.history }
     ensures history { HasHistory result.history result.status }
     ensures written { Writes (report settings.now trace.now result.history) (K.written out.old) (K.written out.new) result.status }
