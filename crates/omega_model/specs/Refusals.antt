@@ -1,5 +1,5 @@
 -- Which refusal comes first for the bytes of the five tables.
-use Rattle.std.specs.Prelude.{ℕ, Bool, false, ◌+◌, ◌==◌, ◌&&◌, not, nat_lt, List, [], ◌∷◌, length, take, map, Option, Some, None, option_map, Result, Ok, Err, if◌then◌else◌}
+use Rattle.std.specs.Prelude.{ℕ, Bool, ◌+◌, ◌==◌, ◌&&◌, not, nat_lt, List, [], ◌∷◌, length, take, map, Option, Some, None, option_map, Result, Ok, Err, if◌then◌else◌}
 use Rattle.std.specs.List.{position_or_len}
 use Rattle.omega_model.specs.Columns.{BadColumn}
 use Rattle.omega_model.specs.Limits.{excess}
@@ -60,7 +60,7 @@ first_unbuilt table is_built rows =
 abbrev pub not_built_row : TraceTables → Option Status
 not_built_row trace = first_of
     (first_unbuilt MachineEvents (λ row. row.time == 0 && row.code == 0) trace.machines
-    ∷ first_unbuilt MachineAttributes (λ row. false) trace.attrs
+    ∷ (if nat_lt 0 (length trace.attrs) then Some (NotBuilt MachineAttributes 1) else None)
     ∷ first_unbuilt TaskEvents (λ row. row.time == 0 && row.code == 0 && not row.spec.differ) trace.tasks ∷ [])
 
 -- the refusal of rows that were all read: first the limits over all tables, then what isn't built

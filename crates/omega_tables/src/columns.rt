@@ -1,194 +1,294 @@
-//! Rows of the first form: a machine that is added and a task that is submitted, both at time 0.
-ghost use Rattle.std.specs.Prelude.{◌≡◌, ◌+◌, ◌*◌, ◌^◌, ◌<◌, ◌≤◌, length, option_map, IfSome, Some, None, if◌then◌else◌};
-ghost use Rattle.std.specs.List.{list_all};
+//! The columns of a record, and the typed row that they make.
+ghost use Rattle.std.specs.Prelude.{◌≡◌, ◌+◌, ◌^◌, ◌<◌, ◌≤◌, IfOk, true, false, Ok, Err};
 ghost use Rattle.csv.specs.Records.{fields_of};
+ghost use Rattle.omega_model.specs.Fields.{greatest as most_units};
+ghost use Rattle.omega_model.specs.Need.{Fits};
 ghost use Rattle.omega_model.specs.Rows.{column};
-ghost use Rattle.omega_model.specs.FirstForm.{is_digit, number_of, whole_number, fraction, short_quantity, is_zero, is_blank_or_zero, class_of, priority_of, need_of, key_of, spec_of, is_submission, machine_row, task_row};
+ghost use Rattle.omega_model.specs.Columns.{bounded, blank_or_bounded, amount_down, amount_up, in_column, number_in, number_or_blank_in, time_in, id_in, capacity_in, request_in, key_in, spec_of, operator, machine_row, attr_row, task_row, constraint_row, activity_row};
+ghost use Rattle.omega_tables.specs.Checking.{has_fields, attr_numbers, constraint_numbers};
+ghost use Rattle.omega_units.specs.Units.{units};
 
 use csv::ByteRecord;
-use omega_model::{MachineRow, Need, Spec, TaskKey, TaskRow};
+use omega_model::{
+    ActivityRow, AttrRow, Bytes, Cause, Constraint, ConstraintRow, MachineRow, Need, NoMemory, Op,
+    Seq, Spec, TaskKey, TaskRow,
+};
+use omega_units::{Rounding, read_quantity, read_u64};
+use std::alloc::Global;
+
+/// The number of the first bad column, from 1, and what is wrong with it. 0 stands for the number
+/// of fields.
+pub type BadColumn = (u32, Cause);
+
+// The greatest time.
+const LAST_TIME: u64 = 9_223_372_036_854_775_807;
+
+// The greatest index of a task.
+const LAST_INDEX: u64 = 2_147_483_647;
 
 // The field in a column, counted from 1, and nothing where there is none.
-fn column(fields: &ByteRecord, number: usize) -> &[u8]
+fn column(fields: &ByteRecord, number: u32) -> &[u8]
     requires { 0 < number }
     ensures { result.now ≡ column (fields_of fields.now) number }
 {
-    fields.get(number - 1).unwrap_or(&[])
+    fields.get(number as usize - 1).unwrap_or(&[])
 }
 
-// Whether a byte is a digit.
-fn is_digit(byte: u8) -> bool
-    ensures { result ≡ is_digit byte }
+// The whole number of a text, up to the greatest.
+fn bounded(greatest: u64, text: &[u8]) -> Result<u64, Cause>
+    ensures value { result ≡ bounded greatest text.now }
+    ensures most { IfOk result (λ number. number ≤ greatest) }
 {
-    byte >= b'0' && byte <= b'9'
-}
-
-// The number that a text of digits stands for.
-fn number_of(text: &[u8]) -> Option<u128>
-    requires { length text.now ≤ 32 }
-    ensures value { result ≡ (if list_all is_digit text.now then Some (number_of text.now) else None) }
-    ensures below { IfSome result (λ number. number < 10 ^ length text.now) }
-{
-    let mut number = 0u128;
-    for digit in text.iter() {
-        if !is_digit(*digit) {
-            return None;
-        }
-        number = 10 * number + u128::from(*digit - b'0');
+    let Ok(number) = read_u64(text) else {
+        return Err(Cause::Number);
+    };
+    if number > greatest {
+        return Err(Cause::Range);
     }
-    Some(number)
+    Ok(number)
 }
 
-// A whole number of 1 to 32 digits that is at most the greatest.
-fn whole_number(greatest: u64, text: &[u8]) -> Option<u64>
-    ensures { result ≡ whole_number greatest text.now }
+// The whole number in a column, up to the greatest.
+fn number_in(greatest: u64, number: u32, fields: &ByteRecord) -> Result<u64, BadColumn>
+    requires { 0 < number }
+    ensures value { result ≡ number_in greatest number (fields_of fields.now) }
+    ensures most { IfOk result (λ value. value ≤ greatest) }
 {
-    if text.is_empty() || text.len() > 32 {
-        return None;
-    }
-    let number = number_of(text)?;
-    if number > u128::from(greatest) {
-        return None;
-    }
-    Some(number as u64)
-}
-
-// The units of one to nine digits after a point.
-fn fraction(digits: &[u8]) -> Option<u64>
-    ensures value { result ≡ fraction digits.now }
-    ensures below { IfSome result (λ units. units < 1000000000) }
-{
-    if digits.is_empty() || digits.len() > 9 {
-        return None;
-    }
-    let number = number_of(digits)?;
-    Some(number as u64 * 10u64.pow(9 - digits.len() as u32))
-}
-
-// The units of a quantity in its short form.
-fn short_quantity(text: &[u8]) -> Option<u64>
-    ensures value { result ≡ short_quantity text.now }
-    ensures most { IfSome result (λ units. units ≤ 1000000000) }
-{
-    match text {
-        [b'0'] => Some(0),
-        [b'1'] => Some(1_000_000_000),
-        [b'0', b'.', digits @ ..] => fraction(digits),
-        _ => None,
+    match bounded(greatest, column(fields, number)) {
+        Ok(value) => Ok(value),
+        Err(cause) => Err((number, cause)),
     }
 }
 
-// Whether a text is the one byte 0.
-fn is_zero(text: &[u8]) -> bool
-    ensures { result ≡ is_zero text.now }
+// The whole number in a column that may be blank, which is 0.
+fn number_or_blank_in(greatest: u64, number: u32, fields: &ByteRecord) -> Result<u64, BadColumn>
+    requires { 0 < number }
+    ensures value { result ≡ number_or_blank_in greatest number (fields_of fields.now) }
+    ensures most { IfOk result (λ value. value ≤ greatest) }
 {
-    match text {
-        [byte] => *byte == b'0',
-        _ => false,
+    if column(fields, number).is_empty() {
+        return Ok(0);
+    }
+    number_in(greatest, number, fields)
+}
+
+// The time in a column.
+fn time_in(number: u32, fields: &ByteRecord) -> Result<u64, BadColumn>
+    requires { 0 < number }
+    ensures value { result ≡ time_in number (fields_of fields.now) }
+    ensures most { IfOk result (λ time. time < 2 ^ 63) }
+{
+    number_in(LAST_TIME, number, fields)
+}
+
+// The number of a machine or of a job.
+fn id_in(number: u32, fields: &ByteRecord) -> Result<u64, BadColumn>
+    requires { 0 < number }
+    ensures { result ≡ id_in number (fields_of fields.now) }
+{
+    number_in(u64::MAX, number, fields)
+}
+
+// The units of a capacity, rounded down.
+fn amount_down(number: u32, fields: &ByteRecord) -> Result<u64, BadColumn>
+    requires { 0 < number }
+    ensures value { result ≡ in_column number (amount_down (column (fields_of fields.now) number)) }
+    ensures most { IfOk result (λ units. units ≤ 1000000000000) }
+{
+    match read_quantity(column(fields, number), Rounding::Down) {
+        Ok(units) => Ok(units),
+        Err(_) => Err((number, Cause::Quantity)),
     }
 }
 
-// Whether a text is empty or the one byte 0.
-fn is_blank_or_zero(text: &[u8]) -> bool
-    ensures { result ≡ is_blank_or_zero text.now }
+// The units of a request, rounded up.
+fn amount_up(number: u32, fields: &ByteRecord) -> Result<u64, BadColumn>
+    requires { 0 < number }
+    ensures value { result ≡ in_column number (amount_up (column (fields_of fields.now) number)) }
+    ensures most { IfOk result (λ units. units ≤ 1000000000000) }
 {
-    text.is_empty() || is_zero(text)
-}
-
-// The class of a task.
-fn class_of(text: &[u8]) -> Option<u8>
-    ensures value { result ≡ class_of text.now }
-    ensures most { IfSome result (λ class. class ≤ 3) }
-{
-    match text {
-        [] => Some(0),
-        [byte] if *byte >= b'0' && *byte <= b'3' => Some(*byte - b'0'),
-        _ => None,
+    match read_quantity(column(fields, number), Rounding::Up) {
+        Ok(units) => Ok(units),
+        Err(_) => Err((number, Cause::Quantity)),
     }
 }
 
-// The priority of a task.
-fn priority_of(text: &[u8]) -> Option<u8>
-    ensures { result ≡ priority_of text.now }
+// The capacity of a machine, in a column and the next.
+fn capacity_in(number: u32, fields: &ByteRecord) -> Result<Need, BadColumn>
+    requires first { 0 < number }
+    requires last { number < 100 }
+    ensures value { result ≡ capacity_in number (fields_of fields.now) }
+    ensures most { IfOk result (λ need. Fits need most_units) }
 {
-    if text.is_empty() {
-        return Some(0);
-    }
-    let priority = whole_number(255, text)?;
-    Some(priority as u8)
-}
-
-// The amounts in two columns.
-fn need_of(cpu: &[u8], mem: &[u8]) -> Option<Need>
-    ensures value { result ≡ need_of (short_quantity cpu.now) (short_quantity mem.now) }
-    ensures most { IfSome result (λ need. (need.cpu ≤ 1000000000) × (need.mem ≤ 1000000000)) }
-{
-    Some(Need {
-        cpu: short_quantity(cpu)?,
-        mem: short_quantity(mem)?,
+    Ok(Need {
+        cpu: amount_down(number, fields)?,
+        mem: amount_down(number + 1, fields)?,
     })
 }
 
-// The name of a task.
-fn key_of(job: &[u8], index: &[u8]) -> Option<TaskKey>
-    ensures value { result ≡ key_of (whole_number 18446744073709551615 job.now) (whole_number 2147483647 index.now) }
-    ensures index { IfSome result (λ key. key.index < 2 ^ 31) }
+// What a task asks for, in a column and the next.
+fn request_in(number: u32, fields: &ByteRecord) -> Result<Need, BadColumn>
+    requires first { 0 < number }
+    requires last { number < 100 }
+    ensures value { result ≡ request_in number (fields_of fields.now) }
+    ensures most { IfOk result (λ need. Fits need most_units) }
 {
-    Some(TaskKey {
-        job: whole_number(u64::MAX, job)?,
-        index: whole_number(2_147_483_647, index)? as u32,
+    Ok(Need {
+        cpu: amount_up(number, fields)?,
+        mem: amount_up(number + 1, fields)?,
     })
 }
 
-// What a task asks for.
-fn spec_of(cpu: &[u8], mem: &[u8], priority: &[u8]) -> Option<Spec>
-    ensures value { result ≡ spec_of (need_of (short_quantity cpu.now) (short_quantity mem.now)) (priority_of priority.now) }
-    ensures most { IfSome result (λ spec. (spec.need.cpu ≤ 1000000000) × (spec.need.mem ≤ 1000000000)) }
+// The name of a task, in a column and the next.
+fn key_in(number: u32, fields: &ByteRecord) -> Result<TaskKey, BadColumn>
+    requires first { 0 < number }
+    requires last { number < 100 }
+    ensures value { result ≡ key_in number (fields_of fields.now) }
+    ensures index { IfOk result (λ key. key.index < 2 ^ 31) }
 {
-    Some(Spec {
-        need: need_of(cpu, mem)?,
-        prec: priority_of(priority)?,
-        differ: false,
+    Ok(TaskKey {
+        job: id_in(number, fields)?,
+        index: number_in(LAST_INDEX, number + 1, fields)? as u32,
     })
 }
 
-// The row of a record of `machine_events`, where it is of the first form.
-pub fn machine_row(fields: &ByteRecord) -> Option<MachineRow>
+// The specification of a task.
+fn spec_of(fields: &ByteRecord) -> Result<Spec, BadColumn>
+    ensures value { result ≡ spec_of (fields_of fields.now) }
+    ensures most { IfOk result (λ spec. Fits spec.need most_units) }
+{
+    let prec = number_or_blank_in(255, 9, fields)? as u8;
+    let need = request_in(10, fields)?;
+    let differ = number_or_blank_in(1, 13, fields)? == 1;
+    Ok(Spec { need, prec, differ })
+}
+
+// Refuses a record of another number of fields.
+fn has_fields(number: usize, fields: &ByteRecord) -> Result<(), BadColumn>
+    ensures { result ≡ has_fields number (fields_of fields.now) }
+{
+    if fields.len() != number {
+        return Err((0, Cause::Fields(fields.len() as u64)));
+    }
+    Ok(())
+}
+
+/// The row of a record of `machine_events`, or its first bad column.
+pub fn machine_row(fields: &ByteRecord) -> Result<MachineRow, BadColumn>
     ensures { result ≡ machine_row (fields_of fields.now) }
 {
-    if fields.len() != 6 || !is_zero(column(fields, 1)) || !is_zero(column(fields, 3)) {
-        return None;
-    }
-    Some(MachineRow {
-        time: 0,
-        machine: whole_number(u64::MAX, column(fields, 2))?,
-        code: 0,
-        cap: need_of(column(fields, 5), column(fields, 6))?,
+    has_fields(6, fields)?;
+    Ok(MachineRow {
+        time: time_in(1, fields)?,
+        machine: id_in(2, fields)?,
+        code: number_in(2, 3, fields)? as u8,
+        cap: capacity_in(5, fields)?,
     })
 }
 
-// Whether a record of `task_events` is a submission at time 0 with no restriction.
-fn is_submission(fields: &ByteRecord) -> bool
-    ensures { result ≡ is_submission (fields_of fields.now) }
-{
-    fields.len() == 13
-        && is_zero(column(fields, 1))
-        && is_zero(column(fields, 6))
-        && is_blank_or_zero(column(fields, 13))
-}
-
-// The row of a record of `task_events`, where it is of the first form.
-pub fn task_row(fields: &ByteRecord) -> Option<TaskRow>
+/// The row of a record of `task_events`, or its first bad column.
+pub fn task_row(fields: &ByteRecord) -> Result<TaskRow, BadColumn>
     ensures { result ≡ task_row (fields_of fields.now) }
 {
-    if !is_submission(fields) {
-        return None;
-    }
-    Some(TaskRow {
-        time: 0,
-        key: key_of(column(fields, 3), column(fields, 4))?,
-        code: 0,
-        class: class_of(column(fields, 8))?,
-        spec: spec_of(column(fields, 10), column(fields, 11), column(fields, 9))?,
+    has_fields(13, fields)?;
+    Ok(TaskRow {
+        time: time_in(1, fields)?,
+        key: key_in(3, fields)?,
+        code: number_in(8, 6, fields)? as u8,
+        class: number_or_blank_in(3, 8, fields)? as u8,
+        spec: spec_of(fields)?,
     })
+}
+
+/// The row of a record of `mapreduce_jobs`, or its first bad column.
+pub fn activity_row(fields: &ByteRecord) -> Result<ActivityRow, BadColumn>
+    ensures { result ≡ activity_row (fields_of fields.now) }
+{
+    has_fields(2, fields)?;
+    Ok(ActivityRow {
+        job: id_in(1, fields)?,
+        activities: number_in(10_000, 2, fields)? as u32,
+    })
+}
+
+// A copy of the field in a column.
+fn bytes_in(alloc: Global, number: u32, fields: &ByteRecord) -> Result<Bytes, NoMemory>
+    requires { 0 < number }
+    ensures { IfOk result (λ bytes. bytes ≡ column (fields_of fields.now) number) }
+{
+    Ok(Seq::of(Vec::from_slice(alloc, column(fields, number))?))
+}
+
+// The time, the machine and whether the attribute is deleted.
+fn attr_numbers(fields: &ByteRecord) -> Result<(u64, u64, bool), BadColumn>
+    ensures value { result ≡ attr_numbers (fields_of fields.now) }
+    ensures time { IfOk result (λ (time, machine, deleted). time < 2 ^ 63) }
+{
+    has_fields(5, fields)?;
+    let time = time_in(1, fields)?;
+    let machine = id_in(2, fields)?;
+    let deleted = number_in(1, 5, fields)? == 1;
+    Ok((time, machine, deleted))
+}
+
+/// The row of a record of `machine_attributes`, or its first bad column.
+pub fn attr_row(alloc: Global, fields: &ByteRecord) -> Result<Result<AttrRow, BadColumn>, NoMemory>
+    ensures { IfOk result (λ row. row ≡ attr_row (fields_of fields.now)) }
+{
+    let (time, machine, deleted) = match attr_numbers(fields) {
+        Ok(numbers) => numbers,
+        Err(bad) => return Ok(Err(bad)),
+    };
+    let name = bytes_in(alloc, 3, fields)?;
+    let value = bytes_in(alloc, 4, fields)?;
+    Ok(Ok(AttrRow {
+        time,
+        machine,
+        name,
+        value,
+        deleted,
+    }))
+}
+
+// The operator with a number.
+fn operator(number: u64) -> Op
+    ensures { result ≡ operator number }
+{
+    match number {
+        0 => Op::Equal,
+        1 => Op::NotEqual,
+        2 => Op::Less,
+        _ => Op::Greater,
+    }
+}
+
+// The task and the operator of a constraint.
+fn constraint_numbers(fields: &ByteRecord) -> Result<(TaskKey, Op), BadColumn>
+    ensures value { result ≡ constraint_numbers (fields_of fields.now) }
+    ensures index { IfOk result (λ (key, op). key.index < 2 ^ 31) }
+{
+    has_fields(6, fields)?;
+    time_in(1, fields)?;
+    let key = key_in(2, fields)?;
+    let op = operator(number_in(3, 4, fields)?);
+    Ok((key, op))
+}
+
+/// The row of a record of `task_constraints`, or its first bad column.
+pub fn constraint_row(
+    alloc: Global,
+    fields: &ByteRecord,
+) -> Result<Result<ConstraintRow, BadColumn>, NoMemory>
+    ensures { IfOk result (λ row. row ≡ constraint_row (fields_of fields.now)) }
+{
+    let (key, op) = match constraint_numbers(fields) {
+        Ok(numbers) => numbers,
+        Err(bad) => return Ok(Err(bad)),
+    };
+    let name = bytes_in(alloc, 5, fields)?;
+    let value = bytes_in(alloc, 6, fields)?;
+    Ok(Ok(ConstraintRow {
+        key,
+        constraint: Constraint { op, name, value },
+    }))
 }
