@@ -73,11 +73,11 @@ holds_push old new ns n added h is count more = record {
   members = λ id. elim (cases_eq n id) [
     | inl e ↦
         let last : list_any (λ m. m == id) (ns ++ n ∷ []) ≡ true =
-            list_any-append (λ m. m == id) ns (n ∷ []) ∙ rw (eq-eqb n id e) (or_true (list_any (λ m. m == id) ns)) in
+        list_any-append (λ m. m == id) ns (n ∷ []) ∙ rw (eq-eqb n id e) (or_true (list_any (λ m. m == id) ns)) in
         ap (λ z. contains nat_cmp new z) (sym e) ∙ more.1 ∙ sym last
     | inr ne ↦
         let others : list_any (λ m. m == id) (ns ++ n ∷ []) ≡ list_any (λ m. m == id) ns =
-            list_any-append (λ m. m == id) ns (n ∷ []) ∙ rw (ne_eqb n id ne) (or_false (list_any (λ m. m == id) ns)) in
+        list_any-append (λ m. m == id) ns (n ∷ []) ∙ rw (ne_eqb n id ne) (or_false (list_any (λ m. m == id) ns)) in
         more.2 id (apart n id ne) ∙ h.members id ∙ sym others
   ];
 } where
@@ -96,8 +96,8 @@ pub holds_more : {X : Type 0} (f : X → ℕ) (old new : BTreeSet ℕ) (before :
     → Updates nat_cmp old new (f row) true → Holds new (before ++ map f (take (i + 1) rows))
 holds_more f old new before rows i row added below here held is count more =
     let last : map f (take (i + 1) rows) ≡ map f (take i rows) ++ f row ∷ [] =
-        ap (map f) (take_more rows i row below) ∙ map-append f (take i rows) (get_or rows i row ∷ [])
-        ∙ ap (λ z. map f (take i rows) ++ f z ∷ []) (sym here) in
+    ap (map f) (take_more rows i row below) ∙ map-append f (take i rows) (get_or rows i row ∷ [])
+    ∙ ap (λ z. map f (take i rows) ++ f z ∷ []) (sym here) in
     let all : before ++ map f (take (i + 1) rows) ≡ (before ++ map f (take i rows)) ++ f row ∷ [] =
-        ap (λ z. before ++ z) last ∙ sym (append_assoc before (map f (take i rows)) (f row ∷ [])) in
+    ap (λ z. before ++ z) last ∙ sym (append_assoc before (map f (take i rows)) (f row ∷ [])) in
     subst (λ z. Holds new z) (sym all) (holds_push old new (before ++ map f (take i rows)) (f row) added held is count more)

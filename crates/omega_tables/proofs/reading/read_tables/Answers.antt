@@ -14,9 +14,9 @@ pub returns-clause-none : goal.returns-clause-none
 returns-clause-none g c =
     let five : c.loop-table.table-index ≡ 5 = omega arith in
     λ bytes told.
-      let none = rw five at (c.loop-table.invariant.none bytes told) in
-      let trace = rw five at (c.loop-table.invariant.trace bytes told) in
-      rows_last bytes None none (ap trace_refusal (sym trace) ∙ c.in_ok-check_rows.ensures.none)
+    let none = rw five at (c.loop-table.invariant.none bytes told) in
+    let trace = rw five at (c.loop-table.invariant.trace bytes told) in
+    rows_last bytes None none (ap trace_refusal (sym trace) ∙ c.in_ok-check_rows.ensures.none)
 
 pub loop-table-preserved : goal.loop-table-preserved
 loop-table-preserved g c =
@@ -49,6 +49,6 @@ returns-in_err-check_rows-clause-refusal g c =
     let five : c.loop-table.table-index ≡ 5 = omega arith in
     let kept = err_from_is_err_and c.from_residual-in_err-check_rows.result c.from_residual-in_err-check_rows.ensures.1 in
     λ bytes told.
-      let none = rw five at (c.loop-table.invariant.none bytes told) in
-      let trace = rw five at (c.loop-table.invariant.trace bytes told) in
-      rw (kept.1, kept.2) (stops_last bytes c.loop-table.trace c.in_err-check_rows.field-0.0 none trace c.in_err-check_rows.ensures.refusal)
+    let none = rw five at (c.loop-table.invariant.none bytes told) in
+    let trace = rw five at (c.loop-table.invariant.trace bytes told) in
+    rw (kept.1, kept.2) (stops_last bytes c.loop-table.trace c.in_err-check_rows.field-0.0 none trace c.in_err-check_rows.ensures.refusal)
