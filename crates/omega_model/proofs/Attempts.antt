@@ -47,7 +47,7 @@ pub has_left_first : (at : Setting) (scheduler : ℕ)
     (requests at.settings at.trace (at.rows ++ at.round.rows) (base at) scheduler)
 has_left_first at scheduler = record {
   remains = rw (take-length (base at), drop_of_length-le (base at) {i = length (base at)} (omega arith)) refl;
-  due = λ place entry is here. absurd (nothing_past (base at) place entry is here)
+  due = λ place entry is here. absurd (nothing_past (base at) place entry is here);
 }
 
 -- a scheduler begins to work where no other has a request
@@ -66,7 +66,7 @@ working_first at alone = record {
   left = refl;
   tries = refl;
   counts = λ job. refl;
-  due = λ place entry is here. absurd (nothing_past (base at) place entry is here)
+  due = λ place entry is here. absurd (nothing_past (base at) place entry is here);
 }
 
 -- reading one more entry never puts the last commit past the entries read
@@ -98,7 +98,7 @@ pub last_within : (scheduler : ℕ) (last : LastCommit) (history : List Entry) �
 last_within scheduler last [] within = omega arith
 last_within scheduler last (entry ∷ history) within =
     let rest : (fold (note_commit scheduler) (note_commit scheduler last entry) history).after ≤ (note_commit scheduler last entry).place + length history =
-        last_within scheduler (note_commit scheduler last entry) history (note_commit-within scheduler last entry within) in
+    last_within scheduler (note_commit scheduler last entry) history (note_commit-within scheduler last entry within) in
     let next : (note_commit scheduler last entry).place ≡ last.place + 1 = note_commit-place scheduler last entry in
     omega arith
 
@@ -106,7 +106,7 @@ last_within scheduler last (entry ∷ history) within =
 pub after_last-within : (scheduler : ℕ) (history : List Entry) → after_last scheduler history ≤ length history
 after_last-within scheduler history =
     let all : (fold (note_commit scheduler) (record { place = 0; after = 0 }) history).after ≤ 0 + length history =
-        last_within scheduler (record { place = 0; after = 0 }) history (omega arith) in
+    last_within scheduler (record { place = 0; after = 0 }) history (omega arith) in
     omega arith
 
 -- two numbers that differ are told apart
@@ -169,15 +169,15 @@ pub counts_after : (failing : ℕ → ℕ) (history : List Entry) (scheduler see
     → ((job : ℕ) → failing job ≡ failed history job) → txn.job ≡ first → length reply ≡ length txn.claims
     → (job : ℕ) → failing_with failing first (outcomes_of txn.claims reply) job ≡ failed (history ++ Commit scheduler seen txn reply ∷ []) job
 counts_after failing history scheduler seen txn reply first counts named long job =
-    elim (eqb_tells job first)
-    [ inl same ↦
-        let ours : (txn.job == job) ≡ true = eq-eqb txn.job job (named ∙ sym same.1) in
-        let placed = placed_outcomes txn.claims reply long in
-        rw (same.0, failed_push history (Commit scheduler seen txn reply) job, ours, placed)
-        (ap (λ (count : ℕ). if list_any is_placed reply then 0 else count + 1) (counts first ∙ ap (failed history) (sym same.1)))
-    | inr other ↦
-        let theirs : (txn.job == job) ≡ false = apart-false txn.job job (λ same. other.1 (same ∙ named)) in
-        rw (other.0, failed_push history (Commit scheduler seen txn reply) job, theirs) (counts job)
+    elim (eqb_tells job first) [
+      | inl same ↦
+          let ours : (txn.job == job) ≡ true = eq-eqb txn.job job (named ∙ sym same.1) in
+          let placed = placed_outcomes txn.claims reply long in
+          rw (same.0, failed_push history (Commit scheduler seen txn reply) job, ours, placed)
+          (ap (λ (count : ℕ). if list_any is_placed reply then 0 else count + 1) (counts first ∙ ap (failed history) (sym same.1)))
+      | inr other ↦
+          let theirs : (txn.job == job) ≡ false = apart-false txn.job job (λ same. other.1 (same ∙ named)) in
+          rw (other.0, failed_push history (Commit scheduler seen txn reply) job, theirs) (counts job)
     ]
 
 -- an attempt on the first request that is planned on the whole history is committed
@@ -196,10 +196,10 @@ working_commit at history request rest taken txn known working agrees =
     let itself : (at.scheduler == at.scheduler) ≡ true = eq-eqb at.scheduler at.scheduler refl in
     let moved : Standing = moved_on at.settings working.standing request rest outcomes in
     let after : after_entry at.settings at.scheduler (Some working.standing) entry ≡ Some moved =
-        rw (itself, working.left) refl in
+    rw (itself, working.left) refl in
     let same_position : next_position at.settings working.standing.taken (failing_after (working.standing.failing request.job) outcomes) request rest outcomes
-        ≡ next_position at.settings taken (failing_after (failed history request.job) outcomes) request rest outcomes =
-        ap₂ (λ (t f : ℕ). next_position at.settings t (failing_after f outcomes) request rest outcomes) working.tries (working.counts request.job) in
+    ≡ next_position at.settings taken (failing_after (failed history request.job) outcomes) request rest outcomes =
+    ap₂ (λ (t f : ℕ). next_position at.settings t (failing_after f outcomes) request rest outcomes) working.tries (working.counts request.job) in
     let position = position_moved at.settings working.standing request rest outcomes in
     record {
       begins = take-append-le (length (base at)) history (entry ∷ []) working.within ∙ working.begins;
@@ -218,7 +218,7 @@ working_commit at history request rest taken txn known working agrees =
           (length-reply_of history (length history) txn) job;
       due = by_place_push_where (λ place. length (base at) ≤ place)
           (IsDue at.settings at.trace (at.rows ++ at.round.rows) (length (base at)) at.scheduler) history entry working.due
-          (λ same. subst (AgreesWithFirst at.settings at.scheduler history (length history) txn) (sym working.stands) (request, (rest, (working.left, agrees))))
+          (λ same. subst (AgreesWithFirst at.settings at.scheduler history (length history) txn) (sym working.stands) (request, (rest, (working.left, agrees))));
     }
 
 -- where nothing is left the round is whole
@@ -228,17 +228,18 @@ pub working_last : (at : Setting) (history : List Entry) (taken : ℕ)
 working_last at history taken working =
     let own : HasLeft at.settings at.trace (at.rows ++ at.round.rows) (length (base at)) at.scheduler history [] = record {
       remains = ap (option_map (λ (standing : Standing). standing.requests)) working.stands ∙ ap (λ (left : List Request). Some left) working.left;
-      due = working.due
+      due = working.due;
     } in
     let all : (scheduler : ℕ) → HasLeft at.settings at.trace (at.rows ++ at.round.rows) (length (base at)) scheduler history [] =
-        λ scheduler. elim (eqb_tells scheduler at.scheduler)
-        [ inl same ↦ subst (λ (s : ℕ). HasLeft at.settings at.trace (at.rows ++ at.round.rows) (length (base at)) s history []) (sym same.1) own
-        | inr other ↦ working.others scheduler other.1 ] in
+    λ scheduler. elim (eqb_tells scheduler at.scheduler) [
+      | inl same ↦ subst (λ (s : ℕ). HasLeft at.settings at.trace (at.rows ++ at.round.rows) (length (base at)) s history []) (sym same.1) own
+      | inr other ↦ working.others scheduler other.1
+    ] in
     record {
       begun = record {
         begins = working.begins;
         commits = working.commits;
-        work = λ scheduler known. ([], all scheduler)
+        work = λ scheduler known. ([], all scheduler);
       };
-      finished = λ scheduler known. all scheduler
+      finished = λ scheduler known. all scheduler;
     }

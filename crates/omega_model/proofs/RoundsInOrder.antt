@@ -23,12 +23,12 @@ pub rounds_push : (settings : Settings) (trace : TraceTables) (rows : List Row) 
     → Rounds settings trace rows start (some ++ round ∷ []) history
 rounds_push settings trace rows start [] round middle history whole next =
     let here : RoundOf settings trace rows start round history =
-        subst (λ (begun : List Entry). RoundOf settings trace rows begun round history) whole
-        (subst (λ (all : List Row). RoundOf settings trace all middle round history) (append-nil rows) next) in
+    subst (λ (begun : List Entry). RoundOf settings trace rows begun round history) whole
+    (subst (λ (all : List Row). RoundOf settings trace all middle round history) (append-nil rows) next) in
     (history, (here, refl))
 rounds_push settings trace rows start (first ∷ some) round middle history whole next =
     let later : RoundOf settings trace ((rows ++ first.rows) ++ rows_of some) middle round history =
-        subst (λ (all : List Row). RoundOf settings trace all middle round history) (sym (append_assoc rows first.rows (rows_of some))) next in
+    subst (λ (all : List Row). RoundOf settings trace all middle round history) (sym (append_assoc rows first.rows (rows_of some))) next in
     (whole.0, (whole.1.0, rounds_push settings trace (rows ++ first.rows) whole.0 some round middle history whole.1.1 later))
 
 -- nothing passes a test that all fail
@@ -42,6 +42,6 @@ pub requests-other : (settings : Settings) (trace : TraceTables) (rows : List Ro
 requests-other settings trace rows history other apart =
     let theirs : (1 == other) ≡ false = apart-false 1 other apart in
     let none : filter (works_on settings trace history other) (jobs_in_order (feed trace)) ≡ [] =
-        filter-none (works_on settings trace history other)
-        (λ job. ap (λ (ours : Bool). ours && not (given_up settings history job)) theirs) (jobs_in_order (feed trace)) in
+    filter-none (works_on settings trace history other)
+    (λ job. ap (λ (ours : Bool). ours && not (given_up settings history job)) theirs) (jobs_in_order (feed trace)) in
     ap (λ (jobs : List ℕ). filter_map (λ job. request_of job (wishes_of settings trace (state history) (wanted rows) job)) jobs) none

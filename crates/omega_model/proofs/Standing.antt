@@ -65,7 +65,7 @@ has_left-other settings trace rows opened scheduler history entry left other wit
       ∙ after_entry-other settings scheduler (standing_of settings trace rows opened scheduler history) entry other)
       ∙ has.remains;
   due = by_place_push_where (λ place. opened ≤ place) (IsDue settings trace rows opened scheduler) history entry has.due
-      (due_of_other settings trace rows opened scheduler history entry other)
+      (due_of_other settings trace rows opened scheduler history entry other);
 }
 
 -- whether a reply places a claim is whether the outcomes do

@@ -39,7 +39,8 @@ const DEFAULTS: Settings = Settings {
 /// history that it answers.
 ///
 /// Of the refusals the first that stands is answered: that of the words, then for each table in
-/// order that of its reading, its length and its rows, then that of the writing. Want of memory
+/// order that of its reading, its length and its rows, then that of the limits over all tables and
+/// of a row for which no replay is built yet, then that of the writing. Want of memory
 /// alone may be answered at any place before the first write. The gate is for runs with threads,
 /// which aren't built yet.
 pub fn omega<T: Tables, K: Sink, G: Gate>(

@@ -1,8 +1,8 @@
 use Rattle.std.proofs.Common.{◌∙◌, ◌-◌, ap, List, ℕ, Option, [], Bor}
 use Rattle.std.specs.Option.{unwrap_or}
 use Rattle.csv.specs.Records.{fields_of}
-use Rattle.omega_tables.proofs.Columns.{field_or_none, now_or}
-use Rattle.omega_tables.proofs.first_form.column.Goals as goal
+use Rattle.omega_tables.proofs.Field.{field_or_none, now_or}
+use Rattle.omega_tables.proofs.columns.column.Goals as goal
 
 pub returns : goal.returns
 returns c =
