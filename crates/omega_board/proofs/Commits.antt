@@ -119,9 +119,9 @@ placed_listed cell [] id places any = absurd (both_ways false refl any)
 placed_listed cell ((claim, verdict) ∷ decided) id places any =
     elim (or_cases (is_placed verdict && claim.machine == id) (list_any (places_on id) decided) any) [
       | inl h ↦
-      let parts = and_parts _ _ h in
-      let up = not_refused (is_up (machine_at cell.machines claim.machine)) (placeable cell claim (places.0 parts.0)).up in
-      subst (λ n. IsTrue (is_listed n cell.machines)) (eqb-true _ _ parts.1) (up_listed cell.machines claim.machine up)
+          let parts = and_parts _ _ h in
+          let up = not_refused (is_up (machine_at cell.machines claim.machine)) (placeable cell claim (places.0 parts.0)).up in
+          subst (λ n. IsTrue (is_listed n cell.machines)) (eqb-true _ _ parts.1) (up_listed cell.machines claim.machine up)
       | inr h ↦ placed_listed (after_claim cell (claim, verdict)) decided id places.1 h
     ]
   where

@@ -86,10 +86,6 @@ any_more id claims reply i d e below_claims below_reply =
     ap (list_any (places_on id)) (zip_take claims reply i d e below_claims below_reply)
     ∙ list_any-append (places_on id) (zip (take i claims) (take i reply)) ((get_or claims i d, get_or reply i e) ∷ [])
     ∙ ap (λ b. list_any (places_on id) (zip (take i claims) (take i reply)) || b) (or_no _)
-  where
-    or_no : (a : Bool) → (a || false) ≡ a
-    or_no true = refl
-    or_no false = refl
 
 -- the count of a commit so far
 abbrev pub CountedSo : (start : ℕ → ℕ) → List Claim → List Verdict → ℕ → (ℕ → ℕ) → Type 0
@@ -109,10 +105,6 @@ counted_same start now claims reply i d e below_claims below_reply why so = λ i
 
     same : (id : ℕ) → is_placed (get_or reply i e) ≡ false ⊎ (before m ≡ true) → (before id || (is_placed (get_or reply i e) && m == id)) ≡ before id
     same id (inl f) = rw f (or_no (before id))
-      where
-        or_no : (a : Bool) → (a || false) ≡ a
-        or_no true = refl
-        or_no false = refl
     same id (inr t) =
         by_answer (m == id)
         (λ own. let here : before id ≡ true = subst (λ n. before n ≡ true) (eqb-true _ _ own) t in rw here refl)
@@ -143,10 +135,6 @@ counted_more start now next claims reply i d e below_claims below_reply placed f
 
     before : ℕ → Bool
     before id = list_any (places_on id) (zip (take i claims) (take i reply))
-
-    or_no : (a : Bool) → (a || false) ≡ a
-    or_no true = refl
-    or_no false = refl
 
 -- the last of the first so many claims
 pub any_last : (id : ℕ) (claims : List Claim) (reply : List Verdict) (i : ℕ) (claim : Claim) (e : Verdict) → 0 < i → i ≤ length claims → i ≤ length reply → claim ≡ get_or claims (i - 1) claim
