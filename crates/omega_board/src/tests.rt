@@ -1,4 +1,4 @@
-ghost use Rattle.std.specs.Prelude.{◌≡◌, ◌+◌, ◌-◌, ◌<◌, ◌≤◌, ◌^◌, ℕ, true, length, IfOk, IsTrue};
+ghost use Rattle.std.specs.Prelude.{◌≡◌, ◌+◌, ◌-◌, ◌<◌, ◌≤◌, ◌^◌, ℕ, ◌↔◌, true, length, IsTrue};
 ghost use Rattle.omega_machines.specs.Table.{machines_of, seq_at};
 ghost use Rattle.omega_model.specs.Fields.{greatest};
 ghost use Rattle.omega_model.specs.Machines.{is_listed};
@@ -12,9 +12,7 @@ use omega_model::{
 };
 use std::alloc::Global;
 
-fn need(cpu: u64, mem: u64) -> Need
-    ensures { result ≡ record { cpu = cpu; mem = mem } }
-{
+fn need(cpu: u64, mem: u64) -> Need {
     Need { cpu, mem }
 }
 
@@ -51,10 +49,14 @@ fn list(alloc: Global, first: Claim, second: Option<Claim>) -> Result<Claims, No
     Ok(claims)
 }
 
-fn add(board: &mut Board, alloc: Global, machine: u64, cap: Need) -> Result<Keys, NoMemory>
-    requires { Fits cap greatest }
+fn is_small(cap: Need) -> bool
+    ensures { IsTrue result ↔ Fits cap greatest }
 {
-    let room = board.machines().len() < 65536;
+    cap.cpu <= 1000000000000 && cap.mem <= 1000000000000
+}
+
+fn add(board: &mut Board, alloc: Global, machine: u64, cap: Need) -> Result<Keys, NoMemory> {
+    let room = board.machines().len() < 65536 && is_small(cap);
     if room && board.machines().seq(machine) < u64::MAX {
         board.apply_entry(alloc, &Entry::MachineAdd { machine, cap })
     } else {
@@ -62,10 +64,8 @@ fn add(board: &mut Board, alloc: Global, machine: u64, cap: Need) -> Result<Keys
     }
 }
 
-fn update(board: &mut Board, alloc: Global, machine: u64, cap: Need) -> Result<Keys, NoMemory>
-    requires { Fits cap greatest }
-{
-    let room = board.machines().len() < 65536;
+fn update(board: &mut Board, alloc: Global, machine: u64, cap: Need) -> Result<Keys, NoMemory> {
+    let room = board.machines().len() < 65536 && is_small(cap);
     if room && board.machines().seq(machine) < u64::MAX {
         board.apply_entry(alloc, &Entry::MachineUpdate { machine, cap })
     } else {
@@ -80,6 +80,15 @@ fn remove(board: &mut Board, alloc: Global, machine: u64) -> Result<Keys, NoMemo
     } else {
         Err(NoMemory)
     }
+}
+
+// The sequence number, the number of running tasks, and what is free on machine 1.
+fn seen(board: &Board) -> (u64, usize, Option<Need>) {
+    (
+        board.machines().seq(1),
+        board.running().count(),
+        board.machines().free(1),
+    )
 }
 
 // Places a claim where it is judged so.
@@ -129,93 +138,124 @@ fn commit(
     Ok(reply)
 }
 
-// The verdict on a claim of the task (2, 0).
-fn verdict_on(
-    board: &Board,
+// One claim on machine 1.
+fn commit_one(
+    board: &mut Board,
     alloc: Global,
+    key: TaskKey,
+    spec: Spec,
+) -> Result<Verdicts, NoMemory> {
+    let claim = claim(alloc, key, 1, spec, &[])?;
+    let claims = list(alloc, claim, None)?;
+    commit(board, alloc, &claims, None, false)
+}
+
+// Two claims of job 1 on machine 1.
+fn commit_two(
+    board: &mut Board,
+    alloc: Global,
+    needs: (Need, Need),
+    copy_seq: Option<u64>,
+    gang: bool,
+) -> Result<Verdicts, NoMemory> {
+    let first = claim(alloc, key(1, 0), 1, spec(needs.0, 0, false), &[])?;
+    let second = claim(alloc, key(1, 1), 1, spec(needs.1, 0, false), &[])?;
+    let claims = list(alloc, first, Some(second))?;
+    commit(board, alloc, &claims, copy_seq, gang)
+}
+
+// Machine 1 of (10, 10), on which the task (1, 0) of (8, 8) and precedence 3 runs.
+fn occupied(alloc: Global) -> Result<Board, NoMemory> {
+    let mut board = Board::new(alloc);
+    add(&mut board, alloc, 1, need(10, 10))?;
+    commit_one(&mut board, alloc, key(1, 0), spec(need(8, 8), 3, false))?;
+    Ok(board)
+}
+
+// The verdict on such a claim, on the occupied machine.
+fn verdict_on(
+    alloc: Global,
+    key: TaskKey,
     machine: u64,
     spec: Spec,
     victims: &[TaskKey],
+    copy_seq: Option<u64>,
 ) -> Result<Verdict, NoMemory> {
-    let claim = claim(alloc, key(2, 0), machine, spec, victims)?;
-    Ok(board.judge(&claim, None))
+    let board = occupied(alloc)?;
+    let claim = claim(alloc, key, machine, spec, victims)?;
+    Ok(board.judge(&claim, copy_seq))
 }
 
 #[test]
-fn each_verdict_on_a_machine(rt: HostRuntime) -> Result<(), NoMemory> {
+fn claims_with_victims(rt: HostRuntime) -> Result<(), NoMemory> {
     let alloc = rt.alloc();
-    let mut board = Board::new(alloc);
-    add(&mut board, alloc, 1, need(10, 10))?;
-    let first = claim(alloc, key(1, 0), 1, spec(need(8, 8), 3, false), &[])?;
-    let first = list(alloc, first, None)?;
-    let reply = commit(&mut board, alloc, &first, None, false)?;
-    assert_eq!(rt; reply.as_slice(), [Verdict::Placed].as_slice());
-    assert_eq!(rt; board.machines().free(1), Some(need(2, 2)));
-    assert_eq!(rt; board.machines().seq(1), 2);
-
     let once = [key(1, 0)];
     let twice = [key(1, 0), key(1, 0)];
     let high = spec(need(5, 5), 5, false);
     let low = spec(need(5, 5), 3, false);
-    let alone = spec(need(1, 1), 3, true);
-    let gone = Verdict::VictimGone(key(1, 0));
-    assert_eq!(rt; verdict_on(&board, alloc, 1, high, &twice)?, gone);
-    assert_eq!(rt;
-        verdict_on(&board, alloc, 1, low, &once)?,
-        Verdict::VictimRank(key(1, 0))
-    );
-    assert_eq!(rt;
-        verdict_on(&board, alloc, 1, low, &[])?,
-        Verdict::Full(need(2, 2))
-    );
-    assert_eq!(rt; verdict_on(&board, alloc, 9, low, &[])?, Verdict::NoMachine);
-    assert_eq!(rt; verdict_on(&board, alloc, 1, high, &once)?, Verdict::Placed);
-    assert_eq!(rt; verdict_on(&board, alloc, 1, alone, &[])?, Verdict::Placed);
-    let again = claim(alloc, key(1, 0), 1, low, &[])?;
-    assert_eq!(rt; board.judge(&again, None), Verdict::AlreadyRunning(1));
-    let sister = claim(alloc, key(1, 1), 1, alone, &[])?;
-    assert_eq!(rt; board.judge(&sister, None), Verdict::SameJob(key(1, 0)));
-    let later = claim(alloc, key(2, 0), 1, alone, &[])?;
-    assert_eq!(rt; board.judge(&later, Some(2)), Verdict::Placed);
-    assert_eq!(rt;
-        board.judge(&later, Some(1)),
-        Verdict::Changed { now: 2, copy: 1 }
-    );
+    let verdict = verdict_on(alloc, key(2, 0), 1, high, &twice, None)?;
+    assert_eq!(rt; verdict, Verdict::VictimGone(key(1, 0)));
+    let verdict = verdict_on(alloc, key(2, 0), 1, low, &once, None)?;
+    assert_eq!(rt; verdict, Verdict::VictimRank(key(1, 0)));
+    let verdict = verdict_on(alloc, key(2, 0), 1, high, &once, None)?;
+    assert_eq!(rt; verdict, Verdict::Placed);
     Ok(())
 }
 
 #[test]
-fn a_gang_is_taken_back_and_a_commit_counts_once(rt: HostRuntime) -> Result<(), NoMemory> {
+fn claims_without_victims(rt: HostRuntime) -> Result<(), NoMemory> {
+    let alloc = rt.alloc();
+    let low = spec(need(5, 5), 3, false);
+    let alone = spec(need(1, 1), 3, true);
+    for (key, machine, spec, copy_seq, verdict) in [
+        (key(2, 0), 1, low, None, Verdict::Full(need(2, 2))),
+        (key(1, 0), 1, low, None, Verdict::AlreadyRunning(1)),
+        (key(2, 0), 9, low, None, Verdict::NoMachine),
+        (key(2, 0), 1, alone, Some(2), Verdict::Placed),
+        (key(1, 1), 1, alone, None, Verdict::SameJob(key(1, 0))),
+        (
+            key(2, 0),
+            1,
+            alone,
+            Some(1),
+            Verdict::Changed { now: 2, copy: 1 },
+        ),
+    ] {
+        assert_eq!(rt;
+            verdict_on(alloc, key, machine, spec, &[], copy_seq)?,
+            verdict
+        );
+    }
+    Ok(())
+}
+
+#[test]
+fn a_gang_is_taken_back(rt: HostRuntime) -> Result<(), NoMemory> {
     let alloc = rt.alloc();
     let mut board = Board::new(alloc);
     add(&mut board, alloc, 1, need(10, 10))?;
-    let small = spec(need(5, 5), 0, false);
-    let large = spec(need(8, 8), 0, false);
-    let first = claim(alloc, key(1, 0), 1, small, &[])?;
-    let second = claim(alloc, key(1, 1), 1, large, &[])?;
-    let claims = list(alloc, first, Some(second))?;
+    let needs = (need(5, 5), need(8, 8));
     let told = [Verdict::Placed, Verdict::Full(need(5, 5))];
-
-    let reply = commit(&mut board, alloc, &claims, None, true)?;
+    let reply = commit_two(&mut board, alloc, needs, None, true)?;
     assert_eq!(rt; reply.as_slice(), told.as_slice());
-    assert_eq!(rt; board.running().count(), 0);
-    assert_eq!(rt; board.machines().free(1), Some(need(10, 10)));
-    assert_eq!(rt; board.machines().seq(1), 1);
-
-    let mut other = board.copy(alloc)?;
-    let reply = commit(&mut board, alloc, &claims, None, false)?;
+    assert_eq!(rt; seen(&board), (1, 0, Some(need(10, 10))));
+    let reply = commit_two(&mut board, alloc, needs, None, false)?;
     assert_eq!(rt; reply.as_slice(), told.as_slice());
-    assert_eq!(rt; board.running().count(), 1);
-    assert_eq!(rt; board.machines().seq(1), 2);
+    assert_eq!(rt; seen(&board), (2, 1, Some(need(5, 5))));
+    Ok(())
+}
 
-    let third = claim(alloc, key(1, 2), 1, small, &[])?;
-    let fourth = claim(alloc, key(1, 3), 1, small, &[])?;
-    let both = list(alloc, third, Some(fourth))?;
-    let reply = commit(&mut other, alloc, &both, Some(1), false)?;
+#[test]
+fn a_commit_counts_once(rt: HostRuntime) -> Result<(), NoMemory> {
+    let alloc = rt.alloc();
+    let mut empty = Board::new(alloc);
+    add(&mut empty, alloc, 1, need(10, 10))?;
+    let mut board = empty.copy(alloc)?;
+    let reply = commit_two(&mut board, alloc, (need(5, 5), need(5, 4)), Some(1), false)?;
     let placed = [Verdict::Placed, Verdict::Placed];
     assert_eq!(rt; reply.as_slice(), placed.as_slice());
-    assert_eq!(rt; other.machines().seq(1), 2);
-    assert_eq!(rt; other.machines().free(1), Some(need(0, 0)));
+    assert_eq!(rt; seen(&board), (2, 2, Some(need(0, 1))));
+    assert_eq!(rt; seen(&empty), (1, 0, Some(need(10, 10))));
     Ok(())
 }
 
@@ -226,21 +266,16 @@ fn a_smaller_machine_displaces_by_rank(rt: HostRuntime) -> Result<(), NoMemory> 
     add(&mut board, alloc, 1, need(1000000000, 1000000000))?;
     for (index, prec) in [(0, 2), (1, 1), (2, 1)] {
         let spec = spec(need(300000000, 300000000), prec, false);
-        let one = claim(alloc, key(10, index), 1, spec, &[])?;
-        let one = list(alloc, one, None)?;
-        commit(&mut board, alloc, &one, None, false)?;
+        commit_one(&mut board, alloc, key(10, index), spec)?;
     }
-    assert_eq!(rt; board.machines().free(1), Some(need(100000000, 100000000)));
+    assert_eq!(rt; seen(&board), (4, 3, Some(need(100000000, 100000000))));
     let gone = update(&mut board, alloc, 1, need(500000000, 500000000))?;
     let order = [key(10, 1), key(10, 2)];
     assert_eq!(rt; gone.as_slice(), order.as_slice());
-    assert_eq!(rt; board.running().count(), 1);
-    assert_eq!(rt; board.machines().free(1), Some(need(200000000, 200000000)));
-    assert_eq!(rt; board.machines().seq(1), 5);
+    assert_eq!(rt; seen(&board), (5, 1, Some(need(200000000, 200000000))));
     let gone = remove(&mut board, alloc, 1)?;
     let order = [key(10, 0)];
     assert_eq!(rt; gone.as_slice(), order.as_slice());
-    assert_eq!(rt; board.machines().free(1), None);
-    assert_eq!(rt; board.running().count(), 0);
+    assert_eq!(rt; seen(&board), (6, 0, None));
     Ok(())
 }
