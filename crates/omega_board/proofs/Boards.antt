@@ -107,10 +107,9 @@ module _ (table : List MachineState) (tasks : List Task) (board : IsBoard table 
   pub in_use : (id : ℕ) (s : MachineState) → state_at table id ≡ Some s → (use_at table id ≡ use_on tasks id) × (plus s.free (use_on tasks id) ≡ s.machine.cap)
   in_use id s found =
       let known = each_found (IsCounted tasks) (λ state. state.machine.id == id) table s board.counted found in
-      let counted : plus s.free (use_on tasks id) ≡ s.machine.cap = subst (λ n. plus s.free (use_on tasks n) ≡ s.machine.cap) (eqb-true _ _ known.1) known.0 in
-      (
+      let counted : plus s.free (use_on tasks id) ≡ s.machine.cap = subst (λ n. plus s.free (use_on tasks n) ≡ s.machine.cap) (eqb-true _ _ known.1) known.0 in (
         ap (λ o. option_map_or used o nothing) found
-        ∙ need_is _ _ (omega (arith, ap (λ (n : Need). n.cpu) counted)) (omega (arith, ap (λ (n : Need). n.mem) counted)),
+            ∙ need_is _ _ (omega (arith, ap (λ (n : Need). n.cpu) counted)) (omega (arith, ap (λ (n : Need). n.mem) counted)),
         counted,
       )
 
@@ -191,7 +190,7 @@ module _ (table : List MachineState) (tasks : List Task) (board : IsBoard table 
           bounded = subst IsTable freed bounded;
           ordered = without_ordered (t.key ∷ []) tasks board.ordered;
           placed = subst (λ ms. Each (λ y. IsTrue (is_on_up ms y)) rest) (sym (machines_same t.machine (released t.spec.need) table (λ s. refl)))
-          (each_filter (λ y. IsTrue (is_on_up (machines_of table) y)) (λ y. not (is_among y.key (t.key ∷ []))) tasks board.placed);
+              (each_filter (λ y. IsTrue (is_on_up (machines_of table) y)) (λ y. not (is_among y.key (t.key ∷ []))) tasks board.placed);
           counted = counted;
         }
 
@@ -256,7 +255,7 @@ module _ (table : List MachineState) (tasks : List Task) (board : IsBoard table 
           bounded = subst IsTable taken bounded;
           ordered = with_ordered t tasks absent board.ordered;
           placed = subst (λ ms. Each (λ y. IsTrue (is_on_up ms y)) all) (sym (machines_same t.machine (charged t.spec.need) table (λ s. refl)))
-          (each_with (λ y. IsTrue (is_on_up (machines_of table) y)) t tasks up board.placed);
+              (each_with (λ y. IsTrue (is_on_up (machines_of table) y)) t tasks up board.placed);
           counted = counted;
         }
 

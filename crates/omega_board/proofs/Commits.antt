@@ -113,21 +113,22 @@ pub up_listed : (machines : List Machine) (id : ℕ) → is_up (machine_at machi
 up_listed [] id up = up
 up_listed (m ∷ ms) id up = by_answer (m.id == id) (λ t. rw t refl) (λ f. rw f (up_listed ms id (rw f at up)))
 
+-- a machine for which a claim isn't refused is up
+pub not_refused : (up : Bool) → refusal_if (not up) NoMachine ≡ None → up ≡ true
+not_refused true e = refl
+not_refused false e = absurd (none-some NoMachine (sym e))
+
 -- the machine of a claim that is placed is listed
 pub placed_listed : (cell : Cell) (decided : List (Claim × Verdict)) (id : ℕ) → MayPlaceAll cell decided → IsTrue (list_any (places_on id) decided) → IsTrue (is_listed id cell.machines)
 placed_listed cell [] id places any = absurd (both_ways false refl any)
 placed_listed cell ((claim, verdict) ∷ decided) id places any =
     elim (or_cases (is_placed verdict && claim.machine == id) (list_any (places_on id) decided) any) [
       | inl h ↦
-      let parts = and_parts _ _ h in
-      let up = not_refused (is_up (machine_at cell.machines claim.machine)) (placeable cell claim (places.0 parts.0)).up in
-      subst (λ n. IsTrue (is_listed n cell.machines)) (eqb-true _ _ parts.1) (up_listed cell.machines claim.machine up)
+          let parts = and_parts _ _ h in
+          let up = not_refused (is_up (machine_at cell.machines claim.machine)) (placeable cell claim (places.0 parts.0)).up in
+          subst (λ n. IsTrue (is_listed n cell.machines)) (eqb-true _ _ parts.1) (up_listed cell.machines claim.machine up)
       | inr h ↦ placed_listed (after_claim cell (claim, verdict)) decided id places.1 h
     ]
-  where
-    not_refused : (up : Bool) → refusal_if (not up) NoMachine ≡ None → up ≡ true
-    not_refused true e = refl
-    not_refused false e = absurd (none-some NoMachine (sym e))
 
 -- the claim at a place
 pub claim_at : (claims : List Claim) (i : ℕ) → i < length claims → (claim : Claim) × (claim ≡ get_or claims i claim)

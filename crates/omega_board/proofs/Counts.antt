@@ -1,5 +1,5 @@
 -- How often machines were touched.
-use Rattle.std.proofs.Common.{◌≡◌, ◌≢◌, ℕ, zero, suc, ◌+◌, ◌<◌, ◌≤◌, Bool, true, false, cond, ◌||◌, ◌&&◌, nat_eq, List, [], ◌∷◌, ◌++◌, length, get_or, take, drop, min, Option, Some, None, is_some, IsTrue, refl, sym, ap, ap₂, ◌∙◌, subst, arith, if◌then◌else◌, ◌==◌, ◌⊎◌, inl, inr}
+use Rattle.std.proofs.Common.{◌≡◌, ◌≢◌, ℕ, zero, suc, ◌+◌, ◌-◌, ◌<◌, ◌≤◌, Bool, true, false, cond, ◌||◌, ◌&&◌, nat_eq, List, [], ◌∷◌, ◌++◌, length, get_or, take, drop, min, Option, Some, None, is_some, IsTrue, refl, sym, ap, ap₂, ◌∙◌, subst, arith, if◌then◌else◌, ◌==◌, ◌⊎◌, inl, inr}
 use Rattle.std.specs.List.{list_any, zip}
 use Rattle.std.specs.Option.{option_map, option_map_or}
 use Rattle.std.proofs.lemmas.Bool.{both_ways, eqb-true, eq-eqb, and_parts, or_left, or_right}
@@ -13,6 +13,10 @@ use Rattle.omega_machines.specs.declared.MachineState.{MachineState}
 use Rattle.omega_machines.specs.Table.{machines_of, state_at, seq_at, change_state, touched}
 use Rattle.omega_machines.proofs.Places.{by_answer}
 use Rattle.omega_machines.proofs.Laws.{listed_state, state_changed, others_unchanged}
+
+pub or_no : (a : Bool) → (a || false) ≡ a
+or_no true = refl
+or_no false = refl
 
 -- a touch counts on its machine and on no other
 pub seq_touched : (table : List MachineState) (id other : ℕ) → IsTrue (is_listed id (machines_of table)) → seq_at (change_state id touched table) other ≡ seq_at table other + (if id == other then 1 else 0)
@@ -82,10 +86,6 @@ any_more id claims reply i d e below_claims below_reply =
     ap (list_any (places_on id)) (zip_take claims reply i d e below_claims below_reply)
     ∙ list_any-append (places_on id) (zip (take i claims) (take i reply)) ((get_or claims i d, get_or reply i e) ∷ [])
     ∙ ap (λ b. list_any (places_on id) (zip (take i claims) (take i reply)) || b) (or_no _)
-  where
-    or_no : (a : Bool) → (a || false) ≡ a
-    or_no true = refl
-    or_no false = refl
 
 -- the count of a commit so far
 abbrev pub CountedSo : (start : ℕ → ℕ) → List Claim → List Verdict → ℕ → (ℕ → ℕ) → Type 0
@@ -105,10 +105,6 @@ counted_same start now claims reply i d e below_claims below_reply why so = λ i
 
     same : (id : ℕ) → is_placed (get_or reply i e) ≡ false ⊎ (before m ≡ true) → (before id || (is_placed (get_or reply i e) && m == id)) ≡ before id
     same id (inl f) = rw f (or_no (before id))
-      where
-        or_no : (a : Bool) → (a || false) ≡ a
-        or_no true = refl
-        or_no false = refl
     same id (inr t) =
         by_answer (m == id)
         (λ own. let here : before id ≡ true = subst (λ n. before n ≡ true) (eqb-true _ _ own) t in rw here refl)
@@ -140,6 +136,11 @@ counted_more start now next claims reply i d e below_claims below_reply placed f
     before : ℕ → Bool
     before id = list_any (places_on id) (zip (take i claims) (take i reply))
 
-    or_no : (a : Bool) → (a || false) ≡ a
-    or_no true = refl
-    or_no false = refl
+-- the last of the first so many claims
+pub any_last : (id : ℕ) (claims : List Claim) (reply : List Verdict) (i : ℕ) (claim : Claim) (e : Verdict) → 0 < i → i ≤ length claims → i ≤ length reply → claim ≡ get_or claims (i - 1) claim
+    → list_any (places_on id) (zip (take i claims) (take i reply)) ≡ (list_any (places_on id) (zip (take (i - 1) claims) (take (i - 1) reply)) || places_on id (claim, get_or reply (i - 1) e))
+any_last id claims reply i claim e some in_claims in_reply is =
+    let next : i ≡ i - 1 + 1 = omega arith in
+    ap (λ n. list_any (places_on id) (zip (take n claims) (take n reply))) next
+    ∙ any_more id claims reply (i - 1) claim e (omega arith) (omega arith)
+    ∙ ap (λ (c : Claim). list_any (places_on id) (zip (take (i - 1) claims) (take (i - 1) reply)) || places_on id (c, get_or reply (i - 1) e)) (sym is)

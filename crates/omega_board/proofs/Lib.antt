@@ -9,3 +9,4 @@ pub mod Claims
 pub mod Counts
 pub mod Entering
 pub mod Commits
+pub mod Rules

@@ -115,16 +115,16 @@ rest_more tasks id gone key t order found on stay =
     own = key_same t.key key (each_found (λ _. Unit {0}) (λ (y : Task). same_key y.key key) tasks t (units tasks) found).1
 
 -- a part that doesn't place a claim
-Refuses : Option Verdict → Type 0
+unfoldable pub Refuses : Option Verdict → Type 0
 Refuses None = Unit {0}
 Refuses (Some verdict) = is_placed verdict ≡ false
 
-refuses_if : (b : Bool) (verdict : Verdict) → is_placed verdict ≡ false → Refuses (refusal_if b verdict)
+pub refuses_if : (b : Bool) (verdict : Verdict) → is_placed verdict ≡ false → Refuses (refusal_if b verdict)
 unfolding Refuses
 refuses_if true verdict e = e
 refuses_if false verdict e = tt
 
-refuses_running : (o : Option Task) → Refuses (option_map (λ task. AlreadyRunning task.machine) o)
+pub refuses_running : (o : Option Task) → Refuses (option_map (λ task. AlreadyRunning task.machine) o)
 unfolding Refuses
 refuses_running None = tt
 refuses_running (Some t) = refl
@@ -148,7 +148,7 @@ refuses_job true None = tt
 refuses_job true (Some t) = refl
 refuses_job false o = tt
 
-passes : (o : Option Verdict) (rest : List (Option Verdict)) → Refuses o → first_of (o ∷ rest) ≡ Placed → (o ≡ None) × (first_of rest ≡ Placed)
+pub passes : (o : Option Verdict) (rest : List (Option Verdict)) → Refuses o → first_of (o ∷ rest) ≡ Placed → (o ≡ None) × (first_of rest ≡ Placed)
 unfolding Refuses
 passes None rest refuses placed = (refl, placed)
 passes (Some verdict) rest refuses placed = absurd (both_ways _ refuses (ap is_placed placed))

@@ -69,7 +69,7 @@ each_here [] order = tt
 each_here (x ∷ rest) order = (
   rw (and_from _ _ (eq-eqb x.key.job x.key.job refl) (eq-eqb x.key.index x.key.index refl)) refl,
   each_both (λ y. key_lt x.key y.key ≡ true) (λ y. task_at rest y.key ≡ Some y) (λ y. task_at (x ∷ rest) y.key ≡ Some y)
-  (λ y less found. rw (key_differs x.key y.key less) found) rest order.0 (each_here rest order.1),
+      (λ y less found. rw (key_differs x.key y.key less) found) rest order.0 (each_here rest order.1),
 )
 
 pub ranked_found : (tasks : List Task) (id : ℕ) → IsInOrder ByKey tasks → Each (λ t. task_at tasks t.key ≡ Some t) (ranked_on id tasks)

@@ -119,8 +119,7 @@ sound_room board t kept absent sound =
     let use_then : use_on (with_task t board.tasks) t.machine ≡ plus t.spec.need (use_on board.tasks t.machine) = rw own at (total-with (is_on t.machine) t board.tasks absent kept.ordered) in
     let within : Fits (use_on (with_task t board.tasks) t.machine) known.0.machine.cap = cap_within board.table t.machine known.0 known.1 (subst (λ ms. All (λ m. Fits (use_on (with_task t board.tasks) m.id) m.cap) ms) machines sound.within) in
     let free : free_at board.table t.machine ≡ Some known.0.free = ap (option_and_then free_if_up) known.1 ∙ rw known.2 refl in
-    subst (λ o. IsSomeAnd o (λ free. Fits t.spec.need free)) (sym free)
-    (
+    subst (λ o. IsSomeAnd o (λ free. Fits t.spec.need free)) (sym free) (
       omega (arith, within.0, ap (λ (n : Need). n.cpu) use_then, ap (λ (n : Need). n.cpu) use_now),
       omega (arith, within.1, ap (λ (n : Need). n.mem) use_then, ap (λ (n : Need). n.mem) use_now),
     )

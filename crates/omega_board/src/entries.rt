@@ -16,7 +16,9 @@ ghost use Rattle.omega_board.specs.Entries.{MayApply, HasRoomFor, MayPlaceAll};
 use crate::Board;
 use crate::placing::is_placed;
 use crate::undo::Undo;
-use omega_model::{Bytes, Claim, Claims, Entry, Keys, Need, NoMemory, Seq, TaskKey, Verdict, Verdicts};
+use omega_model::{
+    Bytes, Claim, Claims, Entry, Keys, Need, NoMemory, Seq, TaskKey, Verdict, Verdicts,
+};
 use std::alloc::Global;
 
 const NOTHING: Need = Need { cpu: 0, mem: 0 };
@@ -192,7 +194,8 @@ impl Board {
     fn use_on(&self, machine: u64) -> Need
         ensures { result ≡ use_on self.now.tasks machine }
     {
-        let (Some(free), Some(place)) = (self.table.free(machine), self.table.position(machine)) else {
+        let (Some(free), Some(place)) = (self.table.free(machine), self.table.position(machine))
+        else {
             return NOTHING;
         };
         match self.table.at(place) {

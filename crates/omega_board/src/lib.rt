@@ -11,6 +11,8 @@ mod changes;
 mod entries;
 mod judging;
 mod placing;
+#[cfg(test)]
+mod tests;
 mod undo;
 
 pub use board::Board;

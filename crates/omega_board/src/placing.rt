@@ -1,5 +1,5 @@
 //! Placed claims: applied to the board, taken back, and counted on their machines.
-ghost use Rattle.std.specs.Prelude.{◌≡◌, ◌+◌, ◌-◌, ◌<◌, ◌≤◌, ◌^◌, ℕ, [], ◌∷◌, None, length, sum_by, is_some, IsTrue, IsSomeAnd, IfOk, if◌then◌else◌};
+ghost use Rattle.std.specs.Prelude.{◌≡◌, ◌+◌, ◌-◌, ◌<◌, ◌≤◌, ◌^◌, ℕ, [], ◌∷◌, None, length, take, sum_by, is_some, IsTrue, IsSomeAnd, IfOk, if◌then◌else◌};
 ghost use Rattle.std.specs.List.{zip, list_any};
 ghost use Rattle.omega_machines.specs.Table.{machines_of, free_at, seq_at, change_state, touched};
 ghost use Rattle.omega_model.specs.Need.{Fits};
@@ -71,7 +71,8 @@ impl Board {
         }
     }
 
-    /// Counts a commit on each machine on which it placed a claim, once. Takes no memory.
+    /// Counts a commit on each machine on which it placed a claim, once. Costs the claims; each is
+    /// compared with those before it, back to the last one on its machine. Takes no memory.
     pub fn touch_placed(&mut self, claims: &Claims, reply: &Verdicts)
         requires listed { (id : ℕ) → IsTrue (list_any (places_on id) (zip claims.now reply.now)) → IsTrue (is_listed id (machines_of self.old.table)) }
         requires seqs { (id : ℕ) → IsTrue (list_any (places_on id) (zip claims.now reply.now)) → seq_at self.old.table id < 2 ^ 64 - 1 }
@@ -84,7 +85,7 @@ impl Board {
         let count = claims.len().min(reply.len());
         for i in 0..count {
             let claim = &claims[i];
-            let first = !any_placed_on(claim.machine, &claims[..i], &reply[..i]);
+            let first = !placed_before(claim.machine, claims, reply, i);
             if is_placed(reply[i]) && first {
                 self.touch(claim.machine);
             }
@@ -190,13 +191,24 @@ fn count_victims(claims: &[Claim]) -> Result<usize, NoMemory>
     Ok(victims)
 }
 
-fn any_placed_on(id: u64, claims: &[Claim], reply: &[Verdict]) -> bool
-    ensures { result ≡ list_any (places_on id) (zip claims.now reply.now) }
+// Whether one of the first so many claims was placed on a machine. Looks from the last to the first.
+fn placed_before(id: u64, claims: &[Claim], reply: &[Verdict], count: usize) -> bool
+    requires claims { count ≤ length claims.now }
+    requires reply { count ≤ length reply.now }
+    ensures { result ≡ list_any (places_on id) (zip (take count claims.now) (take count reply.now)) }
 {
-    claims
-        .iter()
-        .zip(reply)
-        .any(|(claim, verdict)| is_placed(*verdict) && claim.machine == id)
+    for i in (0..count).rev() {
+        if places_on(id, &claims[i], reply[i]) {
+            return true;
+        }
+    }
+    false
+}
+
+fn places_on(id: u64, claim: &Claim, verdict: Verdict) -> bool
+    ensures { result ≡ places_on id (claim.now, verdict) }
+{
+    is_placed(verdict) && claim.machine == id
 }
 
 pub(crate) fn is_placed(verdict: Verdict) -> bool

@@ -13,8 +13,7 @@ use Rattle.omega_board.proofs.board.Board.apply_placed.Goals as goal
 
 pub loop-key-init : goal.loop-key-init
 loop-key-init c =
-    let kept = at_now _ _ c.self.view_is c.self.invariant in
-    (
+    let kept = at_now _ _ c.self.view_is c.self.invariant in (
       sym (without_none c.args.self.now.tasks),
       sym (table_with-same c.args.self.now.tasks c.args.self.now.table kept.counted),
       refl,
@@ -42,12 +41,11 @@ loop-key-preserved c =
     let victims = c.args.claim.now.victims in
     let tasks = c.args.self.now.tasks in
     let front : take (i + 1) victims ≡ take i victims ++ get_or slice i none ∷ [] =
-    ap (take (i + 1)) (sym c.as_slice-key-items.ensures) ∙ take_more slice i none c.loop-key-test.true ∙ ap (λ keys. take i keys ++ get_or slice i none ∷ []) c.as_slice-key-items.ensures in
-    (
+    ap (take (i + 1)) (sym c.as_slice-key-items.ensures) ∙ take_more slice i none c.loop-key-test.true ∙ ap (λ keys. take i keys ++ get_or slice i none ∷ []) c.as_slice-key-items.ensures in (
       c.stop_noted.ensures.tasks ∙ ap (without (get_or slice i none ∷ [])) c.loop-key.invariant.0
-      ∙ sym (without_more (take i victims) (get_or slice i none) tasks) ∙ ap (λ keys. without keys tasks) (sym front),
+          ∙ sym (without_more (take i victims) (get_or slice i none) tasks) ∙ ap (λ keys. without keys tasks) (sym front),
       c.stop_noted.ensures.table ∙ ap (table_with c.stop_noted.new.self.tasks) c.loop-key.invariant.1
-      ∙ table_with-twice c.stop_noted.new.self.tasks c.loop-key.self.tasks c.args.self.now.table,
+          ∙ table_with-twice c.stop_noted.new.self.tasks c.loop-key.self.tasks c.args.self.now.table,
       c.stop_noted.ensures.content ∙ c.loop-key.invariant.2,
       c.stop_noted.ensures.undo,
       c.stop_noted.ensures.claims ∙ c.loop-key.invariant.4,

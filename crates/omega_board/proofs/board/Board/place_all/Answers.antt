@@ -19,12 +19,12 @@ loop-i-preserved c =
     let P : BoardState → UndoState → Type 0 = λ board undo. IsPlacing c.args.self.now board undo claims reply (i + 1) in
     elim c.if-is_placed.branch [
       | then-is_placed w ↦
-      along P c.if-is_placed.self w.apply_placed.new.self c.if-is_placed.undo w.apply_placed.new.undo w.self-is w.undo-is
-      (placed_next c.args.self.now c.loop-i.self w.apply_placed.new.self c.loop-i.undo w.apply_placed.new.undo claims reply i w.index-claims-i.result below_claims below_reply w.index-claims-i.is (sym w.if-is_placed.ensures)
-      w.apply_placed.ensures.tasks w.apply_placed.ensures.machines w.apply_placed.ensures.seqs w.apply_placed.ensures.undo w.apply_placed.ensures.claims w.apply_placed.ensures.victims c.loop-i.invariant)
+          along P c.if-is_placed.self w.apply_placed.new.self c.if-is_placed.undo w.apply_placed.new.undo w.self-is w.undo-is
+          (placed_next c.args.self.now c.loop-i.self w.apply_placed.new.self c.loop-i.undo w.apply_placed.new.undo claims reply i w.index-claims-i.result below_claims below_reply w.index-claims-i.is (sym w.if-is_placed.ensures)
+          w.apply_placed.ensures.tasks w.apply_placed.ensures.machines w.apply_placed.ensures.seqs w.apply_placed.ensures.undo w.apply_placed.ensures.claims w.apply_placed.ensures.victims c.loop-i.invariant)
       | else-is_placed w ↦
-      along P c.if-is_placed.self c.loop-i.self c.if-is_placed.undo c.loop-i.undo w.self-is w.undo-is
-      (passed_next c.args.self.now c.loop-i.self c.loop-i.undo claims reply i (claim_at claims i below_claims).0 below_claims below_reply (claim_at claims i below_claims).1 (sym w.if-is_placed.ensures) c.loop-i.invariant)
+          along P c.if-is_placed.self c.loop-i.self c.if-is_placed.undo c.loop-i.undo w.self-is w.undo-is
+          (passed_next c.args.self.now c.loop-i.self c.loop-i.undo claims reply i (claim_at claims i below_claims).0 below_claims below_reply (claim_at claims i below_claims).1 (sym w.if-is_placed.ensures) c.loop-i.invariant)
     ]
 
 pub returns-clause-tasks : goal.returns-clause-tasks

@@ -12,6 +12,7 @@ use Rattle.omega_board.proofs.board.Board.resize.Goals as goal
 pub update-requires-clause-in_use : goal.update-requires-clause-in_use
 update-requires-clause-in_use c =
     use_fits _ _ c.self.invariant c.args.id c.args.cap (subst (λ (b : BoardState). IsTrue (is_listed c.args.id (machines_of b.table))) (sym c.self.view_is) c.requires.listed) (subst (λ (b : BoardState). Fits (use_on b.tasks c.args.id) c.args.cap) (sym c.self.view_is) c.requires.in_use)
+
 pub touch-requires-clause-listed : goal.touch-requires-clause-listed
 touch-requires-clause-listed c =
     let listed = subst (λ (b : BoardState). IsTrue (is_listed c.args.id (machines_of b.table))) (sym c.self.view_is) c.requires.listed in

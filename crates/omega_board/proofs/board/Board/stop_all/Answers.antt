@@ -11,8 +11,7 @@ use Rattle.omega_board.proofs.board.Board.stop_all.Goals as goal
 
 pub loop-key-init : goal.loop-key-init
 loop-key-init c =
-    let kept = at_now _ _ c.self.view_is c.self.invariant in
-    (
+    let kept = at_now _ _ c.self.view_is c.self.invariant in (
       sym (filter_every (λ task. not (is_among task.key [])) c.args.self.now.tasks (each_of _ (λ task. refl) c.args.self.now.tasks)),
       sym (table_with-same c.args.self.now.tasks c.args.self.now.table kept.counted),
     )
@@ -20,10 +19,10 @@ loop-key-init c =
 pub loop-key-preserved : goal.loop-key-preserved
 loop-key-preserved c = (
   c.stop.ensures.tasks
-  ∙ ap (without (_ ∷ [])) c.loop-key.invariant.0
-  ∙ sym (without_more (take c.loop-key.key-index c.args.keys.now) _ c.args.self.now.tasks)
-  ∙ ap (λ keys. without keys c.args.self.now.tasks) (sym (take_more c.args.keys.now c.loop-key.key-index _ c.loop-key-test.true)),
+      ∙ ap (without (_ ∷ [])) c.loop-key.invariant.0
+      ∙ sym (without_more (take c.loop-key.key-index c.args.keys.now) _ c.args.self.now.tasks)
+      ∙ ap (λ keys. without keys c.args.self.now.tasks) (sym (take_more c.args.keys.now c.loop-key.key-index _ c.loop-key-test.true)),
   c.stop.ensures.table
-  ∙ ap (table_with c.stop.new.self.tasks) c.loop-key.invariant.1
-  ∙ table_with-twice c.stop.new.self.tasks c.loop-key.self.tasks c.args.self.now.table,
+      ∙ ap (table_with c.stop.new.self.tasks) c.loop-key.invariant.1
+      ∙ table_with-twice c.stop.new.self.tasks c.loop-key.self.tasks c.args.self.now.table,
 )

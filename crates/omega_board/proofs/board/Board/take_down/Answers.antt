@@ -12,6 +12,7 @@ use Rattle.omega_board.proofs.board.Board.take_down.Goals as goal
 pub remove-requires-clause-in_use : goal.remove-requires-clause-in_use
 remove-requires-clause-in_use c =
     use_none _ _ c.self.invariant c.args.id (subst (λ (b : BoardState). IsTrue (is_listed c.args.id (machines_of b.table))) (sym c.self.view_is) c.requires.listed) (subst (λ (b : BoardState). filter (is_on c.args.id) b.tasks ≡ []) (sym c.self.view_is) c.requires.empty)
+
 pub touch-requires-clause-listed : goal.touch-requires-clause-listed
 touch-requires-clause-listed c =
     let listed = subst (λ (b : BoardState). IsTrue (is_listed c.args.id (machines_of b.table))) (sym c.self.view_is) c.requires.listed in
@@ -25,7 +26,7 @@ touch-requires-clause-seq c =
 
 pub invariant_of-self : goal.invariant_of-self
 invariant_of-self c =
-    down_board _ _ c.self.invariant c.args.id  _ _ (subst (λ (b : BoardState). filter (is_on c.args.id) b.tasks ≡ []) (sym c.self.view_is) c.requires.empty) c.remove.ensures.changed c.touch.ensures.changed c.remove.ensures.table c.touch.ensures.table
+    down_board _ _ c.self.invariant c.args.id _ _ (subst (λ (b : BoardState). filter (is_on c.args.id) b.tasks ≡ []) (sym c.self.view_is) c.requires.empty) c.remove.ensures.changed c.touch.ensures.changed c.remove.ensures.table c.touch.ensures.table
 
 pub returns-clause-machines : goal.returns-clause-machines
 returns-clause-machines c =

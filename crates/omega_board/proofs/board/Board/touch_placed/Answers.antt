@@ -55,9 +55,9 @@ counted start now next claims reply i claim below_claims below_reply is placed f
   ap (λ (b : BoardState). b.tasks) changed ∙ kept.0,
   ap (λ (b : BoardState). machines_of b.table) changed ∙ machines_same claim.machine touched now.table (λ s. refl) ∙ kept.1,
   counted_more (seq_at start.table) (seq_at now.table) (seq_at next.table) claims reply i claim Placed below_claims below_reply (sym placed)
-  (ap (λ (c : Claim). list_any (places_on c.machine) (zip (take i claims) (take i reply))) (sym is) ∙ sym first)
-  (λ id. ap (λ (b : BoardState). seq_at b.table id) changed ∙ seq_touched now.table claim.machine id there ∙ ap (λ (c : Claim). seq_at now.table id + (if c.machine == id then 1 else 0)) is)
-  kept.2,
+      (ap (λ (c : Claim). list_any (places_on c.machine) (zip (take i claims) (take i reply))) (sym is) ∙ sym first)
+      (λ id. ap (λ (b : BoardState). seq_at b.table id) changed ∙ seq_touched now.table claim.machine id there ∙ ap (λ (c : Claim). seq_at now.table id + (if c.machine == id then 1 else 0)) is)
+      kept.2,
 )
 
 -- one that is not
@@ -66,9 +66,12 @@ passed : (start now next : BoardState) (claims : List Claim) (reply : List Verdi
     → next ≡ now → Kept start claims reply i now → Kept start claims reply (i + 1) next
 unfolding Kept
 passed start now next claims reply i claim below_claims below_reply is why same kept =
-    subst (λ (b : BoardState). (b.tasks ≡ start.tasks) × (machines_of b.table ≡ machines_of start.table) × CountedSo (seq_at start.table) claims reply (i + 1) (seq_at b.table)) (sym same)
-    (kept.0, kept.1, counted_same (seq_at start.table) (seq_at now.table) claims reply i claim Placed below_claims below_reply
-    (elim why [ inl f ↦ inl f | inr t ↦ inr (ap (λ (c : Claim). list_any (places_on c.machine) (zip (take i claims) (take i reply))) (sym is) ∙ t) ]) kept.2)
+    subst (λ (b : BoardState). (b.tasks ≡ start.tasks) × (machines_of b.table ≡ machines_of start.table) × CountedSo (seq_at start.table) claims reply (i + 1) (seq_at b.table)) (sym same) (
+      kept.0,
+      kept.1,
+      counted_same (seq_at start.table) (seq_at now.table) claims reply i claim Placed below_claims below_reply
+          (elim why [ inl f ↦ inl f | inr t ↦ inr (ap (λ (c : Claim). list_any (places_on c.machine) (zip (take i claims) (take i reply))) (sym is) ∙ t) ]) kept.2,
+    )
 
 pub loop-i-preserved : goal.loop-i-preserved
 unfolding Kept
@@ -80,14 +83,14 @@ loop-i-preserved c =
     let claim = c.index-claims-i.result in
     elim c.if-is_placed.branch [
       | then-is_placed+then-first w ↦
-      let there = ap (λ machines. is_listed claim.machine machines) c.loop-i.invariant.1
-      ∙ c.requires.listed _ (listed c.args.claims.now slice c.args.reply.now verdicts c.loop-i.i claim c.as_slice-claims.ensures c.as_slice-reply.ensures below_claims below_reply c.index-claims-i.is w.if-is_placed.ensures) in
-      counted c.args.self.now c.loop-i.self c.if-is_placed.self slice verdicts c.loop-i.i claim below_claims below_reply c.index-claims-i.is w.if-is_placed.ensures w.if-first.ensures there (w.self-is ∙ w.touch.ensures) c.loop-i.invariant
+          let there = ap (λ machines. is_listed claim.machine machines) c.loop-i.invariant.1
+          ∙ c.requires.listed _ (listed c.args.claims.now slice c.args.reply.now verdicts c.loop-i.i claim c.as_slice-claims.ensures c.as_slice-reply.ensures below_claims below_reply c.index-claims-i.is w.if-is_placed.ensures) in
+          counted c.args.self.now c.loop-i.self c.if-is_placed.self slice verdicts c.loop-i.i claim below_claims below_reply c.index-claims-i.is w.if-is_placed.ensures w.if-first.ensures there (w.self-is ∙ w.touch.ensures) c.loop-i.invariant
       | else-is_placed w ↦ elim w.else-is_placed.branch [
         | else-is_placed-via-then-is_placed+else-first w' ↦
-        passed c.args.self.now c.loop-i.self c.if-is_placed.self slice verdicts c.loop-i.i claim below_claims below_reply c.index-claims-i.is (inr (sym w'.if-first.ensures)) w.self-is c.loop-i.invariant
+            passed c.args.self.now c.loop-i.self c.if-is_placed.self slice verdicts c.loop-i.i claim below_claims below_reply c.index-claims-i.is (inr (sym w'.if-first.ensures)) w.self-is c.loop-i.invariant
         | else-is_placed-via-else-is_placed w' ↦
-        passed c.args.self.now c.loop-i.self c.if-is_placed.self slice verdicts c.loop-i.i claim below_claims below_reply c.index-claims-i.is (inl (sym w'.if-is_placed.ensures)) w.self-is c.loop-i.invariant
+            passed c.args.self.now c.loop-i.self c.if-is_placed.self slice verdicts c.loop-i.i claim below_claims below_reply c.index-claims-i.is (inl (sym w'.if-is_placed.ensures)) w.self-is c.loop-i.invariant
       ]
     ]
 

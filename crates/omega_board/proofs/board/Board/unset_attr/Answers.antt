@@ -9,7 +9,6 @@ use Rattle.omega_board.specs.Board.{BoardState, CountsOn}
 use Rattle.omega_board.proofs.Entering.{IsChange, is_change, use_fits, use_none, unset_board, seq_changed}
 use Rattle.omega_board.proofs.board.Board.unset_attr.Goals as goal
 
-
 pub touch-requires-clause-listed : goal.touch-requires-clause-listed
 touch-requires-clause-listed c =
     let listed = subst (λ (b : BoardState). IsTrue (is_listed c.args.id (machines_of b.table))) (sym c.self.view_is) c.requires.listed in
@@ -23,7 +22,7 @@ touch-requires-clause-seq c =
 
 pub invariant_of-self : goal.invariant_of-self
 invariant_of-self c =
-    unset_board _ _ c.self.invariant c.args.id c.args.name.now _ _  c.delete_attr.ensures.changed c.touch.ensures.changed c.delete_attr.ensures.table c.touch.ensures.table
+    unset_board _ _ c.self.invariant c.args.id c.args.name.now _ _ c.delete_attr.ensures.changed c.touch.ensures.changed c.delete_attr.ensures.table c.touch.ensures.table
 
 pub returns-clause-machines : goal.returns-clause-machines
 returns-clause-machines c =
