@@ -15,3 +15,6 @@ mod wanted;
 pub use jobs::RoutedJob;
 pub use ordered::rounds;
 pub use wanted::Wanted;
+
+#[cfg(test)]
+mod tests;
