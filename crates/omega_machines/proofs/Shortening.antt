@@ -41,8 +41,10 @@ first_values n rows = sym (take-map (λ (e : ℕ × MachineState). e.1) n rows)
 pub first_rows : (rows next : List (ℕ × MachineState)) (table : List MachineState) (n : ℕ) → values_of rows ≡ table → IsKept rows → next ≡ take n rows
     → IsKept next × (values_of next ≡ take n table)
 first_rows rows next table n seen kept is =
-    subst (λ (r : List (ℕ × MachineState)). IsKept r × (values_of r ≡ take n table)) (sym is)
-    (record {
-      keyed = sym (take-map (λ (e : ℕ × MachineState). e.0) n rows) ∙ ap (take n) kept.keyed ∙ sym (first_numbers n (values_of rows)) ∙ ap (λ t. numbers_of (machines_of t)) (sym (first_values n rows));
-      table = subst IsTable (sym (first_values n rows)) (first_table n (values_of rows) kept.table);
-    }, first_values n rows ∙ ap (take n) seen)
+    subst (λ (r : List (ℕ × MachineState)). IsKept r × (values_of r ≡ take n table)) (sym is) (
+      record {
+        keyed = sym (take-map (λ (e : ℕ × MachineState). e.0) n rows) ∙ ap (take n) kept.keyed ∙ sym (first_numbers n (values_of rows)) ∙ ap (λ t. numbers_of (machines_of t)) (sym (first_values n rows));
+        table = subst IsTable (sym (first_values n rows)) (first_table n (values_of rows) kept.table);
+      },
+      first_values n rows ∙ ap (take n) seen,
+    )

@@ -45,7 +45,7 @@ pub applied_row : (settings : Settings) (trace : TraceTables) (before some : Lis
 applied_row settings trace before some row start middle history after applied asked appended =
     let tasks : after.tasks ≡ wanted ((before ++ some) ++ row ∷ []) = ap (λ (asks : Asked). asks.tasks) asked in
     let entries : history ≡ middle ++ row_entries (state middle) (wanted ((before ++ some) ++ row ∷ [])) row =
-        appended ∙ ap (λ (left : List WantedTask). middle ++ row_entries (state middle) left row) tasks in
+    appended ∙ ap (λ (left : List WantedTask). middle ++ row_entries (state middle) left row) tasks in
     ap₂ applied_rows (sym (append_assoc before some (row ∷ []))) entries
     ∙ ap (λ (now : Applied). with_row now row) applied
     ∙ sym (fold-append with_row (applied_rows before start) some (row ∷ []))
@@ -59,9 +59,9 @@ pub worked_requests : (settings : Settings) (trace : TraceTables) (rows : List R
     → kept ≡ requests settings trace rows history scheduler
 worked_requests settings trace rows history scheduler wanted_now cell asked kept wants now asks keeps =
     let waiting : asked ≡ open_requests settings trace rows (state history) scheduler =
-        asks
-        ∙ ap₂ (λ (w : Asked) (c : Cell). asked_requests w c scheduler) wants now
-        ∙ asked_open settings trace rows (state history) scheduler in
+    asks
+    ∙ ap₂ (λ (w : Asked) (c : Cell). asked_requests w c scheduler) wants now
+    ∙ asked_open settings trace rows (state history) scheduler in
     keeps
     ∙ ap (filter (is_worked_on settings history)) waiting
     ∙ sym (requests_from_open settings trace rows history scheduler)
@@ -77,9 +77,9 @@ round_begins settings trace rows start round history kept at is begun asked =
     let here : Setting = record { settings = settings; trace = trace; rows = rows; start = start; round = round; scheduler = 1 } in
     let base : List Entry = (opened rows start round).history in
     let first : Working here base (record { requests = requests settings trace (rows ++ round.rows) base 1; taken = 0 }) =
-        working_first here (λ other apart. requests-other settings trace (rows ++ round.rows) base other apart) in
+    working_first here (λ other apart. requests-other settings trace (rows ++ round.rows) base other apart) in
     let same : kept ≡ requests settings trace (rows ++ round.rows) base 1 =
-        asked ∙ ap (λ (h : List Entry). requests settings trace (rows ++ round.rows) h 1) begun in
+    asked ∙ ap (λ (h : List Entry). requests settings trace (rows ++ round.rows) h 1) begun in
     subst (λ (s : Setting). Working s history (record { requests = kept; taken = 0 })) (sym is)
     (subst (λ (h : List Entry). Working here h (record { requests = kept; taken = 0 })) (sym begun)
     (subst (λ (left : List Request). Working here base (record { requests = left; taken = 0 })) (sym same) first))

@@ -12,7 +12,7 @@ returns-then-goes_in-clause-first c =
     let found = sym (rw c.machines-machines.ensures.table at c.in-Some.ensures) in
     let passes = sym c.goes_in.ensures.test ∙ c.if-goes_in.true in
     let first = find_here (λ (machine : Machine). goes_in (cell_of c.args.board.now) c.args.wish.now [] machine.id)
-        (machines_of c.args.board.now.table) c.loop-position.position c.in-Some.machine.now found passes in
+    (machines_of c.args.board.now.table) c.loop-position.position c.in-Some.machine.now found passes in
     ap (option_map (λ (machine : Machine). machine.id)) (sym first ∙ c.loop-position.invariant)
 
 pub loop-position-preserved : goal.loop-position-preserved
@@ -20,5 +20,5 @@ loop-position-preserved c =
     let found = sym (rw c.machines-machines.ensures.table at c.in-Some.ensures) in
     let fails = sym c.goes_in.ensures.test ∙ c.if-goes_in.false in
     let past = find_past (λ (machine : Machine). goes_in (cell_of c.args.board.now) c.args.wish.now [] machine.id)
-        (machines_of c.args.board.now.table) c.loop-position.position c.in-Some.machine.now found fails in
+    (machines_of c.args.board.now.table) c.loop-position.position c.in-Some.machine.now found fails in
     sym past ∙ c.loop-position.invariant
