@@ -198,10 +198,10 @@ fn place(alloc: Global, board: &mut Board, claim: Claim) -> Result<(), NoMemory>
     let mut claims = Claims::new(alloc);
     claims.push(claim)?;
     let mut undo = board.reserve(alloc, &claims)?;
-    for claim in claims.as_slice() {
-        if board.judge(claim, None) == Verdict::Placed {
-            board.apply_placed(claim, &mut undo);
-        }
+    if let Some(claim) = claims.get(0)
+        && board.judge(claim, None) == Verdict::Placed
+    {
+        board.apply_placed(claim, &mut undo);
     }
     Ok(())
 }
@@ -343,17 +343,38 @@ fn late_first_row(alloc: Global) -> Result<TraceTables, NoMemory> {
 fn asked_by_round(alloc: Global, tables: &TraceTables, window: u64) -> Result<Vec<u64>, NoMemory>
     requires { 0 < window }
 {
-    let board = Board::new(alloc);
     let cut = rounds(alloc, tables, window)?;
     let mut wanted = Wanted::new(alloc, tables, &SETTINGS)?;
     let mut told = Vec::new(alloc);
     for round in cut.as_slice() {
-        told.push(round.number)?;
-        take_all(&mut wanted, round.rows.as_slice())?;
-        tell_requests(&mut told, wanted.requests(alloc, 0, &board)?.as_slice())?;
-        tell_requests(&mut told, wanted.requests(alloc, 1, &board)?.as_slice())?;
+        tell_round(alloc, &mut told, &mut wanted, round)?;
     }
     Ok(told)
+}
+
+// The number of a round, and what is asked once its rows are taken.
+fn tell_round(
+    alloc: Global,
+    told: &mut Vec<u64>,
+    wanted: &mut Wanted,
+    round: &Round,
+) -> Result<(), NoMemory> {
+    told.push(round.number)?;
+    take_all(wanted, round.rows.as_slice())?;
+    tell_asked(alloc, told, wanted, 0)?;
+    tell_asked(alloc, told, wanted, 1)
+}
+
+// What a scheduler is asked, where nothing runs.
+fn tell_asked(
+    alloc: Global,
+    told: &mut Vec<u64>,
+    wanted: &Wanted,
+    scheduler: u32,
+) -> Result<(), NoMemory> {
+    let board = Board::new(alloc);
+    let requests = wanted.requests(alloc, scheduler, &board)?;
+    tell_requests(told, requests.as_slice())
 }
 
 fn take_all(wanted: &mut Wanted, rows: &[Row]) -> Result<(), NoMemory> {
