@@ -38,7 +38,13 @@ fn run(rt: &HostRuntime) -> Status {
     };
     let mut tables = FolderTables::new(rt);
     let mut out = StdoutSink::new(rt);
-    let done = omega(rt.alloc(), words.as_slice(), &mut tables, &mut out, &PassGate);
+    let done = omega(
+        rt.alloc(),
+        words.as_slice(),
+        &mut tables,
+        &mut out,
+        &PassGate,
+    );
     done.status
 }
 

@@ -1,7 +1,7 @@
 //! Placement constraints: when a machine is eligible for a task.
 #![tactic(auto)]
 
-ghost use Rattle.std.specs.Prelude.{◌≡◌, option_map};
+ghost use Rattle.std.specs.Prelude.{◌≡◌};
 ghost use Rattle.std.specs.Option.{option_copied};
 ghost use Rattle.omega_model.specs.Numbers.{whole};
 ghost use Rattle.omega_model.specs.Eligible.{attribute, is_equal, is_less, holds, eligible};
@@ -38,7 +38,7 @@ pub fn eligible(constraints: &Constraints, attrs: &Attrs) -> bool
         .all(|constraint| holds(constraint, attrs))
 }
 
-// The value of the first attribute of this name.
+/// The value of the first attribute of this name, if there is one.
 fn attribute<'a>(attrs: &'a Attrs, name: &[u8]) -> Option<&'a [u8]>
     ensures { option_copied result ≡ attribute attrs.now name.now }
 {
@@ -49,6 +49,7 @@ fn attribute<'a>(attrs: &'a Attrs, name: &[u8]) -> Option<&'a [u8]>
     Some(attr.value.as_slice())
 }
 
+/// Whether an attribute is equal to a value; one that is unset is equal to the empty value alone.
 fn is_equal(set: Option<&[u8]>, value: &[u8]) -> bool
     ensures { result ≡ is_equal (option_copied set.entry) value.now }
 {
@@ -58,6 +59,7 @@ fn is_equal(set: Option<&[u8]>, value: &[u8]) -> bool
     }
 }
 
+/// Whether there are two numbers and the first is less.
 fn is_less(a: Option<u64>, b: Option<u64>) -> bool
     ensures { result ≡ is_less a b }
 {
@@ -67,8 +69,12 @@ fn is_less(a: Option<u64>, b: Option<u64>) -> bool
     }
 }
 
+/// The whole number that a text writes, if it is one.
 fn whole(text: &[u8]) -> Option<u64>
     ensures { result ≡ whole text.now }
 {
     read_u64(text).ok()
 }
+
+#[cfg(test)]
+mod tests;

@@ -5,6 +5,7 @@ ghost use Rattle.omega_io.specs.Edge.{Rose};
 ghost use Rattle.omega_model.specs.declared.rows.Table.{Table};
 
 use crate::by_table::ByTable;
+use crate::calls::count_one;
 use crate::edges::{Failed, Tables};
 use omega_model::{NoMemory, Table};
 use std::alloc::Global;
@@ -93,14 +94,6 @@ fn read_file(
     }
 }
 
-// One more fault. A count stops at 2^64 - 1.
-fn count_one(faults: &mut u64)
-    ensures cause { Rose faults.old faults.new }
-    ensures later { faults.old ≤ faults.new }
-{
-    *faults = faults.saturating_add(1);
-}
-
 // One more fault of a table.
 fn count_fault(faults: &mut ByTable<u64>, table: Table)
     ensures only { OnlyAt table faults.old faults.new }
@@ -132,7 +125,7 @@ pub struct FolderTables<'a> {
 impl<'a> FolderTables<'a> {
     /// No folder yet, and no fault. Takes no memory.
     pub fn new(rt: &'a HostRuntime) -> FolderTables<'a>
-        ensures { (t : Table) → at result.faults t ≡ 0 }
+        ensures { (t : Table) → ⟦<FolderTables<'a> as Tables>⟧.faults result t ≡ 0 }
     {
         FolderTables {
             rt,

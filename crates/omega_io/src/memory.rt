@@ -4,7 +4,7 @@ ghost use Rattle.omega_io.specs.Edge.{Rose};
 ghost use Rattle.omega_io.specs.ByTable.{at, OnlyAt};
 
 use crate::by_table::ByTable;
-use crate::calls::Calls;
+use crate::calls::{Calls, count_one};
 use crate::edges::{Failed, Sink, Tables};
 use crate::unread::Unread;
 use omega_model::{Bytes, NoMemory, Seq, Table, Text};
@@ -38,7 +38,7 @@ impl Held {
         ensures later { self.old.faults ≤ self.new.faults }
     {
         if fails {
-            self.faults = self.faults.saturating_add(1);
+            count_one(&mut self.faults);
             return Err(Failed);
         }
         Ok(self.unread.hand_over(most, piece))
@@ -84,6 +84,7 @@ impl MemoryTables {
     /// The same tables, of which each read gives at most `largest` bytes.
     pub fn cut(self, largest: usize) -> MemoryTables
         requires { 0 < largest }
+        ensures largest { result.largest ≡ largest }
         ensures rests { (t : Table) → ⟦<MemoryTables as Tables>⟧.rest result t ≡ ⟦<MemoryTables as Tables>⟧.rest self t }
         ensures counts { (t : Table) → ⟦<MemoryTables as Tables>⟧.faults result t ≡ ⟦<MemoryTables as Tables>⟧.faults self t }
     {
@@ -95,6 +96,7 @@ impl MemoryTables {
     /// The same tables, of which one read fails, counted from 0 over all tables. Of several the
     /// last one counts.
     pub fn fail_at(self, call: u64) -> MemoryTables
+        ensures failing { result.calls.failing ≡ Some call }
         ensures rests { (t : Table) → ⟦<MemoryTables as Tables>⟧.rest result t ≡ ⟦<MemoryTables as Tables>⟧.rest self t }
         ensures counts { (t : Table) → ⟦<MemoryTables as Tables>⟧.faults result t ≡ ⟦<MemoryTables as Tables>⟧.faults self t }
     {
@@ -189,6 +191,7 @@ impl MemorySink {
     /// The same sink, of which each write takes at most `largest` bytes.
     pub fn cut(self, largest: usize) -> MemorySink
         requires { 0 < largest }
+        ensures largest { result.largest ≡ largest }
         ensures written { ⟦<MemorySink as Sink>⟧.written result ≡ ⟦<MemorySink as Sink>⟧.written self }
         ensures count { ⟦<MemorySink as Sink>⟧.faults result ≡ ⟦<MemorySink as Sink>⟧.faults self }
     {
@@ -199,6 +202,7 @@ impl MemorySink {
 
     /// The same sink, of which one write fails, counted from 0. Of several the last one counts.
     pub fn fail_at(self, call: u64) -> MemorySink
+        ensures failing { result.calls.failing ≡ Some call }
         ensures written { ⟦<MemorySink as Sink>⟧.written result ≡ ⟦<MemorySink as Sink>⟧.written self }
         ensures count { ⟦<MemorySink as Sink>⟧.faults result ≡ ⟦<MemorySink as Sink>⟧.faults self }
     {
@@ -221,7 +225,7 @@ impl MemorySink {
         ensures cause { Rose self.old.faults self.new.faults }
         ensures later { self.old.faults ≤ self.new.faults }
     {
-        self.faults = self.faults.saturating_add(1);
+        count_one(&mut self.faults);
         Failed
     }
 }

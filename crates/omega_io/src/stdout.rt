@@ -2,6 +2,7 @@
 ghost use Rattle.std.specs.Prelude.{◌≡◌, ◌≤◌, IfOk, length};
 ghost use Rattle.omega_io.specs.Edge.{Rose};
 
+use crate::calls::count_one;
 use crate::edges::{Failed, Sink};
 use std::io;
 use std::io::Write;
@@ -27,7 +28,7 @@ fn write_some(rt: &HostRuntime, piece: &[u8]) -> io::Result<usize>
 impl<'a> StdoutSink<'a> {
     /// Standard output, with no fault so far.
     pub fn new(rt: &'a HostRuntime) -> StdoutSink<'a>
-        ensures { result.faults ≡ 0 }
+        ensures { ⟦<StdoutSink<'a> as Sink>⟧.faults result ≡ 0 }
     {
         StdoutSink { rt, faults: 0 }
     }
@@ -44,7 +45,7 @@ impl<'a> Sink for StdoutSink<'a> {
         match write_some(self.rt, piece) {
             Ok(count) if count > 0 => Ok(count),
             _ => {
-                self.faults = self.faults.saturating_add(1);
+                count_one(&mut self.faults);
                 Err(Failed)
             }
         }

@@ -1,10 +1,10 @@
 -- Changes that leave a machine within its bounds.
-use Rattle.std.proofs.Common.{◌≡◌, ℕ, ◌+◌, ◌-◌, ◌<◌, ◌≤◌, ◌^◌, Bool, true, false, sym, ap, ◌∙◌, true≢false, arith}
+use Rattle.std.proofs.Common.{◌≡◌, ◌+◌, ◌<◌, ◌^◌, true, sym, ap, ◌∙◌, true≢false, arith}
 use Rattle.omega_model.specs.Fields.{greatest}
-use Rattle.omega_model.specs.Machines.{removed, attr_set, attr_deleted}
+use Rattle.omega_model.specs.Machines.{removed}
 use Rattle.omega_model.specs.Need.{Fits, nothing, plus, minus}
 use Rattle.omega_model.specs.declared.cells.Need.{Need}
-use Rattle.omega_machines.specs.Table.{MachineState, IsBounded, used, state_added, state_updated, with_machine, charged, released, touched}
+use Rattle.omega_machines.specs.Table.{MachineState, IsBounded, used, state_added, state_updated, with_machine, charged, released}
 
 -- amounts are equal where their components are
 same_need : (a b : Need) → a.cpu ≡ b.cpu → a.mem ≡ b.mem → a ≡ b

@@ -1,24 +1,43 @@
 -- A table with a new machine at its end.
-use Rattle.std.proofs.Common.{◌≡◌, ◌⊎◌, inl, inr, ℕ, ◌+◌, ◌<◌, ◌≤◌, Bool, true, false, nat_eq, List, [], ◌∷◌, ◌++◌, map, length, refl, sym, ap, ◌∙◌, subst, arith, true≢false, Option, Some, None, is_some, IsTrue, length-append, if◌then◌else◌}
+use Rattle.std.proofs.Common.{◌≡◌, ◌⊎◌, inl, inr, ℕ, ◌+◌, ◌<◌, false, nat_eq, List, [], ◌∷◌, ◌++◌, length, get_or, take, drop, slice_get, suc, refl, sym, ap, ◌∙◌, subst, arith, true≢false, Option, Some, None, is_some, IsTrue, length-append, if◌then◌else◌}
 use Rattle.std.specs.Cmp.{nat_eq_equiv}
 use Rattle.std.specs.List.{IsDistinct, list_any}
 use Rattle.std.specs.Map.{keys_of, values_of, lookup}
-use Rattle.std.proofs.lemmas.List.{map-append}
+use Rattle.std.proofs.Math.Seq.{drop-cons}
+use Rattle.std.proofs.lemmas.List.{map-append, take_more, take-append-drop}
 use Rattle.std.proofs.lemmas.List.Elements.{All-push}
 use Rattle.std.proofs.lemmas.Map.Keys.{IsDistinct-push}
 use Rattle.std.proofs.lemmas.Map.Made.{is_some-lookup}
-use Rattle.std.proofs.lemmas.Option.{none-some}
-use Rattle.indexmap.specs.IndexMap.{insert_entry}
+use Rattle.std.proofs.lemmas.Option.{slice_get_within, get_or_from_slice_get}
+use Rattle.indexmap.proofs.MapLemmas.{absent_before}
 use Rattle.omega_model.specs.Machines.{is_listed, numbers_of}
 use Rattle.omega_model.specs.Need.{nothing}
 use Rattle.omega_model.specs.declared.cells.Attr.{Attr}
 use Rattle.omega_machines.specs.Rows.{IsKept}
 use Rattle.omega_machines.specs.Table.{MachineState, machines_of, new_state, ensured_states, IsBounded, IsTable}
-use Rattle.omega_machines.proofs.Places.{by_answer, listed-keys}
+use Rattle.omega_machines.proofs.Places.{listed-keys}
 
 -- a new machine is within its bounds
 bounded-new : (id : ℕ) → IsBounded (new_state id)
 bounded-new id = record { cap = (omega arith, omega arith); free = (omega arith, omega arith); down = λ _. refl }
+
+-- among distinct keys, that of an entry isn't among those before it
+pub absent_before_place : (rows : List (ℕ × MachineState)) (place key : ℕ) (state : MachineState) → IsDistinct nat_eq (keys_of rows) → Some (key, state) ≡ slice_get rows place
+    → lookup (nat_eq key) (take place rows) ≡ None
+absent_before_place rows place key state distinct at =
+    let within : place < length rows = slice_get_within rows place (key, state) (sym at) in
+    let here : get_or rows place (key, state) ≡ (key, state) = get_or_from_slice_get rows place (key, state) (key, state) (sym at) in
+    let rest : drop place rows ≡ (key, state) ∷ drop (suc place) rows = drop-cons rows place (key, state) within ∙ ap (λ row. row ∷ drop (suc place) rows) here in
+    let split : rows ≡ take place rows ++ (key, state) ∷ drop (suc place) rows = sym (take-append-drop place rows) ∙ ap (λ r. take place rows ++ r) rest in
+    absent_before nat_eq_equiv (take place rows) (drop (suc place) rows) (key, state) (subst (λ r. IsDistinct nat_eq (keys_of r)) split distinct)
+
+-- and with it they are the entries up to the next place
+pub next_taken : (rows : List (ℕ × MachineState)) (place key : ℕ) (state : MachineState) → Some (key, state) ≡ slice_get rows place
+    → take place rows ++ (key, state) ∷ [] ≡ take (place + 1) rows
+next_taken rows place key state at =
+    let within : place < length rows = slice_get_within rows place (key, state) (sym at) in
+    let here : get_or rows place (key, state) ≡ (key, state) = get_or_from_slice_get rows place (key, state) (key, state) (sym at) in
+    ap (λ row. take place rows ++ row ∷ []) (sym here) ∙ sym (take_more rows place (key, state) within)
 
 module _ (rows : List (ℕ × MachineState)) (table : List MachineState) (id : ℕ) (seen : values_of rows ≡ table) (kept : IsKept rows) (absent : is_listed id (machines_of table) ≡ false) where
   -- a number that isn't listed is no key
@@ -26,7 +45,7 @@ module _ (rows : List (ℕ × MachineState)) (table : List MachineState) (id : �
   no_key = listed-keys rows id kept ∙ ap (λ t. is_listed id (machines_of t)) seen ∙ absent
 
   -- so the hash table finds nothing under it
-  no_state : lookup (nat_eq id) rows ≡ None
+  pub no_state : lookup (nat_eq id) rows ≡ None
   no_state = by (lookup (nat_eq id) rows) (is_some-lookup (nat_eq id) rows ∙ no_key)
     where
       by : (o : Option MachineState) → is_some o ≡ false → o ≡ None
@@ -63,17 +82,10 @@ module _ (rows : List (ℕ × MachineState)) (table : List MachineState) (id : �
       other : list_any (nat_eq id) (numbers_of (machines_of table)) ≡ false
       other = ap (list_any (nat_eq id)) (sym (ap (λ t. numbers_of (machines_of t)) seen) ∙ sym kept.keyed) ∙ no_key
 
-  -- the rows after the insert of a machine without attributes
+  -- also where its empty list of attributes is made by the code
   pub grown : (attrs : List Attr) (next : List (ℕ × MachineState)) → length table < 65536 ⊎ IsTrue (is_listed id (machines_of table)) → attrs ≡ []
-      → next ≡ insert_entry nat_eq rows id (record { machine = record { id = id; up = false; cap = nothing; attrs = attrs }; free = nothing; seq = 0 })
+      → next ≡ rows ++ (id, record { machine = record { id = id; up = false; cap = nothing; attrs = attrs }; free = nothing; seq = 0 }) ∷ []
       → IsKept next × (values_of next ≡ ensured_states id table)
-  grown attrs next room none inserted =
-      let as_new = ap (λ (a : List Attr). insert_entry nat_eq rows id (record { machine = record { id = id; up = false; cap = nothing; attrs = a }; free = nothing; seq = 0 })) none in
-      subst (λ (r : List (ℕ × MachineState)). IsKept r × (values_of r ≡ ensured_states id table)) (sym (inserted ∙ as_new ∙ insert_entry-absent)) (grows room)
-    where
-      insert_entry-absent : insert_entry nat_eq rows id (new_state id) ≡ rows ++ (id, new_state id) ∷ []
-      insert_entry-absent = absent_entry rows no_state
-        where
-          absent_entry : (es : List (ℕ × MachineState)) → lookup (nat_eq id) es ≡ None → insert_entry nat_eq es id (new_state id) ≡ es ++ (id, new_state id) ∷ []
-          absent_entry [] e = refl
-          absent_entry (row ∷ es) e = by_answer (nat_eq id row.0) (λ t. absurd (none-some row.1 (sym (rw t at e)))) (λ f. rw f (ap (λ rest. row ∷ rest) (absent_entry es (rw f at e))))
+  grown attrs next room none pushed =
+      let as_new = ap (λ (a : List Attr). rows ++ (id, record { machine = record { id = id; up = false; cap = nothing; attrs = a }; free = nothing; seq = 0 }) ∷ []) none in
+      subst (λ (r : List (ℕ × MachineState)). IsKept r × (values_of r ≡ ensured_states id table)) (sym (pushed ∙ as_new)) (grows room)

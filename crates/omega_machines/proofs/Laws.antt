@@ -1,10 +1,10 @@
 -- What the words on tables say of one another, for proofs over a table.
-use Rattle.std.proofs.Common.{◌≡◌, ℕ, ◌+◌, ◌-◌, ◌≤◌, ◌≢◌, Bool, true, false, cond, ◌||◌, nat_eq, List, [], ◌∷◌, ◌++◌, map, length, Option, Some, None, is_some, IsTrue, IsSomeAnd, refl, sym, ap, ◌∙◌, subst, arith, true≢false, if◌then◌else◌, ◌==◌}
-use Rattle.std.specs.List.{All, find, list_any}
+use Rattle.std.proofs.Common.{◌≡◌, ℕ, ◌≢◌, Bool, true, false, cond, ◌||◌, nat_eq, List, [], ◌∷◌, ◌++◌, Option, Some, None, is_some, IsTrue, IsSomeAnd, refl, sym, ap, ◌∙◌, subst, arith, if◌then◌else◌, ◌==◌}
+use Rattle.std.specs.List.{All, list_any}
 use Rattle.std.specs.Option.{option_map, option_map_or, option_and_then}
 use Rattle.std.proofs.lemmas.Bool.{eqb-true, eq-eqb}
-use Rattle.std.proofs.lemmas.List.{length-map, map-append}
-use Rattle.std.proofs.lemmas.List.Elements.{All-nil, All-cons, All-head, All-tail}
+use Rattle.std.proofs.lemmas.List.{map-append}
+use Rattle.std.proofs.lemmas.List.Elements.{All-nil, All-cons, All-head, All-tail, All-push}
 use Rattle.std.proofs.lemmas.List.Folds.{list_any-append}
 use Rattle.std.proofs.lemmas.Option.{none-some, same_Some}
 use Rattle.omega_model.specs.Cell.{machine_at}
@@ -13,7 +13,7 @@ use Rattle.omega_model.specs.Machines.{change, is_listed, new_machine, ensured}
 use Rattle.omega_model.specs.Need.{Fits, nothing}
 use Rattle.omega_model.specs.declared.cells.Need.{Need}
 use Rattle.omega_model.specs.declared.cells.Machine.{Machine}
-use Rattle.omega_machines.specs.Table.{MachineState, machines_of, state_at, used, use_at, free_if_up, free_at, change_state, new_state, ensured_states, charged, IsBounded, IsTable}
+use Rattle.omega_machines.specs.Table.{MachineState, machines_of, state_at, used, use_at, free_if_up, free_at, seq_at, change_state, new_state, ensured_states, charged, IsBounded, IsTable}
 use Rattle.omega_machines.proofs.Places.{by_answer}
 
 -- the machine of a number is that of its state
@@ -68,9 +68,9 @@ module _ (id : ℕ) (changed : MachineState → MachineState) where
     others_unchanged (s ∷ ss) other differs =
         by_answer (s.machine.id == id)
         (λ t.
-          let own : (s.machine.id == other) ≡ false = by_answer (s.machine.id == other) (λ h. absurd (differs (sym (eqb-true _ _ h) ∙ eqb-true _ _ t))) (λ h. h) in
-          let kept : ((changed s).machine.id == other) ≡ false = ap (λ n. nat_eq n other) (keeps s) ∙ own in
-          rw (t, kept, own) (others_unchanged ss other differs))
+        let own : (s.machine.id == other) ≡ false = by_answer (s.machine.id == other) (λ h. absurd (differs (sym (eqb-true _ _ h) ∙ eqb-true _ _ t))) (λ h. h) in
+        let kept : ((changed s).machine.id == other) ≡ false = ap (λ n. nat_eq n other) (keeps s) ∙ own in
+        rw (t, kept, own) (others_unchanged ss other differs))
         (λ f. rw f (ap (cond (s.machine.id == other) (Some s)) (others_unchanged ss other differs)))
 
     -- the same numbers are listed
@@ -95,9 +95,36 @@ ensured_listed id table =
     by_answer (is_listed id (machines_of table))
     (λ t. rw (t, t) refl)
     (λ f. rw f (
-      ap (list_any test) (map-append (λ (state : MachineState). state.machine) table (new_state id ∷ []))
-      ∙ list_any-append test (machines_of table) (new_machine id ∷ [])
-      ∙ (λ i. f i || (eq-eqb id id refl i || false))))
+    ap (list_any test) (map-append (λ (state : MachineState). state.machine) table (new_state id ∷ []))
+    ∙ list_any-append test (machines_of table) (new_machine id ∷ [])
+    ∙ (λ i. f i || (eq-eqb id id refl i || false))))
+
+module _ (id : ℕ) where
+  -- what all states and a new one have, all have where a number is made listed
+  pub all_ensured : (P : MachineState → Type 0) (table : List MachineState) → P (new_state id) → All P table → All P (ensured_states id table)
+  all_ensured P table new all =
+      by_answer (is_listed id (machines_of table))
+      (λ t. subst (All P) (ap (λ b. if b then table else table ++ new_state id ∷ []) (sym t)) all)
+      (λ f. subst (All P) (ap (λ b. if b then table else table ++ new_state id ∷ []) (sym f)) (All-push P table (new_state id) all new))
+
+  -- what is told of a number that has no state is told of a new machine
+  told_ensured : {A : Type 0} (tell : Option MachineState → A) → tell (Some (new_state id)) ≡ tell None → (table : List MachineState) (other : ℕ)
+      → tell (state_at (ensured_states id table) other) ≡ tell (state_at table other)
+  told_ensured tell same table other = by_answer (is_listed id (machines_of table)) (λ t. rw t refl) (λ f. rw f (pushed table))
+    where
+      pushed : (states : List MachineState) → tell (state_at (states ++ new_state id ∷ []) other) ≡ tell (state_at states other)
+      pushed [] = by_answer (id == other) (λ t. rw t same) (λ f. rw f refl)
+      pushed (s ∷ ss) = by_answer (s.machine.id == other) (λ t. rw t refl) (λ f. rw f (pushed ss))
+
+  -- so no more is in use, free or touched than before
+  pub use_ensured : (table : List MachineState) (other : ℕ) → use_at (ensured_states id table) other ≡ use_at table other
+  use_ensured = told_ensured (λ o. option_map_or used o nothing) refl
+
+  pub free_ensured : (table : List MachineState) (other : ℕ) → free_at (ensured_states id table) other ≡ free_at table other
+  free_ensured = told_ensured (option_and_then free_if_up) refl
+
+  pub seq_ensured : (table : List MachineState) (other : ℕ) → seq_at (ensured_states id table) other ≡ seq_at table other
+  seq_ensured = told_ensured (λ o. option_map_or (λ (state : MachineState). state.seq) o 0) refl
 
 -- a state that is found in a table is within its bounds
 pub found_bounded : (table : List MachineState) (id : ℕ) (state : MachineState) → All IsBounded table → state_at table id ≡ Some state → IsBounded state
@@ -129,6 +156,6 @@ use_charged table id need held room =
         let bounded = found_bounded table id state held.bounded found in
         by_answer state.machine.up
         (λ t.
-          let fits : Fits need state.free = rw t at there in
-          (omega (arith, bounded.free.0, fits.0), omega (arith, bounded.free.1, fits.1)))
+        let fits : Fits need state.free = rw t at there in
+        (omega (arith, bounded.free.0, fits.0), omega (arith, bounded.free.1, fits.1)))
         (λ f. absurd (rw f at there))

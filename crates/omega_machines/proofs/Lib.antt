@@ -1,6 +1,8 @@
-mod Places
+pub mod Places
 mod Rewriting
 mod Bounds
 mod Growing
 mod Attributes
 pub mod Laws
+mod Shortening
+pub mod Ensuring

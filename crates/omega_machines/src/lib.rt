@@ -2,15 +2,18 @@
 //!
 //! A look-up by number goes through a hash table and costs the same for any number of machines.
 //! Contracts speak of the list of the machines' states alone, in order of first mention.
+//!
+//! The hash has a fixed seed. Numbers that are chosen so that they collide make a look-up go
+//! through the machines one by one, of which there are at most 65,536; no answer changes.
 #![tactic(auto)]
 
 mod attrs;
 mod table;
-
 #[cfg(test)]
 mod tests;
 
-use omega_model::{Machine, Need};
+use omega_model::{Copied, Machine, Need, NoMemory};
+use std::alloc::Global;
 pub use table::MachineTable;
 
 /// A machine, what is free on it, and its sequence number: how many entries have touched it.
@@ -19,4 +22,14 @@ pub struct MachineState {
     pub machine: Machine,
     pub free: Need,
     pub seq: u64,
+}
+
+impl Copied for MachineState {
+    fn copy(&self, alloc: Global) -> Result<MachineState, NoMemory> {
+        Ok(MachineState {
+            machine: self.machine.copy(alloc)?,
+            free: self.free,
+            seq: self.seq,
+        })
+    }
 }

@@ -1,5 +1,6 @@
 //! The table of machines.
-ghost use Rattle.std.specs.Prelude.{◌≡◌, ◌+◌, ◌-◌, ◌<◌, ◌^◌, ◌⊎◌, ◌==◌, [], Some, length, slice_get, option_map, position, is_some, IsTrue, IsSomeAnd, IsSome, IfSome, OnOk, OnErr};
+ghost use Rattle.std.specs.Prelude.{◌≡◌, ◌-◌, ◌<◌, ◌^◌, ◌⊎◌, ◌==◌, [], ◌∷◌, ◌++◌, None, Some, nat_eq, length, take, slice_get, option_map, position, is_some, IsTrue, IsSomeAnd, OnOk, OnErr};
+ghost use Rattle.indexmap.specs.IndexMap.{get, IsUnchanged};
 ghost use Rattle.omega_model.specs.Fields.{greatest};
 ghost use Rattle.omega_model.specs.Machines.{is_listed, removed, attr_set, attr_deleted};
 ghost use Rattle.omega_model.specs.Need.{Fits, nothing, minus};
@@ -7,7 +8,7 @@ ghost use Rattle.omega_machines.specs.Table.{machines_of, use_at, free_at, seq_a
 
 use crate::{MachineState, attrs};
 use indexmap::IndexMap;
-use omega_model::{Bytes, Machine, Need, NoMemory, Seq};
+use omega_model::{Bytes, Copied, Machine, Need, NoMemory, Seq};
 use std::alloc::Global;
 use std::marker::Model;
 
@@ -18,6 +19,9 @@ const NOTHING: Need = Need { cpu: 0, mem: 0 };
 /// A contract sees the list of their states. There are at most 65,536 of them, with distinct
 /// numbers and capacities of at most 1,000,000,000,000 units, and no more is in use on a machine
 /// than its capacity, nothing where it is down.
+///
+/// A call on a machine costs one or two look-ups of its number, the same for any number of
+/// machines, and takes no memory, unless its own text says more.
 #[derive(Drop)]
 pub struct MachineTable {
     rows: IndexMap<u64, MachineState>,
@@ -36,6 +40,7 @@ impl Model for MachineTable {
     ghost invariant = { λ table. IsKept table.rows.entries };
 }
 
+/// What is left of `a` when `b` is taken off it; a component stops at 0.
 fn minus(a: Need, b: Need) -> Need
     ensures { result ≡ minus a b }
 {
@@ -45,8 +50,31 @@ fn minus(a: Need, b: Need) -> Need
     }
 }
 
+/// Gives a machine a capacity. What is in use on it stays in use.
+fn set_cap(state: &mut MachineState, cap: Need)
+    ensures { state.new ≡ state_updated cap state.old }
+{
+    let used = minus(state.machine.cap, state.free);
+    state.free = minus(cap, used);
+    state.machine.cap = cap;
+}
+
+/// Puts a state behind the others, under a number that has none.
+fn push(
+    rows: &mut IndexMap<u64, MachineState>,
+    id: u64,
+    state: MachineState,
+) -> Result<(), NoMemory>
+    requires { get nat_eq rows.old id ≡ None }
+    ensures ok { OnOk result (rows.new.entries ≡ rows.old.entries ++ (id, state) ∷ []) }
+    ensures err { OnErr result (IsUnchanged rows.old rows.new) }
+{
+    rows.insert(id, state)?;
+    Ok(())
+}
+
 impl MachineTable {
-    /// The table without machines. Takes no memory.
+    /// The table without machines.
     pub fn new(alloc: Global) -> MachineTable
         ensures { result ≡ [] }
     {
@@ -80,7 +108,7 @@ impl MachineTable {
     }
 
     /// Puts a machine that isn't there at the end of the list: down, with no capacity and no
-    /// attributes. Refused, it leaves the table as it was.
+    /// attributes. Refused, it leaves the table as it was. Takes memory.
     pub fn ensure(&mut self, id: u64) -> Result<(), NoMemory>
         requires { length self.old < 65536 ⊎ IsTrue (is_listed id (machines_of self.old)) }
         ensures ok { OnOk result (self.new ≡ ensured_states id self.old) }
@@ -101,11 +129,11 @@ impl MachineTable {
             free: NOTHING,
             seq: 0,
         };
-        self.rows.insert(id, state)?;
+        push(&mut self.rows, id, state)?;
         Ok(())
     }
 
-    /// Brings a machine up with a capacity. What is in use on it stays in use. Takes no memory.
+    /// Brings a machine up with a capacity. What is in use on it stays in use.
     pub fn add(&mut self, id: u64, cap: Need)
         requires listed { IsTrue (is_listed id (machines_of self.old)) }
         requires cap { Fits cap greatest }
@@ -115,13 +143,11 @@ impl MachineTable {
     {
         let place = self.place_of(id);
         let (_, state) = self.rows.pair_mut(place);
-        state.free = minus(cap, minus(state.machine.cap, state.free));
-        state.machine.cap = cap;
+        set_cap(state, cap);
         state.machine.up = true;
     }
 
     /// Gives a machine another capacity; it stays up or down. What is in use on it stays in use.
-    /// Takes no memory.
     pub fn update(&mut self, id: u64, cap: Need)
         requires listed { IsTrue (is_listed id (machines_of self.old)) }
         requires cap { Fits cap greatest }
@@ -131,12 +157,10 @@ impl MachineTable {
     {
         let place = self.place_of(id);
         let (_, state) = self.rows.pair_mut(place);
-        state.free = minus(cap, minus(state.machine.cap, state.free));
-        state.machine.cap = cap;
+        set_cap(state, cap);
     }
 
-    /// Takes a machine down on which nothing is in use. Its capacity and attributes stay. Takes no
-    /// memory.
+    /// Takes a machine down on which nothing is in use. Its capacity and attributes stay.
     pub fn remove(&mut self, id: u64)
         requires listed { IsTrue (is_listed id (machines_of self.old)) }
         requires in_use { use_at self.old id ≡ nothing }
@@ -149,7 +173,8 @@ impl MachineTable {
     }
 
     /// Gives an attribute of a machine a value, in its place where it is set, else after the
-    /// others. Refused, it leaves the table as it was. Costs the machine's attributes.
+    /// others. Refused, it leaves the table as it was. Takes memory, and costs the machine's
+    /// attributes.
     pub fn set_attr(&mut self, id: u64, name: &Bytes, value: &Bytes) -> Result<(), NoMemory>
         requires { IsTrue (is_listed id (machines_of self.old)) }
         ensures ok { OnOk result (self.new ≡ change_state id (with_machine (attr_set name.now value.now)) self.old) }
@@ -162,7 +187,25 @@ impl MachineTable {
         attrs::set(&mut state.machine.attrs, alloc, name, value)
     }
 
-    /// Unsets an attribute of a machine. Costs the machine's attributes. Takes no memory.
+    /// Gives an attribute of a machine a value, as `set_attr` does, and puts the machine at the end
+    /// of the list first where it isn't there. Refused, it leaves the table as it was. Costs the
+    /// machine's attributes.
+    pub fn ensure_attr(&mut self, id: u64, name: &Bytes, value: &Bytes) -> Result<(), NoMemory>
+        requires { length self.old < 65536 ⊎ IsTrue (is_listed id (machines_of self.old)) }
+        ensures ok { OnOk result (self.new ≡ change_state id (with_machine (attr_set name.now value.now)) (ensured_states id self.old)) }
+        ensures err { OnErr result (self.new ≡ self.old) }
+        ensures table { IsTable self.new }
+    {
+        let count = self.len();
+        self.ensure(id)?;
+        let set = self.set_attr(id, name, value);
+        if set.is_err() {
+            self.forget_after(count);
+        }
+        set
+    }
+
+    /// Unsets an attribute of a machine. Costs the machine's attributes.
     pub fn delete_attr(&mut self, id: u64, name: &Bytes)
         requires { IsTrue (is_listed id (machines_of self.old)) }
         ensures changed { self.new ≡ change_state id (with_machine (attr_deleted name.now)) self.old }
@@ -177,7 +220,8 @@ impl MachineTable {
     /// What is free on a machine: its capacity less what is in use. `None` exactly where it isn't
     /// up.
     pub fn free(&self, id: u64) -> Option<Need>
-        ensures { result ≡ free_at self.now id }
+        ensures free { result ≡ free_at self.now id }
+        ensures table { IsTable self.now }
     {
         let state = self.rows.get(&id)?;
         if state.machine.up {
@@ -197,7 +241,7 @@ impl MachineTable {
         }
     }
 
-    /// Counts one more entry that touches a machine. Takes no memory.
+    /// Counts one more entry that touches a machine.
     pub fn touch(&mut self, id: u64)
         requires listed { IsTrue (is_listed id (machines_of self.old)) }
         requires seq { seq_at self.old id < 2 ^ 64 - 1 }
@@ -209,7 +253,7 @@ impl MachineTable {
         state.seq += 1;
     }
 
-    /// Takes an amount of what is free on a machine that is up. Takes no memory.
+    /// Takes an amount of what is free on a machine that is up.
     pub fn charge(&mut self, id: u64, need: Need)
         requires { IsSomeAnd (free_at self.old id) (λ free. Fits need free) }
         ensures changed { self.new ≡ change_state id (charged need) self.old }
@@ -220,7 +264,7 @@ impl MachineTable {
         state.free = minus(state.free, need);
     }
 
-    /// Gives back an amount of what is in use on a machine. Takes no memory.
+    /// Gives back an amount of what is in use on a machine.
     pub fn release(&mut self, id: u64, need: Need)
         requires listed { IsTrue (is_listed id (machines_of self.old)) }
         requires in_use { Fits need (use_at self.old id) }
@@ -232,11 +276,32 @@ impl MachineTable {
         state.free = state.free.plus(need);
     }
 
+    /// The first so many machines alone. Takes no memory.
+    fn forget_after(&mut self, count: usize)
+        ensures first { self.new ≡ take count self.old }
+        ensures table { IsTable self.new }
+    {
+        self.rows.truncate(count);
+    }
+
     /// The place of a machine that is there.
     fn place_of(&self, id: u64) -> usize
         requires { IsTrue (is_listed id (machines_of self.now)) }
         ensures { position (λ machine. machine.id == id) (machines_of self.now) ≡ Some result }
     {
         self.position(id).unwrap()
+    }
+}
+
+impl Copied for MachineTable {
+    /// Costs all machines and their attributes, also in memory.
+    fn copy(&self, alloc: Global) -> Result<MachineTable, NoMemory> {
+        let mut rows = IndexMap::new(alloc);
+        for position in 0..self.rows.len() {
+            if let Some((id, state)) = self.rows.get_index(position) {
+                push(&mut rows, *id, state.copy(alloc)?)?;
+            }
+        }
+        Ok(MachineTable { rows })
     }
 }

@@ -8,3 +8,8 @@ pub mod Records
 pub mod TypedRows
 mod ExamplesLawful
 pub mod FirstRefusal
+pub mod Standing
+pub mod Attempts
+pub mod RoundsInOrder
+mod TableExamples
+pub mod OpenRequests

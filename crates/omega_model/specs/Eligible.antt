@@ -1,5 +1,5 @@
 -- Placement constraints: when a machine may take a task.
-use Rattle.std.specs.Prelude.{ℕ, Bool, true, false, not, ◌==◌, nat_lt, List, [], ◌∷◌, length, Option, Some, None, option_map, option_and_then, bytes_eq, find}
+use Rattle.std.specs.Prelude.{ℕ, Bool, false, not, ◌==◌, nat_lt, List, length, Option, Some, None, option_map, option_and_then, bytes_eq, find}
 use Rattle.std.specs.List.{list_all}
 use Rattle.omega_model.specs.Numbers.{whole}
 use Rattle.omega_model.specs.declared.cells.Attr.{Attr}

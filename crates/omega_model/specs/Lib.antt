@@ -25,7 +25,12 @@ pub mod World
 pub mod Numbers
 pub mod Eligible
 pub mod Rows
-pub mod FirstForm
+pub mod Columns
+pub mod Limits
 pub mod Trace
 pub mod Refusals
 pub mod Ranges
+pub mod Jobs
+pub mod Working
+pub mod JudgeOn
+pub mod OpenRequests

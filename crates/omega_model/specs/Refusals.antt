@@ -1,10 +1,14 @@
 -- Which refusal comes first for the bytes of the five tables.
-use Rattle.std.specs.Prelude.{ℕ, ◌+◌, nat_lt, List, [], ◌∷◌, length, take, map, Option, Some, None, Result, Ok, Err, if◌then◌else◌}
-use Rattle.omega_model.specs.Trace.{machine_rows, attr_rows, task_rows, constraint_rows, activity_rows, tables_in_order, place_of}
+use Rattle.std.specs.Prelude.{ℕ, Bool, ◌+◌, ◌==◌, ◌&&◌, not, nat_lt, List, [], ◌∷◌, length, take, map, Option, Some, None, option_map, Result, Ok, Err, if◌then◌else◌}
+use Rattle.std.specs.List.{position_or_len}
+use Rattle.omega_model.specs.Columns.{BadColumn}
+use Rattle.omega_model.specs.Limits.{excess}
+use Rattle.omega_model.specs.Trace.{machine_rows, attr_rows, task_rows, constraint_rows, activity_rows, trace_of, tables_in_order, place_of}
 use Rattle.omega_model.specs.declared.rows.Table.{Table}
+use Rattle.omega_model.specs.declared.rows.TraceTables.{TraceTables}
 use Rattle.omega_model.specs.declared.rows.Table.TheVariants.{MachineEvents, MachineAttributes, TaskEvents, TaskConstraints, MapreduceJobs}
 use Rattle.omega_model.specs.declared.results.Status.{Status}
-use Rattle.omega_model.specs.declared.results.Status.TheVariants.{TooLong, NotBuilt}
+use Rattle.omega_model.specs.declared.results.Status.TheVariants.{TooLong, BadRow, TooMany, NotBuilt}
 
 -- the first refusal that stands
 abbrev pub first_of : List (Option Status) → Option Status
@@ -16,18 +20,18 @@ first_of (Some refusal ∷ others) = Some refusal
 abbrev pub length_refusal : Table → List ℕ → Option Status
 length_refusal table bytes = if nat_lt 268435456 (length bytes) then Some (TooLong table) else None
 
--- the first record that is no row isn't built; records count from 1 here
-abbrev pub not_built : {A : Type 0} → Table → Result (List A) (ℕ × Unit {0}) → Option Status
-not_built table (Ok rows) = None
-not_built table (Err (place, why)) = Some (NotBuilt table (place + 1))
+-- the first bad row, its first bad column and the cause; records count from 1 here
+abbrev pub bad_row : {A : Type 0} → Table → Result (List A) (ℕ × BadColumn) → Option Status
+bad_row table (Ok rows) = None
+bad_row table (Err (place, (column, cause))) = Some (BadRow table (place + 1) column cause)
 
 -- the refusal of a table's rows
 abbrev pub row_refusal : Table → List ℕ → Option Status
-row_refusal MachineEvents bytes = not_built MachineEvents (machine_rows bytes)
-row_refusal MachineAttributes bytes = not_built MachineAttributes (attr_rows bytes)
-row_refusal TaskEvents bytes = not_built TaskEvents (task_rows bytes)
-row_refusal TaskConstraints bytes = not_built TaskConstraints (constraint_rows bytes)
-row_refusal MapreduceJobs bytes = not_built MapreduceJobs (activity_rows bytes)
+row_refusal MachineEvents bytes = bad_row MachineEvents (machine_rows bytes)
+row_refusal MachineAttributes bytes = bad_row MachineAttributes (attr_rows bytes)
+row_refusal TaskEvents bytes = bad_row TaskEvents (task_rows bytes)
+row_refusal TaskConstraints bytes = bad_row TaskConstraints (constraint_rows bytes)
+row_refusal MapreduceJobs bytes = bad_row MapreduceJobs (activity_rows bytes)
 
 -- the refusal of a table: first its length, then its rows
 abbrev pub table_refusal : Table → List ℕ → Option Status
@@ -41,6 +45,28 @@ refusal_among tables bytes = first_of (map (λ table. table_refusal table (bytes
 abbrev pub refusal_before : Table → (Table → List ℕ) → Option Status
 refusal_before table bytes = refusal_among (take (place_of table) tables_in_order) bytes
 
--- the first refusal of the five tables, if any stands
+-- too many rows, or else too many different machines
+abbrev pub limit_refusal : TraceTables → Option Status
+limit_refusal trace = option_map (λ (kind, number). TooMany kind number) (excess trace)
+
+-- the first row of a table for which no replay is built yet; rows count from 1 here
+abbrev pub first_unbuilt : {A : Type 0} → Table → (A → Bool) → List A → Option Status
+first_unbuilt table is_built rows =
+    let place = position_or_len (λ row. not (is_built row)) rows in
+    if nat_lt place (length rows) then Some (NotBuilt table (place + 1)) else None
+
+-- a replay is built for machines that are added at time 0, for no attribute, and for tasks that are submitted at
+-- time 0 and may share a machine with others of their job; rows of the other two tables are read and kept
+abbrev pub not_built_row : TraceTables → Option Status
+not_built_row trace = first_of
+    (first_unbuilt MachineEvents (λ row. row.time == 0 && row.code == 0) trace.machines
+    ∷ (if nat_lt 0 (length trace.attrs) then Some (NotBuilt MachineAttributes 1) else None)
+    ∷ first_unbuilt TaskEvents (λ row. row.time == 0 && row.code == 0 && not row.spec.differ) trace.tasks ∷ [])
+
+-- the refusal of rows that were all read: first the limits over all tables, then what isn't built
+abbrev pub trace_refusal : TraceTables → Option Status
+trace_refusal trace = first_of (limit_refusal trace ∷ not_built_row trace ∷ [])
+
+-- the first refusal that stands: those of the five tables in their order, then that of all their rows
 abbrev pub first_refusal : (Table → List ℕ) → Option Status
-first_refusal bytes = refusal_among tables_in_order bytes
+first_refusal bytes = first_of (refusal_among tables_in_order bytes ∷ trace_refusal (trace_of bytes) ∷ [])

@@ -1,6 +1,5 @@
 -- Records of a table's bytes, and the typed rows of records.
-use Rattle.std.specs.Prelude.{ℕ, ◌+◌, ◌-◌, List, [], ◌∷◌, Option, Some, None, Result, Ok, Err, get_or}
-use Rattle.std.specs.Option.{ok_or}
+use Rattle.std.specs.Prelude.{ℕ, ◌+◌, ◌-◌, List, [], ◌∷◌, Result, Ok, Err, get_or}
 use Rattle.csv.specs.Reading.{default_config, records, strip_bom}
 
 -- the records of a table: comma, double quote, no header row, a byte order mark dropped
@@ -22,13 +21,9 @@ abbrev pub rows_by : {A E : Type 0} → (List (List ℕ) → Result A E) → Lis
 rows_by row_of [] = Ok []
 rows_by row_of (fields ∷ others) = with_first (row_of fields) (rows_by row_of others)
 
--- the row of a record, or that it is none
-abbrev pub row_or_none : {A : Type 0} → (List (List ℕ) → Option A) → List (List ℕ) → Result A (Unit {0})
-row_or_none row_of fields = ok_or (row_of fields) tt
-
--- the typed rows of a table's bytes, or the place of the first record that is no row
-abbrev pub rows_in : {A : Type 0} → (List (List ℕ) → Option A) → List ℕ → Result (List A) (ℕ × Unit {0})
-rows_in row_of bytes = rows_by (row_or_none row_of) (records_of bytes)
+-- the typed rows of a table's bytes, or the place of the first record that is no row, and why
+abbrev pub rows_in : {A E : Type 0} → (List (List ℕ) → Result A E) → List ℕ → Result (List A) (ℕ × E)
+rows_in row_of bytes = rows_by row_of (records_of bytes)
 
 -- the rows, and none where a record is no row
 abbrev pub rows_or_none : {A E : Type 0} → Result (List A) E → List A

@@ -1,7 +1,7 @@
 -- The trace: the typed rows of the bytes of the five tables.
 use Rattle.std.specs.Prelude.{ℕ, List, [], ◌∷◌, ◌++◌, Result}
 use Rattle.omega_model.specs.Rows.{rows_in, rows_or_none}
-use Rattle.omega_model.specs.FirstForm.{machine_row, task_row, no_row}
+use Rattle.omega_model.specs.Columns.{BadColumn, machine_row, attr_row, task_row, constraint_row, activity_row}
 use Rattle.omega_model.specs.Fields.{MachineFields, AttrFields, TaskFields, ConstraintFields, ActivityFields}
 use Rattle.omega_model.specs.declared.rows.Table.{Table}
 use Rattle.omega_model.specs.declared.rows.Table.TheVariants.{MachineEvents, MachineAttributes, TaskEvents, TaskConstraints, MapreduceJobs}
@@ -19,21 +19,21 @@ place_of TaskEvents = 2
 place_of TaskConstraints = 3
 place_of MapreduceJobs = 4
 
--- the rows of each table, or the place of the first record that is no row
-abbrev pub machine_rows : List ℕ → Result (List MachineFields) (ℕ × Unit {0})
+-- the rows of each table, or the place of the first bad record, its first bad column and the cause
+abbrev pub machine_rows : List ℕ → Result (List MachineFields) (ℕ × BadColumn)
 machine_rows bytes = rows_in machine_row bytes
 
-abbrev pub attr_rows : List ℕ → Result (List AttrFields) (ℕ × Unit {0})
-attr_rows bytes = rows_in no_row bytes
+abbrev pub attr_rows : List ℕ → Result (List AttrFields) (ℕ × BadColumn)
+attr_rows bytes = rows_in attr_row bytes
 
-abbrev pub task_rows : List ℕ → Result (List TaskFields) (ℕ × Unit {0})
+abbrev pub task_rows : List ℕ → Result (List TaskFields) (ℕ × BadColumn)
 task_rows bytes = rows_in task_row bytes
 
-abbrev pub constraint_rows : List ℕ → Result (List ConstraintFields) (ℕ × Unit {0})
-constraint_rows bytes = rows_in no_row bytes
+abbrev pub constraint_rows : List ℕ → Result (List ConstraintFields) (ℕ × BadColumn)
+constraint_rows bytes = rows_in constraint_row bytes
 
-abbrev pub activity_rows : List ℕ → Result (List ActivityFields) (ℕ × Unit {0})
-activity_rows bytes = rows_in no_row bytes
+abbrev pub activity_rows : List ℕ → Result (List ActivityFields) (ℕ × BadColumn)
+activity_rows bytes = rows_in activity_row bytes
 
 -- a trace without rows
 abbrev pub no_rows : TraceTables

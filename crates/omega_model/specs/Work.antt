@@ -69,6 +69,19 @@ moved_on settings standing request rest outcomes =
       failing = failing_with standing.failing request.job outcomes;
     }
 
+-- where a scheduler stands in its requests: those that remain, and how many attempts the first of them
+-- has had
+pub record Position : Type 0 where
+  pub requests : List Request
+  pub taken : ℕ
+
+-- the position after an attempt on the first request, whose job has then failed so often in a row
+abbrev pub next_position : Settings → ℕ → ℕ → Request → List Request → List Outcome → Position
+next_position settings taken failing request rest outcomes =
+    if ends_request settings (taken + 1) failing request outcomes
+    then record { requests = rest; taken = 0 }
+    else record { requests = rest_of request outcomes ∷ rest; taken = taken + 1 }
+
 -- the requests after one more list of outcomes; there is no answer where no request remains for it
 abbrev pub after_outcomes : Settings → Standing → List Request → List Outcome → Option Standing
 after_outcomes settings standing [] outcomes = None

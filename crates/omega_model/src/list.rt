@@ -117,6 +117,19 @@ impl<T: Drop> Seq<T> {
     }
 }
 
+impl<T: Copy> Seq<T> {
+    /// Appends items in order. A refused call leaves the list.
+    pub fn extend_from_slice(&mut self, items: &[T]) -> Result<(), NoMemory>
+        ensures ok { OnOk result (self.new ≡ self.old ++ items.now) }
+        ensures err { OnErr result (self.new ≡ self.old) }
+    {
+        match self.items.extend_from_slice(items) {
+            Ok(()) => Ok(()),
+            Err(_) => Err(NoMemory),
+        }
+    }
+}
+
 impl<T: Copied + Drop> Copied for Seq<T> {
     fn copy(&self, alloc: Global) -> Result<Seq<T>, NoMemory> {
         let mut copied = Vec::new(alloc);

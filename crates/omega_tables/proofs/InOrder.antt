@@ -5,14 +5,14 @@ use Rattle.std.specs.List.{fold}
 use Rattle.std.proofs.lemmas.List.{take_more, drop_more, take-append-drop}
 use Rattle.std.proofs.lemmas.Grind.{fold-append}
 use Rattle.omega_io.specs.Edge.{Tells}
-use Rattle.omega_model.specs.Trace.{tables_in_order, place_of, with_rows, no_rows}
-use Rattle.omega_model.specs.Refusals.{first_refusal, refusal_among, table_refusal}
-use Rattle.omega_model.proofs.FirstRefusal.{among_push, among_stop}
+use Rattle.omega_model.specs.Trace.{trace_of, tables_in_order, place_of, with_rows, no_rows}
+use Rattle.omega_model.specs.Refusals.{first_refusal, refusal_among, table_refusal, trace_refusal}
+use Rattle.omega_model.proofs.FirstRefusal.{among_push, among_stop, tables_first, rows_last}
 use Rattle.omega_model.specs.declared.rows.Table.{Table}
 use Rattle.omega_model.specs.declared.rows.Table.TheVariants.{MachineEvents, MachineAttributes, TaskEvents, TaskConstraints, MapreduceJobs}
 use Rattle.omega_model.specs.declared.results.Status.{Status}
 use Rattle.omega_model.specs.declared.rows.TraceTables.{TraceTables}
-use Rattle.omega_tables.specs.Reading.{ComesFirst, StopsAt}
+use Rattle.omega_tables.specs.Reading.{ComesFirst, StopsAt, StopsRows}
 use Rattle.omega_tables.specs.declared.refusal.ReadRefusal.{ReadRefusal}
 use Rattle.omega_tables.specs.declared.refusal.ReadRefusal.TheVariants.{Fault, TooLong, BadRow, TooMany, NotBuilt, NoMemory}
 
@@ -111,9 +111,9 @@ split_at i h =
 
 whole : (i : ℕ) (bytes : Table → List ℕ) → i < 5 → refusal_among (take i tables_in_order) bytes ≡ None
     → (refusal : Status) → table_refusal (table_at i) (bytes (table_at i)) ≡ Some refusal → first_refusal bytes ≡ Some refusal
-whole i bytes h before refusal stops =
+whole i bytes h before refusal stops = tables_first bytes refusal (
     ap (λ (ts : List Table). refusal_among ts bytes) (split_at i h)
-    ∙ among_stop (take i tables_in_order) (table_at i) (drop (i + 1) tables_in_order) bytes refusal before stops
+    ∙ among_stop (take i tables_in_order) (table_at i) (drop (i + 1) tables_in_order) bytes refusal before stops)
 
 -- the refusal of the table at this place comes first where none of those before it is refused
 comes_first : (i : ℕ) (bytes : Table → List ℕ) → i < 5 → refusal_among (take i tables_in_order) bytes ≡ None
@@ -131,3 +131,13 @@ pub stops_first : (first now : Table → Option (List ℕ)) (i : ℕ) (bytes : T
 stops_first first now i bytes refusal h left told before this =
     let here = told_here first now i bytes h left told in
     comes_first i bytes h before refusal (rw here at this)
+
+-- the refusal of all rows together comes first where no table is refused
+pub stops_last : (bytes : Table → List ℕ) (trace : TraceTables) (refusal : ReadRefusal) → refusal_among tables_in_order bytes ≡ None
+    → trace ≡ trace_of bytes → StopsRows trace refusal → ComesFirst bytes refusal
+stops_last bytes trace (Fault _) none same stops = elim stops [ ]
+stops_last bytes trace (TooLong _) none same stops = elim stops [ ]
+stops_last bytes trace (BadRow _ _ _ _) none same stops = elim stops [ ]
+stops_last bytes trace (TooMany kind number) none same stops = rows_last bytes _ none (ap trace_refusal (sym same) ∙ stops)
+stops_last bytes trace (NotBuilt table row) none same stops = rows_last bytes _ none (ap trace_refusal (sym same) ∙ stops)
+stops_last bytes trace NoMemory none same stops = tt

@@ -1,3 +1,3 @@
-pub mod Digits
-pub mod Columns
+pub mod Field
+pub mod Counting
 pub mod InOrder

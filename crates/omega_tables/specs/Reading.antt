@@ -1,10 +1,11 @@
 -- What the reading of tables may answer.
 use Rattle.std.specs.Prelude.{◌≡◌, ◌<◌, ℕ, List, length, Option, Some, None, IfSome, ⊤}
 use Rattle.omega_io.specs.Edge.{Rose}
-use Rattle.omega_model.specs.Refusals.{first_refusal, refusal_before, table_refusal}
+use Rattle.omega_model.specs.Refusals.{first_refusal, refusal_before, table_refusal, trace_refusal}
 use Rattle.omega_model.specs.declared.rows.Table.{Table}
 use Rattle.omega_model.specs.declared.results.Status.{Status}
 use Rattle.omega_model.specs.declared.results.Status.TheVariants as status
+use Rattle.omega_model.specs.declared.rows.TraceTables.{TraceTables}
 use Rattle.omega_tables.specs.declared.refusal.ReadRefusal.{ReadRefusal}
 use Rattle.omega_tables.specs.declared.refusal.ReadRefusal.TheVariants.{Fault, TooLong, BadRow, TooMany, NotBuilt, NoMemory}
 
@@ -34,6 +35,15 @@ Stands refusal (BadRow table row column cause) = refusal ≡ Some (status.BadRow
 Stands refusal (TooMany kind number) = refusal ≡ Some (status.TooMany kind number)
 Stands refusal (NotBuilt table row) = refusal ≡ Some (status.NotBuilt table row)
 Stands refusal NoMemory = ⊤
+
+-- why rows that were all read are refused; memory may run out at any time
+abbrev pub StopsRows : TraceTables → ReadRefusal → Type 0
+StopsRows trace (Fault table) = ⊥
+StopsRows trace (TooLong table) = ⊥
+StopsRows trace (BadRow table row column cause) = ⊥
+StopsRows trace (TooMany kind number) = trace_refusal trace ≡ Some (status.TooMany kind number)
+StopsRows trace (NotBuilt table row) = trace_refusal trace ≡ Some (status.NotBuilt table row)
+StopsRows trace NoMemory = ⊤
 
 -- why a table with these bytes wasn't read: a read of it failed, or its refusal stands
 abbrev pub StopsAt : Table → List ℕ → ReadRefusal → Type 0

@@ -1,13 +1,19 @@
 //! The reading of the five tables of a trace.
 //!
-//! Each table is read to its end and cut into records, and each record becomes a typed row.
+//! Each table is read to its end and cut into records, and each record becomes a typed row. The
+//! first bad row is named with its first bad column. Then the limits over all tables are checked.
 #![tactic(auto)]
 
-mod first_form;
+mod columns;
+mod limits;
 mod parsing;
 mod reading;
 mod refusal;
 
+pub use limits::over_limit;
 pub use parsing::parse_table;
 pub use reading::{read_bytes, read_tables};
 pub use refusal::ReadRefusal;
+
+#[cfg(test)]
+mod tests;

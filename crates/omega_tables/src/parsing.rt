@@ -3,88 +3,104 @@ ghost use Rattle.std.specs.Prelude.{◌≡◌, ◌++◌, IfOk, OnOk, IfErr, OnEr
 ghost use Rattle.csv.specs.Records.{fields_of};
 ghost use Rattle.omega_model.specs.Rows.{rows_in, rows_or_none};
 ghost use Rattle.omega_model.specs.Trace.{with_rows};
-ghost use Rattle.omega_model.specs.Refusals.{not_built, row_refusal};
+ghost use Rattle.omega_model.specs.Refusals.{bad_row, row_refusal};
 ghost use Rattle.omega_tables.specs.Reading.{Stands};
 
-use crate::first_form::{machine_row, task_row};
+use crate::columns::{BadColumn, activity_row, attr_row, constraint_row, machine_row, task_row};
 use crate::refusal::ReadRefusal;
 use csv::{ByteRecord, ReaderBuilder};
 use omega_model::{
-    ActivityRow, AttrRow, ConstraintRow, MachineRow, Seq, Table, TaskRow, TraceTables,
+    ActivityRow, AttrRow, ConstraintRow, MachineRow, NoMemory, Seq, Table, TaskRow, TraceTables,
 };
 use std::alloc::Global;
 use std::mem;
 
 // A typed row, read from the fields of a record.
 trait FromRecord: Sized {
-    ghost use Rattle.std.specs.Prelude.{◌≡◌, ℕ, List, Option};
+    ghost use Rattle.std.specs.Prelude.{◌≡◌, ℕ, List, Result, IfOk};
     ghost use Rattle.csv.specs.Records.{fields_of};
+    ghost use Rattle.omega_model.specs.Columns.{BadColumn};
 
-    ghost row_of: { List (List ℕ) → Option Self };
+    ghost row_of: { List (List ℕ) → Result Self BadColumn };
 
-    // The row, where the record is one.
-    fn from_record(fields: &ByteRecord) -> Option<Self>
-        ensures { result ≡ row_of (fields_of fields.now) };
+    // The row, or the first bad column of the record.
+    fn from_record(alloc: Global, fields: &ByteRecord) -> Result<Result<Self, BadColumn>, NoMemory>
+        ensures { IfOk result (λ row. row ≡ row_of (fields_of fields.now)) };
 }
 
 impl FromRecord for MachineRow {
-    ghost use Rattle.omega_model.specs.FirstForm.{machine_row};
+    ghost use Rattle.omega_model.specs.Columns.{machine_row};
 
     ghost row_of = { machine_row };
 
-    fn from_record(fields: &ByteRecord) -> Option<MachineRow> {
-        machine_row(fields)
+    fn from_record(
+        _alloc: Global,
+        fields: &ByteRecord,
+    ) -> Result<Result<MachineRow, BadColumn>, NoMemory> {
+        Ok(machine_row(fields))
     }
 }
 
 impl FromRecord for AttrRow {
-    ghost use Rattle.omega_model.specs.FirstForm.{no_row};
+    ghost use Rattle.omega_model.specs.Columns.{attr_row};
 
-    ghost row_of = { no_row };
+    ghost row_of = { attr_row };
 
-    fn from_record(_fields: &ByteRecord) -> Option<AttrRow> {
-        None
+    fn from_record(
+        alloc: Global,
+        fields: &ByteRecord,
+    ) -> Result<Result<AttrRow, BadColumn>, NoMemory> {
+        attr_row(alloc, fields)
     }
 }
 
 impl FromRecord for TaskRow {
-    ghost use Rattle.omega_model.specs.FirstForm.{task_row};
+    ghost use Rattle.omega_model.specs.Columns.{task_row};
 
     ghost row_of = { task_row };
 
-    fn from_record(fields: &ByteRecord) -> Option<TaskRow> {
-        task_row(fields)
+    fn from_record(
+        _alloc: Global,
+        fields: &ByteRecord,
+    ) -> Result<Result<TaskRow, BadColumn>, NoMemory> {
+        Ok(task_row(fields))
     }
 }
 
 impl FromRecord for ConstraintRow {
-    ghost use Rattle.omega_model.specs.FirstForm.{no_row};
+    ghost use Rattle.omega_model.specs.Columns.{constraint_row};
 
-    ghost row_of = { no_row };
+    ghost row_of = { constraint_row };
 
-    fn from_record(_fields: &ByteRecord) -> Option<ConstraintRow> {
-        None
+    fn from_record(
+        alloc: Global,
+        fields: &ByteRecord,
+    ) -> Result<Result<ConstraintRow, BadColumn>, NoMemory> {
+        constraint_row(alloc, fields)
     }
 }
 
 impl FromRecord for ActivityRow {
-    ghost use Rattle.omega_model.specs.FirstForm.{no_row};
+    ghost use Rattle.omega_model.specs.Columns.{activity_row};
 
-    ghost row_of = { no_row };
+    ghost row_of = { activity_row };
 
-    fn from_record(_fields: &ByteRecord) -> Option<ActivityRow> {
-        None
+    fn from_record(
+        _alloc: Global,
+        fields: &ByteRecord,
+    ) -> Result<Result<ActivityRow, BadColumn>, NoMemory> {
+        Ok(activity_row(fields))
     }
 }
 
-// The rows of a table's text, or the first record that is no row. Holds one record at a time.
+// The rows of a table's text, or the first bad record. Holds one record at a time.
 fn read_rows<R: FromRecord + Drop>(
     alloc: Global,
     table: Table,
     text: &[u8],
 ) -> Result<Vec<R>, ReadRefusal>
     ensures rows { IfOk result (λ rows. rows_in R.row_of text.now ≡ Ok rows.items) }
-    ensures refusal { IfErr result (λ refusal. Stands (not_built table (rows_in R.row_of text.now)) refusal) }
+    ensures refusal { IfErr result (λ refusal. Stands (bad_row table (rows_in R.row_of text.now)) refusal) }
 {
     let mut reader = ReaderBuilder::new()
         .has_headers(false)
@@ -94,12 +110,14 @@ fn read_rows<R: FromRecord + Drop>(
     let mut rows = Vec::new(alloc);
     for number in 0..u64::MAX {
         match reader.read_byte_record(&mut fields) {
-            Ok(true) => match R::from_record(&fields) {
-                Some(row) => rows.push(row)?,
-                None => {
-                    return Err(ReadRefusal::NotBuilt {
+            Ok(true) => match R::from_record(alloc, &fields)? {
+                Ok(row) => rows.push(row)?,
+                Err((column, cause)) => {
+                    return Err(ReadRefusal::BadRow {
                         table,
                         row: number + 1,
+                        column,
+                        cause,
                     });
                 }
             },
@@ -110,7 +128,7 @@ fn read_rows<R: FromRecord + Drop>(
     Err(ReadRefusal::NoMemory)
 }
 
-// Appends the rows of a table's text to a list.
+// Appends the rows of a table's text to a list. An empty list takes them over without a copy.
 fn append_rows<R: FromRecord + Drop>(
     alloc: Global,
     table: Table,
@@ -118,11 +136,15 @@ fn append_rows<R: FromRecord + Drop>(
     into: &mut Seq<R>,
 ) -> Result<(), ReadRefusal>
     ensures rows { OnOk result (into.new ≡ into.old ++ rows_or_none (rows_in R.row_of text.now)) }
-    ensures none { OnOk result (not_built table (rows_in R.row_of text.now) ≡ None) }
-    ensures refusal { IfErr result (λ refusal. Stands (not_built table (rows_in R.row_of text.now)) refusal) }
+    ensures none { OnOk result (bad_row table (rows_in R.row_of text.now) ≡ None) }
+    ensures refusal { IfErr result (λ refusal. Stands (bad_row table (rows_in R.row_of text.now)) refusal) }
     ensures stays { OnErr result (into.new ≡ into.old) }
 {
     let mut rows = read_rows(alloc, table, text)?;
+    if into.is_empty() {
+        *into = Seq::of(rows);
+        return Ok(());
+    }
     let mut items = mem::replace(into, Seq::new(alloc)).into_items();
     let appended = items.append(&mut rows);
     *into = Seq::of(items);
@@ -130,10 +152,10 @@ fn append_rows<R: FromRecord + Drop>(
     Ok(())
 }
 
-/// Appends the rows of a table's text, in their order. Only rows of the first form are built: a
-/// machine that is added, and a task that is submitted, both at time 0. `NotBuilt` comes exactly
-/// where there is another row, with the number of the first such row, from 1. After any refusal
-/// `into` is as before. Costs time in the length of the text and that of the list.
+/// Appends the rows of a table's text, in their order. `BadRow` comes exactly where there is a bad
+/// row, with the number of the first such row, from 1, its first bad column and what is wrong with
+/// it. The number of fields comes before all columns. After any refusal `into` is as before. Costs
+/// time in the length of the text and that of the list, in one pass.
 pub fn parse_table(
     alloc: Global,
     table: Table,

@@ -2,10 +2,12 @@
 ghost use Rattle.std.specs.Prelude.{◌≡◌, ◌≢◌, ◌≤◌, ℕ, List, [], length, Some, None, IfOk, OnOk, OnErr, IfErr, IfSome};
 ghost use Rattle.omega_io.specs.Edge.{Tells};
 ghost use Rattle.omega_model.specs.Trace.{trace_of, with_rows};
+ghost use Rattle.omega_model.specs.Limits.{IsWithinLimits};
 ghost use Rattle.omega_model.specs.Refusals.{first_refusal, table_refusal};
 ghost use Rattle.omega_model.specs.declared.rows.Table.{Table};
 ghost use Rattle.omega_tables.specs.Reading.{StopsReading, StopsAt, ComesFirst, HasCause};
 
+use crate::limits::check_rows;
 use crate::parsing::parse_table;
 use crate::refusal::ReadRefusal;
 use omega_io::Tables;
@@ -78,12 +80,14 @@ fn read_table<T: Tables>(
 /// Reads the five tables, each to its end, in the order of `Table`, and makes their rows.
 ///
 /// A refusal is the first one that stands: for each table in order first a read that fails, then
-/// its length, then its rows. `Fault` comes only where the count of its table rose, or can rise
+/// its length, then its rows; then the number of rows over all tables, that of different machines,
+/// and a row for which no replay is built yet. `Fault` comes only where the count of its table rose, or can rise
 /// no further. After any refusal the bytes taken so far are gone. Holds the text of one table at
 /// a time.
 pub fn read_tables<T: Tables>(alloc: Global, tables: &mut T) -> Result<TraceTables, ReadRefusal>
     ensures trace { (bytes : Table → List ℕ) → Tells (T.rest tables.old) bytes → IfOk result (λ trace. trace ≡ trace_of bytes) }
     ensures none { (bytes : Table → List ℕ) → Tells (T.rest tables.old) bytes → OnOk result (first_refusal bytes ≡ None) }
+    ensures within { IfOk result IsWithinLimits }
     ensures to_end { (bytes : Table → List ℕ) → Tells (T.rest tables.old) bytes → OnOk result (Tells (T.rest tables.new) (λ table. [])) }
     ensures refusal { (bytes : Table → List ℕ) → Tells (T.rest tables.old) bytes → IfErr result (λ refusal. ComesFirst bytes refusal) }
     ensures cause { IfErr result (λ refusal. HasCause (T.faults tables.old) (T.faults tables.new) refusal) }
@@ -94,5 +98,6 @@ pub fn read_tables<T: Tables>(alloc: Global, tables: &mut T) -> Result<TraceTabl
     for table in IN_ORDER {
         read_table(alloc, tables, table, &mut trace)?;
     }
+    check_rows(alloc, &trace)?;
     Ok(trace)
 }

@@ -1,6 +1,10 @@
-pub mod Pushing
-pub mod Trying
-pub mod Lines
-pub mod Words
-pub mod Refusing
+pub mod Appending
+pub mod Attempting
 pub mod Completing
+pub mod Lines
+pub mod Placing
+pub mod Pushing
+pub mod Refusing
+pub mod Trying
+pub mod Words
+pub mod Rounding

@@ -1,27 +1,66 @@
--- A history with its cell, and one more entry.
-use Rattle.std.proofs.Common.{◌≡◌, ℕ, List, [], ◌∷◌, ◌++◌, refl, ap, sym, ◌∙◌}
+-- A history with its board and its counts, and one more entry.
+use Rattle.std.proofs.Common.{◌≡◌, ◌≤◌, ◌<◌, ◌+◌, ◌-◌, ◌^◌, ◌⊎◌, ℕ, Bool, List, [], ◌∷◌, ◌++◌, length, refl, ap, ap₂, subst, sym, arith, ◌∙◌}
+use Rattle.std.specs.Prelude.{IfSome, IsTrue, if◌then◌else◌}
+use Rattle.std.specs.List.{count_by}
+use Rattle.std.proofs.lemmas.List.Sums.{count_by-le-length, fold-append}
+use Rattle.omega_board.specs.Board.{BoardState, cell_of}
+use Rattle.omega_board.specs.Entries.{EndsRunning, HasRoomFor, MayApply, PlacesInOrder, machine_in}
+use Rattle.omega_machines.specs.declared.MachineState.{MachineState}
+use Rattle.omega_machines.specs.Table.{machines_of, seq_at}
 use Rattle.omega_model.specs.Cell.{Cell}
 use Rattle.omega_model.specs.Legal.{Follows}
-use Rattle.omega_model.specs.Machines.{added, change, ensured}
-use Rattle.omega_model.specs.State.{state, step, tasks_after}
-use Rattle.omega_model.specs.declared.cells.Need.{Need}
+use Rattle.omega_model.specs.Requests.{failed, failed_after}
+use Rattle.omega_model.specs.State.{state, step}
+use Rattle.omega_model.specs.Touches.{seq, touches}
+use Rattle.omega_model.specs.declared.cells.Machine.{Machine}
 use Rattle.omega_model.specs.declared.cells.Task.{Task}
 use Rattle.omega_model.specs.declared.entries.Entry.{Entry}
-use Rattle.omega_model.specs.declared.entries.Entry.TheVariants.{MachineAdd}
 use Rattle.omega_model.proofs.Growing.{legal_push, state_push}
-use Rattle.omega_top.specs.Replays.{Replays}
+use Rattle.omega_model.proofs.Standing.{failed_push}
+use Rattle.omega_top.specs.Counts.{count_of}
+use Rattle.omega_top.specs.declared.failures.Failures.{Failures}
+use Rattle.omega_top.specs.Replays.{MayAppend, Replays}
 
--- the cell after one more entry that may follow
-pub replays_push : (cell after : Cell) (history : List Entry) (entry : Entry)
-    → Replays cell history → after ≡ step cell entry → Follows history entry → Replays after (history ++ entry ∷ [])
-replays_push cell after history entry replays stepped follows = record {
+-- the sequence number of a machine after one more entry
+pub seq_push : (history : List Entry) (entry : Entry) (id : ℕ)
+    → seq (history ++ entry ∷ []) id ≡ seq history id + (if touches id entry then 1 else 0)
+seq_push history entry id = fold-append (λ (count : ℕ) (e : Entry). count + (if touches id e then 1 else 0)) 0 history (entry ∷ [])
+
+-- the board and the counts after one more entry that may follow
+pub replays_push : (board after : BoardState) (failures counts : Failures) (history : List Entry) (entry : Entry)
+    → Replays board failures history → Follows history entry
+    → cell_of after ≡ step (cell_of board) entry
+    → ((id : ℕ) → seq_at after.table id ≡ seq_at board.table id + (if touches id entry then 1 else 0))
+    → ((job : ℕ) → count_of counts job ≡ failed_after job (count_of failures job) entry)
+    → Replays after counts (history ++ entry ∷ [])
+replays_push board after failures counts history entry replays follows stepped numbered counted = record {
   current = stepped ∙ ap (λ (c : Cell). step c entry) replays.current ∙ sym (state_push history entry);
-  legal = legal_push history entry replays.legal follows
+  numbered = λ id. numbered id ∙ ap (λ (n : ℕ). n + (if touches id entry then 1 else 0)) (replays.numbered id) ∙ sym (seq_push history entry id);
+  legal = legal_push history entry replays.legal follows;
+  counted = λ job. counted job ∙ ap (λ (count : ℕ). failed_after job count entry) (replays.counted job) ∙ sym (failed_push history entry job);
 }
 
--- where no task runs a machine displaces none
-pub added_step : (cell : Cell) (id : ℕ) (cap : Need) → cell.tasks ≡ []
-    → record { machines = change id (added cap) (ensured id cell.machines); tasks = cell.tasks } ≡ step cell (MachineAdd id cap)
-added_step cell id cap none =
-    ap (λ (tasks : List Task). record { machines = change id (added cap) (ensured id cell.machines); tasks = tasks })
-    (none ∙ sym (ap (λ (tasks : List Task). tasks_after tasks (MachineAdd id cap)) none))
+-- an entry that may be appended to a history may be applied to its board, where it has room
+pub may_apply : (board : BoardState) (failures : Failures) (history : List Entry) (entry : Entry)
+    → Replays board failures history → MayAppend history entry → IfSome (machine_in entry) (HasRoomFor board.table)
+    → length history < 2 ^ 63 → MayApply board entry
+may_apply board failures history entry replays may room short = record {
+  capacity = may.capacity;
+  machines = room;
+  seqs = λ id touched.
+      let few : seq history id ≤ length history = count_by-le-length (touches id) history in
+      let same : seq_at board.table id ≡ seq history id = replays.numbered id in
+      omega arith;
+  ends = subst (λ (cell : Cell). EndsRunning cell.tasks entry) (sym replays.current) may.ends;
+  places = subst (λ (cell : Cell). PlacesInOrder cell entry) (sym replays.current) may.places;
+}
+
+-- another board with the same machines and tasks serves as well
+pub replays_same : (board after : BoardState) (failures : Failures) (history : List Entry)
+    → Replays board failures history → after.table ≡ board.table → after.tasks ≡ board.tasks → Replays after failures history
+replays_same board after failures history replays table tasks = record {
+  current = ap₂ (λ (t : List MachineState) (u : List Task). let cell : Cell = record { machines = machines_of t; tasks = u } in cell) table tasks ∙ replays.current;
+  numbered = λ id. ap (λ (t : List MachineState). seq_at t id) table ∙ replays.numbered id;
+  legal = replays.legal;
+  counted = replays.counted;
+}

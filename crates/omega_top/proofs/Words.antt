@@ -10,7 +10,8 @@ pub one_word : (words : List (Bor (List ℕ))) (other : Bor (List ℕ)) (text : 
     → IsTrue test ↔ (map (λ word. word.now) words ≡ text ∷ [])
 one_word [] other text test some few tested = absurd (omega arith)
 one_word (word ∷ []) other text test some few tested =
-    let decides = bytes_eq-Decides word.now text in
-    ( (λ (is : IsTrue test). ap (λ (bytes : List ℕ). bytes ∷ []) (decides.0 (sym tested ∙ is)))
-    , (λ (same : word.now ∷ [] ≡ text ∷ []). let bytes : word.now ≡ text = cc in tested ∙ decides.1 bytes) )
+    let decides = bytes_eq-Decides word.now text in (
+      (λ (is : IsTrue test). ap (λ (bytes : List ℕ). bytes ∷ []) (decides.0 (sym tested ∙ is))),
+      (λ (same : word.now ∷ [] ≡ text ∷ []). let bytes : word.now ≡ text = cc in tested ∙ decides.1 bytes),
+    )
 one_word (word ∷ next ∷ words) other text test some few tested = absurd (omega arith)

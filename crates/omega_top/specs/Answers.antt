@@ -1,6 +1,7 @@
 -- What the top call answers, and why.
 use Rattle.std.specs.Prelude.{◌≡◌, ◌≢◌, ℕ, List, [], ◌∷◌, Option, Some, None, codes, map, ⊤}
 use Rattle.omega_io.specs.Edge.{Appends, AppendsPart, Rose}
+use Rattle.omega_model.specs.Lawful.{Lawful}
 use Rattle.omega_model.specs.Ranges.{IsInRange}
 use Rattle.omega_model.specs.Refusals.{first_refusal, refusal_before}
 use Rattle.omega_model.specs.declared.claims.Mode.TheVariants.{Incremental}
@@ -9,6 +10,7 @@ use Rattle.omega_model.specs.declared.entries.Entry.{Entry}
 use Rattle.omega_model.specs.declared.results.Status.{Status}
 use Rattle.omega_model.specs.declared.results.Status.TheVariants.{Done, Usage, ReadFault, TooLong, BadRow, TooMany, NotBuilt, WriteFault, NoMemory}
 use Rattle.omega_model.specs.declared.rows.Table.{Table}
+use Rattle.omega_model.specs.declared.rows.TraceTables.{TraceTables}
 use Rattle.omega_model.specs.declared.settings.Command.TheVariants.{Replay}
 use Rattle.omega_model.specs.declared.settings.Extra.TheVariants.{Relative}
 use Rattle.omega_model.specs.declared.settings.Format.TheVariants.{Text}
@@ -34,7 +36,7 @@ default_settings = record {
   window = 300000000;
   format = Text;
   machines = 64;
-  jobs = 500
+  jobs = 500;
 }
 
 -- the settings are in their ranges, and what isn't built yet has its default
@@ -95,6 +97,18 @@ HasHistory history (TooLong table) = history ≡ []
 HasHistory history (BadRow table row column cause) = history ≡ []
 HasHistory history (TooMany kind number) = history ≡ []
 HasHistory history (NotBuilt table row) = history ≡ []
+
+-- the history of a run that reached its report is the whole run of the trace under the settings
+abbrev pub IsWholeRun : Settings → TraceTables → List Entry → Status → Type 0
+IsWholeRun settings trace history Done = Lawful settings trace history
+IsWholeRun settings trace history WriteFault = Lawful settings trace history
+IsWholeRun settings trace history NoMemory = ⊤
+IsWholeRun settings trace history Usage = ⊤
+IsWholeRun settings trace history (ReadFault table) = ⊤
+IsWholeRun settings trace history (TooLong table) = ⊤
+IsWholeRun settings trace history (BadRow table row column cause) = ⊤
+IsWholeRun settings trace history (TooMany kind number) = ⊤
+IsWholeRun settings trace history (NotBuilt table row) = ⊤
 
 -- nothing is written by a run that doesn't reach its report
 abbrev pub WritesNothing : Option (List ℕ) → Option (List ℕ) → Status → Type 0

@@ -2,3 +2,5 @@ pub mod Replays
 pub mod Words
 pub mod Faults
 pub mod Answers
+pub mod Counts
+pub mod Attempts

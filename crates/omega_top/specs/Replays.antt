@@ -1,11 +1,44 @@
--- A history with the cell after it.
-use Rattle.std.specs.Prelude.{◌≡◌, List}
-use Rattle.omega_model.specs.Cell.{Cell}
-use Rattle.omega_model.specs.Legal.{Legal}
+-- A history with the board after it and the failed commits in it.
+use Rattle.std.specs.Prelude.{◌≡◌, ℕ, List, [], ◌∷◌, ◌++◌, IfSome}
+use Rattle.omega_board.specs.Board.{BoardState, cell_of}
+use Rattle.omega_board.specs.Entries.{EndsRunning, PlacesInOrder, capacity_in}
+use Rattle.omega_machines.specs.Table.{seq_at}
+use Rattle.omega_model.specs.Fields.{greatest}
+use Rattle.omega_model.specs.Legal.{Follows, Legal}
+use Rattle.omega_model.specs.Need.{Fits}
+use Rattle.omega_model.specs.Requests.{failed}
 use Rattle.omega_model.specs.State.{state}
+use Rattle.omega_model.specs.Touches.{seq}
 use Rattle.omega_model.specs.declared.entries.Entry.{Entry}
+use Rattle.omega_model.specs.declared.rows.Row.{Row}
+use Rattle.omega_model.specs.declared.rows.Row.TheVariants.{Machine, Attr, Task}
+use Rattle.omega_top.specs.declared.failures.Failures.{Failures}
+use Rattle.omega_top.specs.Counts.{count_of}
 
--- the cell is the state of the history, and the history is legal
-pub record Replays (cell : Cell) (history : List Entry) : Type 0 where
-  pub current : cell ≡ state history
+-- the board has the state of the history, which is legal, and its sequence numbers, and each job's
+-- failed commits are counted
+pub record Replays (board : BoardState) (failures : Failures) (history : List Entry) : Type 0 where
+  pub current : cell_of board ≡ state history
+  pub numbered : (id : ℕ) → seq_at board.table id ≡ seq history id
   pub legal : Legal history
+  pub counted : (job : ℕ) → count_of failures job ≡ failed history job
+
+-- an entry may follow a history and be applied to its state: a capacity is at most the greatest
+-- quantity, an end names a running task on its machine, and the claims that a commit places can be
+-- placed in order
+pub record MayAppend (history : List Entry) (entry : Entry) : Type 0 where
+  pub follows : Follows history entry
+  pub capacity : IfSome (capacity_in entry) (λ cap. Fits cap greatest)
+  pub ends : EndsRunning (state history).tasks entry
+  pub places : PlacesInOrder (state history) entry
+
+-- entries may be appended one after the other
+abbrev pub MayAppendAll : List Entry → List Entry → Type 0
+MayAppendAll history [] = Unit {0}
+MayAppendAll history (entry ∷ entries) = MayAppend history entry × MayAppendAll (history ++ entry ∷ []) entries
+
+-- what a row keeps by its type, as far as its entries need it: a capacity is at most the greatest quantity
+abbrev pub IsInRange : Row → Type 0
+IsInRange (Machine row) = Fits row.cap greatest
+IsInRange (Attr row) = Unit {0}
+IsInRange (Task row) = Unit {0}

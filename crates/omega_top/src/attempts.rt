@@ -1,158 +1,157 @@
-//! The replay of tables whose machines are added and whose tasks are submitted at one time.
+//! A scheduler's attempts on its requests in a round.
 //!
-//! One scheduler works on the requests in order. Each attempt plans on the state of the whole
-//! history and is committed at once.
-ghost use Rattle.std.specs.Prelude.{◌≡◌, [], IfOk};
-ghost use Rattle.omega_model.specs.Legal.{Legal};
+//! Each attempt plans on the state of the whole history and is committed at once.
+ghost use Rattle.std.specs.Prelude.{◌≡◌, ◌∷◌, List, IfOk};
+ghost use Rattle.omega_model.specs.Lawful.{RoundOf};
+ghost use Rattle.omega_model.specs.Work.{ends_request, outcomes_of, places_wish, rest_of};
+ghost use Rattle.omega_model.specs.Working.{Setting, Working};
+ghost use Rattle.omega_model.specs.declared.wishes.Request.{Request};
+ghost use Rattle.omega_top.specs.Answers.{IsBuilt};
+ghost use Rattle.omega_top.specs.Attempts.{IsSettingOf, attempted, outcomes_for};
 
-use crate::judging::is_placed;
-use crate::plain::is_among;
-use crate::planning::plan;
+use crate::claims::{is_placed, same_key};
 use crate::replaying::Replay;
 use omega_model::{
-    Entries, Entry, MachineRow, NoMemory, Policy, Request, Seq, Settings, TaskKey, TaskRow,
-    TraceTables, Wish, Wishes,
+    Claim, Entry, NoMemory, Outcome, Request, Requests, Seq, Settings, Verdict, Wish,
 };
 use std::alloc::Global;
-use std::mem;
 
-// The scheduler on whose requests the replay works.
-const SCHEDULER: u32 = 1;
+/// The scheduler on whose requests the replay works.
+pub const SCHEDULER: u32 = 1;
 
-/// The history of the tables under these settings.
-pub fn replayed(
-    alloc: Global,
-    settings: &Settings,
-    trace: &TraceTables,
-) -> Result<Entries, NoMemory>
-    ensures { IfOk result (λ history. Legal history) }
-{
-    let machines = trace.machines.as_slice();
-    let tasks = trace.tasks.as_slice();
-    let mut replay = Replay::new(alloc);
-    if machines.is_empty() && tasks.is_empty() {
-        return Ok(replay.into_history());
-    }
-    replay = opened(alloc, replay, machines)?;
-    for request in requests_of(alloc, tasks)? {
-        replay = work_on(alloc, settings, replay, request)?;
-    }
-    Ok(replay.into_history())
+// What came of an attempt.
+#[derive(Drop)]
+struct Attempt {
+    replay: Replay,
+    outcomes: Vec<Outcome>,
 }
 
-// The history once the round has begun and the machines are added.
-fn opened(alloc: Global, replay: Replay, rows: &[MachineRow]) -> Result<Replay, NoMemory>
-    requires { replay ≡ [] }
-{
-    let mut opened = replay.with_round(0)?;
-    for row in rows {
-        opened = opened.with_machine(alloc, row.machine, row.cap)?;
-    }
-    Ok(opened)
-}
-
-// The requests of the jobs in order of their first row, each with its tasks by index.
-fn requests_of(alloc: Global, rows: &[TaskRow]) -> Result<Vec<Request>, NoMemory> {
-    let mut requests: Vec<Request> = Vec::new(alloc);
-    for row in rows {
-        let place = requests
-            .iter()
-            .position(|request| request.job == row.key.job);
-        match place {
-            Some(place) => {
-                let request = &mut requests[place];
-                let wishes = mem::replace(&mut request.wishes, Seq::new(alloc));
-                request.wishes = with_wish(alloc, wishes, row)?;
-            }
-            None => requests.push(Request {
-                job: row.key.job,
-                wishes: with_wish(alloc, Seq::new(alloc), row)?,
-            })?,
-        }
-    }
-    Ok(requests)
-}
-
-// The wishes by index, with that of a row new or in the place of an older one.
-fn with_wish(alloc: Global, wishes: Wishes, row: &TaskRow) -> Result<Wishes, NoMemory> {
-    let mut all = Vec::new(alloc);
-    let mut rest = Vec::new(alloc);
-    for wish in wishes.into_items() {
-        if wish.key.index < row.key.index {
-            all.push(wish)?;
-        } else if wish.key.index > row.key.index {
-            rest.push(wish)?;
-        }
-    }
-    all.push(Wish {
-        key: row.key,
-        spec: row.spec,
-        constraints: Seq::new(alloc),
-    })?;
-    for wish in rest {
-        all.push(wish)?;
-    }
-    Ok(Seq::of(all))
-}
-
-// The history after all attempts on a request. They end when all its tasks are placed, when a plan
-// claims nothing, after `tries` attempts, and when the job is given up.
-fn work_on(
+/// The history once a scheduler has worked on its requests in a round whose rows are applied.
+pub fn worked(
     alloc: Global,
     settings: &Settings,
     replay: Replay,
-    request: Request,
-) -> Result<Replay, NoMemory> {
-    let policy = Policy {
-        rule: settings.rule,
-        mode: settings.mode,
-        preempt: false,
-    };
+    requests: Requests,
+) -> Result<Replay, NoMemory>
+    requires { IsBuilt settings.now }
+    ensures { (at : Setting) → IsSettingOf settings.now at → Working at replay (record { requests = requests; taken = 0 })
+        → IfOk result (λ after. RoundOf at.settings at.trace at.rows at.start at.round after) }
+{
     let mut replay = replay;
-    let mut left = request;
-    let mut failed = 0u32;
-    for _ in 0..settings.tries {
-        let txn = plan(alloc, replay.cell(), &left, policy)?;
-        let planned_nothing = txn.claims.is_empty();
-        replay = replay.with_commit(alloc, SCHEDULER, txn)?;
-        let placed = placed_last(alloc, replay.history())?;
-        failed = if placed.is_empty() { failed.saturating_add(1) } else { 0 };
-        left = without_placed(alloc, left, placed.as_slice())?;
-        if planned_nothing || left.wishes.is_empty() || failed >= settings.give_up {
-            break;
-        }
+    for request in requests.into_items() {
+        replay = worked_on(alloc, settings, replay, request)?;
     }
     Ok(replay)
 }
 
-// The tasks that the last entry placed.
-fn placed_last(alloc: Global, history: &[Entry]) -> Result<Vec<TaskKey>, NoMemory> {
-    let mut placed = Vec::new(alloc);
-    if let Some(Entry::Commit { txn, reply, .. }) = history.last() {
-        let claims = txn.claims.as_slice();
-        for (claim, verdict) in claims.iter().zip(reply.as_slice()) {
-            if is_placed(*verdict) {
-                placed.push(claim.key)?;
-            }
+// The history after all attempts on a request.
+fn worked_on(
+    alloc: Global,
+    settings: &Settings,
+    replay: Replay,
+    request: Request,
+) -> Result<Replay, NoMemory>
+    requires { IsBuilt settings.now }
+    ensures { (at : Setting) (rest : List Request) → IsSettingOf settings.now at
+        → Working at replay (record { requests = request ∷ rest; taken = 0 })
+        → IfOk result (λ after. Working at after (record { requests = rest; taken = 0 })) }
+{
+    let mut replay = replay;
+    let mut left = request;
+    let mut taken = 0;
+    loop {
+        let attempt = attempted(alloc, settings, replay, &left)?;
+        let outcomes = attempt.outcomes;
+        replay = attempt.replay;
+        taken += 1;
+        let rest = rest_of(alloc, left, outcomes.as_slice())?;
+        let failing = replay.failed(rest.job);
+        if ends_request(settings, taken, failing, &rest, outcomes.as_slice()) {
+            return Ok(replay);
         }
+        left = rest;
     }
-    Ok(placed)
 }
 
-// The request without the wishes that were placed.
-fn without_placed(
+// The history after one attempt on a request, and its outcomes.
+fn attempted(
     alloc: Global,
-    request: Request,
-    placed: &[TaskKey],
-) -> Result<Request, NoMemory> {
+    settings: &Settings,
+    replay: Replay,
+    request: &Request,
+) -> Result<Attempt, NoMemory>
+    requires { IsBuilt settings.now }
+    ensures history { IfOk result (λ attempt. attempt.replay ≡ attempted settings.now 1 replay request.now) }
+    ensures outcomes { IfOk result (λ attempt. attempt.outcomes.items ≡ outcomes_for settings.now 1 replay request.now) }
+{
+    let mut replay = replay;
+    let seen = replay.len() as u64;
+    let txn = replay.plan(alloc, request, settings.policy(SCHEDULER))?;
+    let reply = replay.reply(alloc, &txn)?;
+    let outcomes = outcomes_of(alloc, txn.claims.as_slice(), reply.as_slice())?;
+    let commit = Entry::Commit {
+        scheduler: SCHEDULER,
+        seen,
+        txn,
+        reply,
+    };
+    let replay = replay.with_entry(alloc, commit)?;
+    Ok(Attempt { replay, outcomes })
+}
+
+// The outcomes of claims with these verdicts.
+fn outcomes_of(alloc: Global, claims: &[Claim], reply: &[Verdict]) -> Result<Vec<Outcome>, NoMemory>
+    ensures { IfOk result (λ outcomes. outcomes.items ≡ outcomes_of claims.now reply.now) }
+{
+    let mut outcomes = Vec::new(alloc);
+    for (i, claim) in claims.iter().enumerate() {
+        let Some(verdict) = reply.get(i) else {
+            return Ok(outcomes);
+        };
+        outcomes.push(Outcome {
+            key: claim.key,
+            verdict: *verdict,
+        })?;
+    }
+    Ok(outcomes)
+}
+
+// The request with the wishes that the outcomes leave.
+fn rest_of(alloc: Global, request: Request, outcomes: &[Outcome]) -> Result<Request, NoMemory>
+    ensures { IfOk result (λ rest. rest ≡ rest_of request outcomes.now) }
+{
+    let Request { job, wishes } = request;
     let mut left = Vec::new(alloc);
-    for wish in request.wishes.into_items() {
-        if !is_among(&wish.key, placed) {
+    for wish in wishes.into_items() {
+        if !places_wish(outcomes, &wish) {
             left.push(wish)?;
         }
     }
     Ok(Request {
-        job: request.job,
+        job,
         wishes: Seq::of(left),
     })
+}
+
+// Whether the outcomes place a wish.
+fn places_wish(outcomes: &[Outcome], wish: &Wish) -> bool
+    ensures { result ≡ places_wish outcomes.now wish.now }
+{
+    outcomes.iter().any(|outcome| is_placed(outcome.verdict) && same_key(&outcome.key, &wish.key))
+}
+
+// Whether outcomes end a request of which these wishes are left.
+fn ends_request(
+    settings: &Settings,
+    taken: u32,
+    failing: u64,
+    rest: &Request,
+    outcomes: &[Outcome],
+) -> bool
+    ensures { (request : Request) → rest.now ≡ rest_of request outcomes.now → result ≡ ends_request settings.now taken failing request outcomes.now }
+{
+    rest.wishes.is_empty()
+        || outcomes.is_empty()
+        || taken >= settings.tries
+        || failing >= u64::from(settings.give_up)
 }

@@ -2,11 +2,14 @@
 #![tactic(auto)]
 
 mod attempts;
-mod judging;
-mod plain;
+mod claims;
+mod failures;
 mod planning;
 mod replaying;
+mod replying;
 mod reporting;
+mod rounds;
+mod scratch;
 mod status;
 mod top;
 

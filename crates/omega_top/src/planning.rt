@@ -1,42 +1,75 @@
-//! Where a scheduler would put the tasks of a request, on a plain cell.
-ghost use Rattle.std.specs.Prelude.{◌≡◌, ◌==◌, [], IfOk, false, option_map, length};
+//! Where a scheduler would put the tasks of a request.
+//!
+//! The claims are tried on the board itself and taken back again.
+ghost use Rattle.std.specs.Prelude.{◌≡◌, ◌≤◌, ◌==◌, [], IfOk, IfSome, false, true, None, option_map, length, map};
 ghost use Rattle.std.specs.List.{find};
+ghost use Rattle.omega_board.specs.Board.{cell_of};
+ghost use Rattle.omega_board.specs.Undo.{IsUndoOf, at_reserve};
+ghost use Rattle.omega_machines.specs.Table.{machines_of};
+ghost use Rattle.omega_model.specs.JudgeOn.{judge_on};
+ghost use Rattle.omega_model.specs.declared.claims.Verdict.TheVariants.{Placed};
 ghost use Rattle.omega_model.specs.Plan.{claim_of, claims_for, free_claim, goes_in, plan, whole_or_none};
 
-use crate::judging::{is_placed, judge};
-use crate::plain::PlainCell;
-use omega_model::{Claim, Mode, NoMemory, Policy, Request, Rule, Seq, Txn, Wish};
+use crate::claims::is_placed;
+use crate::scratch::place;
+use omega_board::{Board, Undo};
+use omega_model::{Claim, Claims, Mode, NoMemory, Policy, Request, Seq, Txn, Wish};
 use std::alloc::Global;
 
-/// The plan of a request, which begins to look at the first machine and evicts nobody.
+/// The plan of a request, which begins to look at the first machine and evicts nobody. The board
+/// has the same machines and tasks afterwards. Costs for each wish the machines that are tried.
 pub fn plan(
     alloc: Global,
-    cell: &PlainCell,
+    board: &mut Board,
     request: &Request,
     policy: Policy,
 ) -> Result<Txn, NoMemory>
     requires { policy.preempt ≡ false }
-    ensures { IfOk result (λ txn. txn ≡ record { job = request.now.job; rule = policy.rule; mode = policy.mode; claims = plan cell.now request.now.wishes 0 policy }) }
+    ensures table { board.new.table ≡ board.old.table }
+    ensures tasks { board.new.tasks ≡ board.old.tasks }
+    ensures txn { IfOk result (λ txn. txn ≡ record { job = request.now.job; rule = policy.rule; mode = policy.mode; claims = plan (cell_of board.old) request.now.wishes 0 policy }) }
 {
     let wishes = request.wishes.as_slice();
-    let claims = claims_for(alloc, cell.copy(alloc)?, wishes)?;
+    let room = one_claim_each(alloc, wishes)?;
+    let mut undo = board.reserve(alloc, &room)?;
+    let claims = claims_for(alloc, board, wishes, &mut undo);
+    board.undo(&mut undo);
     Ok(Txn {
         job: request.job,
         rule: policy.rule,
         mode: policy.mode,
-        claims: Seq::of(whole_or_none(policy.mode, wishes.len(), claims)),
+        claims: Seq::of(whole_or_none(policy.mode, wishes.len(), claims?)),
     })
 }
 
-// The claims for the wishes in order, each on the cell after the claims before it.
-fn claims_for(alloc: Global, cell: PlainCell, wishes: &[Wish]) -> Result<Vec<Claim>, NoMemory>
-    ensures { IfOk result (λ claims. claims.items ≡ claims_for cell 0 false wishes.now) }
+// A claim without victims for each wish, on whatever machine.
+fn one_claim_each(alloc: Global, wishes: &[Wish]) -> Result<Claims, NoMemory>
+    ensures { IfOk result (λ claims. claims ≡ map (λ wish. claim_of wish [] 0) wishes.now) }
 {
     let mut claims = Vec::new(alloc);
-    let mut scratch = cell;
     for wish in wishes {
-        if let Some(claim) = free_claim(alloc, &scratch, wish) {
-            scratch = scratch.with_placed(alloc, &claim)?;
+        claims.push(claim_of(alloc, wish, 0))?;
+    }
+    Ok(Seq::of(claims))
+}
+
+// The claims for the wishes in order, each on the board after the claims before it.
+fn claims_for(
+    alloc: Global,
+    board: &mut Board,
+    wishes: &[Wish],
+    undo: &mut Undo,
+) -> Result<Vec<Claim>, NoMemory>
+    requires undo { IsUndoOf board.old undo.old }
+    requires room { length wishes.now ≤ undo.old.claims }
+    ensures claims { IfOk result (λ claims. claims.items ≡ claims_for (cell_of board.old) 0 false wishes.now) }
+    ensures undo { IsUndoOf board.new undo.new }
+    ensures content { at_reserve undo.new board.new ≡ at_reserve undo.old board.old }
+{
+    let mut claims = Vec::new(alloc);
+    for wish in wishes {
+        if let Some(claim) = free_claim(alloc, board, wish) {
+            place(board, &claim, undo);
             claims.push(claim)?;
         }
     }
@@ -44,33 +77,42 @@ fn claims_for(alloc: Global, cell: PlainCell, wishes: &[Wish]) -> Result<Vec<Cla
 }
 
 // The claim on the first machine that takes the wish as it is.
-fn free_claim(alloc: Global, cell: &PlainCell, wish: &Wish) -> Option<Claim>
-    ensures { result ≡ free_claim cell.now 0 wish.now }
+fn free_claim(alloc: Global, board: &Board, wish: &Wish) -> Option<Claim>
+    ensures claim { result ≡ free_claim (cell_of board.now) 0 wish.now }
+    ensures placed { IfSome result (λ claim. judge_on (cell_of board.now) 0 None claim ≡ Placed) }
+    ensures no_victims { IfSome result (λ claim. claim.victims ≡ []) }
 {
-    match first_fit(alloc, cell, wish) {
+    match first_fit(alloc, board, wish) {
         Some(id) => Some(claim_of(alloc, wish, id)),
         None => None,
     }
 }
 
 // The number of the first machine that takes the wish as it is.
-fn first_fit(alloc: Global, cell: &PlainCell, wish: &Wish) -> Option<u64>
-    ensures { result ≡ option_map (λ machine. machine.id) (find (λ machine. goes_in cell.now wish.now [] machine.id) cell.now.machines) }
+fn first_fit(alloc: Global, board: &Board, wish: &Wish) -> Option<u64>
+    ensures first { result ≡ option_map (λ machine. machine.id) (find (λ machine. goes_in (cell_of board.now) wish.now [] machine.id) (cell_of board.now).machines) }
+    ensures placed { IfSome result (λ id. judge_on (cell_of board.now) 0 None (claim_of wish.now [] id) ≡ Placed) }
 {
-    for machine in cell.machines() {
-        if goes_in(alloc, cell, wish, machine.id) {
-            return Some(machine.id);
+    let machines = board.machines();
+    for position in 0..machines.len() {
+        let Some(machine) = machines.at(position) else {
+            return None;
+        };
+        let id = machine.id;
+        if goes_in(alloc, board, wish, id) {
+            return Some(id);
         }
     }
     None
 }
 
 // Whether a machine takes the wish as it is.
-fn goes_in(alloc: Global, cell: &PlainCell, wish: &Wish, id: u64) -> bool
-    ensures { result ≡ goes_in cell.now wish.now [] id }
+fn goes_in(alloc: Global, board: &Board, wish: &Wish, id: u64) -> bool
+    ensures test { result ≡ goes_in (cell_of board.now) wish.now [] id }
+    ensures placed { result ≡ true → judge_on (cell_of board.now) 0 None (claim_of wish.now [] id) ≡ Placed }
 {
     let claim = claim_of(alloc, wish, id);
-    is_placed(judge(&[], 0, cell, Rule::Fine, &claim))
+    is_placed(board.judge(&claim, None))
 }
 
 // The claim of a wish on a machine, without victims.

@@ -1,23 +1,28 @@
-//! A history that grows entry by entry, with the cell after it.
-ghost use Rattle.std.specs.Prelude.{◌≡◌, ◌++◌, ◌∷◌, [], ◌≤◌, IfOk, length, map};
-ghost use Rattle.std.specs.List.{fold, zip};
-ghost use Rattle.omega_model.specs.declared.entries.Entry.TheVariants.{Round, MachineAdd, Commit};
+//! A history that grows entry by entry, with the board after it.
+ghost use Rattle.std.specs.Prelude.{◌≡◌, ◌++◌, ◌∷◌, [], IfOk, IfSome, IsTrue, false, length, ℕ};
+ghost use Rattle.omega_board.specs.Board.{cell_of};
+ghost use Rattle.omega_board.specs.Entries.{HasRoomFor, machine_in};
 ghost use Rattle.omega_model.specs.Legal.{Legal};
-ghost use Rattle.omega_model.specs.Reply.{all_or_nothing, by_mode, first_refusal, reply_on, tasks_after_claim, verdicts, withdrawn_for};
+ghost use Rattle.omega_model.specs.Plan.{plan};
+ghost use Rattle.omega_model.specs.Requests.{failed, failed_after};
 ghost use Rattle.omega_model.specs.State.{reply_of, state};
+ghost use Rattle.omega_model.specs.declared.claims.Rule.TheVariants.{Fine};
+ghost use Rattle.omega_top.specs.Counts.{count_of};
+ghost use Rattle.omega_top.specs.Replays.{MayAppend};
 
-use crate::judging::{is_placed, judge};
-use crate::plain::PlainCell;
-use omega_model::{
-    Claim, Entries, Entry, Mode, Need, NoMemory, Rule, Seq, Txn, Verdict, Verdicts,
-};
+use crate::claims::any_placed;
+use crate::failures::Failures;
+use crate::{planning, replying};
+use omega_board::Board;
+use omega_model::{Entries, Entry, NoMemory, Policy, Request, Seq, Txn, Verdicts};
 use std::alloc::Global;
 use std::marker::Model;
 
-/// A legal history and the cell after it. A contract sees the history.
-#[derive(Debug, Drop)]
+/// A legal history and the board after it. A contract sees the history.
+#[derive(Drop)]
 pub struct Replay {
-    cell: PlainCell,
+    board: Board,
+    failures: Failures,
     entries: Vec<Entry>,
 }
 
@@ -30,7 +35,7 @@ impl Model for Replay {
 
     ghost view = { λ r. r.entries.items };
 
-    ghost invariant = { λ r. Replays r.cell r.entries.items };
+    ghost invariant = { λ r. Replays r.board r.failures r.entries.items };
 }
 
 impl Replay {
@@ -39,23 +44,31 @@ impl Replay {
         ensures { result ≡ [] }
     {
         Replay {
-            cell: PlainCell::new(alloc),
+            board: Board::new(alloc),
+            failures: Failures::new(alloc),
             entries: Vec::new(alloc),
         }
     }
 
-    /// The cell after the history.
-    pub fn cell(&self) -> &PlainCell
-        ensures { result.now ≡ state self.now }
+    /// The board after the history.
+    pub fn board(&self) -> &Board
+        ensures { cell_of result.now ≡ state self.now }
     {
-        &self.cell
+        &self.board
     }
 
-    /// The entries in order.
-    pub fn history(&self) -> &[Entry]
-        ensures { result.now ≡ self.now }
+    /// How many entries the history has.
+    pub fn len(&self) -> usize
+        ensures { result ≡ length self.now }
     {
-        self.entries.as_slice()
+        self.entries.len()
+    }
+
+    /// How often in a row the commits for a job placed nothing.
+    pub fn failed(&self, job: u64) -> u64
+        ensures { result ≡ failed self.now job }
+    {
+        self.failures.of(job)
     }
 
     /// The history itself, which is legal. Takes no memory.
@@ -63,169 +76,87 @@ impl Replay {
         ensures history { result ≡ self }
         ensures legal { Legal result }
     {
-        let Replay { cell: _, entries } = self;
+        let Replay { entries, .. } = self;
         Seq::of(entries)
     }
 
-    /// A round begins.
-    pub fn with_round(self, number: u64) -> Result<Replay, NoMemory>
-        ensures { IfOk result (λ replay. replay ≡ self ++ Round number ∷ []) }
+    /// The plan of a request on the state of the history, from the first machine on and without
+    /// evictions.
+    pub fn plan(
+        &mut self,
+        alloc: Global,
+        request: &Request,
+        policy: Policy,
+    ) -> Result<Txn, NoMemory>
+        requires { policy.preempt ≡ false }
+        ensures stays { self.new ≡ self.old }
+        ensures txn { IfOk result (λ txn. txn ≡ record { job = request.now.job; rule = policy.rule; mode = policy.mode; claims = plan (state self.old) request.now.wishes 0 policy }) }
     {
-        let Replay { cell, mut entries } = self;
-        entries.push(Entry::Round { number })?;
-        Ok(Replay { cell, entries })
+        planning::plan(alloc, &mut self.board, request, policy)
     }
 
-    /// A machine is up with this capacity, before any task runs.
-    pub fn with_machine(self, alloc: Global, id: u64, cap: Need) -> Result<Replay, NoMemory>
-        requires { (state self).tasks ≡ [] }
-        ensures replay { IfOk result (λ replay. replay ≡ self ++ MachineAdd id cap ∷ []) }
-        ensures idle { IfOk result (λ replay. (state replay).tasks ≡ []) }
+    /// The reply to a transaction of a scheduler that has seen the whole history.
+    pub fn reply(&mut self, alloc: Global, txn: &Txn) -> Result<Verdicts, NoMemory>
+        requires { txn.now.rule ≡ Fine }
+        ensures stays { self.new ≡ self.old }
+        ensures reply { IfOk result (λ reply. reply ≡ reply_of self.old (length self.old) txn.now) }
     {
-        let Replay { cell, mut entries } = self;
-        let cell = cell.with_machine(alloc, id, cap)?;
-        entries.push(Entry::MachineAdd { machine: id, cap })?;
-        Ok(Replay { cell, entries })
+        replying::reply(alloc, &mut self.board, txn)
     }
 
-    /// A scheduler that has seen the whole history commits a transaction.
-    pub fn with_commit(self, alloc: Global, scheduler: u32, txn: Txn) -> Result<Replay, NoMemory>
-        ensures { IfOk result (λ replay. replay ≡ self ++ Commit scheduler (length self) txn (reply_of self (length self) txn) ∷ []) }
+    /// The history with one more entry. More machines than a table holds are answered as want of
+    /// memory.
+    pub fn with_entry(self, alloc: Global, entry: Entry) -> Result<Replay, NoMemory>
+        requires { MayAppend self entry }
+        ensures { IfOk result (λ replay. replay ≡ self ++ entry ∷ []) }
     {
-        let Replay { cell, mut entries } = self;
-        let seen = entries.len();
-        let reply = replied(alloc, entries.as_slice(), seen, &cell, &txn)?;
-        let cell = after_claims(alloc, cell, txn.claims.as_slice(), reply.as_slice())?;
-        entries.push(Entry::Commit {
-            scheduler,
-            seen: seen as u64,
-            txn,
-            reply,
-        })?;
-        Ok(Replay { cell, entries })
-    }
-}
-
-/// The reply to a transaction on a history and the cell after it.
-pub fn replied(
-    alloc: Global,
-    history: &[Entry],
-    seen: usize,
-    cell: &PlainCell,
-    txn: &Txn,
-) -> Result<Verdicts, NoMemory>
-    requires { seen ≤ length history.now }
-    ensures { IfOk result (λ reply. reply ≡ reply_on history.now cell.now seen txn.now) }
-{
-    let scratch = cell.copy(alloc)?;
-    let claims = txn.claims.as_slice();
-    let reply = verdicts(alloc, history, seen, scratch, txn.rule, claims)?;
-    match txn.mode {
-        Mode::Incremental => Ok(Seq::of(reply)),
-        Mode::Gang => Ok(Seq::of(all_or_nothing(alloc, reply)?)),
-    }
-}
-
-// The verdicts on claims in order, each on the cell after those before it.
-fn verdicts(
-    alloc: Global,
-    history: &[Entry],
-    seen: usize,
-    cell: PlainCell,
-    rule: Rule,
-    claims: &[Claim],
-) -> Result<Vec<Verdict>, NoMemory>
-    requires { seen ≤ length history.now }
-    ensures { IfOk result (λ reply. reply.items ≡ verdicts history.now seen cell rule claims.now) }
-{
-    let mut reply = Vec::new(alloc);
-    let mut scratch = cell;
-    for claim in claims {
-        let verdict = judge(history, seen, &scratch, rule, claim);
-        scratch = after_claim(alloc, scratch, claim, verdict)?;
-        reply.push(verdict)?;
-    }
-    Ok(reply)
-}
-
-// The cell after a claim and its verdict.
-fn after_claim(
-    alloc: Global,
-    cell: PlainCell,
-    claim: &Claim,
-    verdict: Verdict,
-) -> Result<PlainCell, NoMemory>
-    ensures { IfOk result (λ after. after ≡ record { machines = cell.machines; tasks = tasks_after_claim cell.tasks (claim.now, verdict) }) }
-{
-    if is_placed(verdict) {
-        cell.with_placed(alloc, claim)
-    } else {
-        Ok(cell)
-    }
-}
-
-// The cell after claims and their verdicts.
-fn after_claims(
-    alloc: Global,
-    cell: PlainCell,
-    claims: &[Claim],
-    reply: &[Verdict],
-) -> Result<PlainCell, NoMemory>
-    ensures { IfOk result (λ after. after ≡ record { machines = cell.machines; tasks = fold tasks_after_claim cell.tasks (zip claims.now reply.now) }) }
-{
-    let mut after = cell;
-    for (i, claim) in claims.iter().enumerate() {
-        let Some(verdict) = reply.get(i) else {
-            return Ok(after);
-        };
-        after = after_claim(alloc, after, claim, *verdict)?;
-    }
-    Ok(after)
-}
-
-// A gang with a refusal keeps no claim.
-fn all_or_nothing(alloc: Global, reply: Vec<Verdict>) -> Result<Vec<Verdict>, NoMemory>
-    ensures { IfOk result (λ kept. kept.items ≡ all_or_nothing reply.items) }
-{
-    let place = first_refusal(reply.as_slice());
-    if place == reply.len() {
-        return Ok(reply);
-    }
-    // A place that a verdict can't hold would be that of a list larger than memory.
-    let place = u32::try_from(place).map_err(|_| NoMemory)?;
-    withdrawn(alloc, place, reply.as_slice())
-}
-
-// The verdicts of a gang that is withdrawn for the claim at this place.
-fn withdrawn(alloc: Global, place: u32, reply: &[Verdict]) -> Result<Vec<Verdict>, NoMemory>
-    ensures { IfOk result (λ kept. kept.items ≡ map (withdrawn_for place) reply.now) }
-{
-    let mut kept = Vec::new(alloc);
-    for verdict in reply {
-        kept.push(withdrawn_for(place, *verdict))?;
-    }
-    Ok(kept)
-}
-
-// A placed claim is withdrawn for the claim at this place.
-fn withdrawn_for(place: u32, verdict: Verdict) -> Verdict
-    ensures { result ≡ withdrawn_for place verdict }
-{
-    if is_placed(verdict) {
-        Verdict::Withdrawn(place)
-    } else {
-        verdict
-    }
-}
-
-// The place of the first refusal, or the length where there is none.
-fn first_refusal(reply: &[Verdict]) -> usize
-    ensures { result ≡ first_refusal reply.now }
-{
-    for (i, verdict) in reply.iter().enumerate() {
-        if !is_placed(*verdict) {
-            return i;
+        let Replay {
+            mut board,
+            failures,
+            mut entries,
+        } = self;
+        if !has_room(&board, &entry) {
+            return Err(NoMemory);
         }
+        board.apply_entry(alloc, &entry)?;
+        let failures = noted(failures, &entry)?;
+        entries.push(entry)?;
+        Ok(Replay {
+            board,
+            failures,
+            entries,
+        })
     }
-    reply.len()
+}
+
+// Whether a board has the machine of an entry, or room for it.
+fn has_room(board: &Board, entry: &Entry) -> bool
+    ensures { IsTrue result → IfSome (machine_in entry.now) (HasRoomFor board.now.table) }
+{
+    match entry {
+        Entry::MachineAdd { machine, .. }
+        | Entry::MachineUpdate { machine, .. }
+        | Entry::MachineRemove { machine }
+        | Entry::AttrSet { machine, .. }
+        | Entry::AttrDelete { machine, .. } => has_room_for(board, *machine),
+        Entry::Round { .. } | Entry::End { .. } | Entry::Commit { .. } => true,
+    }
+}
+
+// Whether a board has a machine, or room for it.
+fn has_room_for(board: &Board, machine: u64) -> bool
+    ensures { IsTrue result → HasRoomFor board.now.table machine }
+{
+    let machines = board.machines();
+    machines.len() < 65_536 || machines.position(machine).is_some()
+}
+
+// The counts of failed commits after one more entry.
+fn noted(failures: Failures, entry: &Entry) -> Result<Failures, NoMemory>
+    ensures { IfOk result (λ after. (job : ℕ) → count_of after job ≡ failed_after job (count_of failures job) entry.now) }
+{
+    match entry {
+        Entry::Commit { txn, reply, .. } => failures.noted(txn.job, any_placed(reply.as_slice())),
+        _ => Ok(failures),
+    }
 }

@@ -159,12 +159,7 @@ fn task_words(key: &TaskKey, machine: u64) -> [Word<'static>; 3]
 }
 
 // A line of a name, some words and some more words.
-fn push_line(
-    out: &mut Vec<u8>,
-    name: &str,
-    words: &[Word],
-    more: &[Word],
-) -> Result<(), NoMemory>
+fn push_line(out: &mut Vec<u8>, name: &str, words: &[Word], more: &[Word]) -> Result<(), NoMemory>
     ensures { OnOk result (out.new.items ≡ out.old.items ++ line_text (Name name.now ∷ map word_of words.now ++ map word_of more.now)) }
 {
     out.extend_from_slice(name.as_bytes())?;

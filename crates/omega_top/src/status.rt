@@ -137,9 +137,7 @@ fn with_reason(line: Line, column: u32, reason: &str) -> Line
     requires reason { length reason.now ≤ 20 }
     ensures { result ≡ line ++ codes " column " ++ decimal column ++ reason.now }
 {
-    line.with(" column ")
-        .with_column(column)
-        .with(reason)
+    line.with(" column ").with_column(column).with(reason)
 }
 
 // The name of a table.

@@ -212,14 +212,8 @@ fn each_size_of_sink(rt: HostRuntime) -> Result<(), Fail> {
 #[test]
 fn first_refusals(rt: HostRuntime) -> Result<(), Fail> {
     let later = "0,,10,0,,0,u,0,1,0.25,0.25,0.001,0\n5,,10,1,,0,u,0,1,0.25,0.25,0.001,0\n";
-    let first_machine = Status::NotBuilt {
-        table: Table::MachineEvents,
-        row: 1,
-    };
-    let first_task = Status::NotBuilt {
-        table: Table::TaskEvents,
-        row: 1,
-    };
+    let first_machine = bad_row(Table::MachineEvents, 1, 0, Cause::Fields(13));
+    let first_task = bad_row(Table::TaskEvents, 1, 0, Cause::Fields(6));
     let second_task = Status::NotBuilt {
         table: Table::TaskEvents,
         row: 2,
@@ -322,10 +316,10 @@ fn settings(rt: HostRuntime) -> Result<(), Fail> {
     Ok(())
 }
 
-// The refusal of a row of `machine_attributes`.
-fn bad_row(row: u64, column: u32, cause: Cause) -> Status {
+// The refusal of a row.
+fn bad_row(table: Table, row: u64, column: u32, cause: Cause) -> Status {
     Status::BadRow {
-        table: Table::MachineAttributes,
+        table,
         row,
         column,
         cause,
@@ -338,6 +332,7 @@ fn fault_lines_and_exit_statuses(rt: HostRuntime) {
         table: Table::TaskConstraints,
         row: 12,
     };
+    let attributes = Table::MachineAttributes;
     let cases = [
         (Status::Done, 0, ""),
         (Status::Usage, 2, "omega: the words are refused"),
@@ -352,22 +347,22 @@ fn fault_lines_and_exit_statuses(rt: HostRuntime) {
             "omega: mapreduce_jobs is longer than 268435456 bytes",
         ),
         (
-            bad_row(2, 0, Cause::Fields(12)),
+            bad_row(attributes, 2, 0, Cause::Fields(12)),
             3,
             "omega: machine_attributes row 2: 12 fields",
         ),
         (
-            bad_row(u64::MAX, u32::MAX, Cause::Number),
+            bad_row(attributes, u64::MAX, u32::MAX, Cause::Number),
             3,
             "omega: machine_attributes row 18446744073709551615 column 4294967295: not a whole number",
         ),
         (
-            bad_row(1, 5, Cause::Range),
+            bad_row(attributes, 1, 5, Cause::Range),
             3,
             "omega: machine_attributes row 1 column 5: out of range",
         ),
         (
-            bad_row(3, 10, Cause::Quantity),
+            bad_row(attributes, 3, 10, Cause::Quantity),
             3,
             "omega: machine_attributes row 3 column 10: not a quantity",
         ),

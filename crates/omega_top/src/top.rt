@@ -7,10 +7,10 @@ ghost use Rattle.omega_model.specs.Report.{report};
 ghost use Rattle.omega_model.specs.Trace.{trace_of};
 ghost use Rattle.omega_model.specs.declared.results.Status.TheVariants.{Usage, WriteFault, NoMemory};
 ghost use Rattle.omega_model.specs.declared.rows.Table.{Table};
-ghost use Rattle.omega_top.specs.Answers.{Answers, EndsRun, HasHistory, HasReadCause, IsBuilt, NoneRose, SayReplay, Writes, WritesNothing, default_settings};
+ghost use Rattle.omega_top.specs.Answers.{Answers, EndsRun, HasHistory, HasReadCause, IsBuilt, IsWholeRun, NoneRose, SayReplay, Writes, WritesNothing, default_settings};
 
-use crate::attempts::replayed;
 use crate::reporting::report;
+use crate::rounds::replayed;
 use omega_io::{Gate, Sink, Tables, write_all};
 use omega_model::{
     Command, Done, Extra, Format, Mode, Preempt, Rule, Seq, Settings, Status, TraceTables,
@@ -39,7 +39,8 @@ const DEFAULTS: Settings = Settings {
 /// history that it answers.
 ///
 /// Of the refusals the first that stands is answered: that of the words, then for each table in
-/// order that of its reading, its length and its rows, then that of the writing. Want of memory
+/// order that of its reading, its length and its rows, then that of the limits over all tables and
+/// of a row for which no replay is built yet, then that of the writing. Want of memory
 /// alone may be answered at any place before the first write. The gate is for runs with threads,
 /// which aren't built yet.
 pub fn omega<T: Tables, K: Sink, G: Gate>(
@@ -61,6 +62,7 @@ pub fn omega<T: Tables, K: Sink, G: Gate>(
         → NoneRose (T.faults tables.old) (T.faults tables.new) (K.faults out.old) (K.faults out.new)
         → result.status ≢ Usage → (result.status ≡ Status.Done) ⊎ (result.status ≡ NoMemory) }
 
+    ensures lawful { (bytes : Table → List ℕ) → Tells (T.rest tables.old) bytes → IsWholeRun default_settings (trace_of bytes) result.history result.status }
     ensures legal { Legal result.history }
     ensures history { HasHistory result.history result.status }
     ensures written { (bytes : Table → List ℕ) → Tells (T.rest tables.old) bytes
@@ -95,6 +97,7 @@ pub fn omega_with<T: Tables, K: Sink, G: Gate>(
     ensures read_fault { HasReadCause (T.faults tables.old) (T.faults tables.new) result.status }
     ensures write_fault { result.status ≡ WriteFault → Rose (K.faults out.old) (K.faults out.new) }
 
+    ensures lawful { (bytes : Table → List ℕ) → Tells (T.rest tables.old) bytes → IsWholeRun settings.now (trace_of bytes) result.history result.status }
     ensures legal { Legal result.history }
     ensures history { HasHistory result.history result.status }
     ensures written { (bytes : Table → List ℕ) → Tells (T.rest tables.old) bytes
@@ -136,9 +139,11 @@ fn replay_and_write<K: Sink>(
     trace: &TraceTables,
     out: &mut K,
 ) -> Done
+    requires { IsBuilt settings.now }
     ensures settings { result.settings ≡ Some settings.now }
     ensures ends { EndsRun result.status }
     ensures cause { result.status ≡ WriteFault → Rose (K.faults out.old) (K.faults out.new) }
+    ensures lawful { IsWholeRun settings.now trace.now result.history result.status }
     ensures legal { Legal result.history }
     ensures history { HasHistory result.history result.status }
     ensures written { Writes (report settings.now trace.now result.history) (K.written out.old) (K.written out.new) result.status }

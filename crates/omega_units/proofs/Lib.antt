@@ -2,3 +2,5 @@ pub mod Reading
 pub mod Scaling
 pub mod Tens
 pub mod Parts
+pub mod Writing
+mod Examples

@@ -1,5 +1,5 @@
 -- A quantity as it is written, before anything is computed.
-use Rattle.std.specs.Prelude.{◌+◌, ◌*◌, Bool, List, ◌++◌, ℕ, length, Option, Some, None, option_map, if◌then◌else◌}
+use Rattle.std.specs.Prelude.{◌+◌, ◌*◌, ◌^◌, ◌<◌, ◌≤◌, Bool, List, ◌++◌, ℕ, length, Option, Some, None, option_map, if◌then◌else◌}
 use Rattle.std.specs.Str.Parse.{starts_with_minus, without_leading_sign}
 use Rattle.std.specs.List.{before_first, after_first}
 use Rattle.omega_model.specs.Numbers.{Fraction, ten_to, is_point, is_quantity, mantissa, fraction_digits, exponent, exponent_text}
@@ -25,6 +25,12 @@ decimal_of text =
       exponent = exponent text;
       is_negative = starts_with_minus (exponent_text text);
     } else None
+
+-- no part is greater than a text of 32 bytes can make it
+pub record IsShort (decimal : Decimal) : Type 0 where
+  pub mantissa : decimal.mantissa < 10 ^ 32
+  pub places : decimal.places ≤ 32
+  pub exponent : decimal.exponent < 10 ^ 32
 
 -- its exact value
 abbrev pub value_of : Decimal → Fraction

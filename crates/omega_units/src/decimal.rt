@@ -1,11 +1,10 @@
 //! Quantities: digits with a point, and an exponent.
-ghost use Rattle.std.specs.Prelude.{◌≡◌, ◌+◌, ◌*◌, ◌^◌, ◌≤◌, ◌<◌, ◌++◌, nat_le, length, drop, IfSome, Some, None, if◌then◌else◌};
-ghost use Rattle.std.specs.List.{position_or_len, before_first, after_first};
-ghost use Rattle.std.specs.Str.Parse.{digits_value, starts_with_minus, without_leading_sign};
-ghost use Rattle.omega_model.specs.Numbers.{is_digits, is_point, is_exponent_mark};
-ghost use Rattle.omega_units.specs.Digits.{number};
+ghost use Rattle.std.specs.Prelude.{◌≡◌, ◌+◌, ◌*◌, ◌^◌, ◌≤◌, ◌<◌, length, drop, IfSome, SomeIff};
+ghost use Rattle.std.specs.List.{position_or_len};
+ghost use Rattle.std.specs.Str.Parse.{without_leading_sign};
+ghost use Rattle.omega_model.specs.Numbers.{is_point, is_exponent_mark};
 ghost use Rattle.omega_units.specs.Units.{rounded, quotient};
-ghost use Rattle.omega_units.specs.Parts.{decimal_of, value_of, significand_of, exponent_of};
+ghost use Rattle.omega_units.specs.Parts.{decimal_of, value_of, significand_of, exponent_of, IsShort};
 
 use crate::Rounding;
 use crate::digits::{read_joined, read_number};
@@ -27,7 +26,7 @@ pub struct Decimal {
 pub fn read_decimal(text: &[u8]) -> Option<Decimal>
     requires { length text.now ≤ 32 }
     ensures value { result ≡ decimal_of text.now }
-    ensures bound { IfSome result (λ decimal. (decimal.mantissa < 10 ^ 32) × (decimal.places ≤ 32) × (decimal.exponent < 10 ^ 32)) }
+    ensures bound { IfSome result IsShort }
 {
     let mark = exponent_place(text);
     let (mantissa, places) = read_significand(&text[..mark])?;
@@ -120,10 +119,9 @@ fn without_sign(text: &[u8]) -> &[u8]
 impl Decimal {
     /// The units, rounded. `None` exactly where the exact value is above 1000.
     pub fn units(self, rounding: Rounding) -> Option<u64>
-        requires mantissa { self.mantissa < 10 ^ 32 }
-        requires places { self.places ≤ 32 }
-        requires exponent { self.exponent < 10 ^ 32 }
-        ensures { result ≡ rounded rounding (value_of self) }
+        requires { IsShort self }
+        ensures value { result ≡ rounded rounding (value_of self) }
+        ensures bound { IfSome result (λ units. units ≤ MOST) }
     {
         if self.is_negative {
             scaled(self.mantissa, 0, self.places + self.exponent, rounding)
@@ -138,7 +136,8 @@ impl Decimal {
 fn scaled(number: u128, raise: u128, lower: u128, rounding: Rounding) -> Option<u64>
     requires number { number < 10 ^ 32 }
     requires raise { raise < 10 ^ 32 }
-    ensures { result ≡ rounded rounding (record { over = number * 10 ^ raise; under = 10 ^ lower }) }
+    ensures value { result ≡ rounded rounding (record { over = number * 10 ^ raise; under = 10 ^ lower }) }
+    ensures bound { IfSome result (λ units. units ≤ MOST) }
 {
     if number == 0 {
         return Some(0);
@@ -154,7 +153,8 @@ fn scaled(number: u128, raise: u128, lower: u128, rounding: Rounding) -> Option<
 /// A number that isn't 0, times ten to a power. `None` exactly above `MOST`.
 fn raised(number: u128, power: u128) -> Option<u64>
     requires { 0 < number }
-    ensures { result ≡ (if nat_le (number * 10 ^ power) MOST then Some (number * 10 ^ power) else None) }
+    ensures value { SomeIff result (number * 10 ^ power ≤ MOST) (number * 10 ^ power) }
+    ensures bound { IfSome result (λ units. units ≤ MOST) }
 {
     if power > 12 {
         return None;
@@ -169,7 +169,8 @@ fn raised(number: u128, power: u128) -> Option<u64>
 /// A number over ten to a power, rounded. `None` exactly where it is above `MOST` before that.
 fn lowered(number: u128, power: u128, rounding: Rounding) -> Option<u64>
     requires { number < 10 ^ 32 }
-    ensures { result ≡ (if nat_le number (MOST * 10 ^ power) then Some (quotient rounding number (10 ^ power)) else None) }
+    ensures value { SomeIff result (number ≤ MOST * 10 ^ power) (quotient rounding number (10 ^ power)) }
+    ensures bound { IfSome result (λ units. units ≤ MOST) }
 {
     // From 10^32 on every power is above the number, so that they all round alike.
     let divisor = 10u128.pow(power.min(32) as u32);

@@ -1,13 +1,16 @@
 //! Numbers in text, read exactly: whole numbers and quantities.
 #![tactic(auto)]
 
-ghost use Rattle.std.specs.Prelude.{◌≡◌};
+ghost use Rattle.std.specs.Prelude.{◌≡◌, ◌≤◌, ◌^◌, IfOk};
 ghost use Rattle.std.specs.Result.{result_ok};
 ghost use Rattle.omega_model.specs.Numbers.{whole};
 ghost use Rattle.omega_units.specs.Units.{units};
 
 mod decimal;
 mod digits;
+mod printing;
+
+pub use printing::push_u64;
 
 /// Which way a quantity becomes a whole number of units.
 #[derive(Clone, Copy, Debug, PartialEq, Eq)]
@@ -42,9 +45,11 @@ pub fn read_u64(text: &[u8]) -> Result<u64, BadNumber>
 ///
 /// Any other text is digits with a point among them, in front of them or behind them, or none, and
 /// then `e` or `E`, a sign or none, and digits, or nothing. `BadNumber` where the text is no such
-/// thing, is longer than 32 bytes, or its exact value is above 1000. Takes no memory.
+/// thing, is longer than 32 bytes, or its exact value is above 1000, which is judged before the
+/// rounding. Looks at each byte at most three times, takes no memory.
 pub fn read_quantity(text: &[u8], rounding: Rounding) -> Result<u64, BadNumber>
-    ensures { result_ok result ≡ units rounding text.now }
+    ensures value { result_ok result ≡ units rounding text.now }
+    ensures bound { IfOk result (λ units. units ≤ 10 ^ 12) }
 {
     if text.is_empty() {
         return Ok(0);
@@ -57,3 +62,6 @@ pub fn read_quantity(text: &[u8], rounding: Rounding) -> Result<u64, BadNumber>
     };
     decimal.units(rounding).ok_or(BadNumber)
 }
+
+#[cfg(test)]
+mod tests;

@@ -1,6 +1,5 @@
-use Rattle.std.proofs.Common.{◌∙◌, ap, sym, subst, set, get_or, List}
+use Rattle.std.proofs.Common.{◌∙◌}
 use Rattle.std.proofs.lemmas.Result.{on_ok_weaker}
-use Rattle.omega_model.specs.declared.cells.Attr.{Attr}
 use Rattle.omega_machines.proofs.Attributes.{with_attr-set, with_attr-push}
 use Rattle.omega_machines.proofs.attrs.set.Goals as goal
 

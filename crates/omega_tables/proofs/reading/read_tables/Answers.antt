@@ -1,6 +1,8 @@
-use Rattle.std.proofs.Common.{◌≡◌, ◌∙◌, ◌<◌, arith}
+use Rattle.std.proofs.Common.{◌≡◌, ◌∙◌, ◌<◌, arith, sym, ap, None}
 use Rattle.std.proofs.lemmas.Result.{err_from_is_err_and}
-use Rattle.omega_tables.proofs.InOrder.{none_more, trace_more, done_more, left_more, later_more, stops_first}
+use Rattle.omega_tables.proofs.InOrder.{none_more, trace_more, done_more, left_more, later_more, stops_first, stops_last}
+use Rattle.omega_model.proofs.FirstRefusal.{rows_last}
+use Rattle.omega_model.specs.Refusals.{trace_refusal}
 use Rattle.omega_tables.proofs.reading.read_tables.Goals as goal
 
 pub returns-clause-trace : goal.returns-clause-trace
@@ -11,7 +13,10 @@ returns-clause-trace g c =
 pub returns-clause-none : goal.returns-clause-none
 returns-clause-none g c =
     let five : c.loop-table.table-index ≡ 5 = omega arith in
-    λ bytes told. rw five at (c.loop-table.invariant.none bytes told)
+    λ bytes told.
+    let none = rw five at (c.loop-table.invariant.none bytes told) in
+    let trace = rw five at (c.loop-table.invariant.trace bytes told) in
+    rows_last bytes None none (ap trace_refusal (sym trace) ∙ c.in_ok-check_rows.ensures.none)
 
 pub loop-table-preserved : goal.loop-table-preserved
 loop-table-preserved g c =
@@ -38,3 +43,12 @@ returns-in_err-read_table-clause-refusal g c =
     let below : i < 5 = omega arith in
     let kept = err_from_is_err_and c.from_residual.result c.from_residual.ensures.1 in
     λ bytes told. rw (kept.1, kept.2) (stops_first (g.T.Tables.rest c.args.tables.now) (g.T.Tables.rest c.loop-table.tables) i bytes c.in_err-read_table.field-0.0 below inv.left told (inv.none bytes told) c.in_err-read_table.ensures.refusal)
+
+pub returns-in_err-check_rows-clause-refusal : goal.returns-in_err-check_rows-clause-refusal
+returns-in_err-check_rows-clause-refusal g c =
+    let five : c.loop-table.table-index ≡ 5 = omega arith in
+    let kept = err_from_is_err_and c.from_residual-in_err-check_rows.result c.from_residual-in_err-check_rows.ensures.1 in
+    λ bytes told.
+    let none = rw five at (c.loop-table.invariant.none bytes told) in
+    let trace = rw five at (c.loop-table.invariant.trace bytes told) in
+    rw (kept.1, kept.2) (stops_last bytes c.loop-table.trace c.in_err-check_rows.field-0.0 none trace c.in_err-check_rows.ensures.refusal)

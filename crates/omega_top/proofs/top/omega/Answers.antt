@@ -17,3 +17,6 @@ returns-clause-written g c bytes told = c.omega_with.ensures.written bytes (λ t
 
 pub returns-clause-to_end : goal.returns-clause-to_end
 returns-clause-to_end g c bytes told done = c.omega_with.ensures.to_end bytes (λ table. c.enter.ensures.rests table ∙ told table) done
+
+pub returns-clause-lawful : goal.returns-clause-lawful
+returns-clause-lawful g c bytes told = c.omega_with.ensures.lawful bytes (λ table. c.enter.ensures.rests table ∙ told table)

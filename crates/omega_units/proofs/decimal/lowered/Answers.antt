@@ -1,4 +1,4 @@
-use Rattle.std.proofs.Common.{◌/◌, Some, ◌^◌, ◌≤◌, refl, ap, ◌∙◌, arith}
+use Rattle.std.proofs.Common.{◌/◌, ◌^◌, ◌≤◌, ap, ◌∙◌, arith}
 use Rattle.std.proofs.Math.Nat.{pow-le-pow_right}
 use Rattle.std.specs.Int.{div_ceil}
 use Rattle.omega_units.specs.declared.Rounding.TheVariants.{Up, Down}
@@ -17,21 +17,22 @@ div_ceil-up-requires c = rw c.pow-divisor.ensures (ten_pos c.min.result)
 pub nonzero_div-result : goal.nonzero_div-result
 nonzero_div-result c = rw c.pow-divisor.ensures (ten_pos c.min.result)
 
-pub returns-then-up-gt-MOST : goal.returns-then-up-gt-MOST
-returns-then-up-gt-MOST c =
+pub returns-then-up-gt-MOST-clause-value : goal.returns-then-up-gt-MOST-clause-value
+returns-then-up-gt-MOST-clause-value c =
     let divisor = c.pow-divisor.ensures ∙ ap (λ i. 10 ^ i) c.min.ensures in
     let up = c.div_ceil-up.ensures ∙ ap (λ d. div_ceil c.args.number d) divisor ∙ quotient_capped Up c.args.number c.args.power c.requires in
-    rw (above_most c.args.number c.args.power c.div_ceil-up.result up c.if-up-gt-MOST.true) refl
+    let above = above_most c.args.number c.args.power c.div_ceil-up.result up c.if-up-gt-MOST.true in
+    λ within. omega (arith, above, within)
 
-pub returns-in-Up : goal.returns-in-Up
-returns-in-Up c =
+pub returns-in-Up-clause-value : goal.returns-in-Up-clause-value
+returns-in-Up-clause-value c =
     let divisor = c.pow-divisor.ensures ∙ ap (λ i. 10 ^ i) c.min.ensures in
     let up = c.div_ceil-up.ensures ∙ ap (λ d. div_ceil c.args.number d) divisor ∙ quotient_capped Up c.args.number c.args.power c.requires in
-    rw (c.in-Up.is, within_most c.args.number c.args.power c.div_ceil-up.result up c.if-up-gt-MOST.false) (ap (λ n. Some n) up)
+    (within_most c.args.number c.args.power c.div_ceil-up.result up c.if-up-gt-MOST.false, rw c.in-Up.is up)
 
-pub returns-in-Down : goal.returns-in-Down
-returns-in-Down c =
+pub returns-in-Down-clause-value : goal.returns-in-Down-clause-value
+returns-in-Down-clause-value c =
     let divisor = c.pow-divisor.ensures ∙ ap (λ i. 10 ^ i) c.min.ensures in
     let up = c.div_ceil-up.ensures ∙ ap (λ d. div_ceil c.args.number d) divisor ∙ quotient_capped Up c.args.number c.args.power c.requires in
     let down = ap (λ d. c.args.number / d) divisor ∙ quotient_capped Down c.args.number c.args.power c.requires in
-    rw (c.in-Down.is, within_most c.args.number c.args.power c.div_ceil-up.result up c.if-up-gt-MOST.false) (ap (λ n. Some n) down)
+    (within_most c.args.number c.args.power c.div_ceil-up.result up c.if-up-gt-MOST.false, rw c.in-Down.is down)

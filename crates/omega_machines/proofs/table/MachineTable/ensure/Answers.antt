@@ -1,18 +1,23 @@
 use Rattle.std.proofs.Common.{◌∙◌, sym}
-use Rattle.omega_machines.proofs.Growing.{grown}
+use Rattle.omega_machines.proofs.Growing.{no_state, grown}
 use Rattle.omega_machines.proofs.table.MachineTable.ensure.Goals as goal
+
+pub push-requires : goal.push-requires
+push-requires c =
+    let absent = sym (c.if-is_some.ensures ∙ c.position.ensures.listed) in
+    no_state c.self.inside.rows.entries c.args.self.now c.args.id c.self.view_is c.self.invariant absent
 
 pub invariant_of-self-2 : goal.invariant_of-self-2
 invariant_of-self-2 c =
     let absent = sym (c.if-is_some.ensures ∙ c.position.ensures.listed) in
-    (grown c.self.inside.rows.entries c.args.self.now c.args.id c.self.view_is c.self.invariant absent _ _ c.requires c.new.ensures c.in_ok-insert.ensures.entries).0
+    (grown c.self.inside.rows.entries c.args.self.now c.args.id c.self.view_is c.self.invariant absent _ _ c.requires c.new.ensures c.in_ok-push.ensures.ok).0
 
 pub returns-clause-ok : goal.returns-clause-ok
 returns-clause-ok c =
     let absent = sym (c.if-is_some.ensures ∙ c.position.ensures.listed) in
-    (grown c.self.inside.rows.entries c.args.self.now c.args.id c.self.view_is c.self.invariant absent _ _ c.requires c.new.ensures c.in_ok-insert.ensures.entries).1
+    (grown c.self.inside.rows.entries c.args.self.now c.args.id c.self.view_is c.self.invariant absent _ _ c.requires c.new.ensures c.in_ok-push.ensures.ok).1
 
 pub returns-clause-table : goal.returns-clause-table
 returns-clause-table c =
     let absent = sym (c.if-is_some.ensures ∙ c.position.ensures.listed) in
-    (grown c.self.inside.rows.entries c.args.self.now c.args.id c.self.view_is c.self.invariant absent _ _ c.requires c.new.ensures c.in_ok-insert.ensures.entries).0.table
+    (grown c.self.inside.rows.entries c.args.self.now c.args.id c.self.view_is c.self.invariant absent _ _ c.requires c.new.ensures c.in_ok-push.ensures.ok).0.table

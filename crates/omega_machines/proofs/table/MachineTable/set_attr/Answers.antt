@@ -1,8 +1,8 @@
-use Rattle.std.proofs.Common.{◌≡◌, List, refl, sym, ap}
+use Rattle.std.proofs.Common.{List, refl, sym, ap}
 use Rattle.std.proofs.lemmas.Result.{on_ok_weaker, on_err_weaker}
 use Rattle.omega_model.specs.Machines.{attr_set}
 use Rattle.omega_model.specs.declared.cells.Attr.{Attr}
-use Rattle.omega_machines.specs.Table.{MachineState, with_machine}
+use Rattle.omega_machines.specs.Table.{with_machine}
 use Rattle.omega_machines.proofs.Rewriting.{rewritten, unwritten}
 use Rattle.omega_machines.proofs.table.MachineTable.set_attr.Goals as goal
 

@@ -1,0 +1,67 @@
+-- A claim that would be placed can be placed, once its victims have stopped.
+use Rattle.std.proofs.Common.{◌≡◌, ℕ, ◌+◌, ◌-◌, ◌<◌, ◌≤◌, Bool, true, false, not, List, [], ◌∷◌, ◌++◌, length, get_or, take, Option, Some, None, is_some, IsTrue, IsSomeAnd, refl, sym, ap, ap₂, ◌∙◌, subst, arith, nat_eq}
+use Rattle.std.specs.List.{filter, find}
+use Rattle.std.specs.Option.{option_map, option_and_then}
+use Rattle.std.proofs.lemmas.Bool.{eqb-true}
+use Rattle.std.proofs.lemmas.List.{take_more}
+use Rattle.omega_model.specs.Need.{Fits, fits, minus}
+use Rattle.omega_model.specs.Keys.{same_key, is_among}
+use Rattle.omega_model.specs.Cell.{Cell, machine_at, task_at, with_task, without, use_on, rest_on}
+use Rattle.omega_model.specs.Judge.{is_up, runs_on, capacity_of, victim_gone, free_after}
+use Rattle.omega_model.specs.declared.cells.Need.{Need}
+use Rattle.omega_model.specs.declared.cells.Machine.{Machine}
+use Rattle.omega_model.specs.declared.cells.TaskKey.{TaskKey}
+use Rattle.omega_model.specs.declared.cells.Task.{Task}
+use Rattle.omega_model.specs.declared.claims.Claim.{Claim}
+use Rattle.omega_machines.specs.declared.MachineState.{MachineState}
+use Rattle.omega_machines.specs.Table.{machines_of, state_at, free_if_up, free_at}
+use Rattle.omega_machines.proofs.Laws.{machine_of_state}
+use Rattle.omega_running.specs.Order.{Each}
+use Rattle.omega_running.proofs.Lists.{find_none, filter_every, each_of}
+use Rattle.omega_board.specs.Board.{BoardState, IsBoard, cell_of, recounted, table_with}
+use Rattle.omega_board.proofs.Tasks.{each_filter, each_absent, each_found, found_still, without_more}
+use Rattle.omega_board.proofs.Uses.{rest_is}
+use Rattle.omega_board.proofs.Boards.{free_where_up, state_up}
+use Rattle.omega_board.proofs.Parts.{IsPlaceable, some_free, gone_none, found_on}
+use Rattle.omega_board.proofs.Ranks.{fits_means}
+use Rattle.omega_board.proofs.Rewinds.{state_with}
+
+-- nothing goes
+pub without_none : (tasks : List Task) → without [] tasks ≡ tasks
+without_none tasks = filter_every (λ task. not (is_among task.key [])) tasks (each_of _ (λ task. refl) tasks)
+
+-- a task that doesn't run doesn't when others stopped
+pub absent_still : (keys : List TaskKey) (tasks : List Task) (key : TaskKey) → task_at tasks key ≡ None → task_at (without keys tasks) key ≡ None
+absent_still keys tasks key none =
+    find_none (λ y. same_key y.key key) (without keys tasks)
+    (each_filter (λ y. same_key y.key key ≡ false) (λ y. not (is_among y.key keys)) tasks (each_absent (λ y. same_key y.key key) tasks none))
+
+module _ (board : BoardState) (kept : IsBoard board.table board.tasks) (claim : Claim) (known : IsPlaceable (cell_of board) claim) where
+  -- each victim runs until it is its turn
+  pub victim_runs : (i : ℕ) (key : TaskKey) → i < length claim.victims → get_or claim.victims i key ≡ key → IsTrue (is_some (task_at (without (take i claim.victims) board.tasks) key))
+  victim_runs i key below is =
+      let there = gone_none board.tasks claim.machine [] claim.victims known.there i key below in
+      let runs = found_on board.tasks claim.machine key kept.ordered (subst (λ k. runs_on board.tasks claim.machine k ≡ true) is there.0) in
+      let once : is_among key (take i claim.victims) ≡ false = subst (λ k. is_among k (take i claim.victims) ≡ false) is there.1 in
+      ap is_some (found_still (take i claim.victims) board.tasks key once ∙ runs.1)
+
+  -- then there is room for the task
+  pub claim_fits : (tasks : List Task) (table : List MachineState) → tasks ≡ without claim.victims board.tasks → table ≡ table_with tasks board.table
+      → IsSomeAnd (free_at table claim.machine) (λ free. Fits claim.spec.need free)
+  claim_fits tasks table left counted =
+      let up : is_up (machine_at (machines_of board.table) claim.machine) ≡ true = free_where_up board.table claim.machine ∙ some_free board.table claim.machine known.up in
+      let state = state_up board.table claim.machine up in
+      let own : state.0.machine.id ≡ claim.machine = eqb-true _ _ (each_found (λ _. Unit {0}) (λ (s : MachineState). nat_eq s.machine.id claim.machine) board.table state.0 (units board.table) state.1).1 in
+      let then : state_at table claim.machine ≡ Some (recounted tasks state.0) =
+      ap (λ t. state_at t claim.machine) counted ∙ state_with tasks board.table claim.machine ∙ ap (option_map (recounted tasks)) state.1 in
+      let free : free_at table claim.machine ≡ Some (minus state.0.machine.cap (use_on tasks state.0.machine.id)) = ap (option_and_then free_if_up) then ∙ rw state.2 refl in
+      let cap : capacity_of (machine_at (machines_of board.table) claim.machine) ≡ state.0.machine.cap =
+      ap capacity_of (machine_of_state board.table claim.machine ∙ ap (option_map (λ (s : MachineState). s.machine)) state.1) in
+      let amount : use_on tasks state.0.machine.id ≡ rest_on board.tasks claim.machine claim.victims =
+      ap (use_on tasks) own ∙ ap (λ ts. use_on ts claim.machine) left ∙ sym (rest_is board.tasks claim.machine claim.victims) in
+      let same : free_after (cell_of board) claim ≡ minus state.0.machine.cap (use_on tasks state.0.machine.id) = ap₂ minus cap (sym amount) in
+      subst (λ o. IsSomeAnd o (λ f. Fits claim.spec.need f)) (sym free) (subst (Fits claim.spec.need) same (fits_means _ _ known.fits))
+    where
+      units : (ss : List MachineState) → Each (λ (_ : MachineState). Unit {0}) ss
+      units [] = tt
+      units (_ ∷ ss) = (tt, units ss)

@@ -1,0 +1,12 @@
+pub mod Tasks
+pub mod Uses
+pub mod Boards
+pub mod Sounds
+pub mod Parts
+pub mod Ranks
+pub mod Rewinds
+pub mod Claims
+pub mod Counts
+pub mod Entering
+pub mod Commits
+pub mod Rules

@@ -1,0 +1,267 @@
+-- What the parts of a verdict come to on a board.
+use Rattle.std.proofs.Common.{◌≡◌, ℕ, zero, suc, ◌+◌, ◌-◌, ◌<◌, ◌≤◌, Bool, true, false, cond, not, ◌&&◌, nat_le, List, [], ◌∷◌, ◌++◌, length, get_or, take, position, slice_get, ap₂, Option, Some, None, is_some, IsTrue, refl, sym, ap, ◌∙◌, subst, arith, append_assoc, append-nil, ◌==◌, if◌then◌else◌}
+use Rattle.std.specs.List.{find, list_any}
+use Rattle.std.specs.Option.{option_map, option_map_or}
+use Rattle.std.proofs.lemmas.Bool.{both_ways, eqb-true, eq-eqb, and_parts, not_from_true}
+use Rattle.std.proofs.lemmas.List.{take_more}
+use Rattle.std.proofs.lemmas.List.Folds.{find_at}
+use Rattle.std.proofs.lemmas.Option.{none-some, same_Some, cond_some}
+use Rattle.omega_model.specs.Fields.{greatest}
+use Rattle.omega_model.specs.Need.{Fits, fits, nothing, plus, minus}
+use Rattle.omega_model.specs.Keys.{same_key, is_among}
+use Rattle.omega_model.specs.Cell.{Cell, machine_at, task_at, without, is_on, use_on, rest_on}
+use Rattle.omega_model.specs.Judge.{is_up, capacity_of, refusal_if, first_of, no_machine, already_running, runs_on, gone_from, victim_gone, withstands, victim_rank, stays_of_job, same_job, free_after, full}
+use Rattle.omega_model.specs.JudgeOn.{judge_on}
+use Rattle.omega_model.specs.Touches.{is_placed}
+use Rattle.omega_model.specs.Machines.{is_listed}
+use Rattle.omega_model.specs.declared.cells.Machine.{Machine}
+use Rattle.omega_model.specs.declared.cells.Need.{Need}
+use Rattle.omega_model.specs.declared.cells.TaskKey.{TaskKey}
+use Rattle.omega_model.specs.declared.cells.Task.{Task}
+use Rattle.omega_model.specs.declared.claims.Claim.{Claim}
+use Rattle.omega_model.specs.declared.claims.Verdict.{Verdict}
+use Rattle.omega_model.specs.declared.claims.Verdict.TheVariants.{Placed, NoMachine, AlreadyRunning, VictimGone, VictimRank, SameJob, Full}
+use Rattle.omega_machines.specs.declared.MachineState.{MachineState}
+use Rattle.omega_machines.specs.Table.{machines_of, state_at, free_at}
+use Rattle.omega_machines.proofs.Places.{by_answer}
+use Rattle.omega_machines.proofs.Laws.{machine_of_state, listed_state, found_bounded}
+use Rattle.omega_running.specs.declared.orders.Order.TheVariants.{ByKey}
+use Rattle.omega_running.specs.Order.{Each, IsInOrder}
+use Rattle.omega_running.proofs.Lists.{each_of, filter_every}
+use Rattle.omega_board.specs.Board.{BoardState, IsBoard}
+use Rattle.omega_board.proofs.Tasks.{each_found, any_at, key_same, found_still, without_more, without_ordered}
+use Rattle.omega_board.proofs.Uses.{need_is, plus-assoc, rest_is, share, total-without}
+use Rattle.omega_board.proofs.Boards.{free_where_up, state_free, state_up, in_use, unused}
+
+-- the first part, where something is free on the machine and where nothing is
+pub up_where_free : (table : List MachineState) (id : ℕ) (free : Need) → Some free ≡ free_at table id → None ≡ refusal_if (not (is_up (machine_at (machines_of table) id))) NoMachine
+up_where_free table id free is = ap (λ up. refusal_if (not up) NoMachine) (sym (free_where_up table id ∙ ap is_some (sym is)))
+
+pub down_where_none : (table : List MachineState) (id : ℕ) → None ≡ free_at table id → Some NoMachine ≡ refusal_if (not (is_up (machine_at (machines_of table) id))) NoMachine
+down_where_none table id is = ap (λ up. refusal_if (not up) NoMachine) (sym (free_where_up table id ∙ ap is_some (sym is)))
+
+-- where it isn't refused, something is free
+pub some_free : (table : List MachineState) (id : ℕ) → refusal_if (not (is_up (machine_at (machines_of table) id))) NoMachine ≡ None → is_some (free_at table id) ≡ true
+some_free table id none = sym (free_where_up table id) ∙ by (is_up (machine_at (machines_of table) id)) none
+  where
+    by : (up : Bool) → refusal_if (not up) NoMachine ≡ None → up ≡ true
+    by true e = refl
+    by false e = absurd (none-some NoMachine (sym e))
+
+and_comm : (a b : Bool) → (a && b) ≡ (b && a)
+and_comm true true = refl
+and_comm true false = refl
+and_comm false true = refl
+and_comm false false = refl
+
+-- one look-up says whether a task runs on a machine
+pub runs_on_is : (tasks : List Task) (id : ℕ) (key : TaskKey) → IsInOrder ByKey tasks → runs_on tasks id key ≡ option_map_or (λ task. task.machine == id) (task_at tasks key) false
+runs_on_is tasks id key order =
+    any_at (λ task. task.machine == id && same_key task.key key) (λ task. task.machine == id) key (λ t. and_comm (t.machine == id) (same_key t.key key)) tasks order
+
+-- and whether its precedence is too high
+pub withstands_is : (tasks : List Task) (prec : ℕ) (key : TaskKey) → IsInOrder ByKey tasks → withstands tasks prec key ≡ option_map_or (λ task. nat_le prec task.spec.prec) (task_at tasks key) false
+withstands_is tasks prec key order =
+    any_at (λ task. same_key task.key key && nat_le prec task.spec.prec) (λ task. nat_le prec task.spec.prec) key (λ t. refl) tasks order
+
+-- a task that runs on a machine is found
+pub found_on : (tasks : List Task) (id : ℕ) (key : TaskKey) → IsInOrder ByKey tasks → runs_on tasks id key ≡ true → (t : Task) × (task_at tasks key ≡ Some t) × (t.machine ≡ id)
+found_on tasks id key order runs = by (task_at tasks key) refl (sym (runs_on_is tasks id key order) ∙ runs)
+  where
+    by : (o : Option Task) → task_at tasks key ≡ o → option_map_or (λ task. task.machine == id) o false ≡ true → (t : Task) × (task_at tasks key ≡ Some t) × (t.machine ≡ id)
+    by None is e = absurd (both_ways false refl e)
+    by (Some t) is e = (t, is, eqb-true _ _ e)
+
+-- where no victim is gone, each runs on the machine and is mentioned once
+pub gone_none : (tasks : List Task) (id : ℕ) (before keys : List TaskKey) → gone_from tasks id before keys ≡ None
+    → (i : ℕ) (d : TaskKey) → i < length keys → (runs_on tasks id (get_or keys i d) ≡ true) × (is_among (get_or keys i d) (before ++ take i keys) ≡ false)
+gone_none tasks id before [] none i d below = absurd (omega arith)
+gone_none tasks id before (key ∷ keys) none i d below =
+    by_answer (runs_on tasks id key && not (is_among key before))
+    (λ t. at i below (gone_none tasks id (before ++ key ∷ []) keys (rw t at none)) (and_parts _ _ t))
+    (λ f. absurd (none-some (VictimGone key) (sym (rw f at none))))
+  where
+    no : (b : Bool) → not b ≡ true → b ≡ false
+    no true e = absurd (both_ways false refl e)
+    no false e = refl
+
+    at : (j : ℕ) → j < length (key ∷ keys)
+        → ((k : ℕ) (e : TaskKey) → k < length keys → (runs_on tasks id (get_or keys k e) ≡ true) × (is_among (get_or keys k e) ((before ++ key ∷ []) ++ take k keys) ≡ false))
+        → (runs_on tasks id key ≡ true) × (not (is_among key before) ≡ true)
+        → (runs_on tasks id (get_or (key ∷ keys) j d) ≡ true) × (is_among (get_or (key ∷ keys) j d) (before ++ take j (key ∷ keys)) ≡ false)
+    at zero inside rest here = (here.0, rw append-nil (no _ here.1))
+    at (suc j) inside rest here =
+        let later = rest j d (omega arith) in
+        (later.0, subst (λ front. is_among (get_or keys j d) front ≡ false) (append_assoc before (key ∷ []) (take j keys)) later.1)
+
+-- what is used on a machine with one more victim off it
+pub rest_more : (tasks : List Task) (id : ℕ) (gone : List TaskKey) (key : TaskKey) (t : Task) → IsInOrder ByKey tasks → task_at tasks key ≡ Some t → t.machine ≡ id → is_among key gone ≡ false
+    → rest_on tasks id gone ≡ plus t.spec.need (rest_on tasks id (gone ++ key ∷ []))
+rest_more tasks id gone key t order found on stay =
+    let name : t.key ≡ key = own in
+    let still : task_at (without gone tasks) t.key ≡ Some t = ap (task_at (without gone tasks)) name ∙ found_still gone tasks key stay ∙ found in
+    let split = total-without (is_on id) t (without gone tasks) still (without_ordered gone tasks order) in
+    let here : is_on id t ≡ true = eq-eqb _ _ on in
+    let amount : use_on (without gone tasks) id ≡ plus t.spec.need (use_on (without (t.key ∷ []) (without gone tasks)) id) = rw here at split in
+    rest_is tasks id gone ∙ amount
+    ∙ ap (λ ts. plus t.spec.need (use_on ts id)) (ap (λ k. without (k ∷ []) (without gone tasks)) name ∙ sym (without_more gone key tasks))
+    ∙ ap (plus t.spec.need) (sym (rest_is tasks id (gone ++ key ∷ [])))
+  where
+    units : (ts : List Task) → Each (λ (_ : Task). Unit {0}) ts
+    units [] = tt
+    units (_ ∷ ts) = (tt, units ts)
+
+    own : t.key ≡ key
+    own = key_same t.key key (each_found (λ _. Unit {0}) (λ (y : Task). same_key y.key key) tasks t (units tasks) found).1
+
+-- a part that doesn't place a claim
+unfoldable pub Refuses : Option Verdict → Type 0
+Refuses None = Unit {0}
+Refuses (Some verdict) = is_placed verdict ≡ false
+
+pub refuses_if : (b : Bool) (verdict : Verdict) → is_placed verdict ≡ false → Refuses (refusal_if b verdict)
+unfolding Refuses
+refuses_if true verdict e = e
+refuses_if false verdict e = tt
+
+pub refuses_running : (o : Option Task) → Refuses (option_map (λ task. AlreadyRunning task.machine) o)
+unfolding Refuses
+refuses_running None = tt
+refuses_running (Some t) = refl
+
+refuses_rank : (o : Option TaskKey) → Refuses (option_map VictimRank o)
+unfolding Refuses
+refuses_rank None = tt
+refuses_rank (Some t) = refl
+
+refuses_gone : (tasks : List Task) (id : ℕ) (before keys : List TaskKey) → Refuses (gone_from tasks id before keys)
+unfolding Refuses
+refuses_gone tasks id before [] = tt
+refuses_gone tasks id before (key ∷ keys) =
+    by_answer (runs_on tasks id key && not (is_among key before))
+    (λ t. rw t (refuses_gone tasks id (before ++ key ∷ []) keys))
+    (λ f. rw f refl)
+
+refuses_job : (b : Bool) (o : Option Task) → Refuses (if b then option_map (λ task. SameJob task.key) o else None)
+unfolding Refuses
+refuses_job true None = tt
+refuses_job true (Some t) = refl
+refuses_job false o = tt
+
+pub passes : (o : Option Verdict) (rest : List (Option Verdict)) → Refuses o → first_of (o ∷ rest) ≡ Placed → (o ≡ None) × (first_of rest ≡ Placed)
+unfolding Refuses
+passes None rest refuses placed = (refl, placed)
+passes (Some verdict) rest refuses placed = absurd (both_ways _ refuses (ap is_placed placed))
+
+-- what is known of a claim that would be placed
+pub record IsPlaceable (cell : Cell) (claim : Claim) : Type 0 where
+  pub up : no_machine cell claim ≡ None
+  pub absent : task_at cell.tasks claim.key ≡ None
+  pub there : victim_gone cell claim ≡ None
+  pub fits : fits claim.spec.need (free_after cell claim) ≡ true
+
+pub placeable : (cell : Cell) (claim : Claim) → judge_on cell 0 None claim ≡ Placed → IsPlaceable cell claim
+placeable cell claim placed =
+    let up = passes (no_machine cell claim) _ (refuses_if (not (is_up (machine_at cell.machines claim.machine))) NoMachine refl) placed in
+    let new = passes (already_running cell claim) _ (refuses_running (task_at cell.tasks claim.key)) up.1 in
+    let there = passes (victim_gone cell claim) _ (refuses_gone cell.tasks claim.machine [] claim.victims) new.1 in
+    let rank = passes (victim_rank cell claim) _ (refuses_rank (find (withstands cell.tasks claim.spec.prec) claim.victims)) there.1 in
+    let alone = passes (same_job cell claim) _ (refuses_job claim.spec.differ (find (stays_of_job claim.key.job claim.machine claim.victims) cell.tasks)) rank.1 in
+    let room = passes (full cell claim) _ (refuses_if (not (fits claim.spec.need (free_after cell claim))) (Full (free_after cell claim)) refl) alone.1 in
+    record {
+      up = up.0;
+      absent = no_task (task_at cell.tasks claim.key) new.0;
+      there = there.0;
+      fits = fitting (fits claim.spec.need (free_after cell claim)) (Full (free_after cell claim)) room.0;
+    }
+  where
+    no_task : (o : Option Task) → option_map (λ task. AlreadyRunning task.machine) o ≡ None → o ≡ None
+    no_task None e = refl
+    no_task (Some t) e = absurd (none-some (AlreadyRunning t.machine) (sym e))
+
+    fitting : (b : Bool) (verdict : Verdict) → refusal_if (not b) verdict ≡ None → b ≡ true
+    fitting true verdict e = refl
+    fitting false verdict e = absurd (none-some verdict (sym e))
+
+-- so much is free on a machine once some of its tasks are off it
+abbrev pub IsFreed : BoardState → ℕ → List TaskKey → Need → Type 0
+IsFreed board id gone free = plus free (rest_on board.tasks id gone) ≡ capacity_of (machine_at (machines_of board.table) id)
+
+module _ (board : BoardState) (kept : IsBoard board.table board.tasks) (id : ℕ) where
+  state_cap : (s : MachineState) → state_at board.table id ≡ Some s → capacity_of (machine_at (machines_of board.table) id) ≡ s.machine.cap
+  state_cap s found = ap capacity_of (machine_of_state board.table id ∙ ap (option_map (λ (r : MachineState). r.machine)) found)
+
+  -- at first as much as is free
+  pub freed_none : (free : Need) → free_at board.table id ≡ Some free → IsFreed board id [] free
+  freed_none free is =
+      let known = state_free board.table id free is in
+      let counted = (in_use board.table board.tasks kept id known.0 known.1).1 in
+      ap (plus free) (rest_is board.tasks id [] ∙ ap (λ ts. use_on ts id) (filter_every (λ t. not (is_among t.key [])) board.tasks (each_of _ (λ t. refl) board.tasks)))
+      ∙ ap (λ n. plus n (use_on board.tasks id)) (sym known.3) ∙ counted ∙ sym (state_cap known.0 known.1)
+
+  -- with one more victim off the machine, as much more as it needs
+  pub freed_more : (victims : List TaskKey) → gone_from board.tasks id [] victims ≡ None → (i : ℕ) (key : TaskKey) → i < length victims → get_or victims i key ≡ key
+      → (free need : Need) → Some need ≡ option_map (λ t. t.spec.need) (task_at board.tasks key) → IsFreed board id (take i victims) free → IsFreed board id (take (i + 1) victims) (plus free need)
+  freed_more victims there i key below is free need needs freed =
+      let known = gone_none board.tasks id [] victims there i key below in
+      let runs : runs_on board.tasks id key ≡ true = subst (λ k. runs_on board.tasks id k ≡ true) is known.0 in
+      let once : is_among key (take i victims) ≡ false = subst (λ k. is_among k (take i victims) ≡ false) is known.1 in
+      let task = found_on board.tasks id key kept.ordered runs in
+      let amount : need ≡ task.0.spec.need = same_Some _ _ (needs ∙ ap (option_map (λ (t : Task). t.spec.need)) task.1) in
+      let split = rest_more board.tasks id (take i victims) key task.0 kept.ordered task.1 task.2 once in
+      let front : take (i + 1) victims ≡ take i victims ++ key ∷ [] = take_more victims i key below ∙ ap (λ k. take i victims ++ k ∷ []) is in
+      plus-assoc free need (rest_on board.tasks id (take (i + 1) victims))
+      ∙ ap (plus free) (ap₂ plus amount (ap (rest_on board.tasks id) front) ∙ sym split)
+      ∙ freed
+
+  -- which stays within what a number holds
+  pub freed_bounded : (gone : List TaskKey) (free : Need) → is_some (free_at board.table id) ≡ true → IsFreed board id gone free → Fits free greatest
+  freed_bounded gone free up freed =
+      let known = state_up board.table id (free_where_up board.table id ∙ up) in
+      let cap = (found_bounded board.table id known.0 kept.bounded.bounded known.1).cap in
+      let sum : plus free (rest_on board.tasks id gone) ≡ known.0.machine.cap = freed ∙ state_cap known.0 known.1 in
+      (omega (arith, cap.0, ap (λ (n : Need). n.cpu) sum), omega (arith, cap.1, ap (λ (n : Need). n.mem) sum))
+
+  -- and is the capacity less what the others use
+  pub freed_all : (gone : List TaskKey) (free : Need) → IsFreed board id gone free → free ≡ minus (capacity_of (machine_at (machines_of board.table) id)) (rest_on board.tasks id gone)
+  freed_all gone free freed = need_is _ _ (omega (arith, ap (λ (n : Need). n.cpu) freed)) (omega (arith, ap (λ (n : Need). n.mem) freed))
+
+  -- a victim that isn't gone runs
+  pub victim_there : (victims : List TaskKey) → gone_from board.tasks id [] victims ≡ None → (i : ℕ) (key : TaskKey) → i < length victims → get_or victims i key ≡ key → IsTrue (is_some (task_at board.tasks key))
+  victim_there victims there i key below is =
+      let known = gone_none board.tasks id [] victims there i key below in
+      let runs : runs_on board.tasks id key ≡ true = subst (λ k. runs_on board.tasks id k ≡ true) is known.0 in
+      ap is_some (found_on board.tasks id key kept.ordered runs).1
+
+-- a machine on which nothing is free uses nothing
+pub unused_down : (board : BoardState) → IsBoard board.table board.tasks → (id : ℕ) → free_at board.table id ≡ None → nothing ≡ use_on board.tasks id
+unused_down board kept id none = sym (unused board.table board.tasks kept id (free_where_up board.table id ∙ ap is_some none))
+
+-- a machine that isn't listed has nothing free
+pub unlisted_free : (table : List MachineState) (id : ℕ) (free : Need) → is_listed id (machines_of table) ≡ false → Some free ≡ free_at table id → ⊥
+unlisted_free table id free absent is =
+    let known = state_free table id free (sym is) in
+    both_ways _ absent (listed_state table id ∙ ap is_some known.1)
+
+-- a machine that is found uses its capacity less what is free
+pub used_found : (board : BoardState) → IsBoard board.table board.tasks → (id place : ℕ) (free : Need) (machine : Machine) → Some free ≡ free_at board.table id
+    → Some place ≡ position (λ m. m.id == id) (machines_of board.table) → Some machine ≡ slice_get (machines_of board.table) place → minus machine.cap free ≡ use_on board.tasks id
+used_found board kept id place free machine is placed here =
+    let test : Machine → Bool = λ m. m.id == id in
+    let known = state_free board.table id free (sym is) in
+    let counted = (in_use board.table board.tasks kept id known.0 known.1).1 in
+    let at : machine_at (machines_of board.table) id ≡ Some machine =
+    find_at test (machines_of board.table) ∙ ap (slice_get (machines_of board.table)) (cond_some _ _ _ (sym placed)).1 ∙ sym here in
+    let same : machine ≡ known.0.machine = same_Some _ _ (sym at ∙ machine_of_state board.table id ∙ ap (option_map (λ (s : MachineState). s.machine)) known.1) in
+    ap₂ (λ (m : Machine) f. minus m.cap f) same (sym known.3)
+    ∙ need_is _ _ (omega (arith, ap (λ (n : Need). n.cpu) counted)) (omega (arith, ap (λ (n : Need). n.mem) counted))
+
+-- a machine on which something is free stands at its position
+pub found_there : (table : List MachineState) (id place : ℕ) (free : Need) → Some free ≡ free_at table id
+    → Some place ≡ position (λ m. m.id == id) (machines_of table) → None ≡ slice_get (machines_of table) place → ⊥
+found_there table id place free is placed none =
+    let test : Machine → Bool = λ m. m.id == id in
+    let known = state_free table id free (sym is) in
+    let at : machine_at (machines_of table) id ≡ None =
+    find_at test (machines_of table) ∙ ap (slice_get (machines_of table)) (cond_some _ _ _ (sym placed)).1 ∙ sym none in
+    none-some known.0.machine (sym at ∙ machine_of_state table id ∙ ap (option_map (λ (s : MachineState). s.machine)) known.1)

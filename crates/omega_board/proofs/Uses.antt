@@ -1,0 +1,62 @@
+-- What tasks use.
+use Rattle.std.proofs.Common.{◌≡◌, ℕ, ◌+◌, ◌-◌, ◌≤◌, Bool, true, false, cond, not, ◌&&◌, List, [], ◌∷◌, ◌++◌, Option, Some, None, refl, sym, ap, ap₂, ◌∙◌, subst, arith}
+use Rattle.std.specs.List.{filter}
+use Rattle.std.proofs.lemmas.List.Elements.{filter-append}
+use Rattle.omega_model.specs.Need.{Fits, nothing, plus, minus}
+use Rattle.omega_model.specs.Keys.{key_lt, is_among}
+use Rattle.omega_model.specs.Cell.{task_at, with_task, without, total, is_on, stays_on, use_on, rest_on}
+use Rattle.omega_model.specs.declared.cells.Need.{Need}
+use Rattle.omega_model.specs.declared.cells.TaskKey.{TaskKey}
+use Rattle.omega_model.specs.declared.cells.Task.{Task}
+use Rattle.omega_machines.proofs.Places.{by_answer}
+use Rattle.omega_running.specs.declared.orders.Order.TheVariants.{ByKey}
+use Rattle.omega_running.specs.Order.{IsInOrder}
+use Rattle.omega_board.proofs.Tasks.{parted, back_again, gone_absent, filter_and, filter_alike, without_ordered}
+
+-- amounts with equal parts are equal
+pub need_is : (a b : Need) → a.cpu ≡ b.cpu → a.mem ≡ b.mem → a ≡ b
+need_is a b cpu mem = λ i. record { cpu = cpu i; mem = mem i }
+
+-- a sum with its first two terms exchanged
+pub plus-swap : (a b c : Need) → plus a (plus b c) ≡ plus b (plus a c)
+plus-swap a b c = need_is _ _ (omega arith) (omega arith)
+
+pub plus-assoc : (a b c : Need) → plus (plus a b) c ≡ plus a (plus b c)
+plus-assoc a b c = need_is _ _ (omega arith) (omega arith)
+
+pub plus-nothing : (a : Need) → plus nothing a ≡ a
+plus-nothing a = need_is _ _ (omega arith) (omega arith)
+
+pub total-append : (xs ys : List Task) → total (xs ++ ys) ≡ plus (total xs) (total ys)
+total-append [] ys = sym (plus-nothing (total ys))
+total-append (x ∷ xs) ys = ap (plus x.spec.need) (total-append xs ys) ∙ sym (plus-assoc x.spec.need (total xs) (total ys))
+
+-- what one task adds to a sum over those that pass a test
+abbrev pub share : (Task → Bool) → Task → Need
+share p t = cond (p t) t.spec.need nothing
+
+pub total-cons : (p : Task → Bool) (t : Task) (tasks : List Task) → total (filter p (t ∷ tasks)) ≡ plus (share p t) (total (filter p tasks))
+total-cons p t tasks = by_answer (p t) (λ h. rw h refl) (λ h. rw h (sym (plus-nothing (total (filter p tasks)))))
+
+-- with one more task
+pub total-with : (p : Task → Bool) (t : Task) (tasks : List Task) → task_at tasks t.key ≡ None → IsInOrder ByKey tasks
+    → total (filter p (with_task t tasks)) ≡ plus (share p t) (total (filter p tasks))
+total-with p t tasks none order =
+    let front = filter (λ o. key_lt o.key t.key) tasks in
+    let back = filter (λ o. key_lt t.key o.key) tasks in
+    ap total (filter-append p front (t ∷ back))
+    ∙ total-append (filter p front) (filter p (t ∷ back))
+    ∙ ap (plus (total (filter p front))) (total-cons p t back)
+    ∙ plus-swap (total (filter p front)) (share p t) (total (filter p back))
+    ∙ ap (plus (share p t)) (sym (total-append (filter p front) (filter p back)) ∙ ap total (sym (filter-append p front back) ∙ ap (filter p) (parted t tasks none order)))
+
+-- without one that runs
+pub total-without : (p : Task → Bool) (t : Task) (tasks : List Task) → task_at tasks t.key ≡ Some t → IsInOrder ByKey tasks
+    → total (filter p tasks) ≡ plus (share p t) (total (filter p (without (t.key ∷ []) tasks)))
+total-without p t tasks found order =
+    ap (λ ts. total (filter p ts)) (sym (back_again t tasks found order))
+    ∙ total-with p t (without (t.key ∷ []) tasks) (gone_absent t.key tasks) (without_ordered (t.key ∷ []) tasks order)
+
+-- the rest of a machine is its use by the tasks that stay
+pub rest_is : (tasks : List Task) (id : ℕ) (gone : List TaskKey) → rest_on tasks id gone ≡ use_on (without gone tasks) id
+rest_is tasks id gone = ap total (sym (filter_and (is_on id) (λ t. not (is_among t.key gone)) tasks))

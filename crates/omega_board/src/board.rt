@@ -1,0 +1,74 @@
+//! The board.
+ghost use Rattle.std.specs.Prelude.{◌≡◌, [], IfOk};
+ghost use Rattle.omega_model.specs.Legal.{Sound};
+ghost use Rattle.omega_running.specs.Kept.{KeysRise};
+ghost use Rattle.omega_running.specs.Order.{Each};
+ghost use Rattle.omega_board.specs.Board.{cell_of, IsCounted};
+
+use omega_machines::MachineTable;
+use omega_model::{Copied, NoMemory};
+use omega_running::Running;
+use std::alloc::Global;
+use std::marker::Model;
+
+/// The machines of a cell and its running tasks.
+///
+/// A contract sees the states of the machines, the running tasks in order of key, and for how many
+/// more tasks there is room. Each task is on a machine that is up, and on each machine what is free
+/// and what its tasks use are its capacity.
+#[derive(Drop)]
+pub struct Board {
+    pub(crate) table: MachineTable,
+    pub(crate) running: Running,
+}
+
+impl Model for Board {
+    ghost use Rattle.omega_board.specs.Board.{BoardState, IsBoard};
+
+    ghost Value = { BoardState };
+
+    ghost view = { λ b. record { table = b.table; tasks = b.running.tasks; spare = b.running.spare } };
+
+    ghost invariant = { λ b. IsBoard b.table b.running.tasks };
+}
+
+impl Board {
+    /// The board without machines and tasks. Takes no memory.
+    pub fn new(alloc: Global) -> Board
+        ensures { result ≡ record { table = []; tasks = []; spare = 0 } }
+    {
+        Board {
+            table: MachineTable::new(alloc),
+            running: Running::new(alloc),
+        }
+    }
+
+    /// The machines.
+    pub fn machines(&self) -> &MachineTable
+        ensures table { result.now ≡ self.now.table }
+        ensures sound { Sound (cell_of self.now) }
+        ensures counted { Each (IsCounted self.now.tasks) self.now.table }
+    {
+        &self.table
+    }
+
+    /// The running tasks.
+    pub fn running(&self) -> &Running
+        ensures tasks { result.now.tasks ≡ self.now.tasks }
+        ensures spare { result.now.spare ≡ self.now.spare }
+        ensures sound { Sound (cell_of self.now) }
+        ensures ordered { KeysRise self.now.tasks }
+    {
+        &self.running
+    }
+
+    /// An equal board, with no room for more tasks. Costs the whole board.
+    pub fn copy(&self, alloc: Global) -> Result<Board, NoMemory>
+        ensures { IfOk result (λ copied. copied ≡ record self.now { spare = 0 }) }
+    {
+        Ok(Board {
+            table: self.table.copy(alloc)?,
+            running: self.running.copy(alloc)?,
+        })
+    }
+}

@@ -1,0 +1,233 @@
+//! Entries, applied to the board.
+ghost use Rattle.std.specs.Prelude.{◌≡◌, ◌≤◌, [], sum_by, ◌+◌, ◌-◌, ◌<◌, ◌^◌, ◌⊎◌, ℕ, List, length, OnOk, OnErr, IfOk, IsTrue, IsSomeAnd, if◌then◌else◌};
+ghost use Rattle.std.specs.List.{filter, zip, fold, list_any};
+ghost use Rattle.omega_machines.specs.Table.{machines_of, ensured_states, change_state, touched, state_added, state_updated, with_machine, seq_at};
+ghost use Rattle.omega_model.specs.Cell.{keys_of, is_on, total, use_on, without, task_at};
+ghost use Rattle.omega_model.specs.Fields.{greatest};
+ghost use Rattle.omega_model.specs.Machines.{is_listed, removed, attr_deleted};
+ghost use Rattle.omega_model.specs.Need.{Fits, nothing, minus};
+ghost use Rattle.omega_model.specs.Reply.{tasks_after_claim};
+ghost use Rattle.omega_model.specs.State.{step, displaced, excess, ranked_on};
+ghost use Rattle.omega_model.specs.Touches.{touches, places_on};
+ghost use Rattle.omega_board.specs.Board.{cell_of, CountsOn};
+ghost use Rattle.omega_board.specs.Undo.{IsUndoOf};
+ghost use Rattle.omega_board.specs.Entries.{MayApply, HasRoomFor, MayPlaceAll};
+
+use crate::Board;
+use crate::placing::is_placed;
+use crate::undo::Undo;
+use omega_model::{
+    Bytes, Claim, Claims, Entry, Keys, Need, NoMemory, Seq, TaskKey, Verdict, Verdicts,
+};
+use std::alloc::Global;
+
+const NOTHING: Need = Need { cpu: 0, mem: 0 };
+
+impl Board {
+    /// Applies an entry: the cell is one step on, and each machine that the entry touches counts one
+    /// more entry. Answers the names of the tasks that a change of their machine stops, in the order
+    /// in which they stop. The machines and tasks stay where memory runs out.
+    ///
+    /// Costs what the entry changes. Where it displaces a task, it costs the tasks on the machine.
+    pub fn apply_entry(&mut self, alloc: Global, entry: &Entry) -> Result<Keys, NoMemory>
+        requires { MayApply self.old entry.now }
+        ensures cell { OnOk result (cell_of self.new ≡ step (cell_of self.old) entry.now) }
+        ensures seqs { OnOk result ((id : ℕ) → seq_at self.new.table id ≡ seq_at self.old.table id + (if touches id entry.now then 1 else 0)) }
+        ensures displaced { IfOk result (λ keys. keys ≡ keys_of (displaced self.old.tasks entry.now)) }
+        ensures table { OnErr result (self.new.table ≡ self.old.table) }
+        ensures tasks { OnErr result (self.new.tasks ≡ self.old.tasks) }
+    {
+        match entry {
+            Entry::Round { .. } => Ok(Seq::new(alloc)),
+            Entry::MachineAdd { machine, cap } => self.add_machine(alloc, *machine, *cap),
+            Entry::MachineUpdate { machine, cap } => self.update_machine(alloc, *machine, *cap),
+            Entry::MachineRemove { machine } => self.remove_machine(alloc, *machine),
+            Entry::AttrSet {
+                machine,
+                name,
+                value,
+            } => self.set_attr(alloc, *machine, name, value),
+            Entry::AttrDelete { machine, name } => self.delete_attr(alloc, *machine, name),
+            Entry::End { key, machine } => Ok(self.end(alloc, *key, *machine)),
+            Entry::Commit { txn, reply, .. } => self.commit(alloc, &txn.claims, reply),
+        }
+    }
+
+    fn add_machine(&mut self, alloc: Global, machine: u64, cap: Need) -> Result<Keys, NoMemory>
+        requires { MayApply self.old (Entry.MachineAdd machine cap) }
+        ensures cell { OnOk result (cell_of self.new ≡ step (cell_of self.old) (Entry.MachineAdd machine cap)) }
+        ensures seqs { OnOk result (CountsOn machine self.old.table self.new.table) }
+        ensures displaced { IfOk result (λ keys. keys ≡ keys_of (displaced self.old.tasks (Entry.MachineAdd machine cap))) }
+        ensures table { OnErr result (self.new.table ≡ self.old.table) }
+        ensures tasks { OnErr result (self.new.tasks ≡ self.old.tasks) }
+    {
+        let _ = &self.table;
+        let gone = self.excess(alloc, machine, cap)?;
+        self.displace(machine, gone.as_slice())?;
+        self.bring_up(machine, cap);
+        Ok(gone)
+    }
+
+    fn update_machine(&mut self, alloc: Global, machine: u64, cap: Need) -> Result<Keys, NoMemory>
+        requires { MayApply self.old (Entry.MachineUpdate machine cap) }
+        ensures cell { OnOk result (cell_of self.new ≡ step (cell_of self.old) (Entry.MachineUpdate machine cap)) }
+        ensures seqs { OnOk result (CountsOn machine self.old.table self.new.table) }
+        ensures displaced { IfOk result (λ keys. keys ≡ keys_of (displaced self.old.tasks (Entry.MachineUpdate machine cap))) }
+        ensures table { OnErr result (self.new.table ≡ self.old.table) }
+        ensures tasks { OnErr result (self.new.tasks ≡ self.old.tasks) }
+    {
+        let _ = &self.table;
+        let gone = self.excess(alloc, machine, cap)?;
+        self.displace(machine, gone.as_slice())?;
+        self.resize(machine, cap);
+        Ok(gone)
+    }
+
+    fn remove_machine(&mut self, alloc: Global, machine: u64) -> Result<Keys, NoMemory>
+        requires { MayApply self.old (Entry.MachineRemove machine) }
+        ensures cell { OnOk result (cell_of self.new ≡ step (cell_of self.old) (Entry.MachineRemove machine)) }
+        ensures seqs { OnOk result (CountsOn machine self.old.table self.new.table) }
+        ensures displaced { IfOk result (λ keys. keys ≡ keys_of (displaced self.old.tasks (Entry.MachineRemove machine))) }
+        ensures table { OnErr result (self.new.table ≡ self.old.table) }
+        ensures tasks { OnErr result (self.new.tasks ≡ self.old.tasks) }
+    {
+        let gone = self.running.on_machine(alloc, machine)?;
+        self.displace(machine, gone.as_slice())?;
+        self.take_down(machine);
+        Ok(gone)
+    }
+
+    fn set_attr(
+        &mut self,
+        alloc: Global,
+        machine: u64,
+        name: &Bytes,
+        value: &Bytes,
+    ) -> Result<Keys, NoMemory>
+        requires { MayApply self.old (Entry.AttrSet machine name.now value.now) }
+        ensures cell { OnOk result (cell_of self.new ≡ step (cell_of self.old) (Entry.AttrSet machine name.now value.now)) }
+        ensures seqs { OnOk result (CountsOn machine self.old.table self.new.table) }
+        ensures displaced { IfOk result (λ keys. keys ≡ []) }
+        ensures table { OnErr result (self.new.table ≡ self.old.table) }
+        ensures tasks { OnErr result (self.new.tasks ≡ self.old.tasks) }
+    {
+        self.put_attr(machine, name, value)?;
+        Ok(Seq::new(alloc))
+    }
+
+    fn delete_attr(&mut self, alloc: Global, machine: u64, name: &Bytes) -> Result<Keys, NoMemory>
+        requires { MayApply self.old (Entry.AttrDelete machine name.now) }
+        ensures cell { OnOk result (cell_of self.new ≡ step (cell_of self.old) (Entry.AttrDelete machine name.now)) }
+        ensures seqs { OnOk result (CountsOn machine self.old.table self.new.table) }
+        ensures displaced { IfOk result (λ keys. keys ≡ []) }
+        ensures table { OnErr result (self.new.table ≡ self.old.table) }
+        ensures tasks { OnErr result (self.new.tasks ≡ self.old.tasks) }
+    {
+        self.displace(machine, &[])?;
+        self.unset_attr(machine, name);
+        Ok(Seq::new(alloc))
+    }
+
+    // The task of this name stops, which runs on this machine.
+    fn end(&mut self, alloc: Global, key: TaskKey, machine: u64) -> Keys
+        requires { MayApply self.old (Entry.End key machine) }
+        ensures cell { cell_of self.new ≡ step (cell_of self.old) (Entry.End key machine) }
+        ensures seqs { CountsOn machine self.old.table self.new.table }
+        ensures displaced { result ≡ [] }
+    {
+        let _ = &self.table;
+        self.stop(key);
+        self.touch(machine);
+        Seq::new(alloc)
+    }
+
+    // A commit: its placed claims are placed in order.
+    fn commit(&mut self, alloc: Global, claims: &Claims, reply: &Verdicts) -> Result<Keys, NoMemory>
+        requires seqs { (id : ℕ) → IsTrue (list_any (places_on id) (zip claims.now reply.now)) → seq_at self.old.table id < 2 ^ 64 - 1 }
+        requires places { MayPlaceAll (cell_of self.old) (zip claims.now reply.now) }
+        ensures machines { machines_of self.new.table ≡ machines_of self.old.table }
+        ensures tasks { OnOk result (self.new.tasks ≡ fold tasks_after_claim self.old.tasks (zip claims.now reply.now)) }
+        ensures seqs { OnOk result ((id : ℕ) → seq_at self.new.table id ≡ seq_at self.old.table id + (if list_any (places_on id) (zip claims.now reply.now) then 1 else 0)) }
+        ensures displaced { IfOk result (λ keys. keys ≡ []) }
+        ensures no_table { OnErr result (self.new.table ≡ self.old.table) }
+        ensures no_tasks { OnErr result (self.new.tasks ≡ self.old.tasks) }
+    {
+        let mut undo = self.reserve(alloc, claims)?;
+        self.place_all(claims.as_slice(), reply.as_slice(), &mut undo);
+        self.touch_placed(claims, reply);
+        Ok(Seq::new(alloc))
+    }
+
+    // The names of the tasks that stop where the machine has this capacity, in order of eviction.
+    fn excess(&self, alloc: Global, machine: u64, cap: Need) -> Result<Keys, NoMemory>
+        ensures { IfOk result (λ keys. keys ≡ keys_of (excess cap (ranked_on machine self.now.tasks))) }
+    {
+        let used = self.use_on(machine);
+        if used.fits(cap) {
+            return Ok(Seq::new(alloc));
+        }
+        let ranked = self.running.on_machine(alloc, machine)?;
+        let count = self.excess_len(machine, ranked.as_slice(), used, cap);
+        let mut keys = ranked.into_items();
+        keys.truncate(count);
+        Ok(Seq::of(keys))
+    }
+
+    // How many of a machine's tasks stop where it has this capacity.
+    fn excess_len(&self, machine: u64, ranked: &[TaskKey], used: Need, cap: Need) -> usize
+        requires ranked { ranked.now ≡ keys_of (ranked_on machine self.now.tasks) }
+        requires used { used ≡ use_on self.now.tasks machine }
+        ensures { result ≡ length (excess cap (ranked_on machine self.now.tasks)) }
+    {
+        let _ = &self.running;
+        let mut left = used;
+        for (i, key) in ranked.iter().enumerate() {
+            if left.fits(cap) {
+                return i;
+            }
+            left = minus(left, self.need_of(*key));
+        }
+        ranked.len()
+    }
+
+    // What the tasks on a machine use.
+    fn use_on(&self, machine: u64) -> Need
+        ensures { result ≡ use_on self.now.tasks machine }
+    {
+        let (Some(free), Some(place)) = (self.table.free(machine), self.table.position(machine))
+        else {
+            return NOTHING;
+        };
+        match self.table.at(place) {
+            Some(machine) => minus(machine.cap, free),
+            None => NOTHING,
+        }
+    }
+
+    // The placed claims, in order.
+    fn place_all(&mut self, claims: &[Claim], reply: &[Verdict], undo: &mut Undo)
+        requires places { MayPlaceAll (cell_of self.old) (zip claims.now reply.now) }
+        requires undo { IsUndoOf self.old undo.old }
+        requires claims { length claims.now ≤ undo.old.claims }
+        requires victims { sum_by (λ claim. length claim.victims) claims.now ≤ undo.old.victims }
+        ensures machines { machines_of self.new.table ≡ machines_of self.old.table }
+        ensures tasks { self.new.tasks ≡ fold tasks_after_claim self.old.tasks (zip claims.now reply.now) }
+        ensures seqs { (id : ℕ) → seq_at self.new.table id ≡ seq_at self.old.table id }
+    {
+        let count = claims.len().min(reply.len());
+        for i in 0..count {
+            if is_placed(reply[i]) {
+                self.apply_placed(&claims[i], undo);
+            }
+        }
+    }
+}
+
+fn minus(a: Need, b: Need) -> Need
+    ensures { result ≡ minus a b }
+{
+    Need {
+        cpu: a.cpu.saturating_sub(b.cpu),
+        mem: a.mem.saturating_sub(b.mem),
+    }
+}

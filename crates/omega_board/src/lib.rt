@@ -1,0 +1,19 @@
+//! The board: the machines of a cell and its running tasks, on which claims are judged and entries
+//! are applied.
+//!
+//! A board is sound at every moment: each task runs once, on a machine that is up, and no machine
+//! has more in use than its capacity. Claims are judged and placed without memory and without a
+//! walk over all tasks.
+#![tactic(auto)]
+
+mod board;
+mod changes;
+mod entries;
+mod judging;
+mod placing;
+#[cfg(test)]
+mod tests;
+mod undo;
+
+pub use board::Board;
+pub use undo::Undo;

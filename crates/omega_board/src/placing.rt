@@ -1,0 +1,218 @@
+//! Placed claims: applied to the board, taken back, and counted on their machines.
+ghost use Rattle.std.specs.Prelude.{◌≡◌, ◌+◌, ◌-◌, ◌<◌, ◌≤◌, ◌^◌, ℕ, [], ◌∷◌, None, length, take, sum_by, is_some, IsTrue, IsSomeAnd, IfOk, if◌then◌else◌};
+ghost use Rattle.std.specs.List.{zip, list_any};
+ghost use Rattle.omega_machines.specs.Table.{machines_of, free_at, seq_at, change_state, touched};
+ghost use Rattle.omega_model.specs.Need.{Fits};
+ghost use Rattle.omega_model.specs.Cell.{task_at, with_task, without};
+ghost use Rattle.omega_model.specs.JudgeOn.{judge_on};
+ghost use Rattle.omega_model.specs.Machines.{is_listed};
+ghost use Rattle.omega_model.specs.Reply.{tasks_placed};
+ghost use Rattle.omega_model.specs.Touches.{is_placed, places_on};
+ghost use Rattle.omega_board.specs.Board.{cell_of, table_with};
+ghost use Rattle.omega_board.specs.Undo.{IsUndoOf, at_reserve, before_change, MayTakeBack};
+
+use crate::Board;
+use crate::undo::{Change, Undo};
+use omega_model::{Claim, Claims, NoMemory, Task, TaskKey, Verdict, Verdicts};
+use std::alloc::Global;
+
+impl Board {
+    /// Makes room for placing these claims, each with its victims, and for taking them back. The
+    /// machines and tasks stay, also where memory runs out. Costs the claims.
+    pub fn reserve(&mut self, alloc: Global, claims: &Claims) -> Result<Undo, NoMemory>
+        ensures table { self.new.table ≡ self.old.table }
+        ensures tasks { self.new.tasks ≡ self.old.tasks }
+        ensures room { IfOk result (λ undo. undo ≡ record { log = []; claims = length claims.now; victims = sum_by (λ claim. length claim.victims) claims.now }) }
+        ensures undo { IfOk result (λ undo. IsUndoOf self.new undo) }
+        ensures content { IfOk result (λ undo. at_reserve undo self.new ≡ self.new) }
+    {
+        let undo = Undo::with_room(alloc, claims.len(), count_victims(claims.as_slice())?)?;
+        self.running.reserve(alloc, claims.len())?;
+        Ok(undo)
+    }
+
+    /// Places a claim: its victims stop and its task runs. Sequence numbers stay. The undo's room
+    /// for a claim and for the victims is used up, and it still takes the board back to its
+    /// reserve. Costs the victims. Takes no memory.
+    pub fn apply_placed(&mut self, claim: &Claim, undo: &mut Undo)
+        requires placed { judge_on (cell_of self.old) 0 None claim.now ≡ Verdict.Placed }
+        requires undo { IsUndoOf self.old undo.old }
+        requires claims { 0 < undo.old.claims }
+        requires victims { length claim.now.victims ≤ undo.old.victims }
+        ensures tasks { self.new.tasks ≡ tasks_placed self.old.tasks claim.now }
+        ensures machines { machines_of self.new.table ≡ machines_of self.old.table }
+        ensures seqs { (id : ℕ) → seq_at self.new.table id ≡ seq_at self.old.table id }
+        ensures content { at_reserve undo.new self.new ≡ at_reserve undo.old self.old }
+        ensures undo { IsUndoOf self.new undo.new }
+        ensures claims { undo.new.claims + 1 ≡ undo.old.claims }
+        ensures victims { undo.new.victims + length claim.now.victims ≡ undo.old.victims }
+    {
+        let _ = &self.table;
+        for key in claim.victims.as_slice() {
+            self.stop_noted(*key, undo);
+        }
+        let task = Task {
+            key: claim.key,
+            machine: claim.machine,
+            spec: claim.spec,
+        };
+        self.start_noted(task, undo);
+    }
+
+    /// Takes back all that was placed with this undo since the reserve that gave it. Costs what
+    /// changes. Takes no memory.
+    pub fn undo(&mut self, undo: &mut Undo)
+        requires { IsUndoOf self.old undo.old }
+        ensures board { self.new ≡ at_reserve undo.old self.old }
+        ensures log { undo.new.log ≡ [] }
+    {
+        while let Some(change) = undo.pop() {
+            self.take_back(change);
+        }
+    }
+
+    /// Counts a commit on each machine on which it placed a claim, once. Costs the claims; each is
+    /// compared with those before it, back to the last one on its machine. Takes no memory.
+    pub fn touch_placed(&mut self, claims: &Claims, reply: &Verdicts)
+        requires listed { (id : ℕ) → IsTrue (list_any (places_on id) (zip claims.now reply.now)) → IsTrue (is_listed id (machines_of self.old.table)) }
+        requires seqs { (id : ℕ) → IsTrue (list_any (places_on id) (zip claims.now reply.now)) → seq_at self.old.table id < 2 ^ 64 - 1 }
+        ensures tasks { self.new.tasks ≡ self.old.tasks }
+        ensures machines { machines_of self.new.table ≡ machines_of self.old.table }
+        ensures seqs { (id : ℕ) → seq_at self.new.table id ≡ seq_at self.old.table id + (if list_any (places_on id) (zip claims.now reply.now) then 1 else 0) }
+    {
+        let claims = claims.as_slice();
+        let reply = reply.as_slice();
+        let count = claims.len().min(reply.len());
+        for i in 0..count {
+            let claim = &claims[i];
+            let first = !placed_before(claim.machine, claims, reply, i);
+            if is_placed(reply[i]) && first {
+                self.touch(claim.machine);
+            }
+        }
+    }
+
+    // Stops a task and notes it.
+    fn stop_noted(&mut self, key: TaskKey, undo: &mut Undo)
+        requires runs { IsTrue (is_some (task_at self.old.tasks key)) }
+        requires undo { IsUndoOf self.old undo.old }
+        requires room { 0 < undo.old.victims }
+        ensures tasks { self.new.tasks ≡ without (key ∷ []) self.old.tasks }
+        ensures table { self.new.table ≡ table_with self.new.tasks self.old.table }
+        ensures content { at_reserve undo.new self.new ≡ at_reserve undo.old self.old }
+        ensures undo { IsUndoOf self.new undo.new }
+        ensures claims { undo.new.claims ≡ undo.old.claims }
+        ensures victims { undo.new.victims + 1 ≡ undo.old.victims }
+    {
+        let _ = &self.table;
+        if let Some(task) = self.stop(key) {
+            undo.note_stopped(task);
+        }
+    }
+
+    // Starts a task and notes it.
+    fn start_noted(&mut self, task: Task, undo: &mut Undo)
+        requires absent { task_at self.old.tasks task.key ≡ None }
+        requires fits { IsSomeAnd (free_at self.old.table task.machine) (λ free. Fits task.spec.need free) }
+        requires undo { IsUndoOf self.old undo.old }
+        requires room { 0 < undo.old.claims }
+        ensures tasks { self.new.tasks ≡ with_task task self.old.tasks }
+        ensures table { self.new.table ≡ table_with self.new.tasks self.old.table }
+        ensures content { at_reserve undo.new self.new ≡ at_reserve undo.old self.old }
+        ensures undo { IsUndoOf self.new undo.new }
+        ensures claims { undo.new.claims + 1 ≡ undo.old.claims }
+        ensures victims { undo.new.victims ≡ undo.old.victims }
+    {
+        let _ = &self.table;
+        self.start(task);
+        undo.note_started(task.key);
+    }
+
+    // The board as before a change.
+    fn take_back(&mut self, change: Change)
+        requires { MayTakeBack change self.old }
+        ensures { self.new ≡ before_change change self.old }
+    {
+        let _ = &self.table;
+        match change {
+            Change::Stopped(task) => self.start(task),
+            Change::Started(key) => {
+                self.stop(key);
+            }
+        }
+    }
+
+    // The task of this name stops, and what it used is free.
+    pub(crate) fn stop(&mut self, key: TaskKey) -> Option<Task>
+        ensures task { result ≡ task_at self.old.tasks key }
+        ensures tasks { self.new.tasks ≡ without (key ∷ []) self.old.tasks }
+        ensures table { self.new.table ≡ table_with self.new.tasks self.old.table }
+        ensures spare { self.new.spare ≡ self.old.spare + (if is_some result then 1 else 0) }
+    {
+        let task = self.running.remove(key)?;
+        self.table.release(task.machine, task.spec.need);
+        Some(task)
+    }
+
+    // One more task runs, on a machine that is up and has so much free.
+    fn start(&mut self, task: Task)
+        requires absent { task_at self.old.tasks task.key ≡ None }
+        requires fits { IsSomeAnd (free_at self.old.table task.machine) (λ free. Fits task.spec.need free) }
+        requires room { 0 < self.old.spare }
+        ensures tasks { self.new.tasks ≡ with_task task self.old.tasks }
+        ensures table { self.new.table ≡ table_with self.new.tasks self.old.table }
+        ensures spare { self.new.spare + 1 ≡ self.old.spare }
+    {
+        self.running.insert_reserved(task);
+        self.table.charge(task.machine, task.spec.need);
+    }
+
+    // One more entry touches a machine.
+    pub(crate) fn touch(&mut self, id: u64)
+        requires listed { IsTrue (is_listed id (machines_of self.old.table)) }
+        requires seq { seq_at self.old.table id < 2 ^ 64 - 1 }
+        ensures { self.new ≡ record self.old { table = change_state id touched self.old.table } }
+    {
+        self.table.touch(id);
+    }
+}
+
+// How many victims the claims have in all.
+fn count_victims(claims: &[Claim]) -> Result<usize, NoMemory>
+    ensures { IfOk result (λ victims. victims ≡ sum_by (λ claim. length claim.victims) claims.now) }
+{
+    let mut victims: usize = 0;
+    for claim in claims {
+        let Some(more) = victims.checked_add(claim.victims.len()) else {
+            return Err(NoMemory);
+        };
+        victims = more;
+    }
+    Ok(victims)
+}
+
+// Whether one of the first so many claims was placed on a machine. Looks from the last to the first.
+fn placed_before(id: u64, claims: &[Claim], reply: &[Verdict], count: usize) -> bool
+    requires claims { count ≤ length claims.now }
+    requires reply { count ≤ length reply.now }
+    ensures { result ≡ list_any (places_on id) (zip (take count claims.now) (take count reply.now)) }
+{
+    for i in (0..count).rev() {
+        if places_on(id, &claims[i], reply[i]) {
+            return true;
+        }
+    }
+    false
+}
+
+fn places_on(id: u64, claim: &Claim, verdict: Verdict) -> bool
+    ensures { result ≡ places_on id (claim.now, verdict) }
+{
+    is_placed(verdict) && claim.machine == id
+}
+
+pub(crate) fn is_placed(verdict: Verdict) -> bool
+    ensures { result ≡ is_placed verdict }
+{
+    matches!(verdict, Verdict::Placed)
+}

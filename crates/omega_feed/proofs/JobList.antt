@@ -1,0 +1,205 @@
+-- Jobs in order of their first task row, and the places at which they are found.
+use Rattle.std.proofs.Common.{◌≡◌, ◌↔◌, ℕ, zero, suc, Bool, true, false, cond, not, ◌&&◌, ◌||◌, ◌==◌, eqb, List, [], ◌∷◌, ◌++◌, Option, Some, None, map, length, refl, ap, sym, ◌∙◌, ◌⊎◌, inl, inr, arith, append_assoc, append-nil, subst}
+use Rattle.std.specs.Prelude.{slice_get, option_map, is_some}
+use Rattle.std.specs.BTreeMap as tree
+use Rattle.std.specs.BTreeMap.{BTreeMap}
+use Rattle.std.specs.List.{filter, filter_map, fold, list_any}
+use Rattle.std.specs.Ordering.{nat_cmp}
+use Rattle.std.proofs.lemmas.Bool.{eq-eqb, ne_eqb, eqb-true, le-ltb, lt-ltb, cases_eq, cases_order, cases_Bool, both_ways, or_cases}
+use Rattle.std.proofs.lemmas.List.Elements.{filter_agree}
+use Rattle.std.proofs.lemmas.List.Folds.{list_any-append}
+use Rattle.omega_model.specs.Feed.{feed, each_once}
+use Rattle.omega_model.specs.Requests.{job_of_row, jobs_in_order}
+use Rattle.omega_model.specs.declared.rows.Row.{Row}
+use Rattle.omega_model.specs.declared.rows.Row.TheVariants.{Machine, Attr, Task}
+use Rattle.omega_model.specs.declared.rows.TraceTables.{TraceTables}
+use Rattle.omega_model.specs.declared.settings.Settings.{Settings}
+use Rattle.omega_feed.specs.Asked.{routed, is_job, with_job}
+use Rattle.omega_feed.specs.Index.{job_at, AreFound}
+use Rattle.omega_feed.specs.declared.jobs.RoutedJob.{RoutedJob}
+
+pub any_at : (job : ℕ) (jobs : List RoutedJob) (place : ℕ) → job_at jobs place ≡ Some job → list_any (is_job job) jobs ≡ true
+any_at job [] place is = absurd (cc)
+any_at job (other ∷ jobs) zero is =
+    let same : other.job ≡ job = cc in rw (eq-eqb _ _ same) refl
+any_at job (other ∷ jobs) (suc place) is = rw (any_at job jobs place is) (or_true (is_job job other)) where
+  or_true : (b : Bool) → (b || true) ≡ true
+  or_true true = refl
+  or_true false = refl
+
+pub at_any : (job : ℕ) (jobs : List RoutedJob) → list_any (is_job job) jobs ≡ true → (place : ℕ) × (job_at jobs place ≡ Some job)
+at_any job [] is = absurd (cc)
+at_any job (other ∷ jobs) is = by_cases (is_job job other) refl is (at_any job jobs) where
+  by_cases : (b : Bool) → is_job job other ≡ b → (b || list_any (is_job job) jobs) ≡ true
+      → (list_any (is_job job) jobs ≡ true → (place : ℕ) × (job_at jobs place ≡ Some job))
+      → (place : ℕ) × (job_at (other ∷ jobs) place ≡ Some job)
+  by_cases true same e later = (0, ap Some (eqb-true _ _ same))
+  by_cases false same e later = let at = later e in (suc at.0, at.1)
+
+kept_at : (job : ℕ) (jobs : List RoutedJob) (new : RoutedJob) (place : ℕ) → job_at jobs place ≡ Some job → job_at (jobs ++ new ∷ []) place ≡ Some job
+kept_at job [] new place is = absurd (cc)
+kept_at job (other ∷ jobs) new zero is = is
+kept_at job (other ∷ jobs) new (suc place) is = kept_at job jobs new place is
+
+new_at : (jobs : List RoutedJob) (new : RoutedJob) → job_at (jobs ++ new ∷ []) (length jobs) ≡ Some new.job
+new_at [] new = refl
+new_at (other ∷ jobs) new = new_at jobs new
+
+which_at : (job : ℕ) (jobs : List RoutedJob) (new : RoutedJob) (place : ℕ) → job_at (jobs ++ new ∷ []) place ≡ Some job
+    → (job_at jobs place ≡ Some job) ⊎ ((place ≡ length jobs) × (new.job ≡ job))
+which_at job [] new zero is = inr (refl, cc)
+which_at job [] new (suc place) is = absurd (cc)
+which_at job (other ∷ jobs) new zero is = inl is
+which_at job (other ∷ jobs) new (suc place) is =
+    elim (which_at job jobs new place is) [ inl e ↦ inl e | inr e ↦ inr (ap suc e.0, e.1) ]
+
+pub known : (places : BTreeMap ℕ ℕ) (jobs : List RoutedJob) → AreFound places jobs → (job : ℕ) → is_some (tree.get nat_cmp places job) ≡ true → list_any (is_job job) jobs ≡ true
+known places jobs found job has = by_cases (tree.get nat_cmp places job) refl has where
+  by_cases : (o : Option ℕ) → tree.get nat_cmp places job ≡ o → is_some o ≡ true → list_any (is_job job) jobs ≡ true
+  by_cases None is e = absurd (cc)
+  by_cases (Some place) is e = any_at job jobs place ((found job place).0 is)
+
+pub unknown : (places : BTreeMap ℕ ℕ) (jobs : List RoutedJob) → AreFound places jobs → (job : ℕ) → tree.get nat_cmp places job ≡ None → list_any (is_job job) jobs ≡ false
+unknown places jobs found job none =
+    elim (cases_Bool (list_any (is_job job) jobs)) [
+      | inl e ↦ let at = at_any job jobs e in let some = (found job at.0).1 at.1 in absurd (nothing at.0 (sym none ∙ some))
+      | inr e ↦ e
+    ] where
+      nothing : (place : ℕ) → None ≡ Some place → ⊥
+      nothing place e = cc
+
+apart : (a b : ℕ) → (a ≡ b → ⊥) → tree.is_at (nat_cmp a) b ≡ false
+apart a b ne =
+    elim (cases_order a b) [
+      | inl e ↦ absurd (ne e)
+      | inr (inl less) ↦ rw (lt-ltb a b less) refl
+      | inr (inr more) ↦ rw (le-ltb a b (omega arith), ne_eqb a b ne) refl
+    ]
+
+pub none_from : {X : Type 0} (o : Option X) → is_some o ≡ false → o ≡ None
+none_from None e = refl
+none_from (Some x) e = absurd (cc)
+
+-- one more job is found at the end
+pub found_more : (places more : BTreeMap ℕ ℕ) (jobs : List RoutedJob) (new : RoutedJob) (n : ℕ) → AreFound places jobs
+    → tree.get nat_cmp places new.job ≡ None
+    → n ≡ length jobs
+    → tree.Updates nat_cmp places more new.job (Some n)
+    → AreFound more (jobs ++ new ∷ [])
+found_more places more jobs new n found none end u job place =
+    elim (cases_eq new.job job) [
+      | inl same ↦ (λ is. there same is, λ is. here same is)
+      | inr ne ↦ (λ is. kept_at job jobs new place ((found job place).0 (sym (u.2 job (apart _ _ ne)) ∙ is)), λ is. back ne is)
+    ] where
+      there : new.job ≡ job → tree.get nat_cmp more job ≡ Some place → job_at (jobs ++ new ∷ []) place ≡ Some job
+      there same is =
+          let one : Some n ≡ Some place = sym u.1 ∙ ap (λ z. tree.get nat_cmp more z) same ∙ is in
+          let at : length jobs ≡ place = cc in
+          ap (λ z. job_at (jobs ++ new ∷ []) z) (sym at) ∙ new_at jobs new ∙ ap Some same
+
+      nothing : None ≡ Some place → ⊥
+      nothing e = cc
+
+      here : new.job ≡ job → job_at (jobs ++ new ∷ []) place ≡ Some job → tree.get nat_cmp more job ≡ Some place
+      here same is =
+          elim (which_at job jobs new place is) [
+            | inl e ↦ absurd (nothing (sym none ∙ ap (λ z. tree.get nat_cmp places z) same ∙ (found job place).1 e))
+            | inr e ↦ ap (λ z. tree.get nat_cmp more z) (sym same) ∙ u.1 ∙ ap Some (end ∙ sym e.0)
+          ]
+
+      back : (new.job ≡ job → ⊥) → job_at (jobs ++ new ∷ []) place ≡ Some job → tree.get nat_cmp more job ≡ Some place
+      back ne is =
+          elim (which_at job jobs new place is) [
+            | inl e ↦ u.2 job (apart _ _ ne) ∙ (found job place).1 e
+            | inr e ↦ absurd (ne e.1)
+          ]
+
+-- one more number at the end, unless it is there
+abbrev add_once : List ℕ → ℕ → List ℕ
+add_once ns n = cond (list_any (λ m. m == n) ns) ns (ns ++ n ∷ [])
+
+-- whether a number isn't among these
+abbrev is_new : List ℕ → ℕ → Bool
+is_new ns m = not (list_any (λ k. k == m) ns)
+
+filter_twice : (p q r : ℕ → Bool) → ((m : ℕ) → (q m && p m) ≡ r m) → (ms : List ℕ) → filter p (filter q ms) ≡ filter r ms
+filter_twice p q r f [] = refl
+filter_twice p q r f (m ∷ ms) = by_cases (q m) (p m) (r m) refl (f m) (filter_twice p q r f ms) where
+  by_cases : (b c d : Bool) → p m ≡ c → (b && c) ≡ d → filter p (filter q ms) ≡ filter r ms
+      → filter p (cond b (m ∷ filter q ms) (filter q ms)) ≡ cond d (m ∷ filter r ms) (filter r ms)
+  by_cases true c d pm is e = rw (pm, is, e) refl
+  by_cases false c d pm is e = rw (← is) e
+
+gone : (acc : List ℕ) (n : ℕ) → list_any (λ m. m == n) acc ≡ true → (m : ℕ) → (not (m == n) && is_new acc m) ≡ is_new acc m
+gone acc n has m =
+    elim (cases_eq m n) [
+      | inl e ↦ rw (eq-eqb m n e, ap (λ z. list_any (λ k. k == z) acc) e, has) refl
+      | inr ne ↦ rw (ne_eqb m n ne) refl
+    ]
+
+newer : (acc : List ℕ) (n m : ℕ) → (not (m == n) && is_new acc m) ≡ is_new (acc ++ n ∷ []) m
+newer acc n m =
+    elim (cases_eq m n) [
+      | inl e ↦ rw (list_any-append (λ k. k == m) acc (n ∷ []), eq-eqb m n e, eq-eqb n m (sym e)) (shut (list_any (λ k. k == m) acc))
+      | inr ne ↦ rw (list_any-append (λ k. k == m) acc (n ∷ []), ne_eqb m n ne, ne_eqb n m (λ e. ne (sym e))) (open' (list_any (λ k. k == m) acc))
+    ] where
+      shut : (b : Bool) → false ≡ not (b || true)
+      shut true = refl
+      shut false = refl
+
+      open' : (b : Bool) → not b ≡ not (b || false)
+      open' true = refl
+      open' false = refl
+
+fold_once : (acc ns : List ℕ) → fold add_once acc ns ≡ acc ++ filter (is_new acc) (each_once ns)
+fold_once acc [] = sym (append-nil acc)
+fold_once acc (n ∷ ns) = by_cases (list_any (λ m. m == n) acc) refl (fold_once acc ns) (fold_once (acc ++ n ∷ []) ns) where
+  by_cases : (b : Bool) → list_any (λ m. m == n) acc ≡ b
+      → fold add_once acc ns ≡ acc ++ filter (is_new acc) (each_once ns)
+      → fold add_once (acc ++ n ∷ []) ns ≡ (acc ++ n ∷ []) ++ filter (is_new (acc ++ n ∷ [])) (each_once ns)
+      → fold add_once (cond b acc (acc ++ n ∷ [])) ns ≡ acc ++ filter (is_new acc) (n ∷ filter (λ m. not (m == n)) (each_once ns))
+  by_cases true is old new =
+      old ∙ rw is (ap (λ z. acc ++ z) (sym (filter_twice (is_new acc) (λ m. not (m == n)) (is_new acc) (gone acc n is) (each_once ns))))
+  by_cases false is old new =
+      new ∙ append_assoc acc (n ∷ []) _
+      ∙ rw is (ap (λ z. acc ++ n ∷ z) (sym (filter_twice (is_new acc) (λ m. not (m == n)) (is_new (acc ++ n ∷ [])) (newer acc n) (each_once ns))))
+
+all_new : (ms : List ℕ) → filter (is_new []) ms ≡ ms
+all_new [] = refl
+all_new (m ∷ ms) = ap (λ z. m ∷ z) (all_new ms)
+
+-- the jobs after one more row
+abbrev pub note_job : Settings → TraceTables → List RoutedJob → Row → List RoutedJob
+note_job settings trace jobs (Machine row) = jobs
+note_job settings trace jobs (Attr row) = jobs
+note_job settings trace jobs (Task row) = with_job jobs (routed settings trace row.key.job)
+
+any_routed : (settings : Settings) (trace : TraceTables) (job : ℕ) (ns : List ℕ) → list_any (is_job job) (map (routed settings trace) ns) ≡ list_any (λ m. m == job) ns
+any_routed settings trace job [] = refl
+any_routed settings trace job (n ∷ ns) = ap (λ z. (n == job) || z) (any_routed settings trace job ns)
+
+map_push : {X Y : Type 0} (f : X → Y) (xs : List X) (x : X) → map f (xs ++ x ∷ []) ≡ map f xs ++ f x ∷ []
+map_push f [] x = refl
+map_push f (y ∷ xs) x = ap (λ z. f y ∷ z) (map_push f xs x)
+
+with_routed : (settings : Settings) (trace : TraceTables) (ns : List ℕ) (job : ℕ)
+    → with_job (map (routed settings trace) ns) (routed settings trace job) ≡ map (routed settings trace) (add_once ns job)
+with_routed settings trace ns job = rw (any_routed settings trace job ns) (by_cases (list_any (λ m. m == job) ns)) where
+  by_cases : (b : Bool) → cond b (map (routed settings trace) ns) (map (routed settings trace) ns ++ routed settings trace job ∷ []) ≡ map (routed settings trace) (cond b ns (ns ++ job ∷ []))
+  by_cases true = refl
+  by_cases false = sym (map_push (routed settings trace) ns job)
+
+fold_routed : (settings : Settings) (trace : TraceTables) (ns : List ℕ) (rows : List Row)
+    → fold (note_job settings trace) (map (routed settings trace) ns) rows ≡ map (routed settings trace) (fold add_once ns (filter_map job_of_row rows))
+fold_routed settings trace ns [] = refl
+fold_routed settings trace ns (Machine row ∷ rows) = fold_routed settings trace ns rows
+fold_routed settings trace ns (Attr row ∷ rows) = fold_routed settings trace ns rows
+fold_routed settings trace ns (Task row ∷ rows) =
+    ap (λ z. fold (note_job settings trace) z rows) (with_routed settings trace ns row.key.job)
+    ∙ fold_routed settings trace (add_once ns row.key.job) rows
+
+-- the jobs noted from row to row are those of the trace in order of their first task row
+pub jobs_noted : (settings : Settings) (trace : TraceTables) → fold (note_job settings trace) [] (feed trace) ≡ map (routed settings trace) (jobs_in_order (feed trace))
+jobs_noted settings trace =
+    fold_routed settings trace [] (feed trace)
+    ∙ ap (map (routed settings trace)) (fold_once [] (filter_map job_of_row (feed trace)) ∙ all_new _)

@@ -1,0 +1,184 @@
+-- The requests of the jobs that have a wanted task are those of all jobs.
+use Rattle.std.proofs.Common.{◌≡◌, ℕ, zero, suc, ◌+◌, ◌<◌, ◌≤◌, Bool, true, false, cond, not, ◌&&◌, ◌||◌, ◌==◌, List, [], ◌∷◌, ◌++◌, Option, Some, None, map, drop, length, refl, ap, sym, ◌∙◌, inl, inr, arith, subst, add-one}
+use Rattle.std.specs.Prelude.{slice_get, option_and_then, option_map, is_some}
+use Rattle.std.specs.BTreeMap.{is_at}
+use Rattle.std.specs.BTreeSet.{BTreeSet}
+use Rattle.std.specs.List.{AllByRecursion, filter, filter_map, list_any, cons_option}
+use Rattle.std.specs.List.Sorted.{IsStrictlySortedBy}
+use Rattle.std.specs.Ordering.{nat_cmp}
+use Rattle.std.specs.declared.cmp.Ordering.TheVariants.{Less, Equal, Greater}
+use Rattle.std.proofs.lemmas.Map.Keys.{sorted_head, sorted_tail}
+use Rattle.std.proofs.lemmas.Bool.{lt-ltb, le-ltb, eq-eqb, ne_eqb, eqb-true, cases_eq, cases_order, cases_Bool, both_ways, or_cases, or_left, or_right}
+use Rattle.omega_running.specs.Order.{Each}
+use Rattle.omega_running.proofs.Lists.{each_map, any_none}
+use Rattle.omega_model.specs.Cell.{Cell, task_at}
+use Rattle.omega_model.specs.Fields.{ConstraintFields}
+use Rattle.omega_model.specs.Requests.{request_of, is_running, is_waiting}
+use Rattle.omega_model.specs.Wanted.{WantedTask}
+use Rattle.omega_model.specs.declared.cells.Spec.{Spec}
+use Rattle.omega_model.specs.declared.cells.TaskKey.{TaskKey}
+use Rattle.omega_model.specs.declared.wishes.Wish.{Wish}
+use Rattle.omega_feed.specs.Asked.{Asked, is_task_of, asked_wish, job_request, asked_requests}
+use Rattle.omega_feed.specs.Index.{wanted_task, AreActive, place_request}
+use Rattle.omega_feed.specs.declared.jobs.RoutedJob.{RoutedJob}
+
+pub wishes_mapped : (constraints : List ConstraintFields) (es : List (TaskKey × Spec))
+    → map (λ entry. asked_wish constraints (wanted_task entry)) es ≡ map (asked_wish constraints) (map wanted_task es)
+wishes_mapped constraints [] = refl
+wishes_mapped constraints (e ∷ es) = ap (λ z. asked_wish constraints (wanted_task e) ∷ z) (wishes_mapped constraints es)
+
+-- numbers that rise
+abbrev pub Up : List ℕ → Type 0
+Up [] = Unit {0}
+Up (p ∷ ps) = Each (λ q. p < q) ps × Up ps
+
+slice_of_drop : {X : Type 0} (xs : List X) (base : ℕ) (y : X) (rest : List X) → drop base xs ≡ y ∷ rest → (slice_get xs base ≡ Some y) × (drop (base + 1) xs ≡ rest)
+slice_of_drop [] zero y rest e = absurd (cc)
+slice_of_drop [] (suc base) y rest e = absurd (cc)
+slice_of_drop (x ∷ xs) zero y rest e = (cc, cc)
+slice_of_drop (x ∷ xs) (suc base) y rest e = let later = slice_of_drop xs base y rest e in (later.0, rw add-one (rw add-one at later.1))
+
+past : {X : Type 0} (xs : List X) (base place : ℕ) → drop base xs ≡ [] → base ≤ place → slice_get xs place ≡ None
+past [] base place e h = refl
+past (x ∷ xs) zero place e h = absurd (cc)
+past (x ∷ xs) (suc base) zero e h = absurd (omega arith)
+past (x ∷ xs) (suc base) (suc place) e h = past xs base place e (omega arith)
+
+-- whether a number is among these
+abbrev pub has : ℕ → List ℕ → Bool
+has p ps = list_any (λ q. q == p) ps
+
+-- what an item at a place gives, if there is one
+abbrev pub from_place : {X Y : Type 0} → (X → Option Y) → List X → ℕ → Option Y
+from_place f xs p = option_and_then f (slice_get xs p)
+
+none_of : {Y : Type 0} (h : ℕ → Option Y) (ps : List ℕ) → Each (λ p. h p ≡ None) ps → filter_map h ps ≡ []
+none_of h [] e = refl
+none_of h (p ∷ ps) e = ap (λ z. cons_option z (filter_map h ps)) e.0 ∙ none_of h ps e.1
+
+none_here : {Y : Type 0} (o : Option Y) → (is_some o ≡ true → ⊥) → o ≡ None
+none_here None f = refl
+none_here (Some y) f = absurd (f refl)
+
+not_in : (base : ℕ) (ps : List ℕ) → Each (λ q. base < q) ps → has base ps ≡ false
+not_in base ps e = any_none (λ q. q == base) ps (each_map (λ q. base < q) (λ q. (q == base) ≡ false) (λ q h. ne_eqb q base (λ d. omega arith)) ps e)
+
+past_first : (q p : ℕ) (ps : List ℕ) → p < q → has q (p ∷ ps) ≡ true → has q ps ≡ true
+past_first q p ps h e =
+    elim (or_cases (p == q) (has q ps) e) [ inl d ↦ let same : p ≡ q = eqb-true _ _ d in absurd (omega arith) | inr d ↦ d ]
+
+-- what items give from a place on, if each that gives something is among the places
+picked : {X Y : Type 0} (f : X → Option Y) (xs rest : List X) (base : ℕ) (places : List ℕ)
+    → drop base xs ≡ rest → Up places → Each (λ p. base ≤ p) places
+    → ((p : ℕ) → base ≤ p → is_some (from_place f xs p) ≡ true → has p places ≡ true)
+    → filter_map (from_place f xs) places ≡ filter_map f rest
+picked f xs [] base places e up low covers =
+    none_of (from_place f xs) places
+    (each_map (λ p. base ≤ p) (λ p. from_place f xs p ≡ None) (λ p h. ap (option_and_then f) (past xs base p e h)) places low)
+picked f xs (x ∷ rest) base [] e up low covers =
+    let split = slice_of_drop xs base x rest e in
+    let here : from_place f xs base ≡ f x = ap (option_and_then f) split.0 in
+    let none : f x ≡ None = none_here (f x) (λ s. both_ways _ refl (covers base (omega arith) (ap is_some here ∙ s))) in
+    rw none (picked f xs rest (base + 1) [] split.1 tt tt (λ p h s. covers p (omega arith) s))
+picked f xs (x ∷ rest) base (p ∷ ps) e up low covers =
+    let split = slice_of_drop xs base x rest e in
+    let here : from_place f xs base ≡ f x = ap (option_and_then f) split.0 in
+    let first = low.0 in
+    elim (cases_eq p base) [
+      | inl same ↦
+          ap (λ z. cons_option z (filter_map (from_place f xs) ps)) (ap (from_place f xs) same ∙ here)
+          ∙ ap (cons_option (f x))
+          (picked f xs rest (base + 1) ps split.1 up.1
+          (each_map (λ q. p < q) (λ q. base + 1 ≤ q) (λ q h. omega arith) ps up.0)
+          (λ q h s. past_first q p ps (omega arith) (covers q (omega arith) s)))
+      | inr ne ↦
+          let away : base < p = omega arith in
+          let none : f x ≡ None = none_here (f x) (λ s. both_ways _
+          (not_in base (p ∷ ps) (away, each_map (λ q. p < q) (λ q. base < q) (λ q h. omega arith) ps up.0))
+          (covers base (omega arith) (ap is_some here ∙ s))) in
+          picked f xs rest (base + 1) (p ∷ ps) split.1 up
+          (omega arith, each_map (λ q. p < q) (λ q. base + 1 ≤ q) (λ q h. omega arith) ps up.0)
+          (λ q h s. covers q (omega arith) s)
+          ∙ ap (λ z. cons_option z (filter_map f rest)) (sym none)
+    ]
+
+filter_map_chosen : {X Y : Type 0} (p : X → Bool) (h : X → Option Y) (xs : List X) → filter_map (λ x. cond (p x) (h x) None) xs ≡ filter_map h (filter p xs)
+filter_map_chosen p h [] = refl
+filter_map_chosen p h (x ∷ xs) = by_cases (p x) (filter_map_chosen p h xs) where
+  by_cases : (b : Bool) → filter_map (λ x. cond (p x) (h x) None) xs ≡ filter_map h (filter p xs)
+      → cons_option (cond b (h x) None) (filter_map (λ x. cond (p x) (h x) None) xs) ≡ filter_map h (cond b (x ∷ filter p xs) (filter p xs))
+  by_cases true e = ap (cons_option (h x)) e
+  by_cases false e = e
+
+less_is : (p q : ℕ) → nat_cmp p q ≡ Less → p < q
+less_is p q e =
+    elim (cases_order p q) [
+      | inl same ↦ let other : nat_cmp p q ≡ Equal = rw (le-ltb p q (omega arith), eq-eqb p q same) refl in absurd (differ (sym e ∙ other))
+      | inr (inl less) ↦ less
+      | inr (inr more) ↦ let other : nat_cmp p q ≡ Greater = rw (le-ltb p q (omega arith), ne_eqb p q (λ d. omega arith)) refl in absurd (differs (sym e ∙ other))
+    ] where
+      differ : Less ≡ Equal → ⊥
+      differ d = cc
+
+      differs : Less ≡ Greater → ⊥
+      differs d = cc
+
+up_from : (ps : List ℕ) → IsStrictlySortedBy nat_cmp ps → Up ps
+up_from [] s = tt
+up_from (p ∷ ps) s = (bounds ps (sorted_head nat_cmp p ps s), up_from ps (sorted_tail nat_cmp p ps s)) where
+  bounds : (qs : List ℕ) → AllByRecursion (λ q. nat_cmp p q ≡ Less) qs → Each (λ q. p < q) qs
+  bounds [] h = tt
+  bounds (q ∷ qs) h = (less_is p q h.0, bounds qs h.1)
+
+each_from_zero : (ps : List ℕ) → Each (λ p. 0 ≤ p) ps
+each_from_zero [] = tt
+each_from_zero (p ∷ ps) = (omega arith, each_from_zero ps)
+
+same_place : (p q : ℕ) → is_at (nat_cmp p) q ≡ (q == p)
+same_place p q =
+    elim (cases_order p q) [
+      | inl e ↦ rw (le-ltb p q (omega arith), eq-eqb p q e, eq-eqb q p (sym e)) refl
+      | inr (inl less) ↦ rw (lt-ltb p q less, ne_eqb q p (λ d. omega arith)) refl
+      | inr (inr more) ↦ rw (le-ltb p q (omega arith), ne_eqb p q (λ d. omega arith), ne_eqb q p (λ d. omega arith)) refl
+    ]
+
+has_place : (p : ℕ) (ps : List ℕ) → list_any (is_at (nat_cmp p)) ps ≡ has p ps
+has_place p [] = refl
+has_place p (q ∷ ps) = ap (λ b. b || list_any (is_at (nat_cmp p)) ps) (same_place p q) ∙ ap (λ b. (q == p) || b) (has_place p ps)
+
+-- a job with a request has a wanted task
+requested : (job : ℕ) (cell : Cell) (wish : WantedTask → Wish) (tasks : List WantedTask)
+    → is_some (request_of job (map wish (filter (is_waiting cell job) tasks))) ≡ true → list_any (is_task_of job) tasks ≡ true
+requested job cell wish [] e = e
+requested job cell wish (task ∷ tasks) e = by_cases (task.key.job == job) e (requested job cell wish tasks) where
+  by_cases : (b : Bool)
+      → is_some (request_of job (map wish (cond (b && not (is_running (task_at cell.tasks task.key))) (task ∷ filter (is_waiting cell job) tasks) (filter (is_waiting cell job) tasks)))) ≡ true
+      → (is_some (request_of job (map wish (filter (is_waiting cell job) tasks))) ≡ true → list_any (is_task_of job) tasks ≡ true)
+      → (b || list_any (is_task_of job) tasks) ≡ true
+  by_cases true e later = refl
+  by_cases false e later = later e
+
+covered : (asked : Asked) (cell : Cell) (scheduler : ℕ) (active : BTreeSet ℕ) → AreActive active asked.jobs asked.tasks
+    → (p : ℕ) → is_some (place_request asked cell scheduler p) ≡ true → has p active.keys ≡ true
+covered asked cell scheduler active a p some = by_cases (slice_get asked.jobs p) refl some where
+  at_job : (job : RoutedJob) (b : Bool) → is_some (cond b (job_request asked cell job) None) ≡ true → list_any (is_task_of job.job) asked.tasks ≡ true
+  at_job job true s = requested job.job cell (asked_wish asked.constraints) asked.tasks s
+  at_job job false s = absurd (cc)
+
+  by_cases : (o : Option RoutedJob) → slice_get asked.jobs p ≡ o
+      → is_some (option_and_then (λ (job : RoutedJob). cond (job.scheduler == scheduler) (job_request asked cell job) None) o) ≡ true
+      → has p active.keys ≡ true
+  by_cases None is s = absurd (cc)
+  by_cases (Some job) is s =
+      sym (has_place p active.keys)
+      ∙ a job.job p (ap (option_map (λ (job : RoutedJob). job.job)) is) (at_job job (job.scheduler == scheduler) s)
+
+-- the requests at the active places are all requests
+pub picked_requests : (asked : Asked) (cell : Cell) (scheduler : ℕ) (active : BTreeSet ℕ) → AreActive active asked.jobs asked.tasks
+    → IsStrictlySortedBy nat_cmp active.keys
+    → filter_map (place_request asked cell scheduler) active.keys ≡ asked_requests asked cell scheduler
+picked_requests asked cell scheduler active a sorted =
+    picked (λ job. cond (job.scheduler == scheduler) (job_request asked cell job) None) asked.jobs asked.jobs 0 active.keys refl
+    (up_from active.keys sorted) (each_from_zero active.keys)
+    (λ p h s. covered asked cell scheduler active a p s)
+    ∙ filter_map_chosen (λ job. job.scheduler == scheduler) (job_request asked cell) asked.jobs

@@ -1,0 +1,19 @@
+use Rattle.std.proofs.Common.{rules, ◌≡◌, ◌<◌, ◌^◌, ap, sym, ◌∙◌, refl, map}
+use Rattle.std.proofs.lemmas.Map.Views.{All-keys-insert_entry}
+use Rattle.omega_model.specs.Wanted.{with_wanted}
+use Rattle.omega_feed.specs.Index.{wanted_task, key_cmp}
+use Rattle.omega_feed.proofs.tasks.WantedTasks.insert.Goals as goal
+use Rattle.omega_feed.proofs.TaskMap.{put_is}
+
+pub invariant_of-self-2 : goal.invariant_of-self-2
+invariant_of-self-2 c =
+    record {
+      ordered = c.in_ok-insert.ensures.ordered;
+      narrow = rw c.in_ok-insert.ensures.entries (All-keys-insert_entry key_cmp c.args.key c.args.spec (λ key. key.index < 2 ^ 32) c.self.inside.specs.entries c.self.invariant.narrow (search rules));
+    }
+
+pub returns-clause-ok : goal.returns-clause-ok
+returns-clause-ok c =
+    ap (λ z. map wanted_task z) c.in_ok-insert.ensures.entries
+    ∙ put_is c.args.key c.args.spec c.self.inside.specs.entries c.self.invariant.ordered
+    ∙ ap (λ z. with_wanted c.args.key c.args.spec z) c.self.view_is

@@ -1,0 +1,46 @@
+-- How what is asked for is kept so that it is found.
+use Rattle.std.specs.Prelude.{◌≡◌, ℕ, Bool, true, List, [], Option, Some, None, map, slice_get, option_map, option_and_then, ◌==◌, if◌then◌else◌, ◌↔◌, ◌<◌, ◌^◌}
+use Rattle.std.specs.BTreeMap as tree
+use Rattle.std.specs.BTreeSet as set
+use Rattle.std.specs.BTreeMap.{BTreeMap}
+use Rattle.std.specs.BTreeSet.{BTreeSet}
+use Rattle.std.specs.List.{All, list_any}
+use Rattle.std.specs.Ordering.{nat_cmp, ordering_then}
+use Rattle.std.specs.declared.cmp.Ordering.{Ordering}
+use Rattle.omega_model.specs.Wanted.{WantedTask}
+use Rattle.omega_model.specs.declared.cells.Spec.{Spec}
+use Rattle.omega_model.specs.declared.cells.TaskKey.{TaskKey}
+use Rattle.omega_model.specs.Cell.{Cell}
+use Rattle.omega_model.specs.declared.wishes.Request.{Request}
+use Rattle.omega_feed.specs.Asked.{Asked, is_task_of, job_request}
+use Rattle.omega_feed.specs.declared.jobs.RoutedJob.{RoutedJob}
+
+-- a wanted task from its key and what it asks for
+abbrev pub wanted_task : TaskKey × Spec → WantedTask
+wanted_task entry = record { key = entry.0; spec = entry.1 }
+
+-- the order of keys: by job, then by index
+abbrev pub key_cmp : TaskKey → TaskKey → Ordering
+key_cmp a b = ordering_then (nat_cmp a.job b.job) (nat_cmp a.index b.index)
+
+-- the keys rise, and their indexes fit 32 bits
+pub record AreKeys (specs : BTreeMap TaskKey Spec) : Type 0 where
+  pub ordered : tree.IsOrdered key_cmp specs
+  pub narrow : All (λ key. key.index < 2 ^ 32) (tree.keys specs)
+
+-- the job at a place
+abbrev pub job_at : List RoutedJob → ℕ → Option ℕ
+job_at jobs place = option_map (λ job. job.job) (slice_get jobs place)
+
+-- the map gives for each job the place at which it stands, which is the only one
+abbrev pub AreFound : BTreeMap ℕ ℕ → List RoutedJob → Type 0
+AreFound places jobs = (job place : ℕ) → (tree.get nat_cmp places job ≡ Some place) ↔ (job_at jobs place ≡ Some job)
+
+-- the place of each job that has a wanted task is among these
+abbrev pub AreActive : BTreeSet ℕ → List RoutedJob → List WantedTask → Type 0
+AreActive places jobs tasks = (job place : ℕ) → job_at jobs place ≡ Some job → list_any (is_task_of job) tasks ≡ true → set.contains nat_cmp places place ≡ true
+
+-- the request of the job at a place, if it stands there and is this scheduler's
+abbrev pub place_request : Asked → Cell → ℕ → ℕ → Option Request
+place_request asked cell scheduler place =
+    option_and_then (λ job. if job.scheduler == scheduler then job_request asked cell job else None) (slice_get asked.jobs place)

@@ -1,0 +1,75 @@
+//! What a row does to the cell.
+ghost use Rattle.std.specs.Prelude.{◌≡◌, ◌++◌, List, IfOk};
+ghost use Rattle.std.specs.Option.{option_to_list};
+ghost use Rattle.omega_model.specs.Wanted.{WantedTask, machine_entry, attr_entry, row_entries, task_entries};
+ghost use Rattle.omega_model.specs.declared.cells.Machine.{Machine};
+
+use omega_model::{AttrRow, Copied, Entries, Entry, MachineRow, NoMemory, Row, TaskRow};
+use omega_running::Running;
+use std::alloc::Global;
+
+/// The entries of a row, where these tasks run. Costs the logarithm of their number.
+pub fn entries_of(alloc: Global, row: &Row, running: &Running) -> Result<Entries, NoMemory>
+    ensures { IfOk result (λ entries. (machines : List Machine) (left : List WantedTask) → entries ≡ row_entries (record { machines = machines; tasks = running.now.tasks }) left row.now) }
+{
+    let mut entries = Entries::new(alloc);
+    if let Some(entry) = entry_of(alloc, row, running)? {
+        entries.push(entry)?;
+    }
+    Ok(entries)
+}
+
+/// The entry of a row: each gives one at most.
+fn entry_of(alloc: Global, row: &Row, running: &Running) -> Result<Option<Entry>, NoMemory>
+    ensures { IfOk result (λ entry. (machines : List Machine) (left : List WantedTask) → option_to_list entry ≡ row_entries (record { machines = machines; tasks = running.now.tasks }) left row.now) }
+{
+    match row {
+        Row::Machine(row) => Ok(Some(machine_entry(row))),
+        Row::Attr(row) => Ok(Some(attr_entry(alloc, row)?)),
+        Row::Task(row) => Ok(end_entry(row, running)),
+    }
+}
+
+/// The entry of a machine row, by its code.
+fn machine_entry(row: &MachineRow) -> Entry
+    ensures { result ≡ machine_entry row.now }
+{
+    let machine = row.machine;
+    let cap = row.cap;
+    match row.code {
+        0 => Entry::MachineAdd { machine, cap },
+        1 => Entry::MachineRemove { machine },
+        _ => Entry::MachineUpdate { machine, cap },
+    }
+}
+
+/// The entry of an attribute row: the attribute is set, or deleted.
+fn attr_entry(alloc: Global, row: &AttrRow) -> Result<Entry, NoMemory>
+    ensures { IfOk result (λ entry. entry ≡ attr_entry row.now) }
+{
+    let machine = row.machine;
+    let name = row.name.copy(alloc)?;
+    if row.deleted {
+        return Ok(Entry::AttrDelete { machine, name });
+    }
+    let value = row.value.copy(alloc)?;
+    Ok(Entry::AttrSet {
+        machine,
+        name,
+        value,
+    })
+}
+
+/// The end of the task of a row, if the row ends it and it runs.
+fn end_entry(row: &TaskRow, running: &Running) -> Option<Entry>
+    ensures { (machines : List Machine) (left : List WantedTask) → option_to_list result ≡ task_entries (record { machines = machines; tasks = running.now.tasks }) left row.now }
+{
+    if !matches!(row.code, 3..=6) {
+        return None;
+    }
+    let task = running.get(row.key)?;
+    Some(Entry::End {
+        key: task.key,
+        machine: task.machine,
+    })
+}

@@ -1,0 +1,106 @@
+//! The jobs of a trace in order of their first task row.
+ghost use Rattle.std.specs.Prelude.{◌≡◌, ◌↔◌, [], ℕ, Some, map, slice_get, option_copied, OnOk, OnErr, IfOk};
+ghost use Rattle.omega_model.specs.Feed.{feed};
+ghost use Rattle.omega_model.specs.Requests.{scheduler_of, jobs_in_order};
+ghost use Rattle.omega_feed.specs.Asked.{routed, with_job};
+ghost use Rattle.omega_feed.specs.Index.{job_at};
+
+use crate::ordered::feed;
+use omega_model::{NoMemory, Row, Settings, TraceTables};
+use std::alloc::Global;
+use std::collections::BTreeMap;
+use std::marker::Model;
+
+/// A job and the scheduler that works on it.
+#[derive(Clone, Copy, Debug, PartialEq, Eq)]
+pub struct RoutedJob {
+    pub job: u64,
+    pub scheduler: u32,
+}
+
+/// Jobs in an order, found by place and by number.
+#[derive(Drop)]
+pub struct Jobs {
+    list: Vec<RoutedJob>,
+    places: BTreeMap<u64, usize>,
+}
+
+impl Model for Jobs {
+    ghost use Rattle.std.specs.Prelude.{List};
+    ghost use Rattle.omega_feed.specs.declared.jobs.RoutedJob.{RoutedJob};
+
+    ghost Value = { List RoutedJob };
+
+    ghost use Rattle.omega_feed.specs.Index.{AreFound};
+
+    ghost view = { λ jobs. jobs.list.items };
+
+    ghost invariant = { λ jobs. AreFound jobs.places jobs.list.items };
+}
+
+impl Jobs {
+    /// No jobs. Takes no memory.
+    pub fn new(alloc: Global) -> Jobs
+        ensures { result ≡ [] }
+    {
+        Jobs {
+            list: Vec::new(alloc),
+            places: BTreeMap::new(alloc),
+        }
+    }
+
+    /// The jobs of a trace in order of their first task row, each with its scheduler. Costs a sort of
+    /// the rows by time, and a look-up for each task row.
+    pub fn of(alloc: Global, tables: &TraceTables, settings: &Settings) -> Result<Jobs, NoMemory>
+        ensures { IfOk result (λ jobs. jobs ≡ map (routed settings.now tables.now) (jobs_in_order (feed tables.now))) }
+    {
+        let mut jobs = Jobs::new(alloc);
+        for row in feed(alloc, tables)? {
+            if let Row::Task(row) = row {
+                let job = row.key.job;
+                let scheduler = scheduler_of(settings, tables, job);
+                jobs.add(RoutedJob { job, scheduler })?;
+            }
+        }
+        Ok(jobs)
+    }
+
+    /// Appends a job, unless it is there. A refused call leaves the jobs.
+    fn add(&mut self, job: RoutedJob) -> Result<(), NoMemory>
+        ensures ok { OnOk result (self.new ≡ with_job self.old job) }
+        ensures err { OnErr result (self.new ≡ self.old) }
+    {
+        if self.places.contains_key(&job.job) {
+            return Ok(());
+        }
+        let place = self.list.len();
+        self.places.insert(job.job, place)?;
+        if self.list.push(job).is_err() {
+            self.places.remove(&job.job);
+            return Err(NoMemory);
+        }
+        Ok(())
+    }
+
+    /// The place of a job: the only one at which it stands, `None` exactly where there is none. Costs
+    /// the logarithm of their number.
+    pub fn place(&self, job: u64) -> Option<usize>
+        ensures { (place : ℕ) → (result ≡ Some place) ↔ (job_at self.now place ≡ Some job) }
+    {
+        self.places.get(&job).copied()
+    }
+
+    /// The job at a place, counted from 0. `None` exactly where there is none.
+    pub fn at(&self, place: usize) -> Option<RoutedJob>
+        ensures { result ≡ slice_get self.now place }
+    {
+        self.list.get(place).copied()
+    }
+}
+
+/// The scheduler of a job. For now every job goes to scheduler 1.
+fn scheduler_of(_settings: &Settings, _tables: &TraceTables, _job: u64) -> u32
+    ensures { result ≡ scheduler_of _settings.now _tables.now _job }
+{
+    1
+}

@@ -1,0 +1,20 @@
+//! The rows of a trace in the order in which they happen, and what they ask for.
+//!
+//! `rounds` puts the rows of the events in order and cuts them into windows of time. `Wanted` takes
+//! them one by one, knows which tasks are to run, and says what each row does to the cell and what a
+//! scheduler is asked to place.
+#![tactic(auto)]
+
+mod constraints;
+mod entries;
+mod jobs;
+mod ordered;
+mod tasks;
+mod wanted;
+
+pub use jobs::RoutedJob;
+pub use ordered::rounds;
+pub use wanted::Wanted;
+
+#[cfg(test)]
+mod tests;

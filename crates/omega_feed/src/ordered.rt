@@ -1,0 +1,101 @@
+//! The rows of the events in order of time, cut into rounds.
+ghost use Rattle.std.specs.Prelude.{◌≡◌, ◌<◌, ◌/◌, ◌++◌, ◌∷◌, [], map, IfOk, OnOk};
+ghost use Rattle.omega_model.specs.Feed.{time_of, event_rows, feed, rounds, round_number};
+ghost use Rattle.omega_model.specs.declared.rows.Row.TheVariants.{Machine, Attr, Task};
+ghost use Rattle.omega_feed.specs.Cut.{closed};
+
+use omega_model::{
+    AttrRow, Copied, MachineRow, NoMemory, Round, Rounds, Row, Rows, Seq, TaskRow, TraceTables,
+};
+use std::alloc::Global;
+use std::mem;
+
+/// The rounds of a trace: its rows in order of time, then of table, then of row, cut where the time
+/// divided by the window changes. A window without a row is no round. The window is in microseconds.
+/// Copies each row once, and costs one sort by time besides.
+pub fn rounds(alloc: Global, tables: &TraceTables, window: u64) -> Result<Rounds, NoMemory>
+    requires { 0 < window }
+    ensures { IfOk result (λ rounds'. rounds' ≡ rounds tables.now window) }
+{
+    let mut done = Rounds::new(alloc);
+    let mut number = 0;
+    let mut rows = Rows::new(alloc);
+    for row in feed(alloc, tables)? {
+        let next = time_of(&row) / window;
+        if next != number {
+            close(&mut done, number, mem::replace(&mut rows, Rows::new(alloc)))?;
+            number = next;
+        }
+        rows.push(row)?;
+    }
+    close(&mut done, number, rows)?;
+    Ok(done)
+}
+
+/// Appends the round of these rows, unless there are none.
+fn close(done: &mut Rounds, number: u64, rows: Rows) -> Result<(), NoMemory>
+    ensures { OnOk result (done.new ≡ done.old ++ closed number rows) }
+{
+    if rows.is_empty() {
+        return Ok(());
+    }
+    done.push(Round { number, rows })
+}
+
+/// The rows of the events in order of time, then of table, then of row. Copies each row once.
+pub fn feed(alloc: Global, tables: &TraceTables) -> Result<Vec<Row>, NoMemory>
+    ensures { IfOk result (λ rows. rows.items ≡ feed tables.now) }
+{
+    let mut rows = event_rows(alloc, tables)?;
+    rows.sort_by_key(|row| time_of(row))?;
+    Ok(rows)
+}
+
+/// The time of a row, in microseconds.
+fn time_of(row: &Row) -> u64
+    ensures { result ≡ time_of row.now }
+{
+    match row {
+        Row::Machine(row) => row.time,
+        Row::Attr(row) => row.time,
+        Row::Task(row) => row.time,
+    }
+}
+
+/// The rows of the events table by table.
+fn event_rows(alloc: Global, tables: &TraceTables) -> Result<Vec<Row>, NoMemory>
+    ensures { IfOk result (λ rows. rows.items ≡ event_rows tables.now) }
+{
+    let mut rows = Vec::new(alloc);
+    push_machines(&mut rows, tables.machines.as_slice())?;
+    push_attrs(alloc, &mut rows, tables.attrs.as_slice())?;
+    push_tasks(&mut rows, tables.tasks.as_slice())?;
+    Ok(rows)
+}
+
+fn push_machines(rows: &mut Vec<Row>, machines: &[MachineRow]) -> Result<(), NoMemory>
+    ensures { OnOk result (rows.new.items ≡ rows.old.items ++ map (λ row. Machine row) machines.now) }
+{
+    for row in machines {
+        rows.push(Row::Machine(*row))?;
+    }
+    Ok(())
+}
+
+fn push_attrs(alloc: Global, rows: &mut Vec<Row>, attrs: &[AttrRow]) -> Result<(), NoMemory>
+    ensures { OnOk result (rows.new.items ≡ rows.old.items ++ map (λ row. Attr row) attrs.now) }
+{
+    for row in attrs {
+        rows.push(Row::Attr(row.copy(alloc)?))?;
+    }
+    Ok(())
+}
+
+fn push_tasks(rows: &mut Vec<Row>, tasks: &[TaskRow]) -> Result<(), NoMemory>
+    ensures { OnOk result (rows.new.items ≡ rows.old.items ++ map (λ row. Task row) tasks.now) }
+{
+    for row in tasks {
+        rows.push(Row::Task(*row))?;
+    }
+    Ok(())
+}

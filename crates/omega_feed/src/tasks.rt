@@ -1,0 +1,109 @@
+//! The wanted tasks.
+ghost use Rattle.std.specs.Prelude.{◌≡◌, [], List, not, map, ◌<◌, ◌^◌, IfOk, OnOk, OnErr};
+ghost use Rattle.std.specs.List.{filter, list_any};
+ghost use Rattle.omega_model.specs.Requests.{is_waiting};
+ghost use Rattle.omega_model.specs.Wanted.{with_wanted, is_named};
+ghost use Rattle.omega_model.specs.declared.cells.Machine.{Machine};
+ghost use Rattle.omega_feed.specs.Asked.{is_task_of};
+ghost use Rattle.omega_feed.specs.Index.{wanted_task};
+
+use omega_model::{NoMemory, Spec, TaskKey};
+use omega_running::Running;
+use std::alloc::Global;
+use std::collections::BTreeMap;
+use std::marker::Model;
+
+/// The wanted tasks in order of key, found by key and by job.
+#[derive(Drop)]
+pub struct WantedTasks {
+    specs: BTreeMap<TaskKey, Spec>,
+}
+
+impl Model for WantedTasks {
+    ghost use Rattle.std.specs.Prelude.{List, map};
+    ghost use Rattle.omega_model.specs.Wanted.{WantedTask};
+
+    ghost Value = { List WantedTask };
+
+    ghost use Rattle.omega_feed.specs.Index.{wanted_task, AreKeys};
+
+    ghost view = { λ tasks. map wanted_task tasks.specs.entries };
+
+    ghost invariant = { λ tasks. AreKeys tasks.specs };
+}
+
+impl WantedTasks {
+    /// No tasks. Takes no memory.
+    pub fn new(alloc: Global) -> WantedTasks
+        ensures { result ≡ [] }
+    {
+        WantedTasks {
+            specs: BTreeMap::new(alloc),
+        }
+    }
+
+    /// Puts a task in, or replaces what it asks for. A refused call leaves the tasks. Costs the
+    /// logarithm of their number.
+    pub fn insert(&mut self, key: TaskKey, spec: Spec) -> Result<(), NoMemory>
+        ensures ok { OnOk result (self.new ≡ with_wanted key spec self.old) }
+        ensures err { OnErr result (self.new ≡ self.old) }
+    {
+        self.specs.insert(key, spec)?;
+        Ok(())
+    }
+
+    /// Takes a task out, if it is there. Costs the logarithm of their number.
+    pub fn remove(&mut self, key: TaskKey)
+        ensures { self.new ≡ filter (λ task. not (is_named key task)) self.old }
+    {
+        self.specs.remove(&key);
+    }
+
+    /// Whether a task is wanted. Costs the logarithm of their number.
+    pub fn contains(&self, key: TaskKey) -> bool
+        ensures { result ≡ list_any (is_named key) self.now }
+    {
+        self.specs.contains_key(&key)
+    }
+
+    /// Whether a task of a job is wanted. Costs the logarithm of their number.
+    pub fn has_job(&self, job: u64) -> bool
+        ensures { result ≡ list_any (is_task_of job) self.now }
+    {
+        let (first, last) = keys_of(job);
+        self.specs.range(first..=last).next().is_some()
+    }
+
+    /// The tasks of a job that don't run, by index. Costs the job's wanted tasks, each times the
+    /// logarithm of the number of all that are wanted or run.
+    pub fn waiting(
+        &self,
+        alloc: Global,
+        job: u64,
+        running: &Running,
+    ) -> Result<Vec<(TaskKey, Spec)>, NoMemory>
+        ensures { IfOk result (λ found. (machines : List Machine) → map wanted_task found.items ≡ filter (is_waiting (record { machines = machines; tasks = running.now.tasks }) job) self.now) }
+    {
+        let (first, last) = keys_of(job);
+        let mut found = Vec::new(alloc);
+        for (key, spec) in self.specs.range(first..=last) {
+            if running.get(*key).is_none() {
+                found.push((*key, *spec))?;
+            }
+        }
+        Ok(found)
+    }
+}
+
+/// The least and the greatest key that a task of this job can have.
+fn keys_of(job: u64) -> (TaskKey, TaskKey)
+    ensures first { result.0 ≡ record { job = job; index = 0 } }
+    ensures last { result.1 ≡ record { job = job; index = 4294967295 } }
+{
+    let first = TaskKey { job, index: 0 };
+    let last = TaskKey {
+        job,
+        index: u32::MAX,
+    };
+    (first, last)
+}

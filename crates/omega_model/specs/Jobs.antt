@@ -1,0 +1,15 @@
+-- The running tasks of one job.
+use Rattle.std.specs.Prelude.{ℕ, Bool, List, Option, ◌==◌, ◌&&◌, option_map}
+use Rattle.std.specs.List.{filter, find}
+use Rattle.omega_model.specs.Cell.{stays_on}
+use Rattle.omega_model.specs.declared.cells.TaskKey.{TaskKey}
+use Rattle.omega_model.specs.declared.cells.Task.{Task}
+
+-- whether a task belongs to this job
+abbrev pub is_of_job : ℕ → Task → Bool
+is_of_job job task = task.key.job == job
+
+-- the name of the first of a job's tasks on a machine that is not among those that go
+abbrev pub other_of_job : List Task → ℕ → ℕ → List TaskKey → Option TaskKey
+other_of_job tasks job machine gone =
+    option_map (λ task. task.key) (find (λ task. is_of_job job task && stays_on machine gone task) tasks)

@@ -1,0 +1,60 @@
+-- The two orders in which the running tasks are kept.
+use Rattle.std.specs.Prelude.{◌≡◌, ℕ, Bool, true, List, [], ◌∷◌, ◌++◌, ◌==◌, ◌&&◌, ◌||◌, not, nat_lt}
+use Rattle.std.specs.List.{filter, list_any}
+use Rattle.omega_model.specs.Keys.{key_lt}
+use Rattle.omega_model.specs.declared.cells.Task.{Task}
+use Rattle.omega_running.specs.declared.orders.Order.{Order}
+use Rattle.omega_running.specs.declared.orders.Order.TheVariants.{ByKey, ByMachine}
+
+-- whether the first task stands before the second: by key, or by machine and then by key
+abbrev pub precedes : Order → Task → Task → Bool
+precedes ByKey a b = key_lt a.key b.key
+precedes ByMachine a b = nat_lt a.machine b.machine || (a.machine == b.machine && key_lt a.key b.key)
+
+-- whether two tasks stand at different places
+abbrev pub is_apart : Order → Task → Task → Bool
+is_apart order a b = precedes order a b || precedes order b a
+
+-- the number by which an order sorts first
+abbrev pub lead : Order → Task → ℕ
+lead ByKey task = task.key.job
+lead ByMachine task = task.machine
+
+-- whether a task stands before all of a job's tasks on a machine, by machine and key
+abbrev pub is_before : Task → ℕ → ℕ → Bool
+is_before task machine job = nat_lt task.machine machine || (task.machine == machine && nat_lt task.key.job job)
+
+-- whether a task stands behind all of a job's tasks on a machine, by machine and key
+abbrev pub is_behind : Task → ℕ → ℕ → Bool
+is_behind task machine job = nat_lt machine task.machine || (machine == task.machine && nat_lt job task.key.job)
+
+-- each element has P
+abbrev pub Each : {X : Type 0} → (X → Type 0) → List X → Type 0
+Each P [] = Unit {0}
+Each P (x ∷ xs) = P x × Each P xs
+
+-- each element stands before all later ones
+abbrev pub Rises : {X : Type 0} → (X → X → Bool) → List X → Type 0
+Rises before [] = Unit {0}
+Rises before (x ∷ xs) = Each (λ y. before x y ≡ true) xs × Rises before xs
+
+-- each task stands before all later ones
+abbrev pub IsInOrder : Order → List Task → Type 0
+IsInOrder order tasks = Rises (precedes order) tasks
+
+-- the tasks with one more, behind those that it does not stand before
+abbrev pub put_in : Order → Task → List Task → List Task
+put_in order task tasks =
+    filter (λ other. not (precedes order task other)) tasks ++ task ∷ filter (λ other. precedes order task other) tasks
+
+-- the tasks without those at this task's place
+abbrev pub taken_out : Order → Task → List Task → List Task
+taken_out order task tasks = filter (λ other. is_apart order task other) tasks
+
+-- whether a task stands at this task's place
+abbrev pub has_place : Order → Task → List Task → Bool
+has_place order task tasks = list_any (λ other. not (is_apart order task other)) tasks
+
+-- the tasks that an order's first number puts together
+abbrev pub led_by : Order → ℕ → List Task → List Task
+led_by order number tasks = filter (λ task. lead order task == number) tasks

@@ -1,0 +1,16 @@
+//! The running tasks of a cell, found by key, by machine and by job.
+//!
+//! A caller sees them as a list in order of key, and a number: for how many more there is room.
+//! They are kept in two balanced trees, one in order of key and one in order of machine and key.
+//! The nodes of both are made by `reserve` and come back with `remove`, so that a task is put in
+//! and taken out without memory.
+#![tactic(auto)]
+
+mod nodes;
+mod orders;
+mod table;
+
+pub use table::Running;
+
+#[cfg(test)]
+mod tests;

@@ -1,0 +1,322 @@
+//! A balanced tree of tasks, in one of the two orders. It takes its nodes ready made.
+ghost use Rattle.std.specs.Prelude.{◌≡◌, ◌+◌, ◌∷◌, ◌++◌, [], length, option_map, IfOk, OnOk, IsTrue};
+ghost use Rattle.omega_model.specs.Cell.{task_at};
+ghost use Rattle.omega_model.specs.Jobs.{other_of_job};
+ghost use Rattle.omega_running.specs.declared.orders.Order.TheVariants.{ByKey, ByMachine};
+ghost use Rattle.omega_running.specs.Order.{IsInOrder, put_in, taken_out, has_place, led_by};
+ghost use Rattle.omega_running.specs.Tree.{tasks_of, tasks_at};
+
+use crate::orders::{Order, is_among, is_before, is_behind, key_lt};
+use omega_model::{Keys, Need, NoMemory, Spec, Task, TaskKey};
+use std::alloc::Global;
+use std::mem;
+
+/// A tree of tasks, from left to right in an order. Where a change makes one side of a node higher
+/// than the other by two, the node is turned, so that a way down stays logarithmic.
+#[cycle(tree)]
+#[derive(Debug, Drop)]
+pub enum Tree {
+    Leaf,
+    Fork(Box<Node>),
+}
+
+/// A task and the trees at its two sides.
+#[cycle(tree)]
+#[derive(Debug, Drop)]
+pub struct Node {
+    left: Tree,
+    task: Task,
+    height: u8,
+    right: Tree,
+}
+
+impl Node {
+    /// A node that is in no tree. Takes the memory of one node.
+    pub fn free(alloc: Global) -> Result<Box<Node>, NoMemory> {
+        let need = Need { cpu: 0, mem: 0 };
+        let task = Task {
+            key: TaskKey { job: 0, index: 0 },
+            machine: 0,
+            spec: Spec {
+                need,
+                prec: 0,
+                differ: false,
+            },
+        };
+        Ok(Box::new(
+            alloc,
+            Node {
+                left: Tree::Leaf,
+                task,
+                height: 0,
+                right: Tree::Leaf,
+            },
+        )?)
+    }
+}
+
+impl Tree {
+    /// The number of nodes on the longest way down.
+    fn height(&self) -> u8 {
+        match self {
+            Tree::Leaf => 0,
+            Tree::Fork(node) => node.height,
+        }
+    }
+
+    /// Takes the tree out and leaves an empty one.
+    pub fn take(&mut self) -> Tree
+        ensures taken { result ≡ self.old }
+        ensures left { tasks_of self.new ≡ [] }
+    {
+        mem::replace(self, Tree::Leaf)
+    }
+
+    /// Puts a task in, in the node that is handed in. Goes down one way.
+    pub fn insert(self, order: Order, task: Task, mut room: Box<Node>) -> Tree
+        requires { IsInOrder order (tasks_of self) }
+        ensures tasks { tasks_of result ≡ put_in order task (tasks_of self) }
+        ensures one_more { length (tasks_of result) ≡ length (tasks_of self) + 1 }
+    {
+        match self {
+            Tree::Leaf => {
+                room.left = Tree::Leaf;
+                room.task = task;
+                room.right = Tree::Leaf;
+                fork(room)
+            }
+            Tree::Fork(mut node) => {
+                if order.precedes(&task, &node.task) {
+                    node.left = node.left.take().insert(order, task, room);
+                } else {
+                    node.right = node.right.take().insert(order, task, room);
+                }
+                balanced(node)
+            }
+        }
+    }
+
+    /// Takes out the task at this task's place, and gives its node back. Goes down one way.
+    pub fn remove(self, order: Order, task: &Task) -> (Tree, Box<Node>)
+        requires ordered { IsInOrder order (tasks_of self) }
+        requires there { IsTrue (has_place order task.now (tasks_of self)) }
+        ensures tasks { tasks_of result.0 ≡ taken_out order task.now (tasks_of self) }
+        ensures one_less { length (tasks_of result.0) + 1 ≡ length (tasks_of self) }
+    {
+        let Tree::Fork(mut node) = self else {
+            unreachable!()
+        };
+        if order.precedes(task, &node.task) {
+            let (left, out) = node.left.take().remove(order, task);
+            node.left = left;
+            return (balanced(node), out);
+        }
+        if order.precedes(&node.task, task) {
+            let (right, out) = node.right.take().remove(order, task);
+            node.right = right;
+            return (balanced(node), out);
+        }
+        let (left, right) = (node.left.take(), node.right.take());
+        (joined(left, right), node)
+    }
+
+    /// The task of this key. Goes down one way.
+    pub fn find(&self, key: TaskKey) -> Option<&Task>
+        requires { IsInOrder ByKey (tasks_of self.now) }
+        ensures { option_map (λ task. task.now) result ≡ task_at (tasks_of self.now) key }
+    {
+        let Tree::Fork(node) = self else {
+            return None;
+        };
+        if key_lt(key, node.task.key) {
+            return node.left.find(key);
+        }
+        if key_lt(node.task.key, key) {
+            return node.right.find(key);
+        }
+        Some(&node.task)
+    }
+
+    /// Appends, in order, the tasks of which the order's first number is this one. Costs what they
+    /// are, and one way down.
+    pub fn collect(&self, order: Order, number: u64, found: &mut Vec<Task>) -> Result<(), NoMemory>
+        requires { IsInOrder order (tasks_of self.now) }
+        ensures { OnOk result (found.new.items ≡ found.old.items ++ led_by order number (tasks_of self.now)) }
+    {
+        let Tree::Fork(node) = self else {
+            return Ok(());
+        };
+        let here = order.lead(&node.task);
+        if here < number {
+            return node.right.collect(order, number, found);
+        }
+        if number < here {
+            return node.left.collect(order, number, found);
+        }
+        node.left.collect(order, number, found)?;
+        found.push(node.task)?;
+        node.right.collect(order, number, found)
+    }
+
+    /// The first of the job's tasks on the machine that isn't in `gone`. Costs those up to it, each
+    /// looked up in `gone`, and one way down.
+    pub fn other_of_job(&self, job: u64, machine: u64, gone: &Keys) -> Option<TaskKey>
+        requires { IsInOrder ByMachine (tasks_of self.now) }
+        ensures { result ≡ other_of_job (tasks_of self.now) job machine gone.now }
+    {
+        let Tree::Fork(node) = self else {
+            return None;
+        };
+        if is_before(&node.task, machine, job) {
+            return node.right.other_of_job(job, machine, gone);
+        }
+        if is_behind(&node.task, machine, job) {
+            return node.left.other_of_job(job, machine, gone);
+        }
+        let earlier = node.left.other_of_job(job, machine, gone);
+        if earlier.is_some() {
+            return earlier;
+        }
+        if !is_among(node.task.key, gone) {
+            return Some(node.task.key);
+        }
+        node.right.other_of_job(job, machine, gone)
+    }
+
+    /// A tree of the same tasks. Takes the memory of its nodes.
+    pub fn copy(&self, alloc: Global) -> Result<Tree, NoMemory>
+        ensures { IfOk result (λ copied. tasks_of copied ≡ tasks_of self.now) }
+    {
+        let Tree::Fork(node) = self else {
+            return Ok(Tree::Leaf);
+        };
+        let left = node.left.copy(alloc)?;
+        let right = node.right.copy(alloc)?;
+        Ok(Tree::Fork(Box::new(
+            alloc,
+            Node {
+                left,
+                task: node.task,
+                height: node.height,
+                right,
+            },
+        )?))
+    }
+}
+
+/// The tree of a node, with its height set right.
+fn fork(mut node: Box<Node>) -> Tree
+    ensures { tasks_of result ≡ tasks_at node.value }
+{
+    let height = node.left.height().max(node.right.height());
+    node.height = height.saturating_add(1);
+    Tree::Fork(node)
+}
+
+/// The tree of a node. Where one side is higher by more than one, tasks move to the other side.
+fn balanced(mut node: Box<Node>) -> Tree
+    ensures { tasks_of result ≡ tasks_at node.value }
+{
+    let (left, right) = (node.left.height(), node.right.height());
+    if left > right.saturating_add(1) {
+        node.left = leaning_left(node.left.take());
+        return turned_right(node);
+    }
+    if right > left.saturating_add(1) {
+        node.right = leaning_right(node.right.take());
+        return turned_left(node);
+    }
+    fork(node)
+}
+
+/// The same tasks, with the left side at least as high as the right one.
+fn leaning_left(tree: Tree) -> Tree
+    ensures { tasks_of result ≡ tasks_of tree }
+{
+    match tree {
+        Tree::Leaf => Tree::Leaf,
+        Tree::Fork(node) => {
+            if node.left.height() < node.right.height() {
+                turned_left(node)
+            } else {
+                Tree::Fork(node)
+            }
+        }
+    }
+}
+
+/// The same tasks, with the right side at least as high as the left one.
+fn leaning_right(tree: Tree) -> Tree
+    ensures { tasks_of result ≡ tasks_of tree }
+{
+    match tree {
+        Tree::Leaf => Tree::Leaf,
+        Tree::Fork(node) => {
+            if node.right.height() < node.left.height() {
+                turned_right(node)
+            } else {
+                Tree::Fork(node)
+            }
+        }
+    }
+}
+
+/// The tree of a node, with the node at its left on top.
+fn turned_right(mut node: Box<Node>) -> Tree
+    ensures { tasks_of result ≡ tasks_at node.value }
+{
+    match node.left.take() {
+        Tree::Leaf => fork(node),
+        Tree::Fork(mut top) => {
+            node.left = top.right.take();
+            top.right = fork(node);
+            fork(top)
+        }
+    }
+}
+
+/// The tree of a node, with the node at its right on top.
+fn turned_left(mut node: Box<Node>) -> Tree
+    ensures { tasks_of result ≡ tasks_at node.value }
+{
+    match node.right.take() {
+        Tree::Leaf => fork(node),
+        Tree::Fork(mut top) => {
+            node.right = top.left.take();
+            top.left = fork(node);
+            fork(top)
+        }
+    }
+}
+
+/// One tree of the tasks of two, of which the heights differ by at most one.
+fn joined(left: Tree, right: Tree) -> Tree
+    ensures { tasks_of result ≡ tasks_of left ++ tasks_of right }
+{
+    match right {
+        Tree::Leaf => left,
+        Tree::Fork(node) => {
+            let (mut first, rest) = without_first(node);
+            first.left = left;
+            first.right = rest;
+            balanced(first)
+        }
+    }
+}
+
+/// The node of the first task, which has no sides then, and a tree of the others.
+fn without_first(mut node: Box<Node>) -> (Box<Node>, Tree)
+    ensures { tasks_at node.value ≡ result.0.value.task ∷ tasks_of result.1 }
+{
+    match node.left.take() {
+        Tree::Leaf => {
+            let rest = node.right.take();
+            (node, rest)
+        }
+        Tree::Fork(left) => {
+            let (first, rest) = without_first(left);
+            node.left = rest;
+            (first, balanced(node))
+        }
+    }
+}

@@ -1,0 +1,67 @@
+//! The two orders in which the running tasks are kept.
+ghost use Rattle.std.specs.Prelude.{◌≡◌};
+ghost use Rattle.omega_model.specs.Keys.{key_lt, is_among};
+ghost use Rattle.omega_running.specs.Order.{precedes, lead, is_before, is_behind};
+
+use omega_model::{Keys, Task, TaskKey};
+
+/// An order of tasks: by key, or by machine and then by key.
+#[derive(Clone, Copy, Debug)]
+pub enum Order {
+    ByKey,
+    ByMachine,
+}
+
+impl Order {
+    /// Whether the first task stands before the second.
+    pub fn precedes(self, a: &Task, b: &Task) -> bool
+        ensures { result ≡ precedes self a.now b.now }
+    {
+        match self {
+            Order::ByKey => key_lt(a.key, b.key),
+            Order::ByMachine => {
+                a.machine < b.machine || (a.machine == b.machine && key_lt(a.key, b.key))
+            }
+        }
+    }
+
+    /// The number by which the order sorts first: the job, or the machine.
+    pub fn lead(self, task: &Task) -> u64
+        ensures { result ≡ lead self task.now }
+    {
+        match self {
+            Order::ByKey => task.key.job,
+            Order::ByMachine => task.machine,
+        }
+    }
+}
+
+/// Whether the first key stands before the second.
+pub fn key_lt(a: TaskKey, b: TaskKey) -> bool
+    ensures { result ≡ key_lt a b }
+{
+    a.job < b.job || (a.job == b.job && a.index < b.index)
+}
+
+/// Whether the task stands before all tasks of the job on the machine, by machine and key.
+pub fn is_before(task: &Task, machine: u64, job: u64) -> bool
+    ensures { result ≡ is_before task.now machine job }
+{
+    task.machine < machine || (task.machine == machine && task.key.job < job)
+}
+
+/// Whether the task stands behind all tasks of the job on the machine, by machine and key.
+pub fn is_behind(task: &Task, machine: u64, job: u64) -> bool
+    ensures { result ≡ is_behind task.now machine job }
+{
+    machine < task.machine || (machine == task.machine && job < task.key.job)
+}
+
+/// Whether the key is among these. Looks at each of them at most once.
+pub fn is_among(key: TaskKey, keys: &Keys) -> bool
+    ensures { result ≡ is_among key keys.now }
+{
+    keys.as_slice()
+        .iter()
+        .any(|other| key.job == other.job && key.index == other.index)
+}

@@ -1,0 +1,214 @@
+//! The running tasks.
+ghost use Rattle.std.specs.Prelude.{◌≡◌, ◌+◌, ◌≤◌, ◌<◌, [], ◌∷◌, max, length, option_map, IsOk, IfOk, OnOk, is_some, None, Some, vec_len, vec_capacity, if◌then◌else◌};
+ghost use Rattle.std.specs.List.{filter};
+ghost use Rattle.omega_model.specs.Cell.{task_at, with_task, without, is_on, by_rank, keys_of};
+ghost use Rattle.omega_model.specs.Jobs.{is_of_job, other_of_job};
+ghost use Rattle.omega_running.specs.Kept.{KeysRise};
+
+use crate::nodes::{Node, Tree};
+use crate::orders::Order;
+use omega_model::{Keys, NoMemory, Seq, Task, TaskKey};
+use std::alloc::Global;
+use std::marker::Model;
+
+/// The nodes that one more task takes.
+#[derive(Debug, Drop)]
+struct Pair {
+    by_key: Box<Node>,
+    by_machine: Box<Node>,
+}
+
+/// The running tasks, with distinct keys. A contract sees the list of the tasks in order of key,
+/// and `spare`, for how many more there is room.
+#[derive(Debug, Drop)]
+pub struct Running {
+    by_key: Tree,
+    by_machine: Tree,
+    count: usize,
+    pool: Vec<Pair>,
+}
+
+impl Model for Running {
+    ghost use Rattle.std.specs.Prelude.{vec_len, vec_capacity};
+    ghost use Rattle.omega_running.specs.Kept.{RunningTasks, AreKept};
+    ghost use Rattle.omega_running.specs.Tree.{tasks_of};
+
+    ghost Value = { RunningTasks };
+
+    ghost view = { λ r. record { tasks = tasks_of r.by_key; spare = vec_len r.pool } };
+
+    ghost invariant = { λ r. AreKept (tasks_of r.by_key) (tasks_of r.by_machine) r.count (vec_len r.pool) (vec_capacity r.pool) };
+}
+
+impl Running {
+    /// No task, and no room. Takes no memory.
+    pub fn new(alloc: Global) -> Running
+        ensures tasks { result.tasks ≡ [] }
+        ensures spare { result.spare ≡ 0 }
+    {
+        Running {
+            by_key: Tree::Leaf,
+            by_machine: Tree::Leaf,
+            count: 0,
+            pool: Vec::new(alloc),
+        }
+    }
+
+    /// The running task of this key; `None` exactly where it doesn't run. Takes no memory, and
+    /// time logarithmic in the number of tasks.
+    pub fn get(&self, key: TaskKey) -> Option<&Task>
+        ensures task { option_map (λ task. task.now) result ≡ task_at self.now.tasks key }
+        ensures ordered { KeysRise self.now.tasks }
+    {
+        self.by_key.find(key)
+    }
+
+    /// How many tasks run. Takes no memory, and time that doesn't depend on their number.
+    pub fn count(&self) -> usize
+        ensures count { result ≡ length self.now.tasks }
+        ensures ordered { KeysRise self.now.tasks }
+    {
+        self.count
+    }
+
+    /// Makes room for at least `n` more tasks. The tasks stay as they are, also where memory runs
+    /// out, and no room is lost then. Takes the memory and time of the room that is missing, and
+    /// none where there is enough.
+    pub fn reserve(&mut self, alloc: Global, n: usize) -> Result<(), NoMemory>
+        ensures tasks { self.new.tasks ≡ self.old.tasks }
+        ensures spare { OnOk result (self.new.spare ≡ max self.old.spare n) }
+        ensures kept { self.old.spare ≤ self.new.spare }
+        ensures enough { n ≤ self.old.spare → IsOk result }
+    {
+        let spare = self.pool.len();
+        if n <= spare {
+            return Ok(());
+        }
+        let Some(room) = self.count.checked_add(n - spare) else {
+            return Err(NoMemory);
+        };
+        self.pool.reserve(room)?;
+        fill(&mut self.pool, alloc, n)
+    }
+
+    /// Puts a task in, for which room was reserved. Takes no memory, and time logarithmic in the
+    /// number of tasks.
+    pub fn insert_reserved(&mut self, task: Task)
+        requires absent { task_at self.old.tasks task.key ≡ None }
+        requires room { 0 < self.old.spare }
+        ensures tasks { self.new.tasks ≡ with_task task self.old.tasks }
+        ensures spare { self.new.spare + 1 ≡ self.old.spare }
+    {
+        let Some(Pair { by_key, by_machine }) = self.pool.pop() else {
+            unreachable!()
+        };
+        self.by_key = self.by_key.take().insert(Order::ByKey, task, by_key);
+        self.by_machine = self
+            .by_machine
+            .take()
+            .insert(Order::ByMachine, task, by_machine);
+        self.count += 1;
+    }
+
+    /// Takes out the task of this key and answers it; `None` exactly where it doesn't run. Its
+    /// room is spare then. Takes no memory, and time logarithmic in the number of tasks.
+    pub fn remove(&mut self, key: TaskKey) -> Option<Task>
+        ensures task { result ≡ task_at self.old.tasks key }
+        ensures tasks { self.new.tasks ≡ without (key ∷ []) self.old.tasks }
+        ensures spare { self.new.spare ≡ self.old.spare + (if is_some result then 1 else 0) }
+    {
+        let Some(found) = self.by_key.find(key) else {
+            return None;
+        };
+        let task = *found;
+        self.take_out(&task);
+        Some(task)
+    }
+
+    /// Takes out a task that runs.
+    fn take_out(&mut self, task: &Task)
+        requires { task_at self.old.tasks task.now.key ≡ Some task.now }
+        ensures tasks { self.new.tasks ≡ without (task.now.key ∷ []) self.old.tasks }
+        ensures spare { self.new.spare ≡ self.old.spare + 1 }
+    {
+        let (rest, by_key) = self.by_key.take().remove(Order::ByKey, task);
+        self.by_key = rest;
+        let (rest, by_machine) = self.by_machine.take().remove(Order::ByMachine, task);
+        self.by_machine = rest;
+        self.count -= 1;
+        self.pool.push_reserved(Pair { by_key, by_machine });
+    }
+
+    /// The keys of the tasks on a machine in order of eviction: by precedence, job and index.
+    /// With k tasks on the machine, takes time k log k, and logarithmic in the number of tasks.
+    pub fn on_machine(&self, alloc: Global, machine: u64) -> Result<Keys, NoMemory>
+        ensures { IfOk result (λ keys. keys ≡ keys_of (by_rank (filter (is_on machine) self.now.tasks))) }
+    {
+        let mut found = Vec::new(alloc);
+        self.by_machine
+            .collect(Order::ByMachine, machine, &mut found)?;
+        found.sort_unstable_by_key(|task| (task.spec.prec, task.key.job, task.key.index));
+        keys_of(alloc, &found)
+    }
+
+    /// The keys of a job's running tasks by index. Takes the time of what the job has, and
+    /// logarithmic in the number of tasks.
+    pub fn of_job(&self, alloc: Global, job: u64) -> Result<Keys, NoMemory>
+        ensures { IfOk result (λ keys. keys ≡ keys_of (filter (is_of_job job) self.now.tasks)) }
+    {
+        let mut found = Vec::new(alloc);
+        self.by_key.collect(Order::ByKey, job, &mut found)?;
+        keys_of(alloc, &found)
+    }
+
+    /// The key of the job's task on the machine with the least index that isn't in `gone`; `None`
+    /// exactly where there is none. Takes no memory, and the time of the job's tasks on the
+    /// machine, each looked up in `gone`, and logarithmic in the number of tasks.
+    pub fn other_of_job(&self, job: u64, machine: u64, gone: &Keys) -> Option<TaskKey>
+        ensures { result ≡ other_of_job self.now.tasks job machine gone.now }
+    {
+        self.by_machine.other_of_job(job, machine, gone)
+    }
+
+    /// The same tasks, with no room for more. Takes the memory and time of the tasks.
+    pub fn copy(&self, alloc: Global) -> Result<Running, NoMemory>
+        ensures tasks { IfOk result (λ copied. copied.tasks ≡ self.now.tasks) }
+        ensures spare { IfOk result (λ copied. copied.spare ≡ 0) }
+    {
+        Ok(Running {
+            by_key: self.by_key.copy(alloc)?,
+            by_machine: self.by_machine.copy(alloc)?,
+            count: self.count,
+            pool: Vec::with_capacity(alloc, self.count)?,
+        })
+    }
+}
+
+/// Makes nodes until there are those for `n` tasks, for which the pool has room. Takes their
+/// memory. What was made stays where memory runs out.
+fn fill(pool: &mut Vec<Pair>, alloc: Global, n: usize) -> Result<(), NoMemory>
+    requires short { vec_len pool.old ≤ n }
+    requires room { n ≤ vec_capacity pool.old }
+    ensures full { OnOk result (vec_len pool.new ≡ n) }
+    ensures longer { vec_len pool.old ≤ vec_len pool.new }
+    ensures within { vec_len pool.new ≤ n }
+    ensures capacity { vec_capacity pool.new ≡ vec_capacity pool.old }
+{
+    for _made in pool.len()..n {
+        let by_key = Node::free(alloc)?;
+        let by_machine = Node::free(alloc)?;
+        pool.push_reserved(Pair { by_key, by_machine });
+    }
+    Ok(())
+}
+
+/// The keys of some tasks.
+fn keys_of(alloc: Global, tasks: &[Task]) -> Result<Keys, NoMemory>
+    ensures { IfOk result (λ keys. keys ≡ keys_of tasks.now) }
+{
+    let mut keys = Vec::new(alloc);
+    for task in tasks {
+        keys.push(task.key)?;
+    }
+    Ok(Seq::of(keys))
+}

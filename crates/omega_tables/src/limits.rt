@@ -1,0 +1,155 @@
+//! The limits over all five tables, and what isn't built yet.
+ghost use Rattle.std.specs.Prelude.{◌≡◌, ◌↔◌, ◌++◌, ◌==◌, ◌&&◌, ℕ, List, map, not, Some, None, IfOk, OnOk, IfErr};
+ghost use Rattle.std.specs.List.{position_or_len};
+ghost use Rattle.omega_model.specs.Limits.{row_count, machine_count, excess, IsWithinLimits};
+ghost use Rattle.omega_model.specs.Refusals.{trace_refusal, not_built_row};
+ghost use Rattle.omega_tables.specs.Checking.{Holds};
+ghost use Rattle.omega_tables.specs.Reading.{StopsRows, status_of};
+
+use crate::refusal::ReadRefusal;
+use omega_model::{AttrRow, Kind, MachineRow, NoMemory, Table, TaskRow, TraceTables};
+use std::alloc::Global;
+use std::collections::BTreeSet;
+
+// The most rows over all five tables.
+const MOST_ROWS: u64 = 2_000_000;
+
+// The most different machines.
+const MOST_MACHINES: u64 = 65_536;
+
+// How many rows the five tables have.
+fn row_count(tables: &TraceTables) -> u64
+    ensures { result ≡ row_count tables.now }
+{
+    tables.machines.as_slice().len() as u64
+        + tables.attrs.as_slice().len() as u64
+        + tables.tasks.as_slice().len() as u64
+        + tables.constraints.as_slice().len() as u64
+        + tables.activities.as_slice().len() as u64
+}
+
+// Adds the machines of some rows to those that were named before.
+fn add_machines(rows: &[MachineRow], named: &mut BTreeSet<u64>) -> Result<(), NoMemory>
+    ensures { (before : List ℕ) → Holds named.old before → OnOk result (Holds named.new (before ++ map (λ row. row.machine) rows.now)) }
+{
+    for row in rows.iter() {
+        named.insert(row.machine)?;
+    }
+    Ok(())
+}
+
+// Adds the machines of some rows of attributes to those that were named before.
+fn add_attr_machines(rows: &[AttrRow], named: &mut BTreeSet<u64>) -> Result<(), NoMemory>
+    ensures { (before : List ℕ) → Holds named.old before → OnOk result (Holds named.new (before ++ map (λ row. row.machine) rows.now)) }
+{
+    for row in rows.iter() {
+        named.insert(row.machine)?;
+    }
+    Ok(())
+}
+
+// How many different machines the rows of machines and of attributes name.
+fn machine_count(alloc: Global, tables: &TraceTables) -> Result<u64, NoMemory>
+    ensures { IfOk result (λ number. number ≡ machine_count tables.now) }
+{
+    let mut named = BTreeSet::new(alloc);
+    add_machines(tables.machines.as_slice(), &mut named)?;
+    add_attr_machines(tables.attrs.as_slice(), &mut named)?;
+    Ok(named.len() as u64)
+}
+
+/// The first number that passes its limit: the rows of all five tables above 2,000,000, then the
+/// different machines in the rows of machines and of attributes above 65,536. `None` exactly where
+/// both limits are kept. Costs n log m for n rows of machines and attributes and m machines.
+pub fn over_limit(alloc: Global, tables: &TraceTables) -> Result<Option<(Kind, u64)>, NoMemory>
+    ensures number { IfOk result (λ number. number ≡ excess tables.now) }
+    ensures within { IfOk result (λ number. (number ≡ None) ↔ IsWithinLimits tables.now) }
+{
+    let rows = row_count(tables);
+    if rows > MOST_ROWS {
+        return Ok(Some((Kind::Rows, rows)));
+    }
+    let machines = machine_count(alloc, tables)?;
+    if machines > MOST_MACHINES {
+        return Ok(Some((Kind::Machines, machines)));
+    }
+    Ok(None)
+}
+
+// Whether a replay is built for a row of machines.
+fn is_built_machine(row: &MachineRow) -> bool
+    ensures { result ≡ (row.now.time == 0 && row.now.code == 0) }
+{
+    row.time == 0 && row.code == 0
+}
+
+// Whether a replay is built for a row of tasks.
+fn is_built_task(row: &TaskRow) -> bool
+    ensures { result ≡ (row.now.time == 0 && row.now.code == 0 && not row.now.spec.differ) }
+{
+    row.time == 0 && row.code == 0 && !row.spec.differ
+}
+
+// The place of the first row of machines for which no replay is built, or their number.
+fn first_unbuilt_machine(rows: &[MachineRow]) -> usize
+    ensures { result ≡ position_or_len (λ row. not (row.time == 0 && row.code == 0)) rows.now }
+{
+    for (place, row) in rows.iter().enumerate() {
+        if !is_built_machine(row) {
+            return place;
+        }
+    }
+    rows.len()
+}
+
+// The place of the first row of tasks for which no replay is built, or their number.
+fn first_unbuilt_task(rows: &[TaskRow]) -> usize
+    ensures { result ≡ position_or_len (λ row. not (row.time == 0 && row.code == 0 && not row.spec.differ)) rows.now }
+{
+    for (place, row) in rows.iter().enumerate() {
+        if !is_built_task(row) {
+            return place;
+        }
+    }
+    rows.len()
+}
+
+// Refuses the first row for which no replay is built.
+fn check_built(tables: &TraceTables) -> Result<(), ReadRefusal>
+    ensures none { OnOk result (not_built_row tables.now ≡ None) }
+    ensures refusal { IfErr result (λ refusal. not_built_row tables.now ≡ Some (status_of refusal)) }
+{
+    let machine = first_unbuilt_machine(tables.machines.as_slice());
+    if machine < tables.machines.len() {
+        return Err(ReadRefusal::NotBuilt {
+            table: Table::MachineEvents,
+            row: machine as u64 + 1,
+        });
+    }
+    if tables.attrs.len() > 0 {
+        return Err(ReadRefusal::NotBuilt {
+            table: Table::MachineAttributes,
+            row: 1,
+        });
+    }
+    let task = first_unbuilt_task(tables.tasks.as_slice());
+    if task < tables.tasks.len() {
+        return Err(ReadRefusal::NotBuilt {
+            table: Table::TaskEvents,
+            row: task as u64 + 1,
+        });
+    }
+    Ok(())
+}
+
+/// Refuses rows that pass a limit, and then the first row for which no replay is built.
+pub fn check_rows(alloc: Global, tables: &TraceTables) -> Result<(), ReadRefusal>
+    ensures none { OnOk result (trace_refusal tables.now ≡ None) }
+    ensures within { OnOk result (IsWithinLimits tables.now) }
+    ensures refusal { IfErr result (λ refusal. StopsRows tables.now refusal) }
+{
+    if let Some((kind, number)) = over_limit(alloc, tables)? {
+        return Err(ReadRefusal::TooMany(kind, number));
+    }
+    check_built(tables)
+}

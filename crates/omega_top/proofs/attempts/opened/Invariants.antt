@@ -1,6 +1,0 @@
-use Rattle.std.proofs.Common.{◌≡◌, []}
-use Rattle.omega_model.specs.State.{state}
-use Rattle.omega_top.proofs.attempts.opened.Given as goal
-
-abbrev pub invariant-loop-row : goal.invariant-loop-row
-invariant-loop-row l = (state l.opened).tasks ≡ []

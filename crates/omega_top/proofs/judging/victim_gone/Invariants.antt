@@ -1,9 +1,0 @@
-use Rattle.std.proofs.Common.{◌≡◌, ◌≤◌, ◌++◌, ◌+◌, ◌*◌, ◌<◌, take, drop, length}
-use Rattle.std.specs.Prelude.{[]}
-use Rattle.omega_model.specs.Judge.{gone_from}
-use Rattle.omega_top.proofs.judging.victim_gone.Given as goal
-
-abbrev pub invariant-loop-i : goal.invariant-loop-i
-invariant-loop-i l =
-    gone_from l.cell.tasks l.claim.machine (take l.i l.victims) (drop l.i l.victims)
-    ≡ gone_from l.cell.tasks l.claim.machine [] l.victims

@@ -1,7 +1,0 @@
-use Rattle.std.proofs.Common.{◌≡◌, ◌≤◌, ◌++◌, ◌+◌, ◌*◌, ◌<◌, take, drop, length, false}
-use Rattle.std.specs.Prelude.{map}
-use Rattle.omega_model.specs.Reply.{withdrawn_for}
-use Rattle.omega_top.proofs.replaying.withdrawn.Given as goal
-
-abbrev pub invariant-loop-verdict : goal.invariant-loop-verdict
-invariant-loop-verdict l = l.kept.items ≡ map (withdrawn_for l.place) (take l.verdict-index l.reply)

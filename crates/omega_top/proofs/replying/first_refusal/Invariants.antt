@@ -1,0 +1,6 @@
+use Rattle.std.proofs.Common.{◌≡◌, ◌≤◌, ◌<◌, ◌++◌, ◌+◌, ◌∷◌, [], take, drop, length, map, false}
+use Rattle.omega_model.specs.Reply.{first_refusal}
+use Rattle.omega_top.proofs.replying.first_refusal.Given as goal
+
+abbrev pub invariant-loop-i : goal.invariant-loop-i
+invariant-loop-i l = l.i + first_refusal (drop l.i l.reply) ≡ first_refusal l.reply

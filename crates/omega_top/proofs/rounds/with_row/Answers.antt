@@ -1,0 +1,11 @@
+use Rattle.std.proofs.Common.{◌≡◌, sym, subst}
+use Rattle.omega_model.specs.Cell.{Cell}
+use Rattle.omega_model.specs.Wanted.{row_entries}
+use Rattle.omega_top.specs.Replays.{MayAppendAll}
+use Rattle.omega_top.proofs.Appending.{row_may}
+use Rattle.omega_top.proofs.rounds.with_row.Goals as goal
+
+pub with_entries-requires : goal.with_entries-requires
+with_entries-requires c =
+    rw (c.in_ok-entries.ensures, c.board.ensures)
+    (row_may c.args.replay c.args.wanted.now.tasks c.args.row.now c.check_range.ensures)
