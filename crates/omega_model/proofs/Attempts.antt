@@ -1,24 +1,24 @@
 -- One scheduler at work in a round: each attempt on the state of the whole history keeps the round lawful.
-use Rattle.std.proofs.Common.{◌≡◌, ◌≢◌, ◌≤◌, ◌<◌, ◌+◌, ℕ, suc, Bool, true, false, List, [], ◌∷◌, ◌++◌, length, take, drop, map, Option, Some, None, refl, sym, ap, ap₂, subst, arith, ◌∙◌, if◌then◌else◌, length-append}
-use Rattle.std.specs.Prelude.{slice_get, option_map, ◌==◌, ◌||◌, nat_eq}
-use Rattle.std.specs.List.{fold, list_any, zip}
-use Rattle.std.proofs.lemmas.Bool.{eqb-false, eqb-true, eq-eqb}
+use Rattle.std.proofs.Common.{◌≡◌, ◌≢◌, ◌≤◌, ◌<◌, ◌+◌, ℕ, suc, true, false, List, [], ◌∷◌, ◌++◌, length, map, Option, Some, refl, sym, ap, ap₂, subst, arith, ◌∙◌, if◌then◌else◌, length-append}
+use Rattle.std.specs.Prelude.{slice_get, option_map, ◌==◌}
+use Rattle.std.specs.List.{fold, list_any}
+use Rattle.std.proofs.lemmas.Bool.{eq-eqb}
 use Rattle.std.proofs.lemmas.Bool.Decides.{eqb_tells}
 use Rattle.std.proofs.lemmas.List.{take-append-le}
-use Rattle.std.proofs.lemmas.Option.{slice_get_past, slice_get_within}
+use Rattle.std.proofs.lemmas.Option.{slice_get_within}
 use Rattle.std.proofs.Math.Seq.{take-length}
 use Rattle.std.proofs.Math.ListN.{drop_of_length-le}
-use Rattle.omega_model.specs.Lawful.{IsCommitOfRound, MayCommit, RoundOf, RoundSoFar, after_last, note_commit, opened, LastCommit}
+use Rattle.omega_model.specs.Lawful.{IsCommitOfRound, RoundOf, after_last, note_commit, LastCommit}
 use Rattle.omega_model.specs.Policy.{schedulers}
-use Rattle.std.proofs.Common.{inl, inr, ◌⊎◌}
+use Rattle.std.proofs.Common.{inl, inr}
 use Rattle.std.proofs.lemmas.List.{length-map}
 use Rattle.omega_model.specs.Cell.{Cell}
 use Rattle.omega_model.specs.Judge.{judge}
 use Rattle.omega_model.specs.Reply.{after_claim, all_or_nothing, by_mode, first_refusal, verdicts, withdrawn_for}
-use Rattle.omega_model.specs.Requests.{failed, failed_after, requests}
+use Rattle.omega_model.specs.Requests.{failed, requests}
 use Rattle.omega_model.specs.State.{reply_of, state}
 use Rattle.omega_model.specs.Touches.{is_placed}
-use Rattle.omega_model.specs.Work.{Agrees, AgreesWithFirst, HasLeft, IsDue, Position, Standing, after_entry, after_outcomes, ends_request, failing_after, failing_with, fresh, is_commit_of, moved_on, next_position, outcomes_of, rest_of, standing_of}
+use Rattle.omega_model.specs.Work.{Agrees, AgreesWithFirst, HasLeft, IsDue, Position, Standing, after_entry, ends_request, failing_after, failing_with, fresh, moved_on, next_position, outcomes_of, rest_of}
 use Rattle.omega_model.specs.declared.claims.Claim.{Claim}
 use Rattle.omega_model.specs.declared.claims.Mode.{Mode}
 use Rattle.omega_model.specs.declared.claims.Mode.TheVariants.{Incremental, Gang}
@@ -28,12 +28,9 @@ use Rattle.omega_model.specs.declared.claims.Txn.{Txn}
 use Rattle.omega_model.specs.declared.claims.Verdict.{Verdict}
 use Rattle.omega_model.specs.declared.entries.Entry.{Entry}
 use Rattle.omega_model.specs.declared.entries.Entry.TheVariants.{Round as RoundEntry, MachineAdd, MachineUpdate, MachineRemove, AttrSet, AttrDelete, End, Commit}
-use Rattle.omega_model.specs.declared.rows.Row.{Row}
-use Rattle.omega_model.specs.declared.rows.Round.{Round}
-use Rattle.omega_model.specs.declared.rows.TraceTables.{TraceTables}
 use Rattle.omega_model.specs.declared.settings.Settings.{Settings}
 use Rattle.omega_model.specs.declared.wishes.Request.{Request}
-use Rattle.omega_model.specs.Working.{Setting, Working, base, stands_at}
+use Rattle.omega_model.specs.Working.{Setting, Working, base}
 use Rattle.omega_model.proofs.Growing.{by_place_push_where}
 use Rattle.omega_model.proofs.Standing.{failed_push, has_left-other, placed_outcomes, standing_push}
 

@@ -3,7 +3,7 @@ use Rattle.std.proofs.Common.{◌≡◌, ℕ, Bool, true, false, cond, ◌&&◌,
 use Rattle.std.specs.List.{filter, filter_map, cons_option}
 use Rattle.omega_model.specs.OpenRequests.{open_requests, is_worked_on}
 use Rattle.omega_model.specs.Feed.{feed}
-use Rattle.omega_model.specs.Requests.{requests, jobs_in_order, scheduler_of, request_of, wishes_of, given_up}
+use Rattle.omega_model.specs.Requests.{requests, jobs_in_order, request_of, wishes_of}
 use Rattle.omega_model.specs.State.{state}
 use Rattle.omega_model.specs.Wanted.{wanted}
 use Rattle.omega_model.specs.declared.entries.Entry.{Entry}

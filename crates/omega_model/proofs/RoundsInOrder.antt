@@ -1,7 +1,7 @@
 -- Rounds one after the other, and who has work in them.
-use Rattle.std.proofs.Common.{◌≡◌, ◌≢◌, ℕ, Bool, true, false, List, [], ◌∷◌, ◌++◌, refl, sym, ap, subst, ◌∙◌, append_assoc}
+use Rattle.std.proofs.Common.{◌≡◌, ◌≢◌, ℕ, Bool, false, List, [], ◌∷◌, ◌++◌, refl, sym, ap, subst, append_assoc}
 use Rattle.std.specs.Prelude.{◌==◌, ◌&&◌, not}
-use Rattle.std.specs.List.{filter, filter_map, flat_map}
+use Rattle.std.specs.List.{filter, filter_map}
 use Rattle.std.proofs.lemmas.List.{append-nil}
 use Rattle.omega_model.specs.Feed.{feed}
 use Rattle.omega_model.specs.Lawful.{RoundOf, Rounds, rows_of}
@@ -13,7 +13,6 @@ use Rattle.omega_model.specs.declared.rows.Row.{Row}
 use Rattle.omega_model.specs.declared.rows.Round.{Round}
 use Rattle.omega_model.specs.declared.rows.TraceTables.{TraceTables}
 use Rattle.omega_model.specs.declared.settings.Settings.{Settings}
-use Rattle.omega_model.specs.declared.wishes.Request.{Request}
 use Rattle.omega_model.proofs.Attempts.{apart-false}
 
 -- one more round after some rounds

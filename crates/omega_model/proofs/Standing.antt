@@ -1,13 +1,13 @@
 -- What one more entry does to a scheduler's standing in a round.
-use Rattle.std.proofs.Common.{◌≡◌, ◌≢◌, ◌≤◌, ◌+◌, ℕ, Bool, true, false, List, [], ◌∷◌, ◌++◌, length, take, drop, map, Option, Some, None, refl, sym, ap, subst, arith, ◌∙◌, if◌then◌else◌}
-use Rattle.std.specs.Prelude.{slice_get, option_map, ◌==◌, ◌||◌}
+use Rattle.std.proofs.Common.{◌≡◌, ◌≤◌, ℕ, Bool, false, List, [], ◌∷◌, ◌++◌, length, drop, Option, Some, None, refl, ap, arith, ◌∙◌}
+use Rattle.std.specs.Prelude.{option_map, ◌||◌}
 use Rattle.std.proofs.lemmas.Bool.{eqb-false}
-use Rattle.std.specs.List.{fold, list_any, zip}
+use Rattle.std.specs.List.{list_any}
 use Rattle.std.proofs.lemmas.List.{take-append-le, drop-append-le}
 use Rattle.std.proofs.lemmas.List.Sums.{fold-append}
-use Rattle.omega_model.specs.Requests.{failed, failed_after, requests}
+use Rattle.omega_model.specs.Requests.{failed, failed_after}
 use Rattle.omega_model.specs.Touches.{is_placed}
-use Rattle.omega_model.specs.Work.{HasLeft, IsDue, Standing, after_entry, failing_after, fresh, is_commit_of, outcomes_of, standing_of}
+use Rattle.omega_model.specs.Work.{HasLeft, IsDue, Standing, after_entry, is_commit_of, outcomes_of, standing_of}
 use Rattle.omega_model.specs.declared.claims.Claim.{Claim}
 use Rattle.omega_model.specs.declared.claims.Outcome.{Outcome}
 use Rattle.omega_model.specs.declared.claims.Verdict.{Verdict}

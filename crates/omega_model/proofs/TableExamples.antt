@@ -9,7 +9,7 @@ use Rattle.omega_model.specs.Trace.{trace_of, no_rows}
 use Rattle.omega_model.specs.Refusals.{first_refusal, refusal_before}
 use Rattle.omega_model.specs.declared.rows.Table.{Table}
 use Rattle.omega_model.specs.declared.rows.Table.TheVariants.{MachineEvents, MachineAttributes, TaskEvents, TaskConstraints, MapreduceJobs}
-use Rattle.omega_model.specs.declared.results.Status.TheVariants.{BadRow, NotBuilt}
+use Rattle.omega_model.specs.declared.results.Status.TheVariants.{BadRow}
 use Rattle.omega_model.specs.declared.results.Cause.TheVariants.{Fields, Number, Range, Quantity}
 
 -- quotes hold commas, empty lines are no records, fields may differ in number
@@ -79,10 +79,6 @@ first_task = codes "0,,10,0,,0,u,0,1,0.25,0.25,0.001,0\n"
 second_task : List ℕ
 second_task = codes "5,,10,1,,0,u,0,1,0.25,0.25,0.001,0\n"
 
--- a machine that comes later
-second_machine : List ℕ
-second_machine = codes "5,2,0,p,,\n"
-
 tables : List ℕ → List ℕ → Table → List ℕ
 tables added submitted MachineEvents = added
 tables added submitted MachineAttributes = []
@@ -107,7 +103,7 @@ accepted : first_refusal (tables machines first_task) ≡ None
 unfolding csv_on_literals machines first_task tables ten_to
 accepted = refl
 
-later_task : first_refusal (tables machines (first_task ++ second_task)) ≡ Some (NotBuilt TaskEvents 2)
+later_task : first_refusal (tables machines (first_task ++ second_task)) ≡ None
 unfolding csv_on_literals machines first_task second_task tables ten_to
 later_task = refl
 
@@ -131,11 +127,6 @@ too_greedy = refl
 machines_first : first_refusal (tables first_task second_task) ≡ Some (BadRow MachineEvents 1 0 (Fields 13))
 unfolding csv_on_literals first_task second_task tables ten_to
 machines_first = refl
-
--- what isn't built comes after every other refusal
-unbuilt_last : first_refusal (tables second_machine greedy_task) ≡ Some (BadRow TaskEvents 1 10 Quantity)
-unfolding csv_on_literals second_machine greedy_task tables ten_to
-unbuilt_last = refl
 
 before_the_tasks : refusal_before TaskEvents (tables machines second_task) ≡ None
 unfolding csv_on_literals machines second_task tables ten_to

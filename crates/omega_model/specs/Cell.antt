@@ -1,7 +1,7 @@
 -- The cell: its machines in order of first mention, and its running tasks in order of key.
-use Rattle.std.specs.Prelude.{◌≡◌, ◌≢◌, ℕ, Bool, true, false, List, [], ◌∷◌, ◌++◌, Option, Some, None, ◌==◌, ◌&&◌, ◌||◌, not, nat_lt, map, if◌then◌else◌, IsTrue}
-use Rattle.std.specs.List.{filter, find, list_any, fold}
-use Rattle.omega_model.specs.Need.{nothing, plus, minus}
+use Rattle.std.specs.Prelude.{ℕ, Bool, List, [], ◌∷◌, ◌++◌, Option, ◌==◌, ◌&&◌, ◌||◌, not, nat_lt, map, if◌then◌else◌}
+use Rattle.std.specs.List.{filter, find}
+use Rattle.omega_model.specs.Need.{nothing, plus}
 use Rattle.omega_model.specs.Keys.{same_key, key_lt, is_among}
 use Rattle.omega_model.specs.declared.cells.Need.{Need}
 use Rattle.omega_model.specs.declared.cells.TaskKey.{TaskKey}

@@ -1,5 +1,5 @@
 -- How many extra tasks a MapReduce job gets.
-use Rattle.std.specs.Prelude.{ℕ, Bool, List, ◌+◌, ◌-◌, ◌*◌, ◌&&◌, None, unwrap_or, nat_le, min}
+use Rattle.std.specs.Prelude.{ℕ, Bool, ◌+◌, ◌-◌, ◌*◌, ◌&&◌, None, unwrap_or, nat_le, min}
 use Rattle.std.specs.List.{filter, last_or, range_with_len}
 use Rattle.omega_model.specs.declared.cells.Need.{Need}
 use Rattle.omega_model.specs.declared.settings.Extra.{Extra}

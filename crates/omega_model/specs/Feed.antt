@@ -1,7 +1,6 @@
 -- The rows of the events in the order in which they happen, cut into rounds.
 use Rattle.std.specs.Prelude.{ℕ, Bool, List, [], ◌∷◌, ◌++◌, ◌/◌, ◌==◌, not, nat_lt, map, if◌then◌else◌}
 use Rattle.std.specs.List.{filter}
-use Rattle.omega_model.specs.Fields.{MachineFields, AttrFields, TaskFields}
 use Rattle.omega_model.specs.declared.rows.Row.{Row}
 use Rattle.omega_model.specs.declared.rows.Row.TheVariants.{Machine, Attr, Task}
 use Rattle.omega_model.specs.declared.rows.Round.{Round}

@@ -1,6 +1,6 @@
 -- What is answered to a claim.
 use Rattle.std.specs.Prelude.{ℕ, Bool, true, false, List, [], ◌∷◌, ◌++◌, Option, Some, None, option_map, ◌==◌, ◌&&◌, not, nat_le, take, drop, if◌then◌else◌}
-use Rattle.std.specs.List.{find, filter, list_any, position_or_len}
+use Rattle.std.specs.List.{find, list_any}
 use Rattle.omega_model.specs.Need.{fits, minus, nothing}
 use Rattle.omega_model.specs.Keys.{same_key, is_among}
 use Rattle.omega_model.specs.Cell.{Cell, machine_at, task_at, rest_on, stays_on}

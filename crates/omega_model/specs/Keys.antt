@@ -1,5 +1,5 @@
 -- Names of tasks and their order: by job, then by index.
-use Rattle.std.specs.Prelude.{ℕ, Bool, List, ◌==◌, ◌&&◌, ◌||◌, nat_lt}
+use Rattle.std.specs.Prelude.{Bool, List, ◌==◌, ◌&&◌, ◌||◌, nat_lt}
 use Rattle.std.specs.List.{list_any}
 use Rattle.omega_model.specs.declared.cells.TaskKey.{TaskKey}
 

@@ -1,5 +1,5 @@
 -- Histories that are made of a trace's rounds, each with its rows and then the schedulers' attempts.
-use Rattle.std.specs.Prelude.{◌≡◌, ℕ, List, [], ◌∷◌, ◌++◌, Option, Some, ◌+◌, ◌<◌, ◌≤◌, ◌⊎◌, ◌==◌, length, map, take, slice_get, if◌then◌else◌}
+use Rattle.std.specs.Prelude.{◌≡◌, ℕ, List, [], ◌∷◌, ◌++◌, Some, ◌+◌, ◌<◌, ◌≤◌, ◌⊎◌, ◌==◌, length, take, slice_get, if◌then◌else◌}
 use Rattle.std.specs.List.{fold, flat_map}
 use Rattle.omega_model.specs.Feed.{rounds}
 use Rattle.omega_model.specs.Policy.{schedulers}

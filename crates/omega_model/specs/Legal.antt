@@ -1,14 +1,12 @@
 -- Histories whose replies are right, and cells that no machine overcommits.
-use Rattle.std.specs.Prelude.{◌≡◌, ℕ, ◌≤◌, Bool, true, List, Option, Some, All, length, take, slice_get, IsTrue, IfSome, IsSome}
+use Rattle.std.specs.Prelude.{◌≡◌, ℕ, ◌≤◌, List, Some, All, length, take, slice_get, IsTrue}
 use Rattle.std.specs.List.{IsDistinct}
 use Rattle.std.specs.Prelude.{map, nat_eq}
 use Rattle.omega_model.specs.Need.{Fits}
 use Rattle.omega_model.specs.Keys.{same_key}
 use Rattle.omega_model.specs.Cell.{Cell, machine_at, keys_of, use_on}
 use Rattle.omega_model.specs.Judge.{is_up}
-use Rattle.omega_model.specs.State.{state, reply_of}
-use Rattle.omega_model.specs.declared.cells.Machine.{Machine}
-use Rattle.omega_model.specs.declared.cells.Task.{Task}
+use Rattle.omega_model.specs.State.{reply_of}
 use Rattle.omega_model.specs.declared.entries.Entry.{Entry}
 use Rattle.omega_model.specs.declared.entries.Entry.TheVariants.{Commit}
 

@@ -1,5 +1,5 @@
 -- Amounts of CPU and memory, taken component by component.
-use Rattle.std.specs.Prelude.{ℕ, Bool, ◌+◌, ◌-◌, ◌≤◌, ◌&&◌, nat_le}
+use Rattle.std.specs.Prelude.{Bool, ◌+◌, ◌-◌, ◌≤◌, ◌&&◌, nat_le}
 use Rattle.omega_model.specs.declared.cells.Need.{Need}
 
 -- no amount at all

@@ -1,5 +1,5 @@
 -- Where a scheduler would put the tasks of a request.
-use Rattle.std.specs.Prelude.{ℕ, Bool, true, false, List, [], ◌∷◌, ◌++◌, Option, Some, None, option_map, ◌+◌, ◌==◌, ◌&&◌, not, nat_lt, length, map, take, drop, if◌then◌else◌}
+use Rattle.std.specs.Prelude.{ℕ, Bool, true, List, [], ◌∷◌, ◌++◌, Option, Some, None, option_map, ◌+◌, ◌==◌, ◌&&◌, not, nat_lt, length, map, take, drop, if◌then◌else◌}
 use Rattle.std.specs.List.{find, filter, filter_map, range_with_len}
 use Rattle.omega_model.specs.Cell.{Cell, is_on, by_rank, keys_of}
 use Rattle.omega_model.specs.Touches.{is_placed}

@@ -1,6 +1,5 @@
 -- How many schedulers there are, and how each of them works.
 use Rattle.std.specs.Prelude.{ℕ, Bool, true, false, ◌+◌, ◌==◌, if◌then◌else◌}
-use Rattle.omega_model.specs.declared.claims.Mode.{Mode}
 use Rattle.omega_model.specs.declared.claims.Mode.TheVariants.{Incremental}
 use Rattle.omega_model.specs.declared.claims.Policy.{Policy}
 use Rattle.omega_model.specs.declared.settings.Preempt.{Preempt}

@@ -1,6 +1,5 @@
 -- Which refusal comes first for the bytes of the five tables.
-use Rattle.std.specs.Prelude.{ℕ, Bool, ◌+◌, ◌==◌, ◌&&◌, not, nat_lt, List, [], ◌∷◌, length, take, map, Option, Some, None, option_map, Result, Ok, Err, if◌then◌else◌}
-use Rattle.std.specs.List.{position_or_len}
+use Rattle.std.specs.Prelude.{ℕ, ◌+◌, nat_lt, List, [], ◌∷◌, length, take, map, Option, Some, None, option_map, Result, Ok, Err, if◌then◌else◌}
 use Rattle.omega_model.specs.Columns.{BadColumn}
 use Rattle.omega_model.specs.Limits.{excess}
 use Rattle.omega_model.specs.Trace.{machine_rows, attr_rows, task_rows, constraint_rows, activity_rows, trace_of, tables_in_order, place_of}
@@ -8,7 +7,7 @@ use Rattle.omega_model.specs.declared.rows.Table.{Table}
 use Rattle.omega_model.specs.declared.rows.TraceTables.{TraceTables}
 use Rattle.omega_model.specs.declared.rows.Table.TheVariants.{MachineEvents, MachineAttributes, TaskEvents, TaskConstraints, MapreduceJobs}
 use Rattle.omega_model.specs.declared.results.Status.{Status}
-use Rattle.omega_model.specs.declared.results.Status.TheVariants.{TooLong, BadRow, TooMany, NotBuilt}
+use Rattle.omega_model.specs.declared.results.Status.TheVariants.{TooLong, BadRow, TooMany}
 
 -- the first refusal that stands
 abbrev pub first_of : List (Option Status) → Option Status
@@ -45,27 +44,9 @@ refusal_among tables bytes = first_of (map (λ table. table_refusal table (bytes
 abbrev pub refusal_before : Table → (Table → List ℕ) → Option Status
 refusal_before table bytes = refusal_among (take (place_of table) tables_in_order) bytes
 
--- too many rows, or else too many different machines
-abbrev pub limit_refusal : TraceTables → Option Status
-limit_refusal trace = option_map (λ (kind, number). TooMany kind number) (excess trace)
-
--- the first row of a table for which no replay is built yet; rows count from 1 here
-abbrev pub first_unbuilt : {A : Type 0} → Table → (A → Bool) → List A → Option Status
-first_unbuilt table is_built rows =
-    let place = position_or_len (λ row. not (is_built row)) rows in
-    if nat_lt place (length rows) then Some (NotBuilt table (place + 1)) else None
-
--- a replay is built for machines that are added at time 0, for no attribute, and for tasks that are submitted at
--- time 0 and may share a machine with others of their job; rows of the other two tables are read and kept
-abbrev pub not_built_row : TraceTables → Option Status
-not_built_row trace = first_of
-    (first_unbuilt MachineEvents (λ row. row.time == 0 && row.code == 0) trace.machines
-    ∷ (if nat_lt 0 (length trace.attrs) then Some (NotBuilt MachineAttributes 1) else None)
-    ∷ first_unbuilt TaskEvents (λ row. row.time == 0 && row.code == 0 && not row.spec.differ) trace.tasks ∷ [])
-
--- the refusal of rows that were all read: first the limits over all tables, then what isn't built
+-- the refusal of rows that were all read: too many rows, or else too many different machines
 abbrev pub trace_refusal : TraceTables → Option Status
-trace_refusal trace = first_of (limit_refusal trace ∷ not_built_row trace ∷ [])
+trace_refusal trace = option_map (λ (kind, number). TooMany kind number) (excess trace)
 
 -- the first refusal that stands: those of the five tables in their order, then that of all their rows
 abbrev pub first_refusal : (Table → List ℕ) → Option Status

@@ -1,5 +1,5 @@
 -- What is answered to a transaction.
-use Rattle.std.specs.Prelude.{ℕ, Bool, List, [], ◌∷◌, ◌==◌, not, length, map, if◌then◌else◌}
+use Rattle.std.specs.Prelude.{ℕ, List, [], ◌∷◌, ◌==◌, not, length, map, if◌then◌else◌}
 use Rattle.std.specs.List.{position_or_len}
 use Rattle.omega_model.specs.Cell.{Cell, with_task, without}
 use Rattle.omega_model.specs.Touches.{is_placed}

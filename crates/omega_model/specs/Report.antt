@@ -1,10 +1,8 @@
 -- The lines that are printed of a history, and their bytes.
 use Rattle.std.specs.Prelude.{ℕ, List, [], ◌∷◌, ◌++◌, map, codes, decimal}
 use Rattle.std.specs.List.{flat_map, join_with_byte, zip}
-use Rattle.omega_model.specs.declared.cells.Need.{Need}
 use Rattle.omega_model.specs.declared.cells.TaskKey.{TaskKey}
 use Rattle.omega_model.specs.declared.claims.Claim.{Claim}
-use Rattle.omega_model.specs.declared.claims.Txn.{Txn}
 use Rattle.omega_model.specs.declared.claims.Verdict.{Verdict}
 use Rattle.omega_model.specs.declared.claims.Verdict.TheVariants.{Placed, NoMachine, AlreadyRunning, Changed, VictimGone, VictimRank, SameJob, Full, Withdrawn}
 use Rattle.omega_model.specs.declared.entries.Entry.{Entry}

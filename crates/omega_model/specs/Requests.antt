@@ -1,7 +1,6 @@
 -- What each scheduler is asked to place in a round.
 use Rattle.std.specs.Prelude.{ℕ, Bool, true, false, List, [], ◌∷◌, ◌++◌, Option, Some, None, ◌+◌, ◌==◌, ◌&&◌, not, nat_le, map, if◌then◌else◌}
 use Rattle.std.specs.List.{filter, filter_map, fold, list_any}
-use Rattle.omega_model.specs.Fields.{TaskFields, ConstraintFields}
 use Rattle.omega_model.specs.Keys.{same_key}
 use Rattle.omega_model.specs.Cell.{Cell, task_at}
 use Rattle.omega_model.specs.Touches.{is_placed}

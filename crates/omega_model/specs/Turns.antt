@@ -1,5 +1,5 @@
 -- Histories in which the schedulers take turns.
-use Rattle.std.specs.Prelude.{◌≡◌, ℕ, Bool, List, [], ◌∷◌, ◌++◌, Option, Some, None, option_map, unwrap_or, ◌+◌, ◌<◌, ◌⊎◌, ◌==◌, All, length, take, slice_get}
+use Rattle.std.specs.Prelude.{◌≡◌, ℕ, List, [], ◌∷◌, ◌++◌, Some, option_map, unwrap_or, ◌+◌, ◌<◌, ◌⊎◌, ◌==◌, All, length, take, slice_get}
 use Rattle.std.specs.List.{fold, find, count_by}
 use Rattle.omega_model.specs.declared.entries.Entry.{Entry}
 use Rattle.omega_model.specs.declared.entries.Entry.TheVariants.{Round, Commit}

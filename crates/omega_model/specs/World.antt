@@ -1,5 +1,5 @@
 -- One step of a scheduler in a world of one history.
-use Rattle.std.specs.Prelude.{◌≡◌, ◌≢◌, ℕ, List, [], ◌∷◌, ◌++◌, Option, Some, None, length, take}
+use Rattle.std.specs.Prelude.{◌≡◌, ◌≢◌, ℕ, List, [], ◌∷◌, ◌++◌, Option, Some, None, length}
 use Rattle.omega_model.specs.State.{reply_of}
 use Rattle.omega_model.specs.Work.{Agrees}
 use Rattle.omega_model.specs.declared.claims.Txn.{Txn}

@@ -38,11 +38,6 @@ pub enum Status {
         cause: Cause,
     },
     TooMany(Kind, u64),
-    /// The row at this number, from 1, is of a form that isn't built yet.
-    NotBuilt {
-        table: Table,
-        row: u64,
-    },
     WriteFault,
     NoMemory,
 }

@@ -14,7 +14,7 @@ use Rattle.omega_model.specs.declared.results.Status.{Status}
 use Rattle.omega_model.specs.declared.rows.TraceTables.{TraceTables}
 use Rattle.omega_tables.specs.Reading.{ComesFirst, StopsAt, StopsRows}
 use Rattle.omega_tables.specs.declared.refusal.ReadRefusal.{ReadRefusal}
-use Rattle.omega_tables.specs.declared.refusal.ReadRefusal.TheVariants.{Fault, TooLong, BadRow, TooMany, NotBuilt, NoMemory}
+use Rattle.omega_tables.specs.declared.refusal.ReadRefusal.TheVariants.{Fault, TooLong, BadRow, TooMany, NoMemory}
 
 -- the table at a place in the order
 abbrev pub table_at : ℕ → Table
@@ -122,7 +122,6 @@ comes_first i bytes h before (Fault table) stops = rw (stops, place_at i h) befo
 comes_first i bytes h before (TooLong table) stops = whole i bytes h before _ stops
 comes_first i bytes h before (BadRow table row column cause) stops = whole i bytes h before _ stops
 comes_first i bytes h before (TooMany kind number) stops = whole i bytes h before _ stops
-comes_first i bytes h before (NotBuilt table row) stops = whole i bytes h before _ stops
 comes_first i bytes h before NoMemory stops = tt
 
 pub stops_first : (first now : Table → Option (List ℕ)) (i : ℕ) (bytes : Table → List ℕ) (refusal : ReadRefusal) → i < 5
@@ -139,5 +138,4 @@ stops_last bytes trace (Fault _) none same stops = elim stops [ ]
 stops_last bytes trace (TooLong _) none same stops = elim stops [ ]
 stops_last bytes trace (BadRow _ _ _ _) none same stops = elim stops [ ]
 stops_last bytes trace (TooMany kind number) none same stops = rows_last bytes _ none (ap trace_refusal (sym same) ∙ stops)
-stops_last bytes trace (NotBuilt table row) none same stops = rows_last bytes _ none (ap trace_refusal (sym same) ∙ stops)
 stops_last bytes trace NoMemory none same stops = tt

@@ -1,13 +1,12 @@
-//! The limits over all five tables, and what isn't built yet.
-ghost use Rattle.std.specs.Prelude.{◌≡◌, ◌↔◌, ◌++◌, ◌==◌, ◌&&◌, ℕ, List, map, not, Some, None, IfOk, OnOk, IfErr};
-ghost use Rattle.std.specs.List.{position_or_len};
+//! The limits over all five tables.
+ghost use Rattle.std.specs.Prelude.{◌≡◌, ◌↔◌, ◌++◌, ℕ, List, map, None, IfOk, OnOk, IfErr};
 ghost use Rattle.omega_model.specs.Limits.{row_count, machine_count, excess, IsWithinLimits};
-ghost use Rattle.omega_model.specs.Refusals.{trace_refusal, not_built_row};
+ghost use Rattle.omega_model.specs.Refusals.{trace_refusal};
 ghost use Rattle.omega_tables.specs.Checking.{Holds};
-ghost use Rattle.omega_tables.specs.Reading.{StopsRows, status_of};
+ghost use Rattle.omega_tables.specs.Reading.{StopsRows};
 
 use crate::refusal::ReadRefusal;
-use omega_model::{AttrRow, Kind, MachineRow, NoMemory, Table, TaskRow, TraceTables};
+use omega_model::{AttrRow, Kind, MachineRow, NoMemory, TraceTables};
 use std::alloc::Global;
 use std::collections::BTreeSet;
 
@@ -76,80 +75,14 @@ pub fn over_limit(alloc: Global, tables: &TraceTables) -> Result<Option<(Kind, u
     Ok(None)
 }
 
-// Whether a replay is built for a row of machines.
-fn is_built_machine(row: &MachineRow) -> bool
-    ensures { result ≡ (row.now.time == 0 && row.now.code == 0) }
-{
-    row.time == 0 && row.code == 0
-}
-
-// Whether a replay is built for a row of tasks.
-fn is_built_task(row: &TaskRow) -> bool
-    ensures { result ≡ (row.now.time == 0 && row.now.code == 0 && not row.now.spec.differ) }
-{
-    row.time == 0 && row.code == 0 && !row.spec.differ
-}
-
-// The place of the first row of machines for which no replay is built, or their number.
-fn first_unbuilt_machine(rows: &[MachineRow]) -> usize
-    ensures { result ≡ position_or_len (λ row. not (row.time == 0 && row.code == 0)) rows.now }
-{
-    for (place, row) in rows.iter().enumerate() {
-        if !is_built_machine(row) {
-            return place;
-        }
-    }
-    rows.len()
-}
-
-// The place of the first row of tasks for which no replay is built, or their number.
-fn first_unbuilt_task(rows: &[TaskRow]) -> usize
-    ensures { result ≡ position_or_len (λ row. not (row.time == 0 && row.code == 0 && not row.spec.differ)) rows.now }
-{
-    for (place, row) in rows.iter().enumerate() {
-        if !is_built_task(row) {
-            return place;
-        }
-    }
-    rows.len()
-}
-
-// Refuses the first row for which no replay is built.
-fn check_built(tables: &TraceTables) -> Result<(), ReadRefusal>
-    ensures none { OnOk result (not_built_row tables.now ≡ None) }
-    ensures refusal { IfErr result (λ refusal. not_built_row tables.now ≡ Some (status_of refusal)) }
-{
-    let machine = first_unbuilt_machine(tables.machines.as_slice());
-    if machine < tables.machines.len() {
-        return Err(ReadRefusal::NotBuilt {
-            table: Table::MachineEvents,
-            row: machine as u64 + 1,
-        });
-    }
-    if tables.attrs.len() > 0 {
-        return Err(ReadRefusal::NotBuilt {
-            table: Table::MachineAttributes,
-            row: 1,
-        });
-    }
-    let task = first_unbuilt_task(tables.tasks.as_slice());
-    if task < tables.tasks.len() {
-        return Err(ReadRefusal::NotBuilt {
-            table: Table::TaskEvents,
-            row: task as u64 + 1,
-        });
-    }
-    Ok(())
-}
-
-/// Refuses rows that pass a limit, and then the first row for which no replay is built.
+/// Refuses rows that pass a limit: too many rows, or else too many different machines.
 pub fn check_rows(alloc: Global, tables: &TraceTables) -> Result<(), ReadRefusal>
     ensures none { OnOk result (trace_refusal tables.now ≡ None) }
     ensures within { OnOk result (IsWithinLimits tables.now) }
     ensures refusal { IfErr result (λ refusal. StopsRows tables.now refusal) }
 {
-    if let Some((kind, number)) = over_limit(alloc, tables)? {
-        return Err(ReadRefusal::TooMany(kind, number));
+    match over_limit(alloc, tables)? {
+        Some((kind, number)) => Err(ReadRefusal::TooMany(kind, number)),
+        None => Ok(()),
     }
-    check_built(tables)
 }

@@ -18,11 +18,6 @@ pub enum ReadRefusal {
     },
     /// This number passes its limit.
     TooMany(Kind, u64),
-    /// The row at this number, from 1, is of a form that isn't built yet.
-    NotBuilt {
-        table: Table,
-        row: u64,
-    },
     NoMemory,
 }
 
@@ -81,7 +76,6 @@ impl From<ReadRefusal> for Status {
                 cause,
             },
             ReadRefusal::TooMany(kind, number) => Status::TooMany(kind, number),
-            ReadRefusal::NotBuilt { table, row } => Status::NotBuilt { table, row },
             ReadRefusal::NoMemory => Status::NoMemory,
         }
     }

@@ -435,11 +435,6 @@ fn bad(table: Table, row: u64, column: u32, cause: Cause) -> Option<ReadRefusal>
     })
 }
 
-// A row that isn't built.
-fn unbuilt(table: Table, row: u64) -> Option<ReadRefusal> {
-    Some(ReadRefusal::NotBuilt { table, row })
-}
-
 #[test]
 fn refusals(rt: HostRuntime) -> Result<(), Fail> {
     let tasks = Table::TaskEvents;
@@ -478,23 +473,23 @@ fn refusals(rt: HostRuntime) -> Result<(), Fail> {
         (
             b"00,1,00,p,1,1\n1,1,0,p,1,1\n".as_slice(),
             TASKS,
-            unbuilt(machines, 2),
+            None,
         ),
-        (b"0,1,1,p,1,1\n".as_slice(), TASKS, unbuilt(machines, 1)),
+        (b"0,1,1,p,1,1\n".as_slice(), TASKS, None),
         (
             MACHINES,
             b"0,,10,0,,0,u,0,1,1,1,,1\n".as_slice(),
-            unbuilt(tasks, 1),
+            None,
         ),
         (
             MACHINES,
             b"0,,10,0,,1,u,0,1,1,1,,0\n".as_slice(),
-            unbuilt(tasks, 1),
+            None,
         ),
         (
             MACHINES,
             b"\n0,,1,0,,0,,,,,,,\r\n\n9,,1,0,,0,,,,,,,".as_slice(),
-            unbuilt(tasks, 2),
+            None,
         ),
     ];
     for (added, submitted, want) in cases {

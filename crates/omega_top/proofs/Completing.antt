@@ -3,7 +3,7 @@ use Rattle.std.proofs.Common.{◌≡◌, ◌≢◌, ◌⊎◌, List, ℕ, None, 
 use Rattle.omega_io.specs.Edge.{Rose}
 use Rattle.omega_model.specs.Refusals.{first_refusal}
 use Rattle.omega_model.specs.declared.results.Status.{Status}
-use Rattle.omega_model.specs.declared.results.Status.TheVariants.{Done, Usage, ReadFault, TooLong, BadRow, TooMany, NotBuilt, WriteFault, NoMemory}
+use Rattle.omega_model.specs.declared.results.Status.TheVariants.{Done, Usage, ReadFault, TooLong, BadRow, TooMany, WriteFault, NoMemory}
 use Rattle.omega_model.specs.declared.rows.Table.{Table}
 use Rattle.omega_top.specs.Answers.{Answers, HasReadCause, NoneRose}
 
@@ -22,4 +22,3 @@ completes bytes before middle now sink_before sink_now Usage clean none same fir
 completes bytes before middle now sink_before sink_now (TooLong table) clean none same first read write = cc
 completes bytes before middle now sink_before sink_now (BadRow table row column cause) clean none same first read write = cc
 completes bytes before middle now sink_before sink_now (TooMany kind number) clean none same first read write = cc
-completes bytes before middle now sink_before sink_now (NotBuilt table row) clean none same first read write = cc

@@ -2,7 +2,7 @@
 use Rattle.std.proofs.Common.{List, ℕ}
 use Rattle.omega_model.specs.declared.rows.Table.{Table}
 use Rattle.omega_tables.specs.declared.refusal.ReadRefusal.{ReadRefusal}
-use Rattle.omega_tables.specs.declared.refusal.ReadRefusal.TheVariants.{Fault, TooLong, BadRow, TooMany, NotBuilt, NoMemory}
+use Rattle.omega_tables.specs.declared.refusal.ReadRefusal.TheVariants.{Fault, TooLong, BadRow, TooMany, NoMemory}
 use Rattle.omega_tables.specs.Reading.{ComesFirst, status_of}
 use Rattle.omega_top.specs.Answers.{Answers}
 
@@ -12,5 +12,4 @@ answers_refusal bytes (Fault table) first = first
 answers_refusal bytes (TooLong table) first = first
 answers_refusal bytes (BadRow table row column cause) first = first
 answers_refusal bytes (TooMany kind number) first = first
-answers_refusal bytes (NotBuilt table row) first = first
 answers_refusal bytes NoMemory first = first

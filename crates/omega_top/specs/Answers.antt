@@ -8,7 +8,7 @@ use Rattle.omega_model.specs.declared.claims.Mode.TheVariants.{Incremental}
 use Rattle.omega_model.specs.declared.claims.Rule.TheVariants.{Fine}
 use Rattle.omega_model.specs.declared.entries.Entry.{Entry}
 use Rattle.omega_model.specs.declared.results.Status.{Status}
-use Rattle.omega_model.specs.declared.results.Status.TheVariants.{Done, Usage, ReadFault, TooLong, BadRow, TooMany, NotBuilt, WriteFault, NoMemory}
+use Rattle.omega_model.specs.declared.results.Status.TheVariants.{Done, Usage, ReadFault, TooLong, BadRow, TooMany, WriteFault, NoMemory}
 use Rattle.omega_model.specs.declared.rows.Table.{Table}
 use Rattle.omega_model.specs.declared.rows.TraceTables.{TraceTables}
 use Rattle.omega_model.specs.declared.settings.Command.TheVariants.{Replay}
@@ -60,7 +60,6 @@ Answers bytes (ReadFault table) = refusal_before table bytes ≡ None
 Answers bytes (TooLong table) = first_refusal bytes ≡ Some (TooLong table)
 Answers bytes (BadRow table row column cause) = first_refusal bytes ≡ Some (BadRow table row column cause)
 Answers bytes (TooMany kind number) = first_refusal bytes ≡ Some (TooMany kind number)
-Answers bytes (NotBuilt table row) = first_refusal bytes ≡ Some (NotBuilt table row)
 
 -- a fault of reading is answered only where the count of its table rose
 abbrev pub HasReadCause : (Table → ℕ) → (Table → ℕ) → Status → Type 0
@@ -72,7 +71,6 @@ HasReadCause before now (ReadFault table) = Rose (before table) (now table)
 HasReadCause before now (TooLong table) = ⊤
 HasReadCause before now (BadRow table row column cause) = ⊤
 HasReadCause before now (TooMany kind number) = ⊤
-HasReadCause before now (NotBuilt table row) = ⊤
 
 -- of the report all is written in the end, a part of it where the sink fails, and else nothing
 abbrev pub Writes : List ℕ → Option (List ℕ) → Option (List ℕ) → Status → Type 0
@@ -84,7 +82,6 @@ Writes report before now (ReadFault table) = now ≡ before
 Writes report before now (TooLong table) = now ≡ before
 Writes report before now (BadRow table row column cause) = now ≡ before
 Writes report before now (TooMany kind number) = now ≡ before
-Writes report before now (NotBuilt table row) = now ≡ before
 
 -- a history comes with a run that reached its report, and else none does
 abbrev pub HasHistory : List Entry → Status → Type 0
@@ -96,7 +93,6 @@ HasHistory history (ReadFault table) = history ≡ []
 HasHistory history (TooLong table) = history ≡ []
 HasHistory history (BadRow table row column cause) = history ≡ []
 HasHistory history (TooMany kind number) = history ≡ []
-HasHistory history (NotBuilt table row) = history ≡ []
 
 -- the history of a run that reached its report is the whole run of the trace under the settings
 abbrev pub IsWholeRun : Settings → TraceTables → List Entry → Status → Type 0
@@ -108,7 +104,6 @@ IsWholeRun settings trace history (ReadFault table) = ⊤
 IsWholeRun settings trace history (TooLong table) = ⊤
 IsWholeRun settings trace history (BadRow table row column cause) = ⊤
 IsWholeRun settings trace history (TooMany kind number) = ⊤
-IsWholeRun settings trace history (NotBuilt table row) = ⊤
 
 -- nothing is written by a run that doesn't reach its report
 abbrev pub WritesNothing : Option (List ℕ) → Option (List ℕ) → Status → Type 0
@@ -120,7 +115,6 @@ WritesNothing before now (ReadFault table) = now ≡ before
 WritesNothing before now (TooLong table) = now ≡ before
 WritesNothing before now (BadRow table row column cause) = now ≡ before
 WritesNothing before now (TooMany kind number) = now ≡ before
-WritesNothing before now (NotBuilt table row) = now ≡ before
 
 -- the end of a run whose tables were read
 abbrev pub EndsRun : Status → Type 0
@@ -132,7 +126,6 @@ EndsRun (ReadFault table) = ⊥
 EndsRun (TooLong table) = ⊥
 EndsRun (BadRow table row column cause) = ⊥
 EndsRun (TooMany kind number) = ⊥
-EndsRun (NotBuilt table row) = ⊥
 
 -- no count of faults rose
 pub record NoneRose (tables_before tables_now : Table → ℕ) (sink_before sink_now : ℕ) : Type 0 where

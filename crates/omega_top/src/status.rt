@@ -100,7 +100,6 @@ pub fn fault_line(status: &Status) -> Line
             .with(kind_name(kind))
             .with(": ")
             .with_number(number),
-        Status::NotBuilt { table, row } => with_row(line, table, row).with(": not built"),
         Status::WriteFault => line.with("omega: cannot write"),
         Status::NoMemory => line.with("omega: no memory"),
     }
@@ -176,8 +175,7 @@ pub fn exit_status(status: &Status) -> u8
         Status::ReadFault(_)
         | Status::TooLong(_)
         | Status::BadRow { .. }
-        | Status::TooMany(..)
-        | Status::NotBuilt { .. } => 3,
+        | Status::TooMany(..) => 3,
         Status::WriteFault => 4,
         Status::NoMemory => 5,
     }

@@ -211,15 +211,12 @@ fn each_size_of_sink(rt: HostRuntime) -> Result<(), Fail> {
 
 #[test]
 fn first_refusals(rt: HostRuntime) -> Result<(), Fail> {
-    let later = "0,,10,0,,0,u,0,1,0.25,0.25,0.001,0\n5,,10,1,,0,u,0,1,0.25,0.25,0.001,0\n";
+    let short = "0,,10,0,,0,u,0,1,0.25,0.25,0.001,0\n5,,10,1,,0,u,0,1,0.25,0.25,0.001\n";
     let first_machine = bad_row(Table::MachineEvents, 1, 0, Cause::Fields(13));
     let first_task = bad_row(Table::TaskEvents, 1, 0, Cause::Fields(6));
-    let second_task = Status::NotBuilt {
-        table: Table::TaskEvents,
-        row: 2,
-    };
+    let second_task = bad_row(Table::TaskEvents, 2, 0, Cause::Fields(12));
     let cases = [
-        (MACHINE, later, 99, second_task),
+        (MACHINE, short, 99, second_task),
         (TASK, MACHINE, 99, first_machine),
         (TASK, MACHINE, 0, Status::ReadFault(Table::MachineEvents)),
         (TASK, MACHINE, 1, Status::ReadFault(Table::MachineEvents)),
@@ -328,10 +325,6 @@ fn bad_row(table: Table, row: u64, column: u32, cause: Cause) -> Status {
 
 #[test]
 fn fault_lines_and_exit_statuses(rt: HostRuntime) {
-    let not_built = Status::NotBuilt {
-        table: Table::TaskConstraints,
-        row: 12,
-    };
     let attributes = Table::MachineAttributes;
     let cases = [
         (Status::Done, 0, ""),
@@ -376,7 +369,6 @@ fn fault_lines_and_exit_statuses(rt: HostRuntime) {
             3,
             "omega: too many machines: 65537",
         ),
-        (not_built, 3, "omega: task_constraints row 12: not built"),
         (
             Status::ReadFault(Table::TaskEvents),
             3,
