@@ -18,10 +18,12 @@ use std::alloc::Global;
 
 impl Board {
     /// Makes room for placing these claims, each with its victims, and for taking them back. The
-    /// machines and tasks stay, also where memory runs out. Costs the claims.
+    /// machines and tasks stay, also where memory runs out, and no room is lost then. Costs the
+    /// claims and their victims.
     pub fn reserve(&mut self, alloc: Global, claims: &Claims) -> Result<Undo, NoMemory>
         ensures table { self.new.table ≡ self.old.table }
         ensures tasks { self.new.tasks ≡ self.old.tasks }
+        ensures kept { self.old.spare ≤ self.new.spare }
         ensures room { IfOk result (λ undo. undo ≡ record { log = []; claims = length claims.now; victims = sum_by (λ claim. length claim.victims) claims.now }) }
         ensures undo { IfOk result (λ undo. IsUndoOf self.new undo) }
         ensures content { IfOk result (λ undo. at_reserve undo self.new ≡ self.new) }
@@ -59,12 +61,14 @@ impl Board {
         self.start_noted(task, undo);
     }
 
-    /// Takes back all that was placed with this undo since the reserve that gave it. Costs what
-    /// changes. Takes no memory.
+    /// Takes back all that was placed with this undo since the reserve that gave it. The undo's room
+    /// stays as it is. Costs what changes. Takes no memory.
     pub fn undo(&mut self, undo: &mut Undo)
         requires { IsUndoOf self.old undo.old }
         ensures board { self.new ≡ at_reserve undo.old self.old }
         ensures log { undo.new.log ≡ [] }
+        ensures claims { undo.new.claims ≡ undo.old.claims }
+        ensures victims { undo.new.victims ≡ undo.old.victims }
     {
         while let Some(change) = undo.pop() {
             self.take_back(change);
@@ -77,6 +81,7 @@ impl Board {
         requires listed { (id : ℕ) → IsTrue (list_any (places_on id) (zip claims.now reply.now)) → IsTrue (is_listed id (machines_of self.old.table)) }
         requires seqs { (id : ℕ) → IsTrue (list_any (places_on id) (zip claims.now reply.now)) → seq_at self.old.table id < 2 ^ 64 - 1 }
         ensures tasks { self.new.tasks ≡ self.old.tasks }
+        ensures spare { self.new.spare ≡ self.old.spare }
         ensures machines { machines_of self.new.table ≡ machines_of self.old.table }
         ensures seqs { (id : ℕ) → seq_at self.new.table id ≡ seq_at self.old.table id + (if list_any (places_on id) (zip claims.now reply.now) then 1 else 0) }
     {
