@@ -22,7 +22,7 @@ use Rattle.omega_running.specs.declared.orders.Order.TheVariants.{ByKey}
 use Rattle.omega_running.specs.Order.{Each, IsInOrder}
 use Rattle.omega_running.proofs.Lists.{each_map, each_both, each_append, each_of, find_first, filter_none}
 use Rattle.omega_board.specs.Board.{BoardState, IsBoard, IsCounted, is_on_up, recounted, table_with}
-use Rattle.omega_board.proofs.Tasks.{each_filter, each_found, each_with, key_same, without_ordered, with_ordered, without_absent}
+use Rattle.omega_board.proofs.Tasks.{each_filter, each_found, each_with, found_name, without_ordered, with_ordered, without_absent}
 use Rattle.omega_board.proofs.Uses.{need_is, plus-assoc, plus-nothing, share, total-with, total-without}
 
 -- a machine that is counted has as much free as the count says
@@ -122,11 +122,7 @@ module _ (table : List MachineState) (tasks : List Task) (board : IsBoard table 
   module _ (key : TaskKey) (t : Task) (runs : Some t ≡ task_at tasks key) where
     -- a running task is found under its own name
     pub own_name : t.key ≡ key
-    own_name = key_same t.key key (each_found (λ _. Unit {0}) (λ (y : Task). same_key y.key key) tasks t (units tasks) (sym runs)).1
-      where
-        units : (ts : List Task) → Each (λ (_ : Task). Unit {0}) ts
-        units [] = tt
-        units (_ ∷ ts) = (tt, units ts)
+    own_name = found_name tasks key t (sym runs)
 
     pub found_own : task_at tasks t.key ≡ Some t
     found_own = ap (task_at tasks) own_name ∙ sym runs

@@ -19,7 +19,7 @@ use Rattle.omega_machines.proofs.Laws.{machine_of_state}
 use Rattle.omega_running.specs.Order.{Each}
 use Rattle.omega_running.proofs.Lists.{find_none, filter_every, each_of}
 use Rattle.omega_board.specs.Board.{BoardState, IsBoard, cell_of, recounted, table_with}
-use Rattle.omega_board.proofs.Tasks.{each_filter, each_absent, each_found, found_still, without_more}
+use Rattle.omega_board.proofs.Tasks.{each_filter, each_absent, found_passes, found_still, without_more}
 use Rattle.omega_board.proofs.Uses.{rest_is}
 use Rattle.omega_board.proofs.Boards.{free_where_up, state_up}
 use Rattle.omega_board.proofs.Parts.{IsPlaceable, some_free, gone_none, found_on}
@@ -51,7 +51,7 @@ module _ (board : BoardState) (kept : IsBoard board.table board.tasks) (claim : 
   claim_fits tasks table left counted =
       let up : is_up (machine_at (machines_of board.table) claim.machine) ≡ true = free_where_up board.table claim.machine ∙ some_free board.table claim.machine known.up in
       let state = state_up board.table claim.machine up in
-      let own : state.0.machine.id ≡ claim.machine = eqb-true _ _ (each_found (λ _. Unit {0}) (λ (s : MachineState). nat_eq s.machine.id claim.machine) board.table state.0 (units board.table) state.1).1 in
+      let own : state.0.machine.id ≡ claim.machine = eqb-true _ _ (found_passes (λ (s : MachineState). nat_eq s.machine.id claim.machine) board.table state.0 state.1) in
       let then : state_at table claim.machine ≡ Some (recounted tasks state.0) =
       ap (λ t. state_at t claim.machine) counted ∙ state_with tasks board.table claim.machine ∙ ap (option_map (recounted tasks)) state.1 in
       let free : free_at table claim.machine ≡ Some (minus state.0.machine.cap (use_on tasks state.0.machine.id)) = ap (option_and_then free_if_up) then ∙ rw state.2 refl in
@@ -61,7 +61,3 @@ module _ (board : BoardState) (kept : IsBoard board.table board.tasks) (claim : 
       ap (use_on tasks) own ∙ ap (λ ts. use_on ts claim.machine) left ∙ sym (rest_is board.tasks claim.machine claim.victims) in
       let same : free_after (cell_of board) claim ≡ minus state.0.machine.cap (use_on tasks state.0.machine.id) = ap₂ minus cap (sym amount) in
       subst (λ o. IsSomeAnd o (λ f. Fits claim.spec.need f)) (sym free) (subst (Fits claim.spec.need) same (fits_means _ _ known.fits))
-    where
-      units : (ss : List MachineState) → Each (λ (_ : MachineState). Unit {0}) ss
-      units [] = tt
-      units (_ ∷ ss) = (tt, units ss)

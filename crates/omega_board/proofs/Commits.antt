@@ -22,7 +22,7 @@ use Rattle.omega_board.specs.Board.{BoardState, cell_of}
 use Rattle.omega_board.specs.Undo.{UndoState, IsUndoOf}
 use Rattle.omega_board.specs.Entries.{MayPlace, MayPlaceAll}
 use Rattle.omega_board.proofs.Counts.{zip_more, zip_past}
-use Rattle.omega_board.proofs.Parts.{placeable}
+use Rattle.omega_board.proofs.Parts.{placeable, not_refused}
 
 -- how many victims some claims have
 abbrev pub victims_in : List Claim → ℕ
@@ -112,11 +112,6 @@ placed_all start board undo claims reply i past so = ap (fold tasks_after_claim 
 pub up_listed : (machines : List Machine) (id : ℕ) → is_up (machine_at machines id) ≡ true → IsTrue (is_listed id machines)
 up_listed [] id up = up
 up_listed (m ∷ ms) id up = by_answer (m.id == id) (λ t. rw t refl) (λ f. rw f (up_listed ms id (rw f at up)))
-
--- a machine for which a claim isn't refused is up
-pub not_refused : (up : Bool) → refusal_if (not up) NoMachine ≡ None → up ≡ true
-not_refused true e = refl
-not_refused false e = absurd (none-some NoMachine (sym e))
 
 -- the machine of a claim that is placed is listed
 pub placed_listed : (cell : Cell) (decided : List (Claim × Verdict)) (id : ℕ) → MayPlaceAll cell decided → IsTrue (list_any (places_on id) decided) → IsTrue (is_listed id cell.machines)

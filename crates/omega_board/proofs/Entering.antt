@@ -41,17 +41,6 @@ seq_changed id f keeps same table other =
     by None = refl
     by (Some s) = same s
 
--- a new machine has no entries
-pub seq_ensured : (id : ℕ) (table : List MachineState) (other : ℕ) → seq_at (ensured_states id table) other ≡ seq_at table other
-seq_ensured id table other =
-    by_answer (is_listed id (machines_of table))
-    (λ t. rw t refl)
-    (λ f. rw f (grown table))
-  where
-    grown : (t : List MachineState) → seq_at (t ++ new_state id ∷ []) other ≡ seq_at t other
-    grown [] = by_answer (id == other) (λ h. rw h refl) (λ h. rw h refl)
-    grown (s ∷ ss) = by_answer (s.machine.id == other) (λ h. rw h refl) (λ h. rw h (grown ss))
-
 -- a count from a table with the same numbers
 pub counts_from : (id : ℕ) (before same after : List MachineState) → ((other : ℕ) → seq_at before other ≡ seq_at same other) → CountsOn id before after → CountsOn id same after
 counts_from id before same after seqs counts = λ other. counts other ∙ ap (λ n. n + (if id == other then 1 else 0)) (seqs other)

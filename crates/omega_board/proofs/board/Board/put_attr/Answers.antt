@@ -4,7 +4,8 @@ use Rattle.omega_machines.specs.Table.{machines_of, ensured_states, seq_at, chan
 use Rattle.omega_machines.proofs.Laws.{machines_ensured, ensured_listed}
 use Rattle.omega_board.specs.Board.{BoardState, CountsOn}
 use Rattle.omega_board.specs.Entries.{HasRoomFor}
-use Rattle.omega_board.proofs.Entering.{is_change, attr_board, seq_changed, seq_ensured, counts_from}
+use Rattle.omega_board.proofs.Entering.{is_change, attr_board, seq_changed, counts_from}
+use Rattle.omega_machines.proofs.Laws.{seq_ensured}
 use Rattle.omega_board.proofs.board.Board.put_attr.Goals as goal
 
 pub touch-requires-clause-listed : goal.touch-requires-clause-listed
