@@ -1,25 +1,20 @@
 -- A claim that would be placed can be placed, once its victims have stopped.
-use Rattle.std.proofs.Common.{◌≡◌, ℕ, ◌+◌, ◌-◌, ◌<◌, ◌≤◌, Bool, true, false, not, List, [], ◌∷◌, ◌++◌, length, get_or, take, Option, Some, None, is_some, IsTrue, IsSomeAnd, refl, sym, ap, ap₂, ◌∙◌, subst, arith, nat_eq}
-use Rattle.std.specs.List.{filter, find}
+use Rattle.std.proofs.Common.{◌≡◌, ℕ, ◌<◌, true, false, not, List, [], length, get_or, take, Some, None, is_some, IsTrue, IsSomeAnd, refl, sym, ap, ap₂, ◌∙◌, subst, nat_eq}
 use Rattle.std.specs.Option.{option_map, option_and_then}
 use Rattle.std.proofs.lemmas.Bool.{eqb-true}
-use Rattle.std.proofs.lemmas.List.{take_more}
-use Rattle.omega_model.specs.Need.{Fits, fits, minus}
+use Rattle.omega_model.specs.Need.{Fits, minus}
 use Rattle.omega_model.specs.Keys.{same_key, is_among}
-use Rattle.omega_model.specs.Cell.{Cell, machine_at, task_at, with_task, without, use_on, rest_on}
-use Rattle.omega_model.specs.Judge.{is_up, runs_on, capacity_of, victim_gone, free_after}
-use Rattle.omega_model.specs.declared.cells.Need.{Need}
-use Rattle.omega_model.specs.declared.cells.Machine.{Machine}
+use Rattle.omega_model.specs.Cell.{machine_at, task_at, without, use_on, rest_on}
+use Rattle.omega_model.specs.Judge.{is_up, runs_on, capacity_of, free_after}
 use Rattle.omega_model.specs.declared.cells.TaskKey.{TaskKey}
 use Rattle.omega_model.specs.declared.cells.Task.{Task}
 use Rattle.omega_model.specs.declared.claims.Claim.{Claim}
 use Rattle.omega_machines.specs.declared.MachineState.{MachineState}
 use Rattle.omega_machines.specs.Table.{machines_of, state_at, free_if_up, free_at}
 use Rattle.omega_machines.proofs.Laws.{machine_of_state}
-use Rattle.omega_running.specs.Order.{Each}
 use Rattle.omega_running.proofs.Lists.{find_none, filter_every, each_of}
 use Rattle.omega_board.specs.Board.{BoardState, IsBoard, cell_of, recounted, table_with}
-use Rattle.omega_board.proofs.Tasks.{each_filter, each_absent, found_passes, found_still, without_more}
+use Rattle.omega_board.proofs.Tasks.{each_filter, each_absent, found_passes, found_still}
 use Rattle.omega_board.proofs.Uses.{rest_is}
 use Rattle.omega_board.proofs.Boards.{free_where_up, state_up}
 use Rattle.omega_board.proofs.Parts.{IsPlaceable, some_free, gone_none, found_on}

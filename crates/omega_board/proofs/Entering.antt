@@ -1,22 +1,22 @@
 -- A change of one machine that is counted on it.
-use Rattle.std.proofs.Common.{◌≡◌, ◌≢◌, ℕ, ◌+◌, ◌-◌, ◌<◌, ◌≤◌, Bool, true, false, cond, not, ◌||◌, nat_eq, List, [], ◌∷◌, ◌++◌, length, map, Option, Some, None, is_some, IsTrue, refl, sym, ap, ap₂, ◌∙◌, subst, arith, if◌then◌else◌, ◌==◌, ◌⊎◌}
-use Rattle.std.specs.List.{filter, find, list_any}
+use Rattle.std.proofs.Common.{◌≡◌, ℕ, ◌+◌, ◌<◌, true, false, List, [], ◌∷◌, length, Option, Some, None, is_some, IsTrue, refl, sym, ap, ◌∙◌, subst, arith, if◌then◌else◌, ◌==◌, ◌⊎◌}
+use Rattle.std.specs.List.{filter}
 use Rattle.std.specs.Option.{option_map, option_map_or}
 use Rattle.std.proofs.lemmas.Bool.{both_ways, eqb-true, eq-eqb}
 use Rattle.omega_model.specs.Need.{Fits, nothing, plus, minus}
 use Rattle.omega_model.specs.Cell.{total, is_on, use_on}
-use Rattle.omega_model.specs.Machines.{is_listed, change, ensured, added, updated, removed, attr_set, attr_deleted}
+use Rattle.omega_model.specs.Machines.{is_listed, change, removed, attr_set, attr_deleted}
 use Rattle.omega_model.specs.declared.cells.Need.{Need}
 use Rattle.omega_model.specs.declared.cells.Machine.{Machine}
 use Rattle.omega_model.specs.declared.cells.Task.{Task}
 use Rattle.omega_machines.specs.declared.MachineState.{MachineState}
-use Rattle.omega_machines.specs.Table.{machines_of, state_at, use_at, seq_at, change_state, new_state, ensured_states, touched, used, state_added, state_updated, with_machine, IsTable}
+use Rattle.omega_machines.specs.Table.{machines_of, state_at, use_at, seq_at, change_state, ensured_states, touched, used, state_added, state_updated, with_machine, IsTable}
 use Rattle.omega_machines.proofs.Places.{by_answer}
 use Rattle.omega_machines.proofs.Laws.{listed_state, machines_changed, machines_same, state_changed, others_unchanged, listed_changed}
 use Rattle.omega_machines.proofs.Ensuring.{table_ensured}
 use Rattle.omega_running.specs.Order.{Each}
-use Rattle.omega_running.proofs.Lists.{each_of, find_past}
-use Rattle.omega_board.specs.Board.{BoardState, IsBoard, IsCounted, CountsOn}
+use Rattle.omega_running.proofs.Lists.{each_of}
+use Rattle.omega_board.specs.Board.{IsBoard, IsCounted, CountsOn}
 use Rattle.omega_board.proofs.Uses.{need_is}
 use Rattle.omega_board.proofs.Boards.{in_use, ensured_board, changed_board, touched_board}
 use Rattle.omega_board.proofs.Counts.{seq_touched}

@@ -1,9 +1,9 @@
 -- What the parts of a verdict come to on a board.
-use Rattle.std.proofs.Common.{◌≡◌, ℕ, zero, suc, ◌+◌, ◌-◌, ◌<◌, ◌≤◌, Bool, true, false, cond, not, ◌&&◌, nat_le, List, [], ◌∷◌, ◌++◌, length, get_or, take, position, slice_get, ap₂, Option, Some, None, is_some, IsTrue, refl, sym, ap, ◌∙◌, subst, arith, append_assoc, append-nil, ◌==◌, if◌then◌else◌}
-use Rattle.std.specs.List.{find, list_any}
+use Rattle.std.proofs.Common.{◌≡◌, ℕ, zero, suc, ◌+◌, ◌<◌, Bool, true, false, not, ◌&&◌, nat_le, List, [], ◌∷◌, ◌++◌, length, get_or, take, position, slice_get, ap₂, Option, Some, None, is_some, IsTrue, refl, sym, ap, ◌∙◌, subst, arith, append_assoc, append-nil, ◌==◌, if◌then◌else◌}
+use Rattle.std.specs.List.{find}
 use Rattle.std.specs.Option.{option_map, option_map_or}
 use Rattle.std.proofs.Math.Bool.{and_comm}
-use Rattle.std.proofs.lemmas.Bool.{both_ways, eqb-true, eq-eqb, and_parts, not-true, not_from_true}
+use Rattle.std.proofs.lemmas.Bool.{both_ways, eqb-true, eq-eqb, and_parts, not-true}
 use Rattle.std.proofs.lemmas.List.{take_more}
 use Rattle.std.proofs.lemmas.List.Folds.{find_at}
 use Rattle.std.proofs.lemmas.Option.{none-some, same_Some, cond_some}
@@ -27,11 +27,11 @@ use Rattle.omega_machines.specs.Table.{machines_of, state_at, free_at}
 use Rattle.omega_machines.proofs.Places.{by_answer}
 use Rattle.omega_machines.proofs.Laws.{machine_of_state, listed_state, found_bounded}
 use Rattle.omega_running.specs.declared.orders.Order.TheVariants.{ByKey}
-use Rattle.omega_running.specs.Order.{Each, IsInOrder}
+use Rattle.omega_running.specs.Order.{IsInOrder}
 use Rattle.omega_running.proofs.Lists.{each_of, filter_every}
 use Rattle.omega_board.specs.Board.{BoardState, IsBoard}
-use Rattle.omega_board.proofs.Tasks.{each_found, any_at, found_name, key_same, found_still, without_more, without_ordered}
-use Rattle.omega_board.proofs.Uses.{need_is, plus-assoc, rest_is, share, total-without}
+use Rattle.omega_board.proofs.Tasks.{any_at, found_name, found_still, without_more, without_ordered}
+use Rattle.omega_board.proofs.Uses.{need_is, plus-assoc, rest_is, total-without}
 use Rattle.omega_board.proofs.Boards.{free_where_up, state_free, state_up, in_use, unused}
 
 -- the first part, where something is free on the machine and where nothing is

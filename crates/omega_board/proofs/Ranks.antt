@@ -1,9 +1,8 @@
 -- The tasks on a machine in order of eviction.
-use Rattle.std.proofs.Common.{◌≡◌, ℕ, zero, suc, ◌+◌, ◌-◌, ◌<◌, ◌≤◌, Bool, true, false, cond, not, ◌||◌, ◌&&◌, nat_le, List, [], ◌∷◌, ◌++◌, length, get_or, take, drop, map, Option, Some, None, is_some, IsTrue, IsSomeAnd, refl, sym, ap, ap₂, ◌∙◌, subst, arith, ◌==◌, leb-true, le-leb}
-use Rattle.std.specs.List.{filter, find, list_any}
-use Rattle.std.specs.Option.{option_map}
+use Rattle.std.proofs.Common.{◌≡◌, ℕ, zero, suc, ◌+◌, ◌<◌, ◌≤◌, Bool, true, false, not, ◌&&◌, List, [], ◌∷◌, ◌++◌, length, get_or, take, drop, Option, Some, None, IsSomeAnd, refl, sym, ap, ap₂, ◌∙◌, subst, arith, ◌==◌, leb-true, le-leb}
+use Rattle.std.specs.List.{filter}
 use Rattle.std.proofs.lemmas.Bool.{both_ways, eq-eqb, and_parts, and_from, or_from, or_left, or_right, not_from_true, not_from_false}
-use Rattle.std.proofs.lemmas.List.{drop_more, drop_all, length-map, take_at, take-map, get_or-map, get_or_default}
+use Rattle.std.proofs.lemmas.List.{drop_more, drop_all, take_at, take-map, get_or-map, get_or_default}
 use Rattle.std.proofs.lemmas.List.Elements.{filter-append}
 use Rattle.std.proofs.lemmas.Option.{same_Some}
 use Rattle.omega_model.specs.Need.{Fits, fits, nothing, plus, minus}
@@ -17,8 +16,8 @@ use Rattle.omega_machines.proofs.Places.{by_answer}
 use Rattle.omega_running.specs.declared.orders.Order.TheVariants.{ByKey}
 use Rattle.omega_running.specs.Order.{Each, IsInOrder}
 use Rattle.omega_running.proofs.Lists.{each_map, each_both, each_of, each_back, filter_every, filter_none, filter_where}
-use Rattle.omega_board.proofs.Tasks.{stays, each_filter, filter_and, filter_alike, key_same, key_itself, key_differs, key_differs_back}
-use Rattle.omega_board.proofs.Uses.{need_is, plus-swap, share, total-cons, total-append}
+use Rattle.omega_board.proofs.Tasks.{stays, each_filter, filter_and, filter_alike, key_same, key_itself, key_differs}
+use Rattle.omega_board.proofs.Uses.{need_is, plus-swap, share, total-cons}
 
 -- the test of an amount says what it says
 pub fits_true : (a b : Need) → Fits a b → fits a b ≡ true

@@ -3,7 +3,6 @@ use Rattle.std.specs.Prelude.{◌≡◌, ℕ, ◌+◌, ◌-◌, ◌<◌, ◌≤�
 use Rattle.omega_model.specs.Cell.{task_at, with_task, without}
 use Rattle.omega_model.specs.Legal.{Sound}
 use Rattle.omega_model.specs.declared.cells.Task.{Task}
-use Rattle.omega_model.specs.declared.cells.TaskKey.{TaskKey}
 use Rattle.omega_board.specs.Board.{BoardState, cell_of, table_with}
 use Rattle.omega_board.specs.declared.undo.Change.{Change}
 use Rattle.omega_board.specs.declared.undo.Change.TheVariants.{Stopped, Started}
