@@ -43,8 +43,8 @@ MayTakeAllBack (change ∷ log) board = MayTakeBack change board × MayTakeAllBa
 abbrev pub at_reserve : UndoState → BoardState → BoardState
 at_reserve undo board = before_all undo.log board
 
--- since the reserve that gave the undo the board has changed by the undo's changes alone, and it still
--- has room for the claims for which the undo has
+-- an undo is of a board where its changes lead to the board, so that they can be taken back, the latest
+-- first, and where the board has room for as many claims as the undo has
 pub record IsUndoOf (board : BoardState) (undo : UndoState) : Type 0 where
   pub changes : MayTakeAllBack undo.log board
   pub room : undo.claims ≤ board.spare

@@ -26,7 +26,12 @@ impl Board {
     /// more entry. Answers the names of the tasks that a change of their machine stops, in the order
     /// in which they stop. The machines and tasks stay where memory runs out.
     ///
-    /// Costs what the entry changes. Where it displaces a task, it costs the tasks on the machine.
+    /// A capacity is at most 10^12 units of each kind, there are at most 65,536 machines, no number
+    /// that rises is 2^64 - 1 already, an end names a task that runs on its machine, and the placed
+    /// claims of a commit can be placed one after the other.
+    ///
+    /// Costs what the entry changes. Where it displaces a task, it costs the tasks on the machine,
+    /// which are sorted; a commit costs its claims as `reserve`, `apply_placed` and `touch_placed` do.
     pub fn apply_entry(&mut self, alloc: Global, entry: &Entry) -> Result<Keys, NoMemory>
         requires { MayApply self.old entry.now }
         ensures cell { OnOk result (cell_of self.new ≡ step (cell_of self.old) entry.now) }

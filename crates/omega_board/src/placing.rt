@@ -33,9 +33,9 @@ impl Board {
         Ok(undo)
     }
 
-    /// Places a claim: its victims stop and its task runs. Sequence numbers stay. The undo's room
-    /// for a claim and for the victims is used up, and it still takes the board back to its
-    /// reserve. Costs the victims. Takes no memory.
+    /// Places a claim that is judged `Placed` without a number of a copy: its victims stop and its
+    /// task runs. Sequence numbers stay. The undo has room for the claim and its victims, which is
+    /// used up, and it still takes the board back to its reserve. Costs the victims. Takes no memory.
     pub fn apply_placed(&mut self, claim: &Claim, undo: &mut Undo)
         requires placed { judge_on (cell_of self.old) 0 None claim.now ≡ Verdict.Placed }
         requires undo { IsUndoOf self.old undo.old }
@@ -75,8 +75,9 @@ impl Board {
         }
     }
 
-    /// Counts a commit on each machine on which it placed a claim, once. Costs the claims; each is
-    /// compared with those before it, back to the last one on its machine. Takes no memory.
+    /// Counts a commit on each machine on which it placed a claim, once. These machines are in the
+    /// list, and none of their numbers is 2^64 - 1. Costs the claims; each is compared with those
+    /// before it, back to the last one on its machine. Takes no memory.
     pub fn touch_placed(&mut self, claims: &Claims, reply: &Verdicts)
         requires listed { (id : ℕ) → IsTrue (list_any (places_on id) (zip claims.now reply.now)) → IsTrue (is_listed id (machines_of self.old.table)) }
         requires seqs { (id : ℕ) → IsTrue (list_any (places_on id) (zip claims.now reply.now)) → seq_at self.old.table id < 2 ^ 64 - 1 }
