@@ -66,6 +66,15 @@ is_change id f on_machine table first last keeps same does listed changed counte
     }
 
 module _ (table : List MachineState) (tasks : List Task) (board : IsBoard table tasks) (id : ℕ) where
+  -- a machine is changed, with the same use counted and up where a task is on it, and the change is counted
+  counted_board : (f : MachineState → MachineState) → ((s : MachineState) → (f s).machine.id ≡ s.machine.id)
+      → ((s : MachineState) → (s.machine.id == id) ≡ true → IsCounted tasks s → IsCounted tasks (f s))
+      → Each (λ t. is_on id t ≡ true → (s : MachineState) → s.machine.up ≡ true → (f s).machine.up ≡ true) tasks
+      → (first last : List MachineState) → first ≡ change_state id f table → last ≡ change_state id touched first → IsTable first → IsTable last → IsBoard last tasks
+  counted_board f keeps counts stays_up first last changed counted bounded bounded_last =
+      let kept : IsBoard first tasks = subst (λ t. IsBoard t tasks) (sym changed) (changed_board table tasks board id f keeps counts stays_up (subst IsTable changed bounded)) in
+      subst (λ t. IsBoard t tasks) (sym counted) (touched_board first tasks kept id (subst IsTable counted bounded_last))
+
   -- what is used on a listed machine is in use there
   pub use_fits : (cap : Need) → IsTrue (is_listed id (machines_of table)) → Fits (use_on tasks id) cap → Fits (use_at table id) cap
   use_fits cap listed fits =
@@ -86,22 +95,13 @@ module _ (table : List MachineState) (tasks : List Task) (board : IsBoard table 
       (omega (arith, fit.1, ap (λ (n : Need). n.mem) counted))
 
   pub up_board : (cap : Need) (first last : List MachineState) → Fits (use_on tasks id) cap → first ≡ change_state id (state_added cap) table → last ≡ change_state id touched first → IsTable first → IsTable last → IsBoard last tasks
-  up_board cap first last fits changed counted bounded bounded_last =
-      let kept : IsBoard first tasks = subst (λ t. IsBoard t tasks) (sym changed)
-      (changed_board table tasks board id (state_added cap) (λ s. refl) (recounts cap fits) (each_of _ (λ t _ s _. refl) tasks) (subst IsTable changed bounded)) in
-      subst (λ t. IsBoard t tasks) (sym counted) (touched_board first tasks kept id (subst IsTable counted bounded_last))
+  up_board cap first last fits = counted_board (state_added cap) (λ s. refl) (recounts cap fits) (each_of _ (λ t _ s _. refl) tasks) first last
 
   pub resized_board : (cap : Need) (first last : List MachineState) → Fits (use_on tasks id) cap → first ≡ change_state id (state_updated cap) table → last ≡ change_state id touched first → IsTable first → IsTable last → IsBoard last tasks
-  resized_board cap first last fits changed counted bounded bounded_last =
-      let kept : IsBoard first tasks = subst (λ t. IsBoard t tasks) (sym changed)
-      (changed_board table tasks board id (state_updated cap) (λ s. refl) (recounts cap fits) (each_of _ (λ t _ s up. up) tasks) (subst IsTable changed bounded)) in
-      subst (λ t. IsBoard t tasks) (sym counted) (touched_board first tasks kept id (subst IsTable counted bounded_last))
+  resized_board cap first last fits = counted_board (state_updated cap) (λ s. refl) (recounts cap fits) (each_of _ (λ t _ s up. up) tasks) first last
 
   pub down_board : (first last : List MachineState) → filter (is_on id) tasks ≡ [] → first ≡ change_state id (with_machine removed) table → last ≡ change_state id touched first → IsTable first → IsTable last → IsBoard last tasks
-  down_board first last empty changed counted bounded bounded_last =
-      let kept : IsBoard first tasks = subst (λ t. IsBoard t tasks) (sym changed)
-      (changed_board table tasks board id (with_machine removed) (λ s. refl) (λ s _ was. was) (none_there tasks empty) (subst IsTable changed bounded)) in
-      subst (λ t. IsBoard t tasks) (sym counted) (touched_board first tasks kept id (subst IsTable counted bounded_last))
+  down_board first last empty = counted_board (with_machine removed) (λ s. refl) (λ s _ was. was) (none_there tasks empty) first last
     where
       none_there : (ts : List Task) → filter (is_on id) ts ≡ [] → Each (λ t. is_on id t ≡ true → (s : MachineState) → s.machine.up ≡ true → false ≡ true) ts
       none_there [] none = tt
@@ -114,15 +114,10 @@ module _ (table : List MachineState) (tasks : List Task) (board : IsBoard table 
           cons-nil x xs e = cc
 
   pub unset_board : (name : List ℕ) (first last : List MachineState) → first ≡ change_state id (with_machine (attr_deleted name)) table → last ≡ change_state id touched first → IsTable first → IsTable last → IsBoard last tasks
-  unset_board name first last changed counted bounded bounded_last =
-      let kept : IsBoard first tasks = subst (λ t. IsBoard t tasks) (sym changed)
-      (changed_board table tasks board id (with_machine (attr_deleted name)) (λ s. refl) (λ s _ was. was) (each_of _ (λ t _ s up. up) tasks) (subst IsTable changed bounded)) in
-      subst (λ t. IsBoard t tasks) (sym counted) (touched_board first tasks kept id (subst IsTable counted bounded_last))
+  unset_board name first last = counted_board (with_machine (attr_deleted name)) (λ s. refl) (λ s _ was. was) (each_of _ (λ t _ s up. up) tasks) first last
 
-  pub attr_board : (name value : List ℕ) (first last : List MachineState) → length table < 65536 ⊎ IsTrue (is_listed id (machines_of table))
-      → first ≡ change_state id (with_machine (attr_set name value)) (ensured_states id table) → last ≡ change_state id touched first → IsTable first → IsTable last → IsBoard last tasks
-  attr_board name value first last room changed counted bounded bounded_last =
-      let there : IsBoard (ensured_states id table) tasks = ensured_board table tasks board id (table_ensured id table board.bounded room) in
-      let kept : IsBoard first tasks = subst (λ t. IsBoard t tasks) (sym changed)
-      (changed_board (ensured_states id table) tasks there id (with_machine (attr_set name value)) (λ s. refl) (λ s _ was. was) (each_of _ (λ t _ s up. up) tasks) (subst IsTable changed bounded)) in
-      subst (λ t. IsBoard t tasks) (sym counted) (touched_board first tasks kept id (subst IsTable counted bounded_last))
+-- with an attribute set, on a machine that is listed first
+pub attr_board : (table : List MachineState) (tasks : List Task) → IsBoard table tasks → (id : ℕ) (name value : List ℕ) (first last : List MachineState) → length table < 65536 ⊎ IsTrue (is_listed id (machines_of table))
+    → first ≡ change_state id (with_machine (attr_set name value)) (ensured_states id table) → last ≡ change_state id touched first → IsTable first → IsTable last → IsBoard last tasks
+attr_board table tasks board id name value first last room =
+    counted_board (ensured_states id table) tasks (ensured_board table tasks board id (table_ensured id table board.bounded room)) id (with_machine (attr_set name value)) (λ s. refl) (λ s _ was. was) (each_of _ (λ t _ s up. up) tasks) first last
