@@ -1,7 +1,6 @@
 -- A history with its board and its counts, and one more entry.
-use Rattle.std.proofs.Common.{◌≡◌, ◌≤◌, ◌<◌, ◌+◌, ◌-◌, ◌^◌, ◌⊎◌, ℕ, Bool, List, [], ◌∷◌, ◌++◌, length, refl, ap, ap₂, subst, sym, arith, ◌∙◌}
-use Rattle.std.specs.Prelude.{IfSome, IsTrue, if◌then◌else◌}
-use Rattle.std.specs.List.{count_by}
+use Rattle.std.proofs.Common.{◌≡◌, ◌≤◌, ◌<◌, ◌+◌, ◌^◌, ℕ, List, [], ◌∷◌, ◌++◌, length, ap, ap₂, subst, sym, arith, ◌∙◌}
+use Rattle.std.specs.Prelude.{IfSome, if◌then◌else◌}
 use Rattle.std.proofs.lemmas.List.Sums.{count_by-le-length, fold-append}
 use Rattle.omega_board.specs.Board.{BoardState, cell_of}
 use Rattle.omega_board.specs.Entries.{EndsRunning, HasRoomFor, MayApply, PlacesInOrder, machine_in}
@@ -9,10 +8,9 @@ use Rattle.omega_machines.specs.declared.MachineState.{MachineState}
 use Rattle.omega_machines.specs.Table.{machines_of, seq_at}
 use Rattle.omega_model.specs.Cell.{Cell}
 use Rattle.omega_model.specs.Legal.{Follows}
-use Rattle.omega_model.specs.Requests.{failed, failed_after}
-use Rattle.omega_model.specs.State.{state, step}
+use Rattle.omega_model.specs.Requests.{failed_after}
+use Rattle.omega_model.specs.State.{step}
 use Rattle.omega_model.specs.Touches.{seq, touches}
-use Rattle.omega_model.specs.declared.cells.Machine.{Machine}
 use Rattle.omega_model.specs.declared.cells.Task.{Task}
 use Rattle.omega_model.specs.declared.entries.Entry.{Entry}
 use Rattle.omega_model.proofs.Growing.{legal_push, state_push}
