@@ -47,14 +47,16 @@ fn bytes(alloc: Global, text: &str) -> Result<Bytes, NoMemory> {
 
 // Tables with these texts, in the order of the tables.
 fn five_tables(alloc: Global, texts: [&str; 5]) -> Result<MemoryTables, NoMemory> {
-    let [machines, attrs, tasks, constraints, jobs] = texts;
-    let five = [
-        bytes(alloc, machines)?,
-        bytes(alloc, attrs)?,
-        bytes(alloc, tasks)?,
-        bytes(alloc, constraints)?,
-        bytes(alloc, jobs)?,
+    let mut five = [
+        Seq::new(alloc),
+        Seq::new(alloc),
+        Seq::new(alloc),
+        Seq::new(alloc),
+        Seq::new(alloc),
     ];
+    for (bytes, text) in five.iter_mut().zip(texts) {
+        bytes.extend_from_slice(text.as_bytes())?;
+    }
     Ok(MemoryTables::new(alloc, five))
 }
 
