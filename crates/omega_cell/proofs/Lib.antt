@@ -1,3 +1,5 @@
 pub mod Cells
 pub mod Judging
 pub mod Committing
+pub mod Gangs
+pub mod Evictions
