@@ -27,6 +27,17 @@ room_of table machines id same (inl few) =
     inl (omega (arith, few, long))
 room_of table machines id same (inr listed) = inr (ap (is_listed id) same ∙ listed)
 
+-- and the other way round
+pub room_in : (table : List MachineState) (machines : List Machine) (id : ℕ) → machines_of table ≡ machines → HasRoomFor table id → ListsOrHasRoom machines id
+room_in table machines id same (inl few) =
+    let long : length machines ≡ length table = ap length (sym same) ∙ length-map table (λ (s : MachineState). s.machine) in
+    inl (omega (arith, few, long))
+room_in table machines id same (inr listed) = inr (ap (is_listed id) (sym same) ∙ listed)
+
+pub room_in_some : (table : List MachineState) (machines : List Machine) (machine : Option ℕ) → machines_of table ≡ machines → IfSome machine (HasRoomFor table) → IfSome machine (ListsOrHasRoom machines)
+room_in_some table machines None same room = tt
+room_in_some table machines (Some id) same room = room_in table machines id same room
+
 room_of_some : (table : List MachineState) (machines : List Machine) (machine : Option ℕ) → machines_of table ≡ machines → IfSome machine (ListsOrHasRoom machines) → IfSome machine (HasRoomFor table)
 room_of_some table machines None same room = tt
 room_of_some table machines (Some id) same room = room_of table machines id same room

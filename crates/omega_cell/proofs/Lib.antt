@@ -3,3 +3,4 @@ pub mod Judging
 pub mod Committing
 pub mod Gangs
 pub mod Evictions
+mod Examples

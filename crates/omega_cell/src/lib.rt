@@ -10,6 +10,8 @@ mod cell;
 mod deciding;
 mod laws;
 mod prepared;
+#[cfg(test)]
+mod tests;
 
 pub use cell::Cell;
 pub use laws::commits_of_legal_histories;
