@@ -1,7 +1,6 @@
 -- What a cell keeps, and one more entry.
-use Rattle.std.proofs.Common.{Vec, Global, ◌≡◌, ℕ, ◌+◌, ◌-◌, ◌<◌, ◌≤◌, ◌^◌, Bool, true, false, List, [], ◌∷◌, ◌++◌, length, refl, sym, ap, ap₂, ◌∙◌, subst, arith, if◌then◌else◌}
+use Rattle.std.proofs.Common.{Vec, Global, ◌≡◌, ℕ, ◌+◌, ◌-◌, ◌<◌, ◌≤◌, ◌^◌, false, List, [], ◌∷◌, ◌++◌, length, refl, sym, ap, ap₂, ◌∙◌, subst, arith, if◌then◌else◌}
 use Rattle.std.specs.Prelude.{IfSome, IsTrue, vec_len, vec_capacity}
-use Rattle.std.specs.List.{count_by, fold, zip}
 use Rattle.std.proofs.lemmas.Bool.{both_ways}
 use Rattle.std.proofs.lemmas.List.Sums.{count_by-le-length}
 use Rattle.omega_model.specs.Cell.{Cell}
@@ -10,7 +9,6 @@ use Rattle.omega_model.specs.Legal.{Follows}
 use Rattle.omega_model.specs.Need.{Fits}
 use Rattle.omega_model.specs.State.{state, step}
 use Rattle.omega_model.specs.Touches.{seq, touches}
-use Rattle.omega_model.specs.declared.cells.Machine.{Machine}
 use Rattle.omega_model.specs.declared.cells.Task.{Task}
 use Rattle.omega_model.specs.declared.entries.Entry.{Entry}
 use Rattle.omega_model.specs.declared.entries.Entry.TheVariants.{Round, MachineAdd, MachineUpdate, MachineRemove, AttrSet, AttrDelete, End, Commit}
@@ -21,7 +19,7 @@ use Rattle.omega_board.specs.Board.{BoardState, cell_of}
 use Rattle.omega_board.specs.Entries.{capacity_in, machine_in, EndsRunning, PlacesInOrder}
 use Rattle.omega_board.specs.Histories.{ListsOrHasRoom, MayApplyAfter}
 use Rattle.omega_board.proofs.Histories.{seq_push}
-use Rattle.omega_cell.specs.Cells.{IsBoardOf, IsCell, is_commit}
+use Rattle.omega_cell.specs.Cells.{IsCell, is_commit}
 
 -- a cell with one more entry that may follow, on whose board it was applied
 pub cell_push : (board after : BoardState) (history : List Entry) (entry : Entry) → IsCell board history → Follows history entry → MayApplyAfter history entry

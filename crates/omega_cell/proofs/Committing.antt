@@ -1,15 +1,12 @@
 -- A commit on a cell.
-use Rattle.std.proofs.Common.{◌≡◌, ℕ, ◌+◌, ◌-◌, ◌<◌, ◌≤◌, ◌^◌, List, [], ◌∷◌, ◌++◌, length, map, take, refl, sym, ap, ap₂, ◌∙◌, subst, arith, if◌then◌else◌}
+use Rattle.std.proofs.Common.{◌≡◌, ℕ, ◌+◌, ◌-◌, ◌<◌, ◌≤◌, ◌^◌, List, [], ◌∷◌, ◌++◌, length, refl, sym, ap, ap₂, ◌∙◌, subst, if◌then◌else◌}
 use Rattle.std.specs.Prelude.{IsTrue}
 use Rattle.std.specs.List.{fold, zip, list_any}
 use Rattle.omega_model.specs.Cell.{Cell}
 use Rattle.omega_model.specs.Machines.{is_listed}
 use Rattle.omega_model.specs.Reply.{tasks_after_claim, reply_on}
-use Rattle.omega_model.specs.State.{state, step, reply_of}
+use Rattle.omega_model.specs.State.{step, reply_of}
 use Rattle.omega_model.specs.Touches.{seq, places_on}
-use Rattle.omega_model.specs.declared.cells.Machine.{Machine}
-use Rattle.omega_model.specs.declared.cells.Task.{Task}
-use Rattle.omega_model.specs.declared.claims.Claim.{Claim}
 use Rattle.omega_model.specs.declared.claims.Txn.{Txn}
 use Rattle.omega_model.specs.declared.claims.Verdict.{Verdict}
 use Rattle.omega_model.specs.declared.entries.Entry.{Entry}
@@ -19,7 +16,7 @@ use Rattle.omega_board.specs.Board.{BoardState, cell_of}
 use Rattle.omega_board.specs.Entries.{MayPlaceAll}
 use Rattle.omega_board.proofs.Commits.{cell_is, placed_listed}
 use Rattle.omega_board.proofs.Rules.{reply_may}
-use Rattle.omega_cell.specs.Cells.{CellState, IsCell}
+use Rattle.omega_cell.specs.Cells.{IsCell}
 use Rattle.omega_cell.specs.Claiming.{copied_seqs}
 use Rattle.omega_cell.proofs.Cells.{cell_push, commit_may}
 

@@ -1,16 +1,16 @@
 -- Victims run on the machine of their claim, with lower precedence.
-use Rattle.std.proofs.Common.{◌≡◌, ℕ, zero, suc, ◌+◌, ◌<◌, ◌≤◌, Bool, true, false, cond, not, ◌&&◌, nat_le, List, [], ◌∷◌, ◌++◌, length, map, get_or, take, Option, Some, None, refl, sym, ap, ap₂, ◌∙◌, subst, arith, ◌==◌}
+use Rattle.std.proofs.Common.{◌≡◌, ℕ, zero, suc, ◌<◌, Bool, true, false, not, ◌&&◌, nat_le, List, [], ◌∷◌, ◌++◌, length, map, get_or, take, Option, Some, None, refl, sym, ap, ap₂, ◌∙◌, subst, ◌==◌}
 use Rattle.std.specs.Prelude.{slice_get, IsSomeAnd}
 use Rattle.std.specs.List.{filter, find, fold, zip}
 use Rattle.std.specs.Option.{option_map, option_map_or}
-use Rattle.std.proofs.lemmas.Bool.{both_ways, leb-false, not_from_false}
+use Rattle.std.proofs.lemmas.Bool.{both_ways, leb-false}
 use Rattle.std.proofs.lemmas.Option.{none-some, same_Some, get_or_from_slice_get, slice_get_within}
 use Rattle.omega_model.specs.Cell.{Cell, task_at, with_task, without, keys_of}
-use Rattle.omega_model.specs.Judge.{judge, first_of, no_machine, already_running, victim_gone, withstands, victim_rank, same_job, full, runs_on}
+use Rattle.omega_model.specs.Judge.{judge, first_of, already_running, victim_gone, withstands, victim_rank, same_job, full, runs_on}
 use Rattle.omega_model.specs.JudgeOn.{judge_on}
 use Rattle.omega_model.specs.Keys.{key_lt, same_key, is_among}
 use Rattle.omega_model.specs.Legal.{Legal, Follows}
-use Rattle.omega_model.specs.Reply.{task_of, tasks_placed, tasks_after_claim, after_claim, verdicts, withdrawn_for, first_refusal, all_or_nothing, by_mode, reply_on}
+use Rattle.omega_model.specs.Reply.{task_of, tasks_after_claim, after_claim, verdicts, withdrawn_for, first_refusal, by_mode, reply_on}
 use Rattle.omega_model.specs.State.{state, step, tasks_after, displaced, goes_on}
 use Rattle.omega_model.specs.Touches.{is_placed}
 use Rattle.omega_model.specs.declared.cells.Task.{Task}
@@ -21,7 +21,7 @@ use Rattle.omega_model.specs.declared.claims.Mode.TheVariants.{Incremental, Gang
 use Rattle.omega_model.specs.declared.claims.Rule.{Rule}
 use Rattle.omega_model.specs.declared.claims.Txn.{Txn}
 use Rattle.omega_model.specs.declared.claims.Verdict.{Verdict}
-use Rattle.omega_model.specs.declared.claims.Verdict.TheVariants.{Placed, NoMachine, AlreadyRunning, Changed, VictimGone, VictimRank, SameJob, Full, Withdrawn}
+use Rattle.omega_model.specs.declared.claims.Verdict.TheVariants.{Placed, AlreadyRunning, VictimRank}
 use Rattle.omega_model.specs.declared.entries.Entry.{Entry}
 use Rattle.omega_model.specs.declared.entries.Entry.TheVariants.{Round, MachineAdd, MachineUpdate, MachineRemove, AttrSet, AttrDelete, End, Commit}
 use Rattle.omega_machines.proofs.Places.{by_answer}
@@ -31,7 +31,7 @@ use Rattle.omega_running.proofs.Kept.{rises_filter}
 use Rattle.omega_board.proofs.Parts.{Refuses, passes, placeable, gone_none, found_on, withstands_is}
 use Rattle.omega_board.proofs.Rules.{placed_by_rule}
 use Rattle.omega_board.proofs.Tasks.{filter_and, filter_alike, found_still, gone_absent, key_differs, key_differs_back, stays_other, with_ordered, without_ordered}
-use Rattle.omega_cell.specs.Laws.{RunsBelow, EvictsBelow, EachEvictsBelow, CommitEvictsBelow, EvictionsGoDown}
+use Rattle.omega_cell.specs.Laws.{EvictsBelow, EachEvictsBelow, CommitEvictsBelow, EvictionsGoDown}
 
 -- a new task stands in its place, whatever had its name
 with_task_anew : (t : Task) (tasks : List Task) → with_task t (without (t.key ∷ []) tasks) ≡ with_task t tasks

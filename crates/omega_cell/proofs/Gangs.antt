@@ -1,15 +1,13 @@
 -- A gang is never split.
-use Rattle.std.proofs.Common.{◌≡◌, ℕ, zero, suc, ◌+◌, ◌<◌, ◌≤◌, ◌⊎◌, inl, inr, Bool, true, false, cond, not, List, [], ◌∷◌, length, map, get_or, take, Some, refl, sym, ap, ◌∙◌, subst, arith, ◌==◌}
-use Rattle.std.specs.Prelude.{slice_get, IsTrue, IsFalse, All}
-use Rattle.std.proofs.lemmas.Bool.{both_ways, eqb-true}
+use Rattle.std.proofs.Common.{◌≡◌, ℕ, zero, suc, ◌<◌, inl, inr, true, List, [], ◌∷◌, length, map, get_or, take, refl, sym, ap, ◌∙◌, subst, arith, ◌==◌}
+use Rattle.std.specs.Prelude.{IsTrue, IsFalse, All}
+use Rattle.std.proofs.lemmas.Bool.{eqb-true}
 use Rattle.omega_model.specs.Legal.{Legal, Follows}
 use Rattle.omega_model.specs.Reply.{withdrawn_for, first_refusal, all_or_nothing, by_mode, verdicts}
-use Rattle.omega_model.specs.State.{state, reply_of}
+use Rattle.omega_model.specs.State.{state}
 use Rattle.omega_model.specs.Touches.{is_placed}
 use Rattle.omega_model.specs.declared.claims.Claim.{Claim}
 use Rattle.omega_model.specs.declared.claims.Mode.{Mode}
-use Rattle.omega_model.specs.declared.claims.Mode.TheVariants.{Gang}
-use Rattle.omega_model.specs.declared.claims.Txn.{Txn}
 use Rattle.omega_model.specs.declared.claims.Verdict.{Verdict}
 use Rattle.omega_model.specs.declared.entries.Entry.{Entry}
 use Rattle.omega_model.specs.declared.entries.Entry.TheVariants.{Round, MachineAdd, MachineUpdate, MachineRemove, AttrSet, AttrDelete, End, Commit}

@@ -135,9 +135,9 @@ impl Cell {
     }
 
     /// Judges the claims of a prepared transaction on this cell, keeps what its mode keeps, and
-    /// appends the commit with its reply. `seen` is how many entries the scheduler's copy had seen,
-    /// and `seqs` has for each claim the sequence number of its machine in that copy. Answers the
-    /// place of the entry, and each claim's verdict.
+    /// appends the commit with its reply. `seen` is the number of entries that the scheduler's copy
+    /// had taken in, and `seqs` has for each claim the sequence number of its machine in that copy.
+    /// Answers the place of the entry, and each claim's verdict.
     ///
     /// Costs the claims, each compared with those before it, and their victims. Takes no memory.
     pub fn commit(&mut self, scheduler: u32, seen: u64, seqs: &[u64], prepared: Prepared) -> Reply

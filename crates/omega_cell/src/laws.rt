@@ -10,5 +10,4 @@ ghost use Rattle.omega_cell.specs.Laws.{NoGangIsSplit, EvictionsGoDown};
 pub fn commits_of_legal_histories()
     ensures gangs { (history : List Entry) → Legal history → NoGangIsSplit history }
     ensures evictions { (history : List Entry) → Legal history → EvictionsGoDown history }
-{
-}
+{}

@@ -5,8 +5,8 @@ ghost use Rattle.omega_cell.specs.Claiming.{copied_seqs};
 
 use crate::Cell;
 use omega_model::{
-    Claim, Claims, Delta, Entry, Mode, Need, NoMemory, Outcome, Reply, Rule, Seq, Spec, TaskKey, Txn,
-    Verdict,
+    Claim, Claims, Delta, Entry, Mode, Need, NoMemory, Outcome, Reply, Rule, Seq, Spec, TaskKey,
+    Txn, Verdict,
 };
 use std::alloc::Global;
 
@@ -227,8 +227,20 @@ fn claims_on_a_busy_machine(rt: HostRuntime) -> Result<(), NoMemory> {
     let runs = key(1, 0);
     let none: &[TaskKey] = &[];
     for (key, machine, prec, victims, verdict) in [
-        (key(2, 0), 1, 5, [runs, runs].as_slice(), Verdict::VictimGone(runs)),
-        (key(2, 0), 1, 3, [runs].as_slice(), Verdict::VictimRank(runs)),
+        (
+            key(2, 0),
+            1,
+            5,
+            [runs, runs].as_slice(),
+            Verdict::VictimGone(runs),
+        ),
+        (
+            key(2, 0),
+            1,
+            3,
+            [runs].as_slice(),
+            Verdict::VictimRank(runs),
+        ),
         (key(2, 0), 1, 5, none, Verdict::Full(need(2, 2))),
         (runs, 1, 5, none, Verdict::AlreadyRunning(1)),
         (key(2, 0), 9, 5, none, Verdict::NoMachine),
@@ -257,7 +269,10 @@ fn an_old_number_refuses_a_coarse_claim(rt: HostRuntime) -> Result<(), NoMemory>
     let alloc = rt.alloc();
     let changed = Verdict::Changed { now: 3, copy: 1 };
     assert_eq!(rt; verdict_from_old_copy(alloc, Rule::Coarse)?, Some(changed));
-    assert_eq!(rt; verdict_from_old_copy(alloc, Rule::Fine)?, Some(Verdict::Placed));
+    assert_eq!(rt;
+        verdict_from_old_copy(alloc, Rule::Fine)?,
+        Some(Verdict::Placed)
+    );
     Ok(())
 }
 
@@ -276,7 +291,10 @@ fn a_delta_holds_what_came_later(rt: HostRuntime) -> Result<(), NoMemory> {
     commit_now(&mut cell, alloc, claims)?;
     let delta = delta_from(&cell, alloc, 1)?;
     assert_eq!(rt; (delta.from(), delta.to()), (1, 2));
-    assert_eq!(rt; matches!(delta.entries().get(0), Some(Entry::Commit { seen: 1, .. })), true);
+    assert_eq!(rt;
+        matches!(delta.entries().get(0), Some(Entry::Commit { seen: 1, .. })),
+        true
+    );
     assert_eq!(rt; delta_from(&cell, alloc, 2)?.entries().len(), 0);
     assert_eq!(rt; cell.into_history().len(), 2);
     Ok(())

@@ -1,4 +1,4 @@
-use Rattle.std.proofs.Common.{Vec, Global, ◌≡◌, List, [], sym, ap, ◌∙◌}
+use Rattle.std.proofs.Common.{Vec, Global, ◌≡◌, List, sym, ap, ◌∙◌}
 use Rattle.std.specs.List.{fold, zip}
 use Rattle.omega_model.specs.Reply.{tasks_after_claim, all_or_nothing}
 use Rattle.omega_model.specs.declared.claims.Claim.{Claim}

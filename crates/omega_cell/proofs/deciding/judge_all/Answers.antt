@@ -1,6 +1,5 @@
-use Rattle.std.proofs.Common.{◌≡◌, ℕ, ◌++◌, ◌∷◌, [], ◌∙◌, ◌<◌, ◌≤◌, ◌+◌, List, length, sym, subst, arith, get_or, refl}
+use Rattle.std.proofs.Common.{ℕ, ◌++◌, ◌∷◌, [], ◌<◌, ◌+◌, List, length, sym, subst, arith, get_or}
 use Rattle.std.proofs.lemmas.List.{get_or_default}
-use Rattle.std.specs.Prelude.{vec_len, vec_capacity}
 use Rattle.omega_model.specs.declared.claims.Verdict.{Verdict}
 use Rattle.omega_cell.proofs.Judging.{IsJudging, judge_next}
 use Rattle.omega_cell.proofs.deciding.judge_all.Goals as goal
@@ -26,7 +25,7 @@ loop-i-preserved c =
     })
     c.loop-i.invariant.0 in (
       subst (λ (told : List Verdict). IsJudging c.args.board.now c.judge_one-verdict.new.board c.args.undo.now c.judge_one-verdict.new.undo c.args.rule c.args.claims.now c.args.seqs.now told (c.loop-i.i + 1))
-      (sym c.push_reserved.ensures.items) next,
+          (sym c.push_reserved.ensures.items) next,
       omega (arith, c.push_reserved.ensures.len, c.loop-i.invariant.1),
       omega (arith, c.push_reserved.ensures.capacity, c.loop-i.invariant.2),
     )

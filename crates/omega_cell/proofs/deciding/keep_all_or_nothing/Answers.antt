@@ -1,6 +1,5 @@
-use Rattle.std.proofs.Common.{◌≡◌, ◌∙◌, ◌≤◌, List, true, length, sym, ap, subst, arith, refl, ◌==◌}
+use Rattle.std.proofs.Common.{◌≡◌, ◌∙◌, true, length, sym, ap, arith, refl, ◌==◌}
 use Rattle.omega_model.specs.Reply.{first_refusal}
-use Rattle.omega_model.specs.declared.claims.Verdict.{Verdict}
 use Rattle.omega_cell.proofs.Judging.{no_refusal}
 use Rattle.omega_cell.proofs.deciding.keep_all_or_nothing.Goals as goal
 

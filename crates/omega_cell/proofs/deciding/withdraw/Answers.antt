@@ -1,4 +1,4 @@
-use Rattle.std.proofs.Common.{◌≡◌, ℕ, List, ◌∙◌, ◌<◌, length, get_or, set, subst, sym, refl, ap}
+use Rattle.std.proofs.Common.{ℕ, List, ◌∙◌, ◌<◌, length, get_or, set, subst, sym, ap}
 use Rattle.std.proofs.lemmas.List.{get_or_default}
 use Rattle.std.proofs.lemmas.List.Edits.{map_over_more}
 use Rattle.omega_model.specs.Reply.{withdrawn_for}

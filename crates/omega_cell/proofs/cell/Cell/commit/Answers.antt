@@ -1,8 +1,7 @@
-use Rattle.std.proofs.Common.{◌≡◌, List, sym, ap, ◌∙◌, subst}
-use Rattle.omega_model.specs.declared.entries.Entry.{Entry}
+use Rattle.std.proofs.Common.{sym, ap, subst}
 use Rattle.omega_cell.specs.Cells.{CellState, IsCell}
 use Rattle.omega_cell.proofs.Cells.{few_entries}
-use Rattle.omega_cell.proofs.Committing.{IsCommitting, IsDecided, placed_are_listed, reply_due, committed}
+use Rattle.omega_cell.proofs.Committing.{placed_are_listed, committed}
 use Rattle.omega_cell.proofs.cell.Cell.commit.Goals as goal
 
 pub touch_placed-requires-clause-listed : goal.touch_placed-requires-clause-listed
