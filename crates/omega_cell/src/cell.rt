@@ -17,7 +17,7 @@ ghost use Rattle.omega_cell.specs.Claiming.{copied_seqs};
 use crate::deciding::{decide, outcomes_of};
 use crate::prepared::Prepared;
 use omega_board::Board;
-use omega_model::{Claims, Copied, Delta, Entries, Entry, NoMemory, Reply, Seq, Txn};
+use omega_model::{Copied, Delta, Entries, Entry, NoMemory, Reply, Seq, Txn};
 use std::alloc::Global;
 use std::marker::Model;
 

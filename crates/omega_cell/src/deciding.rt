@@ -1,5 +1,5 @@
 //! What is decided on the claims of a transaction, on the board itself.
-ghost use Rattle.std.specs.Prelude.{◌≡◌, ◌≤◌, ◌<◌, ◌+◌, ◌^◌, [], ℕ, List, None, length, map, take, true, vec_len, vec_capacity, if◌then◌else◌, ◌==◌};
+ghost use Rattle.std.specs.Prelude.{◌≡◌, ◌≤◌, ◌<◌, ◌+◌, ◌^◌, [], ℕ, List, None, length, map, take, true, vec_capacity, if◌then◌else◌, ◌==◌};
 ghost use Rattle.std.specs.List.{sum_by, fold, zip};
 ghost use Rattle.omega_board.specs.Board.{cell_of};
 ghost use Rattle.omega_board.specs.Undo.{IsUndoOf, at_reserve};

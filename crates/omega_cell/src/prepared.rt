@@ -1,6 +1,4 @@
 //! A transaction with all the room that its commit needs.
-ghost use Rattle.std.specs.Prelude.{◌≡◌, ◌<◌, ◌^◌, length};
-
 use omega_board::Undo;
 use omega_model::{Outcome, Txn, Verdict};
 use std::marker::Model;
