@@ -1,6 +1,6 @@
 -- What every board keeps, when a task stops and when one starts.
-use Rattle.std.proofs.Common.{◌≡◌, ℕ, ◌+◌, ◌-◌, ◌≤◌, Bool, true, false, cond, not, ◌||◌, nat_eq, List, [], ◌∷◌, ◌++◌, map, Option, Some, None, is_some, IsTrue, IsSomeAnd, refl, sym, ap, ap₂, ◌∙◌, subst, arith, ◌==◌, if◌then◌else◌}
-use Rattle.std.specs.List.{filter, find, IsDistinct, AllByRecursion}
+use Rattle.std.proofs.Common.{◌≡◌, ℕ, Bool, true, false, not, nat_eq, List, [], ◌∷◌, ◌++◌, Option, Some, None, is_some, IsTrue, IsSomeAnd, refl, sym, ap, ◌∙◌, subst, arith, ◌==◌, if◌then◌else◌}
+use Rattle.std.specs.List.{IsDistinct, AllByRecursion}
 use Rattle.std.specs.Option.{option_map, option_map_or, option_and_then}
 use Rattle.std.proofs.lemmas.Bool.{both_ways, eqb-true, eq-eqb}
 use Rattle.std.proofs.lemmas.Map.Keys.{IsDistinct-head, IsDistinct-tail}
@@ -11,18 +11,16 @@ use Rattle.omega_model.specs.Cell.{machine_at, task_at, with_task, without, tota
 use Rattle.omega_model.specs.Judge.{is_up}
 use Rattle.omega_model.specs.Machines.{is_listed, numbers_of}
 use Rattle.omega_model.specs.declared.cells.Need.{Need}
-use Rattle.omega_model.specs.declared.cells.Machine.{Machine}
 use Rattle.omega_model.specs.declared.cells.TaskKey.{TaskKey}
 use Rattle.omega_model.specs.declared.cells.Task.{Task}
 use Rattle.omega_machines.specs.declared.MachineState.{MachineState}
-use Rattle.omega_machines.specs.Table.{machines_of, state_at, used, use_at, free_if_up, free_at, seq_at, change_state, new_state, ensured_states, charged, released, touched, IsTable}
+use Rattle.omega_machines.specs.Table.{machines_of, state_at, used, use_at, free_if_up, free_at, change_state, new_state, ensured_states, charged, released, touched, IsTable}
 use Rattle.omega_machines.proofs.Places.{by_answer}
 use Rattle.omega_machines.proofs.Laws.{machine_of_state, listed_state, machines_same, state_changed, others_unchanged}
-use Rattle.omega_running.specs.declared.orders.Order.TheVariants.{ByKey}
-use Rattle.omega_running.specs.Order.{Each, IsInOrder}
+use Rattle.omega_running.specs.Order.{Each}
 use Rattle.omega_running.proofs.Lists.{each_map, each_both, each_append, each_of, find_first, filter_none}
 use Rattle.omega_board.specs.Board.{BoardState, IsBoard, IsCounted, is_on_up, recounted, table_with}
-use Rattle.omega_board.proofs.Tasks.{each_filter, each_found, each_with, key_same, without_ordered, with_ordered, without_absent}
+use Rattle.omega_board.proofs.Tasks.{each_filter, each_found, each_with, found_name, without_ordered, with_ordered}
 use Rattle.omega_board.proofs.Uses.{need_is, plus-assoc, plus-nothing, share, total-with, total-without}
 
 -- a machine that is counted has as much free as the count says
@@ -122,11 +120,7 @@ module _ (table : List MachineState) (tasks : List Task) (board : IsBoard table 
   module _ (key : TaskKey) (t : Task) (runs : Some t ≡ task_at tasks key) where
     -- a running task is found under its own name
     pub own_name : t.key ≡ key
-    own_name = key_same t.key key (each_found (λ _. Unit {0}) (λ (y : Task). same_key y.key key) tasks t (units tasks) (sym runs)).1
-      where
-        units : (ts : List Task) → Each (λ (_ : Task). Unit {0}) ts
-        units [] = tt
-        units (_ ∷ ts) = (tt, units ts)
+    own_name = found_name tasks key t (sym runs)
 
     pub found_own : task_at tasks t.key ≡ Some t
     found_own = ap (task_at tasks) own_name ∙ sym runs

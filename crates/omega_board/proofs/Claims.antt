@@ -1,25 +1,20 @@
 -- A claim that would be placed can be placed, once its victims have stopped.
-use Rattle.std.proofs.Common.{◌≡◌, ℕ, ◌+◌, ◌-◌, ◌<◌, ◌≤◌, Bool, true, false, not, List, [], ◌∷◌, ◌++◌, length, get_or, take, Option, Some, None, is_some, IsTrue, IsSomeAnd, refl, sym, ap, ap₂, ◌∙◌, subst, arith, nat_eq}
-use Rattle.std.specs.List.{filter, find}
+use Rattle.std.proofs.Common.{◌≡◌, ℕ, ◌<◌, true, false, not, List, [], length, get_or, take, Some, None, is_some, IsTrue, IsSomeAnd, refl, sym, ap, ap₂, ◌∙◌, subst, nat_eq}
 use Rattle.std.specs.Option.{option_map, option_and_then}
 use Rattle.std.proofs.lemmas.Bool.{eqb-true}
-use Rattle.std.proofs.lemmas.List.{take_more}
-use Rattle.omega_model.specs.Need.{Fits, fits, minus}
+use Rattle.omega_model.specs.Need.{Fits, minus}
 use Rattle.omega_model.specs.Keys.{same_key, is_among}
-use Rattle.omega_model.specs.Cell.{Cell, machine_at, task_at, with_task, without, use_on, rest_on}
-use Rattle.omega_model.specs.Judge.{is_up, runs_on, capacity_of, victim_gone, free_after}
-use Rattle.omega_model.specs.declared.cells.Need.{Need}
-use Rattle.omega_model.specs.declared.cells.Machine.{Machine}
+use Rattle.omega_model.specs.Cell.{machine_at, task_at, without, use_on, rest_on}
+use Rattle.omega_model.specs.Judge.{is_up, runs_on, capacity_of, free_after}
 use Rattle.omega_model.specs.declared.cells.TaskKey.{TaskKey}
 use Rattle.omega_model.specs.declared.cells.Task.{Task}
 use Rattle.omega_model.specs.declared.claims.Claim.{Claim}
 use Rattle.omega_machines.specs.declared.MachineState.{MachineState}
 use Rattle.omega_machines.specs.Table.{machines_of, state_at, free_if_up, free_at}
 use Rattle.omega_machines.proofs.Laws.{machine_of_state}
-use Rattle.omega_running.specs.Order.{Each}
 use Rattle.omega_running.proofs.Lists.{find_none, filter_every, each_of}
 use Rattle.omega_board.specs.Board.{BoardState, IsBoard, cell_of, recounted, table_with}
-use Rattle.omega_board.proofs.Tasks.{each_filter, each_absent, each_found, found_still, without_more}
+use Rattle.omega_board.proofs.Tasks.{each_filter, each_absent, found_passes, found_still}
 use Rattle.omega_board.proofs.Uses.{rest_is}
 use Rattle.omega_board.proofs.Boards.{free_where_up, state_up}
 use Rattle.omega_board.proofs.Parts.{IsPlaceable, some_free, gone_none, found_on}
@@ -51,7 +46,7 @@ module _ (board : BoardState) (kept : IsBoard board.table board.tasks) (claim : 
   claim_fits tasks table left counted =
       let up : is_up (machine_at (machines_of board.table) claim.machine) ≡ true = free_where_up board.table claim.machine ∙ some_free board.table claim.machine known.up in
       let state = state_up board.table claim.machine up in
-      let own : state.0.machine.id ≡ claim.machine = eqb-true _ _ (each_found (λ _. Unit {0}) (λ (s : MachineState). nat_eq s.machine.id claim.machine) board.table state.0 (units board.table) state.1).1 in
+      let own : state.0.machine.id ≡ claim.machine = eqb-true _ _ (found_passes (λ (s : MachineState). nat_eq s.machine.id claim.machine) board.table state.0 state.1) in
       let then : state_at table claim.machine ≡ Some (recounted tasks state.0) =
       ap (λ t. state_at t claim.machine) counted ∙ state_with tasks board.table claim.machine ∙ ap (option_map (recounted tasks)) state.1 in
       let free : free_at table claim.machine ≡ Some (minus state.0.machine.cap (use_on tasks state.0.machine.id)) = ap (option_and_then free_if_up) then ∙ rw state.2 refl in
@@ -61,7 +56,3 @@ module _ (board : BoardState) (kept : IsBoard board.table board.tasks) (claim : 
       ap (use_on tasks) own ∙ ap (λ ts. use_on ts claim.machine) left ∙ sym (rest_is board.tasks claim.machine claim.victims) in
       let same : free_after (cell_of board) claim ≡ minus state.0.machine.cap (use_on tasks state.0.machine.id) = ap₂ minus cap (sym amount) in
       subst (λ o. IsSomeAnd o (λ f. Fits claim.spec.need f)) (sym free) (subst (Fits claim.spec.need) same (fits_means _ _ known.fits))
-    where
-      units : (ss : List MachineState) → Each (λ (_ : MachineState). Unit {0}) ss
-      units [] = tt
-      units (_ ∷ ss) = (tt, units ss)

@@ -1,28 +1,26 @@
 -- The placed claims of a commit, one after the other.
-use Rattle.std.proofs.Common.{◌≡◌, ℕ, zero, suc, ◌+◌, ◌<◌, ◌≤◌, Bool, true, false, cond, ◌||◌, ◌&&◌, not, inl, inr, List, [], ◌∷◌, length, get_or, drop, min, sum_by, Option, Some, None, IsTrue, refl, sym, ap, ap₂, ◌∙◌, subst, arith, if◌then◌else◌, ◌==◌}
-use Rattle.std.specs.List.{list_any, zip, fold, find}
-use Rattle.std.proofs.lemmas.Bool.{both_ways, eqb-true, and_parts, or_cases, or_left, or_right}
+use Rattle.std.proofs.Common.{◌≡◌, ℕ, zero, suc, ◌+◌, ◌<◌, ◌≤◌, true, false, ◌&&◌, inl, inr, List, [], ◌∷◌, length, get_or, drop, min, sum_by, None, IsTrue, refl, sym, ap, ◌∙◌, subst, arith, ◌==◌}
+use Rattle.std.specs.List.{list_any, zip, fold}
+use Rattle.std.proofs.lemmas.Bool.{both_ways, eqb-true, and_parts, or_cases}
 use Rattle.std.proofs.lemmas.List.{drop_more}
 use Rattle.std.proofs.lemmas.List.Sums.{sum_by-cons}
-use Rattle.std.proofs.lemmas.Option.{none-some}
 use Rattle.omega_model.specs.Cell.{Cell, machine_at}
-use Rattle.omega_model.specs.Judge.{is_up, refusal_if, no_machine}
+use Rattle.omega_model.specs.Judge.{is_up}
 use Rattle.omega_model.specs.JudgeOn.{judge_on}
 use Rattle.omega_model.specs.Machines.{is_listed}
 use Rattle.omega_model.specs.Reply.{tasks_placed, tasks_after_claim, after_claim}
 use Rattle.omega_model.specs.Touches.{is_placed, places_on}
 use Rattle.omega_model.specs.declared.cells.Machine.{Machine}
-use Rattle.omega_model.specs.declared.cells.Task.{Task}
 use Rattle.omega_model.specs.declared.claims.Claim.{Claim}
 use Rattle.omega_model.specs.declared.claims.Verdict.{Verdict}
-use Rattle.omega_model.specs.declared.claims.Verdict.TheVariants.{Placed, NoMachine}
+use Rattle.omega_model.specs.declared.claims.Verdict.TheVariants.{Placed}
 use Rattle.omega_machines.specs.Table.{machines_of, seq_at}
 use Rattle.omega_machines.proofs.Places.{by_answer}
 use Rattle.omega_board.specs.Board.{BoardState, cell_of}
 use Rattle.omega_board.specs.Undo.{UndoState, IsUndoOf}
-use Rattle.omega_board.specs.Entries.{MayPlace, MayPlaceAll}
+use Rattle.omega_board.specs.Entries.{MayPlaceAll}
 use Rattle.omega_board.proofs.Counts.{zip_more, zip_past}
-use Rattle.omega_board.proofs.Parts.{placeable}
+use Rattle.omega_board.proofs.Parts.{placeable, not_refused}
 
 -- how many victims some claims have
 abbrev pub victims_in : List Claim → ℕ
@@ -112,11 +110,6 @@ placed_all start board undo claims reply i past so = ap (fold tasks_after_claim 
 pub up_listed : (machines : List Machine) (id : ℕ) → is_up (machine_at machines id) ≡ true → IsTrue (is_listed id machines)
 up_listed [] id up = up
 up_listed (m ∷ ms) id up = by_answer (m.id == id) (λ t. rw t refl) (λ f. rw f (up_listed ms id (rw f at up)))
-
--- a machine for which a claim isn't refused is up
-pub not_refused : (up : Bool) → refusal_if (not up) NoMachine ≡ None → up ≡ true
-not_refused true e = refl
-not_refused false e = absurd (none-some NoMachine (sym e))
 
 -- the machine of a claim that is placed is listed
 pub placed_listed : (cell : Cell) (decided : List (Claim × Verdict)) (id : ℕ) → MayPlaceAll cell decided → IsTrue (list_any (places_on id) decided) → IsTrue (is_listed id cell.machines)

@@ -1,8 +1,9 @@
 -- How often machines were touched.
-use Rattle.std.proofs.Common.{◌≡◌, ◌≢◌, ℕ, zero, suc, ◌+◌, ◌-◌, ◌<◌, ◌≤◌, Bool, true, false, cond, ◌||◌, ◌&&◌, nat_eq, List, [], ◌∷◌, ◌++◌, length, get_or, take, drop, min, Option, Some, None, is_some, IsTrue, refl, sym, ap, ap₂, ◌∙◌, subst, arith, if◌then◌else◌, ◌==◌, ◌⊎◌, inl, inr}
+use Rattle.std.proofs.Common.{◌≡◌, ℕ, zero, suc, ◌+◌, ◌-◌, ◌<◌, ◌≤◌, Bool, true, false, ◌||◌, ◌&&◌, List, [], ◌∷◌, ◌++◌, length, get_or, take, drop, min, Option, Some, None, is_some, IsTrue, refl, sym, ap, ap₂, ◌∙◌, subst, arith, if◌then◌else◌, ◌==◌, ◌⊎◌, inl, inr}
 use Rattle.std.specs.List.{list_any, zip}
 use Rattle.std.specs.Option.{option_map, option_map_or}
-use Rattle.std.proofs.lemmas.Bool.{both_ways, eqb-true, eq-eqb, and_parts, or_left, or_right}
+use Rattle.std.proofs.Math.Bool.{or-false}
+use Rattle.std.proofs.lemmas.Bool.{both_ways, eqb-true, eq-eqb, or_right}
 use Rattle.std.proofs.lemmas.List.{drop_more}
 use Rattle.std.proofs.lemmas.List.Folds.{list_any-append}
 use Rattle.omega_model.specs.Machines.{is_listed}
@@ -13,10 +14,6 @@ use Rattle.omega_machines.specs.declared.MachineState.{MachineState}
 use Rattle.omega_machines.specs.Table.{machines_of, state_at, seq_at, change_state, touched}
 use Rattle.omega_machines.proofs.Places.{by_answer}
 use Rattle.omega_machines.proofs.Laws.{listed_state, state_changed, others_unchanged}
-
-pub or_no : (a : Bool) → (a || false) ≡ a
-or_no true = refl
-or_no false = refl
 
 -- a touch counts on its machine and on no other
 pub seq_touched : (table : List MachineState) (id other : ℕ) → IsTrue (is_listed id (machines_of table)) → seq_at (change_state id touched table) other ≡ seq_at table other + (if id == other then 1 else 0)
@@ -85,7 +82,7 @@ pub any_more : (id : ℕ) (claims : List Claim) (reply : List Verdict) (i : ℕ)
 any_more id claims reply i d e below_claims below_reply =
     ap (list_any (places_on id)) (zip_take claims reply i d e below_claims below_reply)
     ∙ list_any-append (places_on id) (zip (take i claims) (take i reply)) ((get_or claims i d, get_or reply i e) ∷ [])
-    ∙ ap (λ b. list_any (places_on id) (zip (take i claims) (take i reply)) || b) (or_no _)
+    ∙ ap (λ b. list_any (places_on id) (zip (take i claims) (take i reply)) || b) (or-false _)
 
 -- the count of a commit so far
 abbrev pub CountedSo : (start : ℕ → ℕ) → List Claim → List Verdict → ℕ → (ℕ → ℕ) → Type 0
@@ -104,7 +101,7 @@ counted_same start now claims reply i d e below_claims below_reply why so = λ i
     before id = list_any (places_on id) (zip (take i claims) (take i reply))
 
     same : (id : ℕ) → is_placed (get_or reply i e) ≡ false ⊎ (before m ≡ true) → (before id || (is_placed (get_or reply i e) && m == id)) ≡ before id
-    same id (inl f) = rw f (or_no (before id))
+    same id (inl f) = rw f (or-false (before id))
     same id (inr t) =
         by_answer (m == id)
         (λ own. let here : before id ≡ true = subst (λ n. before n ≡ true) (eqb-true _ _ own) t in rw here refl)
@@ -127,7 +124,7 @@ counted_more start now next claims reply i d e below_claims below_reply placed f
     let will : list_any (places_on id) (zip (take (i + 1) claims) (take (i + 1) reply)) ≡ true = any_more id claims reply i d e below_claims below_reply ∙ rw (here, placed, own) refl in
     rw (own, will) (omega arith))
     (λ other.
-    let will : list_any (places_on id) (zip (take (i + 1) claims) (take (i + 1) reply)) ≡ before id = any_more id claims reply i d e below_claims below_reply ∙ rw (placed, other) (or_no (before id)) in
+    let will : list_any (places_on id) (zip (take (i + 1) claims) (take (i + 1) reply)) ≡ before id = any_more id claims reply i d e below_claims below_reply ∙ rw (placed, other) (or-false (before id)) in
     rw (other, will) (let was = so id in omega arith))
   where
     m : ℕ

@@ -1,22 +1,22 @@
 -- A change of one machine that is counted on it.
-use Rattle.std.proofs.Common.{◌≡◌, ◌≢◌, ℕ, ◌+◌, ◌-◌, ◌<◌, ◌≤◌, Bool, true, false, cond, not, ◌||◌, nat_eq, List, [], ◌∷◌, ◌++◌, length, map, Option, Some, None, is_some, IsTrue, refl, sym, ap, ap₂, ◌∙◌, subst, arith, if◌then◌else◌, ◌==◌, ◌⊎◌}
-use Rattle.std.specs.List.{filter, find, list_any}
+use Rattle.std.proofs.Common.{◌≡◌, ℕ, ◌+◌, ◌<◌, true, false, List, [], ◌∷◌, length, Option, Some, None, is_some, IsTrue, refl, sym, ap, ◌∙◌, subst, arith, if◌then◌else◌, ◌==◌, ◌⊎◌}
+use Rattle.std.specs.List.{filter}
 use Rattle.std.specs.Option.{option_map, option_map_or}
 use Rattle.std.proofs.lemmas.Bool.{both_ways, eqb-true, eq-eqb}
 use Rattle.omega_model.specs.Need.{Fits, nothing, plus, minus}
 use Rattle.omega_model.specs.Cell.{total, is_on, use_on}
-use Rattle.omega_model.specs.Machines.{is_listed, change, ensured, added, updated, removed, attr_set, attr_deleted}
+use Rattle.omega_model.specs.Machines.{is_listed, change, removed, attr_set, attr_deleted}
 use Rattle.omega_model.specs.declared.cells.Need.{Need}
 use Rattle.omega_model.specs.declared.cells.Machine.{Machine}
 use Rattle.omega_model.specs.declared.cells.Task.{Task}
 use Rattle.omega_machines.specs.declared.MachineState.{MachineState}
-use Rattle.omega_machines.specs.Table.{machines_of, state_at, use_at, seq_at, change_state, new_state, ensured_states, touched, used, state_added, state_updated, with_machine, IsTable}
+use Rattle.omega_machines.specs.Table.{machines_of, state_at, use_at, seq_at, change_state, ensured_states, touched, used, state_added, state_updated, with_machine, IsTable}
 use Rattle.omega_machines.proofs.Places.{by_answer}
 use Rattle.omega_machines.proofs.Laws.{listed_state, machines_changed, machines_same, state_changed, others_unchanged, listed_changed}
 use Rattle.omega_machines.proofs.Ensuring.{table_ensured}
 use Rattle.omega_running.specs.Order.{Each}
-use Rattle.omega_running.proofs.Lists.{each_of, find_past}
-use Rattle.omega_board.specs.Board.{BoardState, IsBoard, IsCounted, CountsOn}
+use Rattle.omega_running.proofs.Lists.{each_of}
+use Rattle.omega_board.specs.Board.{IsBoard, IsCounted, CountsOn}
 use Rattle.omega_board.proofs.Uses.{need_is}
 use Rattle.omega_board.proofs.Boards.{in_use, ensured_board, changed_board, touched_board}
 use Rattle.omega_board.proofs.Counts.{seq_touched}
@@ -40,17 +40,6 @@ seq_changed id f keeps same table other =
     by : (o : Option MachineState) → option_map_or (λ s. s.seq) (option_map f o) 0 ≡ option_map_or (λ s. s.seq) o 0
     by None = refl
     by (Some s) = same s
-
--- a new machine has no entries
-pub seq_ensured : (id : ℕ) (table : List MachineState) (other : ℕ) → seq_at (ensured_states id table) other ≡ seq_at table other
-seq_ensured id table other =
-    by_answer (is_listed id (machines_of table))
-    (λ t. rw t refl)
-    (λ f. rw f (grown table))
-  where
-    grown : (t : List MachineState) → seq_at (t ++ new_state id ∷ []) other ≡ seq_at t other
-    grown [] = by_answer (id == other) (λ h. rw h refl) (λ h. rw h refl)
-    grown (s ∷ ss) = by_answer (s.machine.id == other) (λ h. rw h refl) (λ h. rw h (grown ss))
 
 -- a count from a table with the same numbers
 pub counts_from : (id : ℕ) (before same after : List MachineState) → ((other : ℕ) → seq_at before other ≡ seq_at same other) → CountsOn id before after → CountsOn id same after
@@ -77,6 +66,15 @@ is_change id f on_machine table first last keeps same does listed changed counte
     }
 
 module _ (table : List MachineState) (tasks : List Task) (board : IsBoard table tasks) (id : ℕ) where
+  -- a machine is changed, with the same use counted and up where a task is on it, and the change is counted
+  counted_board : (f : MachineState → MachineState) → ((s : MachineState) → (f s).machine.id ≡ s.machine.id)
+      → ((s : MachineState) → (s.machine.id == id) ≡ true → IsCounted tasks s → IsCounted tasks (f s))
+      → Each (λ t. is_on id t ≡ true → (s : MachineState) → s.machine.up ≡ true → (f s).machine.up ≡ true) tasks
+      → (first last : List MachineState) → first ≡ change_state id f table → last ≡ change_state id touched first → IsTable first → IsTable last → IsBoard last tasks
+  counted_board f keeps counts stays_up first last changed counted bounded bounded_last =
+      let kept : IsBoard first tasks = subst (λ t. IsBoard t tasks) (sym changed) (changed_board table tasks board id f keeps counts stays_up (subst IsTable changed bounded)) in
+      subst (λ t. IsBoard t tasks) (sym counted) (touched_board first tasks kept id (subst IsTable counted bounded_last))
+
   -- what is used on a listed machine is in use there
   pub use_fits : (cap : Need) → IsTrue (is_listed id (machines_of table)) → Fits (use_on tasks id) cap → Fits (use_at table id) cap
   use_fits cap listed fits =
@@ -97,22 +95,13 @@ module _ (table : List MachineState) (tasks : List Task) (board : IsBoard table 
       (omega (arith, fit.1, ap (λ (n : Need). n.mem) counted))
 
   pub up_board : (cap : Need) (first last : List MachineState) → Fits (use_on tasks id) cap → first ≡ change_state id (state_added cap) table → last ≡ change_state id touched first → IsTable first → IsTable last → IsBoard last tasks
-  up_board cap first last fits changed counted bounded bounded_last =
-      let kept : IsBoard first tasks = subst (λ t. IsBoard t tasks) (sym changed)
-      (changed_board table tasks board id (state_added cap) (λ s. refl) (recounts cap fits) (each_of _ (λ t _ s _. refl) tasks) (subst IsTable changed bounded)) in
-      subst (λ t. IsBoard t tasks) (sym counted) (touched_board first tasks kept id (subst IsTable counted bounded_last))
+  up_board cap first last fits = counted_board (state_added cap) (λ s. refl) (recounts cap fits) (each_of _ (λ t _ s _. refl) tasks) first last
 
   pub resized_board : (cap : Need) (first last : List MachineState) → Fits (use_on tasks id) cap → first ≡ change_state id (state_updated cap) table → last ≡ change_state id touched first → IsTable first → IsTable last → IsBoard last tasks
-  resized_board cap first last fits changed counted bounded bounded_last =
-      let kept : IsBoard first tasks = subst (λ t. IsBoard t tasks) (sym changed)
-      (changed_board table tasks board id (state_updated cap) (λ s. refl) (recounts cap fits) (each_of _ (λ t _ s up. up) tasks) (subst IsTable changed bounded)) in
-      subst (λ t. IsBoard t tasks) (sym counted) (touched_board first tasks kept id (subst IsTable counted bounded_last))
+  resized_board cap first last fits = counted_board (state_updated cap) (λ s. refl) (recounts cap fits) (each_of _ (λ t _ s up. up) tasks) first last
 
   pub down_board : (first last : List MachineState) → filter (is_on id) tasks ≡ [] → first ≡ change_state id (with_machine removed) table → last ≡ change_state id touched first → IsTable first → IsTable last → IsBoard last tasks
-  down_board first last empty changed counted bounded bounded_last =
-      let kept : IsBoard first tasks = subst (λ t. IsBoard t tasks) (sym changed)
-      (changed_board table tasks board id (with_machine removed) (λ s. refl) (λ s _ was. was) (none_there tasks empty) (subst IsTable changed bounded)) in
-      subst (λ t. IsBoard t tasks) (sym counted) (touched_board first tasks kept id (subst IsTable counted bounded_last))
+  down_board first last empty = counted_board (with_machine removed) (λ s. refl) (λ s _ was. was) (none_there tasks empty) first last
     where
       none_there : (ts : List Task) → filter (is_on id) ts ≡ [] → Each (λ t. is_on id t ≡ true → (s : MachineState) → s.machine.up ≡ true → false ≡ true) ts
       none_there [] none = tt
@@ -125,15 +114,10 @@ module _ (table : List MachineState) (tasks : List Task) (board : IsBoard table 
           cons-nil x xs e = cc
 
   pub unset_board : (name : List ℕ) (first last : List MachineState) → first ≡ change_state id (with_machine (attr_deleted name)) table → last ≡ change_state id touched first → IsTable first → IsTable last → IsBoard last tasks
-  unset_board name first last changed counted bounded bounded_last =
-      let kept : IsBoard first tasks = subst (λ t. IsBoard t tasks) (sym changed)
-      (changed_board table tasks board id (with_machine (attr_deleted name)) (λ s. refl) (λ s _ was. was) (each_of _ (λ t _ s up. up) tasks) (subst IsTable changed bounded)) in
-      subst (λ t. IsBoard t tasks) (sym counted) (touched_board first tasks kept id (subst IsTable counted bounded_last))
+  unset_board name first last = counted_board (with_machine (attr_deleted name)) (λ s. refl) (λ s _ was. was) (each_of _ (λ t _ s up. up) tasks) first last
 
-  pub attr_board : (name value : List ℕ) (first last : List MachineState) → length table < 65536 ⊎ IsTrue (is_listed id (machines_of table))
-      → first ≡ change_state id (with_machine (attr_set name value)) (ensured_states id table) → last ≡ change_state id touched first → IsTable first → IsTable last → IsBoard last tasks
-  attr_board name value first last room changed counted bounded bounded_last =
-      let there : IsBoard (ensured_states id table) tasks = ensured_board table tasks board id (table_ensured id table board.bounded room) in
-      let kept : IsBoard first tasks = subst (λ t. IsBoard t tasks) (sym changed)
-      (changed_board (ensured_states id table) tasks there id (with_machine (attr_set name value)) (λ s. refl) (λ s _ was. was) (each_of _ (λ t _ s up. up) tasks) (subst IsTable changed bounded)) in
-      subst (λ t. IsBoard t tasks) (sym counted) (touched_board first tasks kept id (subst IsTable counted bounded_last))
+-- with an attribute set, on a machine that is listed first
+pub attr_board : (table : List MachineState) (tasks : List Task) → IsBoard table tasks → (id : ℕ) (name value : List ℕ) (first last : List MachineState) → length table < 65536 ⊎ IsTrue (is_listed id (machines_of table))
+    → first ≡ change_state id (with_machine (attr_set name value)) (ensured_states id table) → last ≡ change_state id touched first → IsTable first → IsTable last → IsBoard last tasks
+attr_board table tasks board id name value first last room =
+    counted_board (ensured_states id table) tasks (ensured_board table tasks board id (table_ensured id table board.bounded room)) id (with_machine (attr_set name value)) (λ s. refl) (λ s _ was. was) (each_of _ (λ t _ s up. up) tasks) first last

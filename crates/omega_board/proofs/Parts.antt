@@ -1,8 +1,9 @@
 -- What the parts of a verdict come to on a board.
-use Rattle.std.proofs.Common.{◌≡◌, ℕ, zero, suc, ◌+◌, ◌-◌, ◌<◌, ◌≤◌, Bool, true, false, cond, not, ◌&&◌, nat_le, List, [], ◌∷◌, ◌++◌, length, get_or, take, position, slice_get, ap₂, Option, Some, None, is_some, IsTrue, refl, sym, ap, ◌∙◌, subst, arith, append_assoc, append-nil, ◌==◌, if◌then◌else◌}
-use Rattle.std.specs.List.{find, list_any}
+use Rattle.std.proofs.Common.{◌≡◌, ℕ, zero, suc, ◌+◌, ◌<◌, Bool, true, false, not, ◌&&◌, nat_le, List, [], ◌∷◌, ◌++◌, length, get_or, take, position, slice_get, ap₂, Option, Some, None, is_some, IsTrue, refl, sym, ap, ◌∙◌, subst, arith, append_assoc, append-nil, ◌==◌, if◌then◌else◌}
+use Rattle.std.specs.List.{find}
 use Rattle.std.specs.Option.{option_map, option_map_or}
-use Rattle.std.proofs.lemmas.Bool.{both_ways, eqb-true, eq-eqb, and_parts, not_from_true}
+use Rattle.std.proofs.Math.Bool.{and_comm}
+use Rattle.std.proofs.lemmas.Bool.{both_ways, eqb-true, eq-eqb, and_parts, not-true}
 use Rattle.std.proofs.lemmas.List.{take_more}
 use Rattle.std.proofs.lemmas.List.Folds.{find_at}
 use Rattle.std.proofs.lemmas.Option.{none-some, same_Some, cond_some}
@@ -26,11 +27,11 @@ use Rattle.omega_machines.specs.Table.{machines_of, state_at, free_at}
 use Rattle.omega_machines.proofs.Places.{by_answer}
 use Rattle.omega_machines.proofs.Laws.{machine_of_state, listed_state, found_bounded}
 use Rattle.omega_running.specs.declared.orders.Order.TheVariants.{ByKey}
-use Rattle.omega_running.specs.Order.{Each, IsInOrder}
+use Rattle.omega_running.specs.Order.{IsInOrder}
 use Rattle.omega_running.proofs.Lists.{each_of, filter_every}
 use Rattle.omega_board.specs.Board.{BoardState, IsBoard}
-use Rattle.omega_board.proofs.Tasks.{each_found, any_at, key_same, found_still, without_more, without_ordered}
-use Rattle.omega_board.proofs.Uses.{need_is, plus-assoc, rest_is, share, total-without}
+use Rattle.omega_board.proofs.Tasks.{any_at, found_name, found_still, without_more, without_ordered}
+use Rattle.omega_board.proofs.Uses.{need_is, plus-assoc, rest_is, total-without}
 use Rattle.omega_board.proofs.Boards.{free_where_up, state_free, state_up, in_use, unused}
 
 -- the first part, where something is free on the machine and where nothing is
@@ -40,19 +41,14 @@ up_where_free table id free is = ap (λ up. refusal_if (not up) NoMachine) (sym 
 pub down_where_none : (table : List MachineState) (id : ℕ) → None ≡ free_at table id → Some NoMachine ≡ refusal_if (not (is_up (machine_at (machines_of table) id))) NoMachine
 down_where_none table id is = ap (λ up. refusal_if (not up) NoMachine) (sym (free_where_up table id ∙ ap is_some (sym is)))
 
+-- a machine for which a claim isn't refused is up
+pub not_refused : (up : Bool) → refusal_if (not up) NoMachine ≡ None → up ≡ true
+not_refused true e = refl
+not_refused false e = absurd (none-some NoMachine (sym e))
+
 -- where it isn't refused, something is free
 pub some_free : (table : List MachineState) (id : ℕ) → refusal_if (not (is_up (machine_at (machines_of table) id))) NoMachine ≡ None → is_some (free_at table id) ≡ true
-some_free table id none = sym (free_where_up table id) ∙ by (is_up (machine_at (machines_of table) id)) none
-  where
-    by : (up : Bool) → refusal_if (not up) NoMachine ≡ None → up ≡ true
-    by true e = refl
-    by false e = absurd (none-some NoMachine (sym e))
-
-and_comm : (a b : Bool) → (a && b) ≡ (b && a)
-and_comm true true = refl
-and_comm true false = refl
-and_comm false true = refl
-and_comm false false = refl
+some_free table id none = sym (free_where_up table id) ∙ not_refused (is_up (machine_at (machines_of table) id)) none
 
 -- one look-up says whether a task runs on a machine
 pub runs_on_is : (tasks : List Task) (id : ℕ) (key : TaskKey) → IsInOrder ByKey tasks → runs_on tasks id key ≡ option_map_or (λ task. task.machine == id) (task_at tasks key) false
@@ -81,15 +77,11 @@ gone_none tasks id before (key ∷ keys) none i d below =
     (λ t. at i below (gone_none tasks id (before ++ key ∷ []) keys (rw t at none)) (and_parts _ _ t))
     (λ f. absurd (none-some (VictimGone key) (sym (rw f at none))))
   where
-    no : (b : Bool) → not b ≡ true → b ≡ false
-    no true e = absurd (both_ways false refl e)
-    no false e = refl
-
     at : (j : ℕ) → j < length (key ∷ keys)
         → ((k : ℕ) (e : TaskKey) → k < length keys → (runs_on tasks id (get_or keys k e) ≡ true) × (is_among (get_or keys k e) ((before ++ key ∷ []) ++ take k keys) ≡ false))
         → (runs_on tasks id key ≡ true) × (not (is_among key before) ≡ true)
         → (runs_on tasks id (get_or (key ∷ keys) j d) ≡ true) × (is_among (get_or (key ∷ keys) j d) (before ++ take j (key ∷ keys)) ≡ false)
-    at zero inside rest here = (here.0, rw append-nil (no _ here.1))
+    at zero inside rest here = (here.0, rw append-nil (not-true _ here.1))
     at (suc j) inside rest here =
         let later = rest j d (omega arith) in
         (later.0, subst (λ front. is_among (get_or keys j d) front ≡ false) (append_assoc before (key ∷ []) (take j keys)) later.1)
@@ -98,7 +90,7 @@ gone_none tasks id before (key ∷ keys) none i d below =
 pub rest_more : (tasks : List Task) (id : ℕ) (gone : List TaskKey) (key : TaskKey) (t : Task) → IsInOrder ByKey tasks → task_at tasks key ≡ Some t → t.machine ≡ id → is_among key gone ≡ false
     → rest_on tasks id gone ≡ plus t.spec.need (rest_on tasks id (gone ++ key ∷ []))
 rest_more tasks id gone key t order found on stay =
-    let name : t.key ≡ key = own in
+    let name : t.key ≡ key = found_name tasks key t found in
     let still : task_at (without gone tasks) t.key ≡ Some t = ap (task_at (without gone tasks)) name ∙ found_still gone tasks key stay ∙ found in
     let split = total-without (is_on id) t (without gone tasks) still (without_ordered gone tasks order) in
     let here : is_on id t ≡ true = eq-eqb _ _ on in
@@ -106,13 +98,6 @@ rest_more tasks id gone key t order found on stay =
     rest_is tasks id gone ∙ amount
     ∙ ap (λ ts. plus t.spec.need (use_on ts id)) (ap (λ k. without (k ∷ []) (without gone tasks)) name ∙ sym (without_more gone key tasks))
     ∙ ap (plus t.spec.need) (sym (rest_is tasks id (gone ++ key ∷ [])))
-  where
-    units : (ts : List Task) → Each (λ (_ : Task). Unit {0}) ts
-    units [] = tt
-    units (_ ∷ ts) = (tt, units ts)
-
-    own : t.key ≡ key
-    own = key_same t.key key (each_found (λ _. Unit {0}) (λ (y : Task). same_key y.key key) tasks t (units tasks) found).1
 
 -- a part that doesn't place a claim
 unfoldable pub Refuses : Option Verdict → Type 0

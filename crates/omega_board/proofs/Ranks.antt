@@ -1,9 +1,8 @@
 -- The tasks on a machine in order of eviction.
-use Rattle.std.proofs.Common.{◌≡◌, ℕ, zero, suc, ◌+◌, ◌-◌, ◌<◌, ◌≤◌, Bool, true, false, cond, not, ◌||◌, ◌&&◌, nat_le, List, [], ◌∷◌, ◌++◌, length, get_or, take, drop, map, Option, Some, None, is_some, IsTrue, IsSomeAnd, refl, sym, ap, ap₂, ◌∙◌, subst, arith, ◌==◌, leb-true, le-leb}
-use Rattle.std.specs.List.{filter, find, list_any}
-use Rattle.std.specs.Option.{option_map}
+use Rattle.std.proofs.Common.{◌≡◌, ℕ, zero, suc, ◌+◌, ◌<◌, ◌≤◌, Bool, true, false, not, ◌&&◌, List, [], ◌∷◌, ◌++◌, length, get_or, take, drop, Option, Some, None, IsSomeAnd, refl, sym, ap, ap₂, ◌∙◌, subst, arith, ◌==◌, leb-true, le-leb}
+use Rattle.std.specs.List.{filter}
 use Rattle.std.proofs.lemmas.Bool.{both_ways, eq-eqb, and_parts, and_from, or_from, or_left, or_right, not_from_true, not_from_false}
-use Rattle.std.proofs.lemmas.List.{drop_more, drop_all, length-map, take_at, take-map, get_or-map, get_or_default}
+use Rattle.std.proofs.lemmas.List.{drop_more, drop_all, take_at, take-map, get_or-map, get_or_default}
 use Rattle.std.proofs.lemmas.List.Elements.{filter-append}
 use Rattle.std.proofs.lemmas.Option.{same_Some}
 use Rattle.omega_model.specs.Need.{Fits, fits, nothing, plus, minus}
@@ -17,8 +16,8 @@ use Rattle.omega_machines.proofs.Places.{by_answer}
 use Rattle.omega_running.specs.declared.orders.Order.TheVariants.{ByKey}
 use Rattle.omega_running.specs.Order.{Each, IsInOrder}
 use Rattle.omega_running.proofs.Lists.{each_map, each_both, each_of, each_back, filter_every, filter_none, filter_where}
-use Rattle.omega_board.proofs.Tasks.{stays, each_filter, filter_and, filter_alike, key_same, key_differs, key_differs_back}
-use Rattle.omega_board.proofs.Uses.{need_is, plus-swap, share, total-cons, total-append}
+use Rattle.omega_board.proofs.Tasks.{stays, each_filter, filter_and, filter_alike, key_same, key_itself, key_differs}
+use Rattle.omega_board.proofs.Uses.{need_is, plus-swap, share, total-cons}
 
 -- the test of an amount says what it says
 pub fits_true : (a b : Need) → Fits a b → fits a b ≡ true
@@ -67,7 +66,7 @@ total-ranked tasks id =
 pub each_here : (tasks : List Task) → IsInOrder ByKey tasks → Each (λ t. task_at tasks t.key ≡ Some t) tasks
 each_here [] order = tt
 each_here (x ∷ rest) order = (
-  rw (and_from _ _ (eq-eqb x.key.job x.key.job refl) (eq-eqb x.key.index x.key.index refl)) refl,
+  rw (key_itself x.key) refl,
   each_both (λ y. key_lt x.key y.key ≡ true) (λ y. task_at rest y.key ≡ Some y) (λ y. task_at (x ∷ rest) y.key ≡ Some y)
       (λ y less found. rw (key_differs x.key y.key less) found) rest order.0 (each_here rest order.1),
 )
@@ -82,10 +81,7 @@ Apart [] = Unit {0}
 Apart (t ∷ tasks) = Each (λ y. same_key t.key y.key ≡ false) tasks × Apart tasks
 
 same_key-sym : (a b : TaskKey) → same_key a b ≡ false → same_key b a ≡ false
-same_key-sym a b differ = by_answer (same_key b a) (λ t. absurd (both_ways _ differ (subst (λ k. same_key k b ≡ true) (key_same b a t) (itself b)))) (λ f. f)
-  where
-    itself : (k : TaskKey) → same_key k k ≡ true
-    itself k = and_from _ _ (eq-eqb k.job k.job refl) (eq-eqb k.index k.index refl)
+same_key-sym a b differ = by_answer (same_key b a) (λ t. absurd (both_ways _ differ (subst (λ k. same_key k b ≡ true) (key_same b a t) (key_itself b)))) (λ f. f)
 
 ordered_apart : (tasks : List Task) → IsInOrder ByKey tasks → Apart tasks
 ordered_apart [] order = tt
@@ -122,7 +118,7 @@ others_not_among (x ∷ xs) ys apart =
 each_among : (xs : List Task) → Each (λ x. is_among x.key (keys_of xs) ≡ true) xs
 each_among [] = tt
 each_among (x ∷ xs) = (
-  or_left _ _ (and_from _ _ (eq-eqb x.key.job x.key.job refl) (eq-eqb x.key.index x.key.index refl)),
+  or_left _ _ (key_itself x.key),
   each_map (λ y. is_among y.key (keys_of xs) ≡ true) (λ y. is_among y.key (keys_of (x ∷ xs)) ≡ true) (λ y h. or_right (same_key y.key x.key) _ h) xs (each_among xs),
 )
 

@@ -1,11 +1,11 @@
 -- A change of the running tasks that is noted can be taken back, and then the board is as before.
-use Rattle.std.proofs.Common.{◌≡◌, ℕ, ◌+◌, ◌-◌, ◌<◌, ◌≤◌, Bool, true, false, cond, not, nat_eq, List, [], ◌∷◌, map, Option, Some, None, is_some, IsTrue, IsSomeAnd, refl, sym, ap, ap₂, ◌∙◌, subst, arith}
-use Rattle.std.specs.List.{All, find}
+use Rattle.std.proofs.Common.{◌≡◌, ℕ, ◌+◌, true, nat_eq, List, [], ◌∷◌, Some, None, is_some, IsTrue, IsSomeAnd, refl, sym, ap, ◌∙◌, subst, arith}
+use Rattle.std.specs.List.{All}
 use Rattle.std.proofs.lemmas.Option.{none-some, same_Some}
 use Rattle.std.specs.Option.{option_map, option_and_then}
-use Rattle.std.proofs.lemmas.Bool.{both_ways, eqb-true, eq-eqb}
+use Rattle.std.proofs.lemmas.Bool.{eqb-true, eq-eqb}
 use Rattle.std.proofs.lemmas.List.Elements.{All-head, All-tail}
-use Rattle.omega_model.specs.Need.{Fits, plus, minus}
+use Rattle.omega_model.specs.Need.{Fits, plus}
 use Rattle.omega_model.specs.Keys.{same_key}
 use Rattle.omega_model.specs.Cell.{machine_at, task_at, with_task, without, is_on, use_on}
 use Rattle.omega_model.specs.Judge.{is_up}
@@ -17,15 +17,12 @@ use Rattle.omega_model.specs.declared.cells.Task.{Task}
 use Rattle.omega_machines.specs.declared.MachineState.{MachineState}
 use Rattle.omega_machines.specs.Table.{machines_of, state_at, free_if_up, free_at, seq_at}
 use Rattle.omega_machines.proofs.Places.{by_answer}
-use Rattle.omega_machines.proofs.Laws.{machine_of_state}
-use Rattle.omega_running.specs.declared.orders.Order.TheVariants.{ByKey}
-use Rattle.omega_running.specs.Order.{Each, IsInOrder}
+use Rattle.omega_running.specs.Order.{Each}
 use Rattle.omega_board.specs.Board.{BoardState, IsBoard, cell_of, recounted, table_with}
-use Rattle.omega_board.specs.Undo.{UndoState, with_tasks, before_change, before_all, MayTakeBack, MayTakeAllBack, at_reserve, IsUndoOf}
-use Rattle.omega_board.specs.declared.undo.Change.{Change}
+use Rattle.omega_board.specs.Undo.{UndoState, before_change, before_all, MayTakeAllBack, at_reserve, IsUndoOf}
 use Rattle.omega_board.specs.declared.undo.Change.TheVariants.{Stopped, Started}
 use Rattle.omega_board.proofs.Tasks.{each_found, back_again, gone_again, gone_absent, found_new}
-use Rattle.omega_board.proofs.Uses.{share, total-with}
+use Rattle.omega_board.proofs.Uses.{total-with}
 use Rattle.omega_board.proofs.Boards.{table_with-same, state_up, in_use, own_name, found_own}
 use Rattle.omega_board.proofs.Sounds.{sound_board}
 

@@ -1,12 +1,12 @@
 -- The verdict of a board under both rules, and replies as what a board may apply.
-use Rattle.std.proofs.Common.{◌≡◌, ℕ, zero, suc, ◌+◌, Bool, true, false, cond, not, ◌||◌, nat_eq, List, [], ◌∷◌, length, map, take, drop, Option, Some, None, refl, sym, ap, ap₂, ◌∙◌, subst, arith, if◌then◌else◌, ◌==◌}
+use Rattle.std.proofs.Common.{◌≡◌, ℕ, zero, suc, ◌+◌, Bool, true, false, cond, not, ◌||◌, List, [], ◌∷◌, length, map, take, drop, Option, Some, None, refl, sym, ap, ap₂, ◌∙◌, arith, ◌==◌}
 use Rattle.std.specs.List.{list_any, count_by, zip}
 use Rattle.std.proofs.lemmas.Bool.{both_ways, eq-eqb, eqb-true, ne_eqb}
 use Rattle.std.proofs.lemmas.List.Sums.{sum_by-cons}
 use Rattle.omega_model.specs.Cell.{Cell, machine_at, task_at}
 use Rattle.omega_model.specs.Judge.{is_up, refusal_if, first_of, no_machine, already_running, changed, victim_gone, victim_rank, same_job, full, judge}
 use Rattle.omega_model.specs.JudgeOn.{changed_on, judge_on}
-use Rattle.omega_model.specs.Reply.{after_claim, verdicts, withdrawn_for, first_refusal, all_or_nothing, by_mode, reply_on}
+use Rattle.omega_model.specs.Reply.{after_claim, verdicts, withdrawn_for, first_refusal, by_mode, reply_on}
 use Rattle.omega_model.specs.Touches.{is_placed, touches, seq}
 use Rattle.omega_model.specs.declared.claims.Claim.{Claim}
 use Rattle.omega_model.specs.declared.claims.Mode.{Mode}
@@ -18,7 +18,7 @@ use Rattle.omega_model.specs.declared.claims.Verdict.{Verdict}
 use Rattle.omega_model.specs.declared.claims.Verdict.TheVariants.{Placed, NoMachine, AlreadyRunning, Changed, VictimGone, VictimRank, SameJob, Full, Withdrawn}
 use Rattle.omega_model.specs.declared.entries.Entry.{Entry}
 use Rattle.omega_machines.proofs.Places.{by_answer}
-use Rattle.omega_board.specs.Entries.{MayPlace, MayPlaceAll}
+use Rattle.omega_board.specs.Entries.{MayPlaceAll}
 use Rattle.omega_board.proofs.Parts.{Refuses, refuses_if, refuses_running, passes}
 
 -- without a number of the copy the verdict is that of the fine rule, on any history

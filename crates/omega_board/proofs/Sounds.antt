@@ -1,5 +1,5 @@
 -- Every board stands for a sound cell.
-use Rattle.std.proofs.Common.{◌≡◌, ℕ, ◌+◌, ◌≤◌, Bool, true, false, List, [], ◌∷◌, map, IsTrue, refl, sym, ap, arith}
+use Rattle.std.proofs.Common.{◌≡◌, true, false, List, [], ◌∷◌, ap, arith}
 use Rattle.std.specs.List.{All, IsDistinct, AllByRecursion}
 use Rattle.std.proofs.lemmas.List.Elements.{All-nil, All-cons}
 use Rattle.std.proofs.lemmas.Map.Keys.{IsDistinct-cons}
@@ -9,13 +9,12 @@ use Rattle.omega_model.specs.Cell.{keys_of, use_on}
 use Rattle.omega_model.specs.Legal.{Sound}
 use Rattle.omega_model.specs.declared.cells.Need.{Need}
 use Rattle.omega_model.specs.declared.cells.Machine.{Machine}
-use Rattle.omega_model.specs.declared.cells.TaskKey.{TaskKey}
 use Rattle.omega_model.specs.declared.cells.Task.{Task}
 use Rattle.omega_machines.specs.declared.MachineState.{MachineState}
 use Rattle.omega_machines.specs.Table.{machines_of}
 use Rattle.omega_running.specs.declared.orders.Order.TheVariants.{ByKey}
 use Rattle.omega_running.specs.Order.{Each, IsInOrder}
-use Rattle.omega_board.specs.Board.{IsBoard, IsCounted, is_on_up}
+use Rattle.omega_board.specs.Board.{IsBoard, IsCounted}
 use Rattle.omega_board.proofs.Tasks.{key_differs}
 
 all_of_each : {X : Type 0} (P : X → Type 0) (xs : List X) → Each P xs → All P xs

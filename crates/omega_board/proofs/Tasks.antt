@@ -1,8 +1,9 @@
 -- Running tasks in order of key, with one more and with one less.
-use Rattle.std.proofs.Common.{◌≡◌, ℕ, Bool, true, false, cond, not, ◌||◌, ◌&&◌, List, [], ◌∷◌, ◌++◌, Option, Some, None, is_some, refl, sym, ap, ap₂, ◌∙◌, subst}
+use Rattle.std.proofs.Common.{◌≡◌, Bool, true, false, cond, not, ◌||◌, ◌&&◌, List, [], ◌∷◌, ◌++◌, Some, None, refl, sym, ap, ap₂, ◌∙◌, subst}
 use Rattle.std.specs.List.{filter, find, list_any}
 use Rattle.std.specs.Option.{option_map_or}
-use Rattle.std.proofs.lemmas.Bool.{both_ways, eqb-true, eq-eqb, and_parts, and_from, or_left, or_right, not_from_true, not_from_false}
+use Rattle.std.proofs.Math.Bool.{or-false}
+use Rattle.std.proofs.lemmas.Bool.{both_ways, eqb-true, eq-eqb, and_parts, and_from, or_left, or_right, not-true, not_from_false}
 use Rattle.std.proofs.lemmas.List.Elements.{filter-append}
 use Rattle.std.proofs.lemmas.List.Folds.{list_any-append}
 use Rattle.std.proofs.lemmas.Option.{none-some, same_Some}
@@ -12,8 +13,8 @@ use Rattle.omega_model.specs.declared.cells.TaskKey.{TaskKey}
 use Rattle.omega_model.specs.declared.cells.Task.{Task}
 use Rattle.omega_machines.proofs.Places.{by_answer}
 use Rattle.omega_running.specs.declared.orders.Order.TheVariants.{ByKey}
-use Rattle.omega_running.specs.Order.{Each, Rises, IsInOrder, precedes, put_in}
-use Rattle.omega_running.proofs.Lists.{each_map, each_append, filter_every, filter_none, find_none, find_right, any_none}
+use Rattle.omega_running.specs.Order.{Each, IsInOrder, precedes}
+use Rattle.omega_running.proofs.Lists.{each_map, each_append, each_of, filter_every, filter_none, find_none, find_right, any_none}
 use Rattle.omega_running.proofs.Strict.{trans}
 use Rattle.omega_running.proofs.InOrder.{key_apart, key_asym, key_strict}
 use Rattle.omega_running.proofs.Kept.{put_is, put_rises, rises_filter}
@@ -39,6 +40,9 @@ module _ {X : Type 0} where
       let same : x ≡ y = same_Some x y (rw t at found) in
       (subst P same e.0, ap p (sym same) ∙ t))
       (λ f. each_found P p xs y e.1 (rw f at found))
+
+  pub found_passes : (p : X → Bool) (xs : List X) (y : X) → find p xs ≡ Some y → p y ≡ true
+  found_passes p xs y found = (each_found (λ _. Unit {0}) p xs y (each_of _ (λ _. tt) xs) found).1
 
   -- a search that finds nothing
   pub each_absent : (p : X → Bool) (xs : List X) → find p xs ≡ None → Each (λ x. p x ≡ false) xs
@@ -75,20 +79,20 @@ key_same a b e =
     let index = eqb-true _ _ parts.1 in
     λ i. record { job = job i; index = index i }
 
+-- a name is its own
+pub key_itself : (key : TaskKey) → same_key key key ≡ true
+key_itself key = and_from _ _ (eq-eqb key.job key.job refl) (eq-eqb key.index key.index refl)
+
+-- a task that is found has the name
+pub found_name : (tasks : List Task) (key : TaskKey) (t : Task) → task_at tasks key ≡ Some t → t.key ≡ key
+found_name tasks key t found = key_same t.key key (found_passes (λ y. same_key y.key key) tasks t found)
+
 -- names in order are of two tasks
 pub key_differs : (a b : TaskKey) → key_lt a b ≡ true → same_key a b ≡ false
 key_differs a b less = not-true (same_key a b) (sym (key_apart a b) ∙ or_left _ _ less)
-  where
-    not-true : (b : Bool) → not b ≡ true → b ≡ false
-    not-true true e = absurd (both_ways false refl e)
-    not-true false e = refl
 
 pub key_differs_back : (a b : TaskKey) → key_lt a b ≡ true → same_key b a ≡ false
 key_differs_back a b less = not-true (same_key b a) (sym (key_apart b a) ∙ or_right _ _ less)
-  where
-    not-true : (b : Bool) → not b ≡ true → b ≡ false
-    not-true true e = absurd (both_ways false refl e)
-    not-true false e = refl
 
 -- the test for a task that stays when one of this name goes
 abbrev pub stays : TaskKey → Task → Bool
@@ -190,13 +194,10 @@ gone_again t tasks none order =
     let front = filter (λ o. key_lt o.key t.key) tasks in
     let back = filter (λ o. key_lt t.key o.key) tasks in
     filter-append (stays t.key) front (t ∷ back)
-    ∙ ap (λ ys. filter (stays t.key) front ++ ys) (rw (stays_not t.key t (same t.key)) refl)
+    ∙ ap (λ ys. filter (stays t.key) front ++ ys) (rw (stays_not t.key t (key_itself t.key)) refl)
     ∙ sym (filter-append (stays t.key) front back)
     ∙ ap (filter (stays t.key)) (parted t tasks none order)
     ∙ without_absent t.key tasks none
-  where
-    same : (k : TaskKey) → same_key k k ≡ true
-    same k = and_from _ _ (eq-eqb k.job k.job refl) (eq-eqb k.index k.index refl)
 
 -- a new task is found
 pub found_new : (t : Task) (tasks : List Task) → task_at (with_task t tasks) t.key ≡ Some t
@@ -205,7 +206,7 @@ found_new t tasks =
     let back = filter (λ o. key_lt t.key o.key) tasks in
     find_right (λ y. same_key y.key t.key) front (t ∷ back)
     (each_map (λ y. key_lt y.key t.key ≡ true) (λ y. same_key y.key t.key ≡ false) (λ y less. key_differs y.key t.key less) front (each_passes (λ o. key_lt o.key t.key) tasks))
-    ∙ rw (and_from _ _ (eq-eqb t.key.job t.key.job refl) (eq-eqb t.key.index t.key.index refl)) refl
+    ∙ rw (key_itself t.key) refl
 
 -- what holds of each task holds with one more
 pub each_with : (P : Task → Type 0) (t : Task) (tasks : List Task) → P t → Each P tasks → Each P (with_task t tasks)
@@ -224,11 +225,7 @@ any_at q r key is (x ∷ rest) order =
     let others = each_map (λ y. key_lt x.key y.key ≡ true) (λ y. q y ≡ false)
     (λ y less. is y ∙ ap (λ b. b && r y) (subst (λ k. same_key y.key k ≡ false) name (key_differs_back x.key y.key less))) rest order.0 in
     let here : q x ≡ r x = is x ∙ rw same refl in
-    rw same (ap₂ (λ a b. a || b) here (any_none q rest others) ∙ or_no (r x)))
+    rw same (ap₂ (λ a b. a || b) here (any_none q rest others) ∙ or-false (r x)))
     (λ other.
     let here : q x ≡ false = is x ∙ rw other refl in
     rw (other, here) (any_at q r key is rest order.1))
-  where
-    or_no : (a : Bool) → (a || false) ≡ a
-    or_no true = refl
-    or_no false = refl

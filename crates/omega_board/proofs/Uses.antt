@@ -1,17 +1,17 @@
 -- What tasks use.
-use Rattle.std.proofs.Common.{◌≡◌, ℕ, ◌+◌, ◌-◌, ◌≤◌, Bool, true, false, cond, not, ◌&&◌, List, [], ◌∷◌, ◌++◌, Option, Some, None, refl, sym, ap, ap₂, ◌∙◌, subst, arith}
+use Rattle.std.proofs.Common.{◌≡◌, ℕ, Bool, cond, not, List, [], ◌∷◌, ◌++◌, Some, None, refl, sym, ap, ◌∙◌, arith}
 use Rattle.std.specs.List.{filter}
 use Rattle.std.proofs.lemmas.List.Elements.{filter-append}
-use Rattle.omega_model.specs.Need.{Fits, nothing, plus, minus}
+use Rattle.omega_model.specs.Need.{nothing, plus}
 use Rattle.omega_model.specs.Keys.{key_lt, is_among}
-use Rattle.omega_model.specs.Cell.{task_at, with_task, without, total, is_on, stays_on, use_on, rest_on}
+use Rattle.omega_model.specs.Cell.{task_at, with_task, without, total, is_on, use_on, rest_on}
 use Rattle.omega_model.specs.declared.cells.Need.{Need}
 use Rattle.omega_model.specs.declared.cells.TaskKey.{TaskKey}
 use Rattle.omega_model.specs.declared.cells.Task.{Task}
 use Rattle.omega_machines.proofs.Places.{by_answer}
 use Rattle.omega_running.specs.declared.orders.Order.TheVariants.{ByKey}
 use Rattle.omega_running.specs.Order.{IsInOrder}
-use Rattle.omega_board.proofs.Tasks.{parted, back_again, gone_absent, filter_and, filter_alike, without_ordered}
+use Rattle.omega_board.proofs.Tasks.{parted, back_again, gone_absent, filter_and, without_ordered}
 
 -- amounts with equal parts are equal
 pub need_is : (a b : Need) → a.cpu ≡ b.cpu → a.mem ≡ b.mem → a ≡ b

@@ -3,7 +3,6 @@ use Rattle.std.specs.Prelude.{◌≡◌, ℕ, ◌+◌, ◌-◌, ◌<◌, ◌≤�
 use Rattle.omega_model.specs.Cell.{task_at, with_task, without}
 use Rattle.omega_model.specs.Legal.{Sound}
 use Rattle.omega_model.specs.declared.cells.Task.{Task}
-use Rattle.omega_model.specs.declared.cells.TaskKey.{TaskKey}
 use Rattle.omega_board.specs.Board.{BoardState, cell_of, table_with}
 use Rattle.omega_board.specs.declared.undo.Change.{Change}
 use Rattle.omega_board.specs.declared.undo.Change.TheVariants.{Stopped, Started}
@@ -44,8 +43,8 @@ MayTakeAllBack (change ∷ log) board = MayTakeBack change board × MayTakeAllBa
 abbrev pub at_reserve : UndoState → BoardState → BoardState
 at_reserve undo board = before_all undo.log board
 
--- since the reserve that gave the undo the board has changed by the undo's changes alone, and it still
--- has room for the claims for which the undo has
+-- an undo is of a board where its changes lead to the board, so that they can be taken back, the latest
+-- first, and where the board has room for as many claims as the undo has
 pub record IsUndoOf (board : BoardState) (undo : UndoState) : Type 0 where
   pub changes : MayTakeAllBack undo.log board
   pub room : undo.claims ≤ board.spare

@@ -43,7 +43,7 @@ impl Board {
         }
     }
 
-    /// The machines.
+    /// The machines, with what is free on each and how often each was touched. Takes no memory.
     pub fn machines(&self) -> &MachineTable
         ensures table { result.now ≡ self.now.table }
         ensures sound { Sound (cell_of self.now) }
@@ -52,7 +52,7 @@ impl Board {
         &self.table
     }
 
-    /// The running tasks.
+    /// The running tasks, and for how many more there is room. Takes no memory.
     pub fn running(&self) -> &Running
         ensures tasks { result.now.tasks ≡ self.now.tasks }
         ensures spare { result.now.spare ≡ self.now.spare }
@@ -62,7 +62,7 @@ impl Board {
         &self.running
     }
 
-    /// An equal board, with no room for more tasks. Costs the whole board.
+    /// An equal board, with no room for more tasks. Costs the whole board, in memory and time.
     pub fn copy(&self, alloc: Global) -> Result<Board, NoMemory>
         ensures { IfOk result (λ copied. copied ≡ record self.now { spare = 0 }) }
     {

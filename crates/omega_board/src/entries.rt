@@ -1,17 +1,15 @@
 //! Entries, applied to the board.
-ghost use Rattle.std.specs.Prelude.{◌≡◌, ◌≤◌, [], sum_by, ◌+◌, ◌-◌, ◌<◌, ◌^◌, ◌⊎◌, ℕ, List, length, OnOk, OnErr, IfOk, IsTrue, IsSomeAnd, if◌then◌else◌};
-ghost use Rattle.std.specs.List.{filter, zip, fold, list_any};
-ghost use Rattle.omega_machines.specs.Table.{machines_of, ensured_states, change_state, touched, state_added, state_updated, with_machine, seq_at};
-ghost use Rattle.omega_model.specs.Cell.{keys_of, is_on, total, use_on, without, task_at};
-ghost use Rattle.omega_model.specs.Fields.{greatest};
-ghost use Rattle.omega_model.specs.Machines.{is_listed, removed, attr_deleted};
-ghost use Rattle.omega_model.specs.Need.{Fits, nothing, minus};
+ghost use Rattle.std.specs.Prelude.{◌≡◌, ◌≤◌, [], sum_by, ◌+◌, ◌-◌, ◌<◌, ◌^◌, ℕ, length, OnOk, OnErr, IfOk, IsTrue, if◌then◌else◌};
+ghost use Rattle.std.specs.List.{zip, fold, list_any};
+ghost use Rattle.omega_machines.specs.Table.{machines_of, seq_at};
+ghost use Rattle.omega_model.specs.Cell.{keys_of, use_on};
+ghost use Rattle.omega_model.specs.Need.{minus};
 ghost use Rattle.omega_model.specs.Reply.{tasks_after_claim};
 ghost use Rattle.omega_model.specs.State.{step, displaced, excess, ranked_on};
 ghost use Rattle.omega_model.specs.Touches.{touches, places_on};
 ghost use Rattle.omega_board.specs.Board.{cell_of, CountsOn};
 ghost use Rattle.omega_board.specs.Undo.{IsUndoOf};
-ghost use Rattle.omega_board.specs.Entries.{MayApply, HasRoomFor, MayPlaceAll};
+ghost use Rattle.omega_board.specs.Entries.{MayApply, MayPlaceAll};
 
 use crate::Board;
 use crate::placing::is_placed;
@@ -28,7 +26,12 @@ impl Board {
     /// more entry. Answers the names of the tasks that a change of their machine stops, in the order
     /// in which they stop. The machines and tasks stay where memory runs out.
     ///
-    /// Costs what the entry changes. Where it displaces a task, it costs the tasks on the machine.
+    /// A capacity is at most 10^12 units of each kind, there are at most 65,536 machines, no number
+    /// that rises is 2^64 - 1 already, an end names a task that runs on its machine, and the placed
+    /// claims of a commit can be placed one after the other.
+    ///
+    /// Costs what the entry changes. Where it displaces a task, it costs the tasks on the machine,
+    /// which are sorted; a commit costs its claims as `reserve`, `apply_placed` and `touch_placed` do.
     pub fn apply_entry(&mut self, alloc: Global, entry: &Entry) -> Result<Keys, NoMemory>
         requires { MayApply self.old entry.now }
         ensures cell { OnOk result (cell_of self.new ≡ step (cell_of self.old) entry.now) }

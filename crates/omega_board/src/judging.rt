@@ -1,9 +1,8 @@
 //! The verdict on a claim, part by part.
-ghost use Rattle.std.specs.Prelude.{◌≡◌, [], None, Some, option_map, is_some, IsTrue};
+ghost use Rattle.std.specs.Prelude.{◌≡◌, None, Some, option_map, is_some, IsTrue};
 ghost use Rattle.omega_machines.specs.Table.{seq_at};
 ghost use Rattle.omega_model.specs.Cell.{task_at};
 ghost use Rattle.omega_model.specs.Judge.{no_machine, already_running, victim_gone, victim_rank, same_job, full, free_after, runs_on, withstands};
-ghost use Rattle.omega_model.specs.Cell.{task_at};
 ghost use Rattle.omega_model.specs.JudgeOn.{changed_on, judge_on};
 ghost use Rattle.omega_model.specs.Keys.{is_among};
 ghost use Rattle.omega_board.specs.Board.{cell_of};

@@ -18,10 +18,12 @@ use std::alloc::Global;
 
 impl Board {
     /// Makes room for placing these claims, each with its victims, and for taking them back. The
-    /// machines and tasks stay, also where memory runs out. Costs the claims.
+    /// machines and tasks stay, also where memory runs out, and no room is lost then. Costs the
+    /// claims and their victims.
     pub fn reserve(&mut self, alloc: Global, claims: &Claims) -> Result<Undo, NoMemory>
         ensures table { self.new.table ≡ self.old.table }
         ensures tasks { self.new.tasks ≡ self.old.tasks }
+        ensures kept { self.old.spare ≤ self.new.spare }
         ensures room { IfOk result (λ undo. undo ≡ record { log = []; claims = length claims.now; victims = sum_by (λ claim. length claim.victims) claims.now }) }
         ensures undo { IfOk result (λ undo. IsUndoOf self.new undo) }
         ensures content { IfOk result (λ undo. at_reserve undo self.new ≡ self.new) }
@@ -31,9 +33,9 @@ impl Board {
         Ok(undo)
     }
 
-    /// Places a claim: its victims stop and its task runs. Sequence numbers stay. The undo's room
-    /// for a claim and for the victims is used up, and it still takes the board back to its
-    /// reserve. Costs the victims. Takes no memory.
+    /// Places a claim that is judged `Placed` without a number of a copy: its victims stop and its
+    /// task runs. Sequence numbers stay. The undo has room for the claim and its victims, which is
+    /// used up, and it still takes the board back to its reserve. Costs the victims. Takes no memory.
     pub fn apply_placed(&mut self, claim: &Claim, undo: &mut Undo)
         requires placed { judge_on (cell_of self.old) 0 None claim.now ≡ Verdict.Placed }
         requires undo { IsUndoOf self.old undo.old }
@@ -59,24 +61,28 @@ impl Board {
         self.start_noted(task, undo);
     }
 
-    /// Takes back all that was placed with this undo since the reserve that gave it. Costs what
-    /// changes. Takes no memory.
+    /// Takes back all that was placed with this undo since the reserve that gave it. The undo's room
+    /// stays as it is. Costs what changes. Takes no memory.
     pub fn undo(&mut self, undo: &mut Undo)
         requires { IsUndoOf self.old undo.old }
         ensures board { self.new ≡ at_reserve undo.old self.old }
         ensures log { undo.new.log ≡ [] }
+        ensures claims { undo.new.claims ≡ undo.old.claims }
+        ensures victims { undo.new.victims ≡ undo.old.victims }
     {
         while let Some(change) = undo.pop() {
             self.take_back(change);
         }
     }
 
-    /// Counts a commit on each machine on which it placed a claim, once. Costs the claims; each is
-    /// compared with those before it, back to the last one on its machine. Takes no memory.
+    /// Counts a commit on each machine on which it placed a claim, once. These machines are in the
+    /// list, and none of their numbers is 2^64 - 1. Costs the claims; each is compared with those
+    /// before it, back to the last one on its machine. Takes no memory.
     pub fn touch_placed(&mut self, claims: &Claims, reply: &Verdicts)
         requires listed { (id : ℕ) → IsTrue (list_any (places_on id) (zip claims.now reply.now)) → IsTrue (is_listed id (machines_of self.old.table)) }
         requires seqs { (id : ℕ) → IsTrue (list_any (places_on id) (zip claims.now reply.now)) → seq_at self.old.table id < 2 ^ 64 - 1 }
         ensures tasks { self.new.tasks ≡ self.old.tasks }
+        ensures spare { self.new.spare ≡ self.old.spare }
         ensures machines { machines_of self.new.table ≡ machines_of self.old.table }
         ensures seqs { (id : ℕ) → seq_at self.new.table id ≡ seq_at self.old.table id + (if list_any (places_on id) (zip claims.now reply.now) then 1 else 0) }
     {

@@ -8,7 +8,8 @@ ghost use Rattle.omega_board.specs.Undo.{IsUndoOf};
 
 use crate::{Board, Undo};
 use omega_model::{
-    Claim, Claims, Entry, Keys, Need, NoMemory, Seq, Spec, TaskKey, Verdict, Verdicts,
+    Bytes, Claim, Claims, Entry, Keys, Mode, Need, NoMemory, Rule, Seq, Spec, TaskKey, Txn,
+    Verdict, Verdicts,
 };
 use std::alloc::Global;
 
@@ -80,6 +81,66 @@ fn remove(board: &mut Board, alloc: Global, machine: u64) -> Result<Keys, NoMemo
     } else {
         Err(NoMemory)
     }
+}
+
+fn set_attr(board: &mut Board, alloc: Global, machine: u64) -> Result<Keys, NoMemory> {
+    let name = Bytes::of(Vec::from_slice(alloc, b"kernel")?);
+    let value = Bytes::of(Vec::from_slice(alloc, b"17")?);
+    let room = board.machines().len() < 65536;
+    if room && board.machines().seq(machine) < u64::MAX {
+        let entry = Entry::AttrSet {
+            machine,
+            name,
+            value,
+        };
+        board.apply_entry(alloc, &entry)
+    } else {
+        Err(NoMemory)
+    }
+}
+
+fn delete_attr(board: &mut Board, alloc: Global, machine: u64) -> Result<Keys, NoMemory> {
+    let name = Bytes::of(Vec::from_slice(alloc, b"kernel")?);
+    let room = board.machines().len() < 65536;
+    if room && board.machines().seq(machine) < u64::MAX {
+        board.apply_entry(alloc, &Entry::AttrDelete { machine, name })
+    } else {
+        Err(NoMemory)
+    }
+}
+
+// The running task of this name ends.
+fn end(board: &mut Board, alloc: Global, key: TaskKey) -> Result<Keys, NoMemory> {
+    let Some(task) = board.running().get(key) else {
+        return Err(NoMemory);
+    };
+    let machine = task.machine;
+    if board.machines().seq(machine) < u64::MAX {
+        board.apply_entry(alloc, &Entry::End { key, machine })
+    } else {
+        Err(NoMemory)
+    }
+}
+
+// An entry of a commit that places this claim.
+fn apply_commit(board: &mut Board, alloc: Global, claim: Claim) -> Result<Keys, NoMemory> {
+    let verdict = board.judge(&claim, None);
+    if verdict != Verdict::Placed || board.machines().seq(claim.machine) == u64::MAX {
+        return Err(NoMemory);
+    }
+    let txn = Txn {
+        job: claim.key.job,
+        rule: Rule::Fine,
+        mode: Mode::Incremental,
+        claims: Seq::of(vec![in alloc; claim]?),
+    };
+    let entry = Entry::Commit {
+        scheduler: 1,
+        seen: 0,
+        txn,
+        reply: Seq::of(vec![in alloc; Verdict::Placed]?),
+    };
+    board.apply_entry(alloc, &entry)
 }
 
 // The sequence number, the number of running tasks, and what is free on machine 1.
@@ -277,5 +338,54 @@ fn a_smaller_machine_displaces_by_rank(rt: HostRuntime) -> Result<(), NoMemory> 
     let order = [key(10, 0)];
     assert_eq!(rt; gone.as_slice(), order.as_slice());
     assert_eq!(rt; seen(&board), (6, 0, None));
+    Ok(())
+}
+
+#[test]
+fn victims_stop_and_come_back(rt: HostRuntime) -> Result<(), NoMemory> {
+    let alloc = rt.alloc();
+    let mut board = occupied(alloc)?;
+    let high = spec(need(5, 5), 5, false);
+    let taking = claim(alloc, key(2, 0), 1, high, &[key(1, 0)])?;
+    let lost = claim(alloc, key(2, 1), 9, high, &[])?;
+    let claims = list(alloc, taking, Some(lost))?;
+    let told = [Verdict::Placed, Verdict::NoMachine];
+    let reply = commit(&mut board, alloc, &claims, None, true)?;
+    assert_eq!(rt; reply.as_slice(), told.as_slice());
+    assert_eq!(rt; seen(&board), (2, 1, Some(need(2, 2))));
+    let reply = commit(&mut board, alloc, &claims, None, false)?;
+    assert_eq!(rt; reply.as_slice(), told.as_slice());
+    assert_eq!(rt; seen(&board), (3, 1, Some(need(5, 5))));
+    Ok(())
+}
+
+#[test]
+fn attributes_list_their_machine(rt: HostRuntime) -> Result<(), NoMemory> {
+    let alloc = rt.alloc();
+    let mut board = Board::new(alloc);
+    set_attr(&mut board, alloc, 9)?;
+    let machine = board.machines().at(0);
+    assert_eq!(rt; machine.map(|machine| machine.attrs.len()), Some(1));
+    assert_eq!(rt; machine.map(|machine| machine.up), Some(false));
+    delete_attr(&mut board, alloc, 9)?;
+    delete_attr(&mut board, alloc, 8)?;
+    let machine = board.machines().at(0);
+    assert_eq!(rt; machine.map(|machine| machine.attrs.len()), Some(0));
+    assert_eq!(rt; board.machines().len(), 2);
+    assert_eq!(rt; (board.machines().seq(9), board.machines().seq(8)), (2, 1));
+    Ok(())
+}
+
+#[test]
+fn tasks_come_and_go_by_entries(rt: HostRuntime) -> Result<(), NoMemory> {
+    let alloc = rt.alloc();
+    let mut board = occupied(alloc)?;
+    let claim = claim(alloc, key(2, 0), 1, spec(need(2, 1), 0, false), &[])?;
+    apply_commit(&mut board, alloc, claim)?;
+    assert_eq!(rt; seen(&board), (3, 2, Some(need(0, 1))));
+    end(&mut board, alloc, key(1, 0))?;
+    assert_eq!(rt; seen(&board), (4, 1, Some(need(8, 9))));
+    board.apply_entry(alloc, &Entry::Round { number: 7 })?;
+    assert_eq!(rt; seen(&board), (4, 1, Some(need(8, 9))));
     Ok(())
 }

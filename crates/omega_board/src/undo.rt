@@ -36,8 +36,8 @@ impl Model for Undo {
 }
 
 impl Undo {
-    /// No change, and room for so many claims and victims.
-    pub fn with_room(alloc: Global, claims: usize, victims: usize) -> Result<Undo, NoMemory>
+    // No change, and room for so many claims and victims.
+    pub(crate) fn with_room(alloc: Global, claims: usize, victims: usize) -> Result<Undo, NoMemory>
         ensures { IfOk result (λ undo. undo ≡ record { log = []; claims = claims; victims = victims }) }
     {
         let Some(room) = claims.checked_add(victims) else {
@@ -51,8 +51,8 @@ impl Undo {
         })
     }
 
-    /// Notes that a task stopped. Takes no memory.
-    pub fn note_stopped(&mut self, task: Task)
+    // Notes that a task stopped. Takes no memory.
+    pub(crate) fn note_stopped(&mut self, task: Task)
         requires { 0 < self.old.victims }
         ensures log { self.new.log ≡ Change.Stopped task ∷ self.old.log }
         ensures claims { self.new.claims ≡ self.old.claims }
@@ -62,8 +62,8 @@ impl Undo {
         self.victims -= 1;
     }
 
-    /// Notes that a task started. Takes no memory.
-    pub fn note_started(&mut self, key: TaskKey)
+    // Notes that a task started. Takes no memory.
+    pub(crate) fn note_started(&mut self, key: TaskKey)
         requires { 0 < self.old.claims }
         ensures log { self.new.log ≡ Change.Started key ∷ self.old.log }
         ensures claims { self.new.claims + 1 ≡ self.old.claims }
@@ -73,9 +73,11 @@ impl Undo {
         self.claims -= 1;
     }
 
-    /// Takes the latest change off the log. Takes no memory.
-    pub fn pop(&mut self) -> Option<Change>
-        ensures { MatchOption result ((self.old.log ≡ []) × (self.new.log ≡ [])) (λ change. self.old.log ≡ change ∷ self.new.log) }
+    // Takes the latest change off the log. Gives no room back. Takes no memory.
+    pub(crate) fn pop(&mut self) -> Option<Change>
+        ensures log { MatchOption result ((self.old.log ≡ []) × (self.new.log ≡ [])) (λ change. self.old.log ≡ change ∷ self.new.log) }
+        ensures claims { self.new.claims ≡ self.old.claims }
+        ensures victims { self.new.victims ≡ self.old.victims }
     {
         self.log.pop()
     }

@@ -7,7 +7,6 @@ use Rattle.omega_model.specs.Fields.{ConstraintFields}
 use Rattle.omega_model.specs.Keys.{same_key}
 use Rattle.omega_model.specs.Requests.{jobs_in_order, scheduler_of, request_of, is_waiting}
 use Rattle.omega_model.specs.Wanted.{WantedTask, wanted}
-use Rattle.omega_model.specs.declared.cells.Spec.{Spec}
 use Rattle.omega_model.specs.declared.cells.TaskKey.{TaskKey}
 use Rattle.omega_model.specs.declared.rows.Row.{Row}
 use Rattle.omega_model.specs.declared.rows.TraceTables.{TraceTables}

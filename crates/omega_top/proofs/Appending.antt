@@ -1,16 +1,14 @@
 -- Which entries may be appended to a history.
-use Rattle.std.proofs.Common.{◌≡◌, ◌≤◌, ◌⊎◌, inl, inr, ℕ, Bool, true, false, List, [], ◌∷◌, ◌++◌, Option, Some, None, length, refl, ap, ap₂, subst, sym, arith, ◌∙◌}
+use Rattle.std.proofs.Common.{◌≡◌, ◌⊎◌, inl, inr, ℕ, Bool, true, false, List, [], ◌∷◌, ◌++◌, Option, Some, None, length, refl, ap, ap₂, subst, sym, arith, ◌∙◌}
 use Rattle.std.specs.Prelude.{◌==◌, ◌&&◌, if◌then◌else◌, IsSomeAnd}
 use Rattle.std.specs.List.{find}
 use Rattle.std.proofs.lemmas.Bool.{eqb-true}
-use Rattle.omega_board.specs.Entries.{EndsRunning}
-use Rattle.omega_model.specs.Cell.{Cell, task_at}
-use Rattle.omega_model.specs.Fields.{greatest, MachineFields, AttrFields, TaskFields}
+use Rattle.omega_model.specs.Cell.{task_at}
+use Rattle.omega_model.specs.Fields.{greatest, MachineFields, AttrFields}
 use Rattle.omega_model.specs.Keys.{same_key}
 use Rattle.omega_model.specs.Need.{Fits}
 use Rattle.omega_model.specs.State.{reply_of, state}
-use Rattle.omega_model.specs.Wanted.{WantedTask, attr_entry, end_of, ends, machine_entry, row_entries, task_entries}
-use Rattle.omega_model.specs.declared.cells.Need.{Need}
+use Rattle.omega_model.specs.Wanted.{WantedTask, attr_entry, end_of, ends, machine_entry, row_entries}
 use Rattle.omega_model.specs.declared.cells.Task.{Task}
 use Rattle.omega_model.specs.declared.cells.TaskKey.{TaskKey}
 use Rattle.omega_model.specs.declared.claims.Rule.TheVariants.{Fine}

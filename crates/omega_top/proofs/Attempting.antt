@@ -1,13 +1,11 @@
 -- An attempt on the first request of the scheduler that works.
-use Rattle.std.proofs.Common.{◌≡◌, ◌<◌, ◌≤◌, ◌+◌, ℕ, Bool, true, false, List, [], ◌∷◌, ◌++◌, length, take, refl, sym, ap, ap₂, subst, arith, ◌∙◌}
+use Rattle.std.proofs.Common.{◌≡◌, ◌<◌, ◌+◌, ℕ, Bool, true, false, List, [], ◌∷◌, ◌++◌, length, refl, sym, ap, ap₂, subst, arith, ◌∙◌}
 use Rattle.std.specs.Prelude.{◌==◌, ◌||◌, if◌then◌else◌, nat_le}
 use Rattle.std.proofs.lemmas.Bool.{eq-eqb, leb-false}
 use Rattle.std.proofs.Math.Seq.{take-length}
-use Rattle.omega_model.specs.Policy.{policy_of, schedulers}
-use Rattle.omega_model.specs.Requests.{failed, failed_after}
-use Rattle.omega_model.specs.Touches.{is_placed}
-use Rattle.std.specs.List.{list_any}
-use Rattle.omega_model.specs.Work.{Agrees, Position, commits_of, ends_request, failing_after, is_empty, next_position, outcomes_of, planned, rest_of}
+use Rattle.omega_model.specs.Policy.{schedulers}
+use Rattle.omega_model.specs.Requests.{failed}
+use Rattle.omega_model.specs.Work.{Agrees, commits_of, ends_request, failing_after, is_empty, next_position, outcomes_of, planned, rest_of}
 use Rattle.omega_model.specs.Working.{Setting, Working}
 use Rattle.omega_model.specs.declared.claims.Outcome.{Outcome}
 use Rattle.omega_model.specs.declared.claims.Txn.{Txn}

@@ -1,5 +1,5 @@
 -- Tables without a refusal and no fault leave two answers.
-use Rattle.std.proofs.Common.{◌≡◌, ◌≢◌, ◌⊎◌, List, ℕ, None, inl, inr, refl, subst}
+use Rattle.std.proofs.Common.{◌≡◌, ◌⊎◌, List, ℕ, None, inl, inr, refl, subst}
 use Rattle.omega_io.specs.Edge.{Rose}
 use Rattle.omega_model.specs.Refusals.{first_refusal}
 use Rattle.omega_model.specs.declared.results.Status.{Status}

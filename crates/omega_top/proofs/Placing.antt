@@ -1,12 +1,11 @@
 -- The claims that a reply places can be placed one after the other.
-use Rattle.std.proofs.Common.{◌≡◌, ℕ, Bool, true, false, List, [], ◌∷◌, ◌++◌, map, length, None, refl, ap, subst, sym, ◌∙◌}
+use Rattle.std.proofs.Common.{◌≡◌, ℕ, Bool, true, false, List, [], ◌∷◌, map, length, refl, ap, subst, sym, ◌∙◌}
 use Rattle.std.specs.Prelude.{◌==◌, if◌then◌else◌, IfOk, Result, Ok, Err}
 use Rattle.std.specs.List.{zip}
 use Rattle.omega_board.specs.Entries.{MayPlaceAll}
 use Rattle.omega_model.specs.Cell.{Cell}
 use Rattle.omega_model.specs.Judge.{judge}
-use Rattle.omega_model.specs.JudgeOn.{judge_on}
-use Rattle.omega_model.specs.Reply.{after_claim, all_or_nothing, by_mode, first_refusal, reply_on, tasks_placed, verdicts, withdrawn_for}
+use Rattle.omega_model.specs.Reply.{after_claim, by_mode, first_refusal, reply_on, tasks_placed, verdicts, withdrawn_for}
 use Rattle.omega_model.specs.Touches.{is_placed}
 use Rattle.omega_model.specs.declared.claims.Claim.{Claim}
 use Rattle.omega_model.specs.declared.claims.Mode.{Mode}

@@ -1,13 +1,13 @@
 -- One more row of a round, and one more round of a trace.
-use Rattle.std.proofs.Common.{◌≡◌, ◌≢◌, ◌<◌, ◌+◌, ℕ, List, [], ◌∷◌, ◌++◌, refl, sym, ap, ap₂, subst, arith, ◌∙◌, append_assoc}
-use Rattle.std.specs.List.{filter, flat_map, fold}
+use Rattle.std.proofs.Common.{◌≡◌, ℕ, List, [], ◌∷◌, ◌++◌, sym, ap, ap₂, subst, ◌∙◌, append_assoc}
+use Rattle.std.specs.List.{filter, fold}
 use Rattle.std.proofs.lemmas.Grind.{flat_map-append}
 use Rattle.std.proofs.lemmas.List.{append-nil}
 use Rattle.std.proofs.lemmas.List.Sums.{fold-append}
 use Rattle.omega_feed.specs.Asked.{Asked, asked_after, asked_requests}
 use Rattle.omega_feed.proofs.AskedAfter.{asked_more, asked_open}
 use Rattle.omega_model.specs.Cell.{Cell}
-use Rattle.omega_model.specs.Lawful.{Applied, RoundOf, Rounds, opened, rows_of, with_row}
+use Rattle.omega_model.specs.Lawful.{Applied, opened, rows_of, with_row}
 use Rattle.omega_model.specs.OpenRequests.{is_worked_on, open_requests}
 use Rattle.omega_model.specs.Requests.{requests}
 use Rattle.omega_model.specs.State.{state}
@@ -21,7 +21,7 @@ use Rattle.omega_model.specs.declared.settings.Settings.{Settings}
 use Rattle.omega_model.specs.declared.wishes.Request.{Request}
 use Rattle.omega_model.proofs.Attempts.{working_first}
 use Rattle.omega_model.proofs.OpenRequests.{requests_from_open}
-use Rattle.omega_model.proofs.RoundsInOrder.{requests-other, rounds_push}
+use Rattle.omega_model.proofs.RoundsInOrder.{requests-other}
 
 -- a history with the rows that led to it
 abbrev pub applied_rows : List Row → List Entry → Applied

@@ -1,5 +1,5 @@
 -- What is printed of a refusal, and the status with which the program ends.
-use Rattle.std.specs.Prelude.{ℕ, List, [], ◌∷◌, ◌++◌, codes, decimal}
+use Rattle.std.specs.Prelude.{ℕ, List, [], ◌++◌, codes, decimal}
 use Rattle.omega_model.specs.declared.results.Cause.{Cause}
 use Rattle.omega_model.specs.declared.results.Cause.TheVariants.{Fields, Number, Range, Quantity}
 use Rattle.omega_model.specs.declared.results.Kind.{Kind}

@@ -1,10 +1,10 @@
 -- A history with the board after it and the failed commits in it.
-use Rattle.std.specs.Prelude.{◌≡◌, ℕ, List, [], ◌∷◌, ◌++◌, IfSome}
+use Rattle.std.specs.Prelude.{◌≡◌, ℕ, List, [], ◌∷◌, ◌++◌, take, IfSome}
 use Rattle.omega_board.specs.Board.{BoardState, cell_of}
 use Rattle.omega_board.specs.Entries.{EndsRunning, PlacesInOrder, capacity_in}
 use Rattle.omega_machines.specs.Table.{seq_at}
 use Rattle.omega_model.specs.Fields.{greatest}
-use Rattle.omega_model.specs.Legal.{Follows, Legal}
+use Rattle.omega_model.specs.Legal.{Follows, Legal, Sound}
 use Rattle.omega_model.specs.Need.{Fits}
 use Rattle.omega_model.specs.Requests.{failed}
 use Rattle.omega_model.specs.State.{state}
@@ -15,12 +15,18 @@ use Rattle.omega_model.specs.declared.rows.Row.TheVariants.{Machine, Attr, Task}
 use Rattle.omega_top.specs.declared.failures.Failures.{Failures}
 use Rattle.omega_top.specs.Counts.{count_of}
 
--- the board has the state of the history, which is legal, and its sequence numbers, and each job's
--- failed commits are counted
+-- after each of its entries the state of the history is sound: no machine is used beyond its capacity,
+-- no task runs twice, and each is on a machine that is up
+abbrev pub NeverOvercommits : List Entry → Type 0
+NeverOvercommits history = (n : ℕ) → Sound (state (take n history))
+
+-- the board has the state of the history and its sequence numbers, the history is legal and never
+-- overcommits, and each job's failed commits are counted
 pub record Replays (board : BoardState) (failures : Failures) (history : List Entry) : Type 0 where
   pub current : cell_of board ≡ state history
   pub numbered : (id : ℕ) → seq_at board.table id ≡ seq history id
   pub legal : Legal history
+  pub sound : NeverOvercommits history
   pub counted : (job : ℕ) → count_of failures job ≡ failed history job
 
 -- an entry may follow a history and be applied to its state: a capacity is at most the greatest

@@ -2,13 +2,13 @@
 ghost use Rattle.std.specs.Prelude.{◌≡◌, ◌++◌, ◌∷◌, [], IfOk, IfSome, IsTrue, false, length, ℕ};
 ghost use Rattle.omega_board.specs.Board.{cell_of};
 ghost use Rattle.omega_board.specs.Entries.{HasRoomFor, machine_in};
-ghost use Rattle.omega_model.specs.Legal.{Legal};
+ghost use Rattle.omega_model.specs.Legal.{Legal, Sound};
 ghost use Rattle.omega_model.specs.Plan.{plan};
 ghost use Rattle.omega_model.specs.Requests.{failed, failed_after};
 ghost use Rattle.omega_model.specs.State.{reply_of, state};
 ghost use Rattle.omega_model.specs.declared.claims.Rule.TheVariants.{Fine};
 ghost use Rattle.omega_top.specs.Counts.{count_of};
-ghost use Rattle.omega_top.specs.Replays.{MayAppend};
+ghost use Rattle.omega_top.specs.Replays.{MayAppend, NeverOvercommits};
 
 use crate::claims::any_placed;
 use crate::failures::Failures;
@@ -75,6 +75,7 @@ impl Replay {
     pub fn into_history(self) -> Entries
         ensures history { result ≡ self }
         ensures legal { Legal result }
+        ensures sound { NeverOvercommits result }
     {
         let Replay { entries, .. } = self;
         Seq::of(entries)
@@ -119,6 +120,7 @@ impl Replay {
             return Err(NoMemory);
         }
         board.apply_entry(alloc, &entry)?;
+        check_sound(&board);
         let failures = noted(failures, &entry)?;
         entries.push(entry)?;
         Ok(Replay {
@@ -127,6 +129,13 @@ impl Replay {
             entries,
         })
     }
+}
+
+// What a board keeps by its type.
+fn check_sound(board: &Board)
+    ensures { Sound (cell_of board.now) }
+{
+    let _machines = board.machines();
 }
 
 // Whether a board has the machine of an entry, or room for it.

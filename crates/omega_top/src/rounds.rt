@@ -14,7 +14,7 @@ ghost use Rattle.omega_model.specs.declared.rows.Row.{Row};
 ghost use Rattle.omega_model.specs.declared.rows.TraceTables.{TraceTables};
 ghost use Rattle.omega_model.specs.declared.settings.Settings.{Settings};
 ghost use Rattle.omega_top.specs.Answers.{IsBuilt};
-ghost use Rattle.omega_top.specs.Replays.{IsInRange, MayAppendAll};
+ghost use Rattle.omega_top.specs.Replays.{IsInRange, MayAppendAll, NeverOvercommits};
 
 use crate::attempts::{SCHEDULER, worked};
 use crate::replaying::Replay;
@@ -33,6 +33,7 @@ pub fn replayed(
     requires { IsBuilt settings.now }
     ensures lawful { IfOk result (λ history. Lawful settings.now trace.now history) }
     ensures legal { IfOk result (λ history. Legal history) }
+    ensures sound { IfOk result (λ history. NeverOvercommits history) }
 {
     let rounds = rounds(alloc, trace, settings.window)?;
     let mut wanted = Wanted::new(alloc, trace, settings)?;

@@ -172,10 +172,8 @@ pub fn exit_status(status: &Status) -> u8
     match status {
         Status::Done => 0,
         Status::Usage => 2,
-        Status::ReadFault(_)
-        | Status::TooLong(_)
-        | Status::BadRow { .. }
-        | Status::TooMany(..) => 3,
+        Status::ReadFault(_) | Status::TooLong(_) | Status::BadRow { .. } | Status::TooMany(..) =>
+            3,
         Status::WriteFault => 4,
         Status::NoMemory => 5,
     }

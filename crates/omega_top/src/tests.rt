@@ -45,16 +45,24 @@ fn bytes(alloc: Global, text: &str) -> Result<Bytes, NoMemory> {
     Ok(Seq::of(Vec::from_slice(alloc, text.as_bytes())?))
 }
 
-// Tables of which all but two are empty.
-fn tables_of(alloc: Global, machines: &str, tasks: &str) -> Result<MemoryTables, NoMemory> {
-    let five = [
-        bytes(alloc, machines)?,
+// Tables with these texts, in the order of the tables.
+fn five_tables(alloc: Global, texts: [&str; 5]) -> Result<MemoryTables, NoMemory> {
+    let mut five = [
         Seq::new(alloc),
-        bytes(alloc, tasks)?,
+        Seq::new(alloc),
+        Seq::new(alloc),
         Seq::new(alloc),
         Seq::new(alloc),
     ];
+    for (bytes, text) in five.iter_mut().zip(texts) {
+        bytes.extend_from_slice(text.as_bytes())?;
+    }
     Ok(MemoryTables::new(alloc, five))
+}
+
+// Tables of which all but two are empty.
+fn tables_of(alloc: Global, machines: &str, tasks: &str) -> Result<MemoryTables, NoMemory> {
+    five_tables(alloc, [machines, "", tasks, "", ""])
 }
 
 // A run with these words, whose sink has room for so many bytes.
@@ -270,6 +278,18 @@ fn with_tries(tries: u32) -> Settings
     requires most { tries ≤ 100 }
     ensures { IsBuilt result }
 {
+    with_limits(tries, 1000)
+}
+
+// The settings of the word `replay`, but for the number of attempts on a request and the number of
+// failed commits after which a job is given up.
+fn with_limits(tries: u32, give_up: u32) -> Settings
+    requires least_tries { 1 ≤ tries }
+    requires most_tries { tries ≤ 100 }
+    requires least_give_up { 1 ≤ give_up }
+    requires most_give_up { give_up ≤ 1000 }
+    ensures { IsBuilt result }
+{
     Settings {
         command: Command::Replay,
         seed: 0,
@@ -279,7 +299,7 @@ fn with_tries(tries: u32) -> Settings
         preempt: Preempt::Nobody,
         extra: Extra::Relative,
         tries,
-        give_up: 1000,
+        give_up,
         window: 300_000_000,
         format: Format::Text,
         machines: 64,
@@ -287,11 +307,16 @@ fn with_tries(tries: u32) -> Settings
     }
 }
 
-// A run under these settings over the two machines and three tasks.
-fn run_with(alloc: Global, settings: &Settings) -> Result<Ran, NoMemory>
+// A run under these settings over tables of which all but two are empty.
+fn run_with(
+    alloc: Global,
+    settings: &Settings,
+    machines: &str,
+    tasks: &str,
+) -> Result<Ran, NoMemory>
     requires { IsBuilt settings.now }
 {
-    let mut tables = tables_of(alloc, TWO_MACHINES, THREE_TASKS)?;
+    let mut tables = tables_of(alloc, machines, tasks)?;
     let mut sink = MemorySink::new(alloc, ROOM)?;
     let done = omega_with(alloc, settings, &mut tables, &mut sink, &PassGate);
     Ok(Ran {
@@ -303,13 +328,133 @@ fn run_with(alloc: Global, settings: &Settings) -> Result<Ran, NoMemory>
 #[test]
 fn settings(rt: HostRuntime) -> Result<(), Fail> {
     let one = with_tries(1);
-    let ran = run_with(rt.alloc(), &one)?;
+    let ran = run_with(rt.alloc(), &one, TWO_MACHINES, THREE_TASKS)?;
     expect(&rt, &ran, Status::Done, 4, ONE_ATTEMPT.as_bytes());
     assert_eq!(rt; ran.done.settings, Some(one));
     let two = with_tries(2);
-    let ran = run_with(rt.alloc(), &two)?;
+    let ran = run_with(rt.alloc(), &two, TWO_MACHINES, THREE_TASKS)?;
     expect(&rt, &ran, Status::Done, 5, TWO_ATTEMPTS.as_bytes());
     assert_eq!(rt; ran.done.settings, Some(two));
+    Ok(())
+}
+
+// A task that fits nowhere, a later one of its job that would fit, and one of another job.
+const TOO_LARGE: &str =
+    "0,,10,0,,0,u,0,1,0.6,0.5,,0\n300000000,,10,1,,0,u,0,1,0.1,0.1,,0\n600000000,,11,0,,0,u,0,1,0.1,0.1,,0\n";
+
+const GIVEN_UP: &str =
+    "omega 1\nround 0\ncommit 1 2 10\nround 1\nround 2\ncommit 1 5 11\nplace 11 0 1\n";
+
+#[test]
+fn a_job_is_given_up(rt: HostRuntime) -> Result<(), Fail> {
+    let settings = with_limits(5, 1);
+    let ran = run_with(rt.alloc(), &settings, MACHINE, TOO_LARGE)?;
+    expect(&rt, &ran, Status::Done, 6, GIVEN_UP.as_bytes());
+    Ok(())
+}
+
+#[test]
+fn rounds_of_tasks(rt: HostRuntime) -> Result<(), Fail> {
+    let cases = [
+        // Submitted and finished before the round's requests are taken.
+        (
+            "10,,10,0,,0,u,0,1,0.1,0.1,,0\n20,,10,0,,4,u,0,1,0.1,0.1,,0\n",
+            2,
+            "omega 1\nround 0\n",
+        ),
+        // An eviction in the trace leaves the task wanted.
+        (
+            "0,,10,0,1,1,u,0,1,0.1,0.1,,0\n1,,10,0,1,2,u,0,1,0.1,0.1,,0\n",
+            3,
+            "omega 1\nround 0\ncommit 1 2 10\nplace 10 0 1\n",
+        ),
+        // The second task asks for a machine without another task of its job.
+        (
+            "0,,10,0,,0,u,0,1,0.1,0.1,,1\n0,,10,1,,0,u,0,1,0.1,0.1,,1\n",
+            4,
+            "omega 1\nround 0\ncommit 1 2 10\nplace 10 0 1\ncommit 1 3 10\n",
+        ),
+        // A running task keeps what it was placed with, so that there is room for another.
+        (
+            "0,,10,0,,0,u,0,1,0.25,0.25,,0\n300000000,,10,0,,8,u,0,1,0.4,0.4,,0\n300000000,,11,0,,0,u,0,1,0.25,0.25,,0\n",
+            5,
+            "omega 1\nround 0\ncommit 1 2 10\nplace 10 0 1\nround 1\ncommit 1 4 11\nplace 11 0 1\n",
+        ),
+        // Rows in the order of their times, and not of the file: a task ends and makes room.
+        (
+            "900000000,,11,0,,0,u,0,1,0.5,0.5,,0\n600000000,,10,0,,4,u,0,1,0.5,0.5,,0\n0,,10,0,,0,u,0,1,0.5,0.5,,0\n",
+            7,
+            "omega 1\nround 0\ncommit 1 2 10\nplace 10 0 1\nround 2\nround 3\ncommit 1 6 11\nplace 11 0 1\n",
+        ),
+    ];
+    for (tasks, entries, report) in cases {
+        let mut tables = tables_of(rt.alloc(), MACHINE, tasks)?;
+        let ran = run(rt.alloc(), &["replay"], &mut tables, ROOM)?;
+        expect(&rt, &ran, Status::Done, entries, report.as_bytes());
+    }
+    Ok(())
+}
+
+// Three tasks of one job, of which the first has the higher priority.
+const THREE_SMALL_TASKS: &str =
+    "0,,10,0,,0,u,0,2,0.3,0.3,,0\n0,,10,1,,0,u,0,1,0.3,0.3,,0\n0,,10,2,,0,u,0,1,0.3,0.3,,0\n";
+
+#[test]
+fn rounds_of_machines(rt: HostRuntime) -> Result<(), Fail> {
+    let placed =
+        "omega 1\nround 0\ncommit 1 2 10\nplace 10 0 1\nplace 10 1 1\nplace 10 2 1\nround 1\n";
+    let cases = [
+        // The smaller machine keeps the task of the higher priority alone.
+        (
+            "0,1,0,p,1,1\n300000000,1,2,p,0.5,0.5\n",
+            6,
+            "commit 1 5 10\n",
+        ),
+        // Another machine takes the tasks of one that is removed.
+        (
+            "0,1,0,p,1,1\n300000000,1,1,p,,\n300000000,2,0,p,1,1\n",
+            7,
+            "commit 1 6 10\nplace 10 0 2\nplace 10 1 2\nplace 10 2 2\n",
+        ),
+    ];
+    for (machines, entries, later) in cases {
+        let mut tables = tables_of(rt.alloc(), machines, THREE_SMALL_TASKS)?;
+        let ran = run(rt.alloc(), &["replay"], &mut tables, ROOM)?;
+        let mut report = bytes(rt.alloc(), placed)?;
+        report.extend_from_slice(later.as_bytes())?;
+        expect(&rt, &ran, Status::Done, entries, report.as_slice());
+    }
+    Ok(())
+}
+
+#[test]
+fn an_attribute_of_a_machine_that_was_not_added(rt: HostRuntime) -> Result<(), Fail> {
+    let mut tables = five_tables(rt.alloc(), ["", "0,9,k,v,0\n", "", "", ""])?;
+    let ran = run(rt.alloc(), &["replay"], &mut tables, ROOM)?;
+    expect(&rt, &ran, Status::Done, 2, b"omega 1\nround 0\n");
+    assert!(rt;
+        matches!(ran.done.history.get(1), Some(Entry::AttrSet { machine, .. }) if *machine == 9)
+    );
+    Ok(())
+}
+
+// Rows as they stand in the published trace.
+const SLICE: [&str; 5] = [
+    "0,5,0,platA/8Ildj2+Lq=,0.5,0.2493\n0,6,0,platA/8Ildj2+Lq=,0.5,0.2493\n0,7,0,,0.5,0.4995\n0,10,0,,0.25,0.2498\n",
+    "0,5,kernel,17,0\n0,6,kernel,17,0\n0,7,kernel,21,0\n",
+    "0,2,3418309,0,5,0,userA/1PCdI6fVX=,3,9,0.125,0.07446,0.0004244,0\n0,2,3418309,1,6,0,userA/1PCdI6fVX=,3,9,0.125,0.07446,0.0004244,0\n0,,3418314,0,,1,userB+5CKRSa72=,0,1,0.0625,0.0636,0.0001,\n612183636,,3418314,0,,4,userB+5CKRSa72=,0,1,0.0625,0.0636,0.0001,\n612183700,,6221861800,0,,0,userB+5CKRSa72=,1,0,0.38,0.1,,1\n612183700,,6221861800,1,,0,userB+5CKRSa72=,1,0,0.38,0.1,,1\n612183800,,6221861800,0,,1,userB+5CKRSa72=,1,0,0.38,0.1,,1\n900000000,0,6221861800,1,,5,userB+5CKRSa72=,1,0,0.38,0.1,,1\n",
+    "0,3418309,1,3,kernel,20\n",
+    "",
+];
+
+const SLICE_REPORT: &str =
+    "omega 1\nround 0\ncommit 1 8 3418309\nplace 3418309 0 5\nplace 3418309 1 5\ncommit 1 9 3418314\nplace 3418314 0 5\nround 2\ncommit 1 12 6221861800\nplace 6221861800 0 6\nplace 6221861800 1 7\nround 3\n";
+
+#[test]
+fn a_slice_of_the_published_trace(rt: HostRuntime) -> Result<(), Fail> {
+    let mut tables = five_tables(rt.alloc(), SLICE)?;
+    let ran = run(rt.alloc(), &["replay"], &mut tables, ROOM)?;
+    expect(&rt, &ran, Status::Done, 15, SLICE_REPORT.as_bytes());
     Ok(())
 }
 

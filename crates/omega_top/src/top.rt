@@ -7,6 +7,7 @@ ghost use Rattle.omega_model.specs.Report.{report};
 ghost use Rattle.omega_model.specs.Trace.{trace_of};
 ghost use Rattle.omega_model.specs.declared.results.Status.TheVariants.{Usage, WriteFault, NoMemory};
 ghost use Rattle.omega_model.specs.declared.rows.Table.{Table};
+ghost use Rattle.omega_top.specs.Replays.{NeverOvercommits};
 ghost use Rattle.omega_top.specs.Answers.{Answers, EndsRun, HasHistory, HasReadCause, IsBuilt, IsWholeRun, NoneRose, SayReplay, Writes, WritesNothing, default_settings};
 
 use crate::reporting::report;
@@ -39,10 +40,9 @@ const DEFAULTS: Settings = Settings {
 /// history that it answers.
 ///
 /// Of the refusals the first that stands is answered: that of the words, then for each table in
-/// order that of its reading, its length and its rows, then that of the limits over all tables and
-/// of a row for which no replay is built yet, then that of the writing. Want of memory
-/// alone may be answered at any place before the first write. The gate is for runs with threads,
-/// which aren't built yet.
+/// order that of its reading, its length and its rows, then that of the limits over all tables, then
+/// that of the writing. Want of memory alone may be answered at any place before the first write. The
+/// gate is for runs with threads, which aren't built yet.
 pub fn omega<T: Tables, K: Sink, G: Gate>(
     alloc: Global,
     words: &[&str],
@@ -64,6 +64,7 @@ pub fn omega<T: Tables, K: Sink, G: Gate>(
 
     ensures lawful { (bytes : Table → List ℕ) → Tells (T.rest tables.old) bytes → IsWholeRun default_settings (trace_of bytes) result.history result.status }
     ensures legal { Legal result.history }
+    ensures sound { NeverOvercommits result.history }
     ensures history { HasHistory result.history result.status }
     ensures written { (bytes : Table → List ℕ) → Tells (T.rest tables.old) bytes
         → Writes (report default_settings (trace_of bytes) result.history) (K.written out.old) (K.written out.new) result.status }
@@ -99,6 +100,7 @@ pub fn omega_with<T: Tables, K: Sink, G: Gate>(
 
     ensures lawful { (bytes : Table → List ℕ) → Tells (T.rest tables.old) bytes → IsWholeRun settings.now (trace_of bytes) result.history result.status }
     ensures legal { Legal result.history }
+    ensures sound { NeverOvercommits result.history }
     ensures history { HasHistory result.history result.status }
     ensures written { (bytes : Table → List ℕ) → Tells (T.rest tables.old) bytes
         → Writes (report settings.now (trace_of bytes) result.history) (K.written out.old) (K.written out.new) result.status }
@@ -123,7 +125,8 @@ fn say_replay(words: &[&str]) -> bool
 
 // A run that ends with nothing written and without a history.
 fn refused(alloc: Global, status: Status, settings: Option<Settings>) -> Done
-    ensures { result ≡ record { status = status; settings = settings; history = [] } }
+    ensures answer { result ≡ record { status = status; settings = settings; history = [] } }
+    ensures sound { NeverOvercommits result.history }
 {
     Done {
         status,
@@ -145,6 +148,7 @@ fn replay_and_write<K: Sink>(
     ensures cause { result.status ≡ WriteFault → Rose (K.faults out.old) (K.faults out.new) }
     ensures lawful { IsWholeRun settings.now trace.now result.history result.status }
     ensures legal { Legal result.history }
+    ensures sound { NeverOvercommits result.history }
     ensures history { HasHistory result.history result.status }
     ensures written { Writes (report settings.now trace.now result.history) (K.written out.old) (K.written out.new) result.status }
 {

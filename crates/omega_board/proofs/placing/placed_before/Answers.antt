@@ -1,9 +1,10 @@
-use Rattle.std.proofs.Common.{◌≡◌, ◌≤◌, ◌-◌, ◌||◌, take, length, sym, ap, ◌∙◌, arith}
+use Rattle.std.proofs.Common.{◌≤◌, ◌-◌, ◌||◌, take, length, sym, ap, ◌∙◌, arith}
 use Rattle.std.specs.List.{list_any, zip}
+use Rattle.std.proofs.Math.Bool.{or-false}
 use Rattle.std.proofs.lemmas.Bool.{or_right}
 use Rattle.omega_model.specs.Touches.{places_on}
 use Rattle.omega_model.specs.declared.claims.Verdict.TheVariants.{Placed}
-use Rattle.omega_board.proofs.Counts.{any_last, or_no}
+use Rattle.omega_board.proofs.Counts.{any_last}
 use Rattle.omega_board.proofs.placing.placed_before.Goals as goal
 
 pub returns-then-places_on : goal.returns-then-places_on
@@ -20,7 +21,7 @@ loop-i-preserved c =
     let in_reply : c.loop-i.i ≤ length c.args.reply.now = omega (arith, c.requires.reply, c.loop-i.invariant.0) in
     let before = list_any (places_on c.args.id) (zip (take (c.loop-i.i - 1) c.args.claims.now) (take (c.loop-i.i - 1) c.args.reply.now)) in (
       omega (arith, c.loop-i.invariant.0),
-      sym (or_no before) ∙ ap (λ b. before || b) c.if-places_on.ensures
+      sym (or-false before) ∙ ap (λ b. before || b) c.if-places_on.ensures
           ∙ sym (any_last c.args.id c.args.claims.now c.args.reply.now c.loop-i.i c.index-claims-i.result Placed c.loop-i-test.true in_claims in_reply c.index-claims-i.is)
           ∙ c.loop-i.invariant.1,
     )

@@ -1,5 +1,6 @@
 use Rattle.std.proofs.Common.{◌≡◌, ℕ, ◌+◌, ◌-◌, ◌<◌, ◌≤◌, ◌^◌, ◌||◌, Bool, true, false, List, [], ◌∷◌, ◌++◌, length, get_or, take, drop, IsTrue, refl, sym, ap, ap₂, ◌∙◌, subst, arith, inl, inr, ◌⊎◌, length-append}
 use Rattle.std.specs.List.{list_any, zip}
+use Rattle.std.proofs.Math.Bool.{or-false}
 use Rattle.std.proofs.lemmas.Bool.{and_parts, or_cases, eqb-true}
 use Rattle.std.proofs.lemmas.List.{take_more, drop_more, length-take-le}
 use Rattle.std.proofs.lemmas.List.Folds.{list_any-append}
@@ -12,7 +13,6 @@ use Rattle.omega_machines.specs.Table.{machines_of, seq_at}
 use Rattle.omega_board.specs.Board.{BoardState}
 use Rattle.omega_board.specs.Undo.{UndoState, IsUndoOf}
 use Rattle.omega_board.proofs.Commits.{victims_in}
-use Rattle.omega_board.proofs.Counts.{or_no}
 use Rattle.omega_board.proofs.tests.commit.Invariants.{IsJudged}
 use Rattle.omega_board.proofs.tests.commit.Goals as goal
 
@@ -54,7 +54,7 @@ judged_more board next log noted claims reply told i claim verdict below is more
         let all : list_any (places_on id) (zip (take (i + 1) claims) told) ≡ (list_any (places_on id) (zip (take i claims) reply) || (places_on id (claim, verdict) || false)) =
         ap₂ (λ cs vs. list_any (places_on id) (zip cs vs)) front more ∙ ap (list_any (places_on id)) (zip_push (take i claims) reply claim verdict same)
         ∙ list_any-append (places_on id) (zip (take i claims) reply) ((claim, verdict) ∷ []) in
-        elim (or_cases _ _ (sym all ∙ any)) [ inl h ↦ inl h | inr h ↦ inr (sym (or_no _) ∙ h) ]
+        elim (or_cases _ _ (sym all ∙ any)) [ inl h ↦ inl h | inr h ↦ inr (sym (or-false _) ∙ h) ]
 
 pub loop-claim-preserved : goal.loop-claim-preserved
 loop-claim-preserved c =

@@ -2,8 +2,8 @@ use Rattle.std.proofs.Common.{sym, ap, ◌∙◌}
 use Rattle.omega_model.specs.Machines.{is_listed}
 use Rattle.omega_machines.specs.Table.{seq_at}
 use Rattle.omega_board.specs.Board.{cell_of}
-use Rattle.omega_board.proofs.Commits.{up_listed, not_refused}
-use Rattle.omega_board.proofs.Parts.{placeable}
+use Rattle.omega_board.proofs.Commits.{up_listed}
+use Rattle.omega_board.proofs.Parts.{placeable, not_refused}
 use Rattle.omega_board.proofs.Rules.{placed_without_copy}
 use Rattle.omega_board.proofs.tests.place.Goals as goal
 

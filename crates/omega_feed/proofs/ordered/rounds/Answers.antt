@@ -1,7 +1,7 @@
-use Rattle.std.proofs.Common.{rules, ◌≡◌, ◌++◌, [], ap, sym, ◌∙◌}
+use Rattle.std.proofs.Common.{◌≡◌, ◌++◌, [], ap, sym, ◌∙◌}
 use Rattle.std.specs.Vec.Iter.{into_iter_items}
 use Rattle.std.proofs.lemmas.List.{nil_from_length}
-use Rattle.omega_feed.specs.Cut.{closed, cut}
+use Rattle.omega_feed.specs.Cut.{cut}
 use Rattle.omega_feed.proofs.Cutting.{cut_feed}
 use Rattle.omega_feed.proofs.ordered.rounds.Goals as goal
 

@@ -1,5 +1,4 @@
-use Rattle.std.proofs.Common.{◌≡◌, ◌∙◌, List, length, ap, sym, rules}
-use Rattle.omega_model.specs.Policy.{policy_of}
+use Rattle.std.proofs.Common.{◌≡◌, ◌∙◌, List, length, ap, sym}
 use Rattle.omega_model.specs.declared.claims.Policy.{Policy}
 use Rattle.omega_model.specs.declared.claims.Rule.TheVariants.{Fine}
 use Rattle.omega_model.specs.declared.claims.Txn.{Txn}

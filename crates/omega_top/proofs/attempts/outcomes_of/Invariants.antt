@@ -1,4 +1,4 @@
-use Rattle.std.proofs.Common.{◌≡◌, ◌≤◌, ◌<◌, ◌++◌, ◌+◌, ◌-◌, ◌∷◌, List, take, drop, length}
+use Rattle.std.proofs.Common.{◌≡◌, ◌++◌, drop}
 use Rattle.omega_model.specs.Work.{outcomes_of}
 use Rattle.omega_top.proofs.attempts.outcomes_of.Given as goal
 

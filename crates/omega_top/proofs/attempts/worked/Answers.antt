@@ -1,6 +1,6 @@
-use Rattle.std.proofs.Common.{◌≡◌, ◌∷◌, [], ℕ, List, length, subst, sym, ◌∙◌, refl, arith, rules}
+use Rattle.std.proofs.Common.{◌≡◌, ◌∷◌, [], List, length, subst, sym, ◌∙◌, refl, arith, rules}
 use Rattle.std.specs.Vec.Iter.{into_iter_items, into_iter_len}
-use Rattle.omega_model.specs.Working.{Setting, Working}
+use Rattle.omega_model.specs.Working.{Working}
 use Rattle.omega_model.specs.declared.wishes.Request.{Request}
 use Rattle.omega_model.proofs.Attempts.{working_last}
 use Rattle.omega_top.proofs.attempts.worked.Goals as goal

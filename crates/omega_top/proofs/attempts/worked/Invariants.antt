@@ -1,4 +1,3 @@
-use Rattle.std.proofs.Common.{◌≡◌, ◌≤◌, ◌<◌, ◌++◌, ◌+◌, ◌-◌, ◌∷◌, List, take, drop, length}
 use Rattle.std.specs.Vec.Iter.{into_iter_items}
 use Rattle.omega_model.specs.Working.{Setting, Working}
 use Rattle.omega_top.specs.Attempts.{IsSettingOf}

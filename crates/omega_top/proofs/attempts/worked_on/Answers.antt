@@ -1,8 +1,4 @@
-use Rattle.std.proofs.Common.{◌≡◌, ◌∙◌, ◌+◌, ◌<◌, ◌≤◌, List, sym, arith, true, false}
-use Rattle.omega_model.specs.Work.{ends_request, rest_of}
-use Rattle.omega_model.specs.Working.{Setting, Working}
-use Rattle.omega_model.specs.declared.wishes.Request.{Request}
-use Rattle.omega_top.specs.Attempts.{IsSettingOf}
+use Rattle.std.proofs.Common.{◌∙◌, ◌+◌, ◌≤◌, sym, arith, true, false}
 use Rattle.omega_top.proofs.Attempting.{IsAfter, attempt_ends, attempt_goes_on, tries_left}
 use Rattle.omega_top.proofs.attempts.worked_on.Goals as goal
 

@@ -1,4 +1,4 @@
-use Rattle.std.proofs.Common.{◌≡◌, ◌≤◌, ◌<◌, ◌++◌, ◌+◌, ◌-◌, ◌∷◌, List, take, drop, length}
+use Rattle.std.proofs.Common.{◌<◌, ◌-◌, ◌∷◌, List}
 use Rattle.omega_model.specs.Working.{Setting, Working}
 use Rattle.omega_model.specs.declared.wishes.Request.{Request}
 use Rattle.omega_top.specs.Attempts.{IsSettingOf}

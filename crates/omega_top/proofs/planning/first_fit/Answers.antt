@@ -1,5 +1,5 @@
-use Rattle.std.proofs.Common.{◌≡◌, ◌∙◌, ℕ, Bool, true, false, [], Some, ap, sym}
-use Rattle.std.specs.Prelude.{option_map, slice_get}
+use Rattle.std.proofs.Common.{◌∙◌, [], ap, sym}
+use Rattle.std.specs.Prelude.{option_map}
 use Rattle.omega_board.specs.Board.{cell_of}
 use Rattle.omega_machines.specs.Table.{machines_of}
 use Rattle.omega_model.specs.Plan.{goes_in}

@@ -1,4 +1,4 @@
-use Rattle.std.proofs.Common.{◌≡◌, ◌≤◌, ◌<◌, ◌++◌, ◌+◌, ◌∷◌, [], take, drop, length, map, false}
+use Rattle.std.proofs.Common.{◌≡◌, [], take, map}
 use Rattle.omega_model.specs.Plan.{claim_of}
 use Rattle.omega_top.proofs.planning.one_claim_each.Given as goal
 

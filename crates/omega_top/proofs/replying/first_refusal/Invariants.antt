@@ -1,4 +1,4 @@
-use Rattle.std.proofs.Common.{◌≡◌, ◌≤◌, ◌<◌, ◌++◌, ◌+◌, ◌∷◌, [], take, drop, length, map, false}
+use Rattle.std.proofs.Common.{◌≡◌, ◌+◌, drop}
 use Rattle.omega_model.specs.Reply.{first_refusal}
 use Rattle.omega_top.proofs.replying.first_refusal.Given as goal
 

@@ -1,4 +1,4 @@
-use Rattle.std.proofs.Common.{◌≡◌, ◌≤◌, ◌<◌, ◌++◌, ◌+◌, ◌∷◌, [], take, drop, length, map, false}
+use Rattle.std.proofs.Common.{◌≡◌, ◌≤◌, ◌++◌, ◌+◌, [], drop, length}
 use Rattle.std.proofs.Common.{ℕ, List}
 use Rattle.std.specs.List.{sum_by}
 use Rattle.omega_board.specs.Board.{BoardState, cell_of}

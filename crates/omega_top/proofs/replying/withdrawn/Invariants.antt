@@ -1,4 +1,4 @@
-use Rattle.std.proofs.Common.{◌≡◌, ◌≤◌, ◌<◌, ◌++◌, ◌+◌, ◌∷◌, [], take, drop, length, map, false}
+use Rattle.std.proofs.Common.{◌≡◌, take, map}
 use Rattle.omega_model.specs.Reply.{withdrawn_for}
 use Rattle.omega_top.proofs.replying.withdrawn.Given as goal
 

@@ -1,4 +1,4 @@
-use Rattle.std.proofs.Common.{◌≡◌, ◌≤◌, ◌++◌, ◌+◌, ◌*◌, ◌<◌, take, drop, length, false}
+use Rattle.std.proofs.Common.{◌≡◌, ◌++◌, drop}
 use Rattle.std.specs.List.{flat_map, zip}
 use Rattle.omega_model.specs.Report.{claim_lines, line_text}
 use Rattle.omega_top.proofs.reporting.push_claims.Given as goal

@@ -1,4 +1,4 @@
-use Rattle.std.proofs.Common.{◌≡◌, ◌≤◌, ◌++◌, ◌+◌, ◌*◌, ◌<◌, take, drop, length, false}
+use Rattle.std.proofs.Common.{◌≡◌, ◌++◌, drop}
 use Rattle.std.specs.Prelude.{map}
 use Rattle.std.specs.List.{flat_map}
 use Rattle.omega_model.specs.Report.{evict_line, line_text}

@@ -6,7 +6,6 @@ use Rattle.omega_model.specs.Lawful.{Applied, with_row}
 use Rattle.omega_model.specs.declared.entries.Entry.TheVariants.{Round}
 use Rattle.omega_model.specs.declared.rows.Row.{Row}
 use Rattle.omega_top.proofs.Rounding.{applied_row, applied_rows, asked_row}
-use Rattle.omega_top.proofs.rounds.opened.Invariants.{AreApplied}
 use Rattle.omega_top.proofs.rounds.opened.Goals as goal
 
 pub loop-row-preserved : goal.loop-row-preserved

@@ -1,4 +1,4 @@
-use Rattle.std.proofs.Common.{◌≡◌, ◌≤◌, ◌<◌, ◌++◌, ◌+◌, ◌∷◌, [], List, take, drop, length, map, false}
+use Rattle.std.proofs.Common.{◌≡◌, ◌++◌, ◌∷◌, [], List, take}
 use Rattle.std.specs.List.{fold}
 use Rattle.omega_feed.specs.Asked.{Asked, asked_after}
 use Rattle.omega_model.specs.Lawful.{Applied, with_row}

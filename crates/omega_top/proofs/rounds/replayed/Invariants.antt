@@ -1,4 +1,4 @@
-use Rattle.std.proofs.Common.{◌≡◌, ◌≤◌, ◌<◌, ◌++◌, ◌+◌, ◌∷◌, [], List, take, drop, length, map, false}
+use Rattle.std.proofs.Common.{◌≡◌, [], List, take}
 use Rattle.omega_feed.specs.Asked.{Asked, asked_after}
 use Rattle.omega_model.specs.Lawful.{Rounds, rows_of}
 use Rattle.omega_model.specs.declared.entries.Entry.{Entry}

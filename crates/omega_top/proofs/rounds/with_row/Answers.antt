@@ -1,7 +1,3 @@
-use Rattle.std.proofs.Common.{◌≡◌, sym, subst}
-use Rattle.omega_model.specs.Cell.{Cell}
-use Rattle.omega_model.specs.Wanted.{row_entries}
-use Rattle.omega_top.specs.Replays.{MayAppendAll}
 use Rattle.omega_top.proofs.Appending.{row_may}
 use Rattle.omega_top.proofs.rounds.with_row.Goals as goal
 

@@ -1,12 +1,10 @@
-use Rattle.std.proofs.Common.{◌≡◌, ℕ, ◌+◌, ◌-◌, ◌<◌, ◌^◌, [], List, IsTrue, refl, sym, ap, ◌∙◌, subst, arith}
-use Rattle.std.specs.List.{filter}
+use Rattle.std.proofs.Common.{◌-◌, ◌<◌, ◌^◌, IsTrue, refl, sym, ap, ◌∙◌, subst, arith}
 use Rattle.omega_model.specs.Need.{Fits}
-use Rattle.omega_model.specs.Cell.{is_on, use_on}
-use Rattle.omega_model.specs.Machines.{is_listed, change, added, updated, removed, attr_deleted}
-use Rattle.omega_machines.specs.declared.MachineState.{MachineState}
-use Rattle.omega_machines.specs.Table.{machines_of, seq_at, change_state, touched, state_added, state_updated, with_machine}
+use Rattle.omega_model.specs.Cell.{use_on}
+use Rattle.omega_model.specs.Machines.{is_listed, change, added}
+use Rattle.omega_machines.specs.Table.{machines_of, seq_at, change_state, touched, state_added}
 use Rattle.omega_board.specs.Board.{BoardState, CountsOn}
-use Rattle.omega_board.proofs.Entering.{IsChange, is_change, use_fits, use_none, up_board, seq_changed}
+use Rattle.omega_board.proofs.Entering.{is_change, use_fits, up_board, seq_changed}
 use Rattle.omega_board.proofs.board.Board.bring_up.Goals as goal
 
 pub add-requires-clause-in_use : goal.add-requires-clause-in_use

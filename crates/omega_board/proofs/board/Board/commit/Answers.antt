@@ -1,4 +1,4 @@
-use Rattle.std.proofs.Common.{IsTrue, sym, ap, ◌∙◌, subst}
+use Rattle.std.proofs.Common.{ap, ◌∙◌}
 use Rattle.omega_model.specs.Machines.{is_listed}
 use Rattle.omega_machines.specs.Table.{machines_of}
 use Rattle.omega_board.specs.Board.{cell_of}

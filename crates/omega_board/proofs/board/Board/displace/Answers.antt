@@ -2,7 +2,7 @@ use Rattle.std.proofs.Common.{ap, ◌∙◌}
 use Rattle.omega_machines.specs.Table.{machines_of, seq_at}
 use Rattle.omega_machines.proofs.Laws.{machines_ensured}
 use Rattle.omega_board.specs.Board.{BoardState}
-use Rattle.omega_board.proofs.Entering.{seq_ensured}
+use Rattle.omega_machines.proofs.Laws.{seq_ensured}
 use Rattle.omega_board.proofs.Rewinds.{machines_with, seq_with}
 use Rattle.omega_board.proofs.board.Board.displace.Goals as goal
 

@@ -1,7 +1,7 @@
-use Rattle.std.proofs.Common.{◌≡◌, ℕ, ◌+◌, ◌-◌, ◌<◌, ◌^◌, IsTrue, refl, sym, ap, ◌∙◌, subst, arith, if◌then◌else◌, ◌==◌}
+use Rattle.std.proofs.Common.{◌+◌, IsTrue, refl, sym, ap, ◌∙◌, subst, arith, if◌then◌else◌, ◌==◌}
 use Rattle.std.proofs.lemmas.Bool.{eq-eqb}
 use Rattle.omega_model.specs.Machines.{is_listed}
-use Rattle.omega_machines.specs.Table.{machines_of, seq_at, change_state, touched}
+use Rattle.omega_machines.specs.Table.{machines_of, seq_at, touched}
 use Rattle.omega_machines.proofs.Laws.{machines_same}
 use Rattle.omega_board.specs.Board.{BoardState}
 use Rattle.omega_board.proofs.Boards.{at_now, on_listed}

@@ -1,6 +1,6 @@
-use Rattle.std.proofs.Common.{List, length, take, refl, sym, ap, ap₂, ◌∙◌}
-use Rattle.omega_model.specs.Cell.{keys_of, by_rank, is_on}
-use Rattle.omega_model.specs.State.{excess, ranked_on}
+use Rattle.std.proofs.Common.{List, take, refl, ap, ap₂, ◌∙◌}
+use Rattle.omega_model.specs.Cell.{keys_of}
+use Rattle.omega_model.specs.State.{ranked_on}
 use Rattle.omega_model.specs.declared.cells.TaskKey.{TaskKey}
 use Rattle.omega_board.specs.Board.{BoardState}
 use Rattle.omega_board.proofs.Ranks.{excess_no_keys, excess_keys}

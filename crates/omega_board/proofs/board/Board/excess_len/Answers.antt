@@ -1,14 +1,14 @@
-use Rattle.std.proofs.Common.{◌≡◌, ◌+◌, ◌<◌, true, false, length, get_or, refl, sym, ap, ◌∙◌, subst, arith, IsTrue, is_some, Some}
+use Rattle.std.proofs.Common.{◌≡◌, ◌+◌, ◌<◌, false, length, get_or, refl, sym, ap, ◌∙◌, subst, arith, is_some}
 use Rattle.std.specs.Option.{option_map}
 use Rattle.std.proofs.lemmas.Bool.{both_ways}
-use Rattle.std.proofs.lemmas.List.{length-map, get_or-map}
+use Rattle.std.proofs.lemmas.List.{length-map}
 use Rattle.std.proofs.lemmas.Option.{same_Some}
-use Rattle.omega_model.specs.Cell.{keys_of, task_at}
+use Rattle.omega_model.specs.Cell.{task_at}
 use Rattle.omega_model.specs.State.{ranked_on}
 use Rattle.omega_model.specs.Need.{minus}
 use Rattle.omega_model.specs.declared.cells.Task.{Task}
 use Rattle.omega_board.proofs.Boards.{at_now}
-use Rattle.omega_board.proofs.Ranks.{Walked, total-ranked, ranked_found, each_at, walked_end, walked_all, walked_more, ranked_at}
+use Rattle.omega_board.proofs.Ranks.{Walked, total-ranked, walked_end, walked_more, ranked_at}
 use Rattle.omega_board.proofs.board.Board.excess_len.Goals as goal
 
 pub loop-i-init : goal.loop-i-init

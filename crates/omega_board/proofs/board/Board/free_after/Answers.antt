@@ -1,11 +1,8 @@
-use Rattle.std.proofs.Common.{◌≡◌, ◌<◌, ◌≤◌, ◌+◌, None, Some, List, length, get_or, take, is_some, sym, ap, ◌∙◌, subst, arith}
+use Rattle.std.proofs.Common.{◌<◌, ◌≤◌, ◌+◌, List, length, get_or, take, is_some, sym, ap, ◌∙◌, subst, arith}
 use Rattle.std.proofs.lemmas.List.{take_all, get_or_default}
-use Rattle.omega_model.specs.Judge.{no_machine, free_after}
-use Rattle.omega_model.specs.Cell.{task_at}
-use Rattle.omega_model.specs.declared.cells.Need.{Need}
 use Rattle.omega_model.specs.declared.cells.TaskKey.{TaskKey}
 use Rattle.omega_machines.specs.Table.{free_at}
-use Rattle.omega_board.specs.Board.{BoardState, IsBoard, cell_of}
+use Rattle.omega_board.specs.Board.{BoardState}
 use Rattle.omega_board.proofs.Boards.{at_now}
 use Rattle.omega_board.proofs.Parts.{IsFreed, some_free, freed_none, freed_more, freed_bounded, freed_all, victim_there}
 use Rattle.omega_board.proofs.board.Board.free_after.Goals as goal

@@ -1,4 +1,4 @@
-use Rattle.std.proofs.Common.{◌≡◌, ℕ, ◌<◌, ◌≤◌, ◌+◌, length, min, sym, ap, ◌∙◌, subst, arith}
+use Rattle.std.proofs.Common.{◌≡◌, ◌<◌, ◌≤◌, ◌+◌, length, min, sym, subst, arith}
 use Rattle.omega_board.specs.Board.{BoardState}
 use Rattle.omega_board.specs.Undo.{UndoState}
 use Rattle.omega_board.proofs.Commits.{IsPlacing, placed_next, passed_next, placed_all, claim_at}

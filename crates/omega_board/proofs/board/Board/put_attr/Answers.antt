@@ -1,10 +1,11 @@
-use Rattle.std.proofs.Common.{◌≡◌, ℕ, ◌+◌, ◌-◌, ◌<◌, ◌^◌, List, IsTrue, refl, sym, ap, ◌∙◌, subst, arith}
-use Rattle.omega_model.specs.Machines.{is_listed, change, ensured, attr_set}
+use Rattle.std.proofs.Common.{◌-◌, ◌<◌, ◌^◌, refl, sym, ap, ◌∙◌, subst, arith}
+use Rattle.omega_model.specs.Machines.{change, ensured, attr_set}
 use Rattle.omega_machines.specs.Table.{machines_of, ensured_states, seq_at, change_state, touched, with_machine}
 use Rattle.omega_machines.proofs.Laws.{machines_ensured, ensured_listed}
 use Rattle.omega_board.specs.Board.{BoardState, CountsOn}
 use Rattle.omega_board.specs.Entries.{HasRoomFor}
-use Rattle.omega_board.proofs.Entering.{is_change, attr_board, seq_changed, seq_ensured, counts_from}
+use Rattle.omega_board.proofs.Entering.{is_change, attr_board, seq_changed, counts_from}
+use Rattle.omega_machines.proofs.Laws.{seq_ensured}
 use Rattle.omega_board.proofs.board.Board.put_attr.Goals as goal
 
 pub touch-requires-clause-listed : goal.touch-requires-clause-listed

@@ -1,4 +1,4 @@
-use Rattle.std.proofs.Common.{sym, ap, ap₂, ◌∙◌, subst}
+use Rattle.std.proofs.Common.{ap, ◌∙◌}
 use Rattle.std.specs.List.{filter}
 use Rattle.omega_model.specs.Cell.{is_on, keys_of, without}
 use Rattle.omega_model.specs.Machines.{change, removed}

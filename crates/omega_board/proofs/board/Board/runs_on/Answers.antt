@@ -1,4 +1,4 @@
-use Rattle.std.proofs.Common.{false, nat_le, ◌==◌, ap, sym, ◌∙◌}
+use Rattle.std.proofs.Common.{false, ◌==◌, ap, sym, ◌∙◌}
 use Rattle.std.specs.Option.{option_map_or}
 use Rattle.omega_model.specs.Judge.{runs_on}
 use Rattle.omega_model.specs.declared.cells.Task.{Task}

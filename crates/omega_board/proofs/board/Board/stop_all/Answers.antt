@@ -1,4 +1,4 @@
-use Rattle.std.proofs.Common.{◌≡◌, refl, sym, ap, ◌∙◌, [], ◌∷◌, ◌++◌, take, not}
+use Rattle.std.proofs.Common.{refl, sym, ap, ◌∙◌, [], ◌∷◌, take, not}
 use Rattle.std.proofs.lemmas.List.{take_more}
 use Rattle.omega_model.specs.Keys.{is_among}
 use Rattle.omega_model.specs.Cell.{without}

@@ -27,7 +27,7 @@ touch-requires-clause-listed c =
     let verdicts = c.as_slice-reply.result.now in
     let below_claims : c.loop-i.i < length slice = omega (arith, c.loop-i-test.true, c.min-count.ensures) in
     let below_reply : c.loop-i.i < length verdicts = omega (arith, c.loop-i-test.true, c.min-count.ensures) in
-    ap (λ machines. is_listed c.index-claims-i.result.machine machines) c.loop-i.invariant.1
+    ap (λ machines. is_listed c.index-claims-i.result.machine machines) c.loop-i.invariant.2
     ∙ c.requires.listed _ (listed c.args.claims.now slice c.args.reply.now verdicts c.loop-i.i c.index-claims-i.result c.as_slice-claims.ensures c.as_slice-reply.ensures below_claims below_reply c.index-claims-i.is c.if-is_placed.ensures)
 
 pub touch-requires-clause-seq : goal.touch-requires-clause-seq
@@ -37,14 +37,14 @@ touch-requires-clause-seq c =
     let below_claims : c.loop-i.i < length slice = omega (arith, c.loop-i-test.true, c.min-count.ensures) in
     let below_reply : c.loop-i.i < length verdicts = omega (arith, c.loop-i-test.true, c.min-count.ensures) in
     let few = c.requires.seqs _ (listed c.args.claims.now slice c.args.reply.now verdicts c.loop-i.i c.index-claims-i.result c.as_slice-claims.ensures c.as_slice-reply.ensures below_claims below_reply c.index-claims-i.is c.if-is_placed.ensures) in
-    let was = c.loop-i.invariant.2 c.index-claims-i.result.machine in
+    let was = c.loop-i.invariant.3 c.index-claims-i.result.machine in
     let same : seq_at c.loop-i.self.table c.index-claims-i.result.machine ≡ seq_at c.args.self.now.table c.index-claims-i.result.machine + 0 = rw (← c.if-first.ensures) at was in
     omega (arith, few, same)
 
 -- what the loop keeps
 Kept : BoardState → List Claim → List Verdict → ℕ → BoardState → Type 0
 Kept start claims reply i now =
-    (now.tasks ≡ start.tasks) × (machines_of now.table ≡ machines_of start.table) × CountedSo (seq_at start.table) claims reply i (seq_at now.table)
+    (now.tasks ≡ start.tasks) × (now.spare ≡ start.spare) × (machines_of now.table ≡ machines_of start.table) × CountedSo (seq_at start.table) claims reply i (seq_at now.table)
 
 -- a claim on whose machine the commit is counted
 counted : (start now next : BoardState) (claims : List Claim) (reply : List Verdict) (i : ℕ) (claim : Claim) → i < length claims → i < length reply → claim ≡ get_or claims i claim
@@ -53,11 +53,12 @@ counted : (start now next : BoardState) (claims : List Claim) (reply : List Verd
 unfolding Kept
 counted start now next claims reply i claim below_claims below_reply is placed first there changed kept = (
   ap (λ (b : BoardState). b.tasks) changed ∙ kept.0,
-  ap (λ (b : BoardState). machines_of b.table) changed ∙ machines_same claim.machine touched now.table (λ s. refl) ∙ kept.1,
+  ap (λ (b : BoardState). b.spare) changed ∙ kept.1,
+  ap (λ (b : BoardState). machines_of b.table) changed ∙ machines_same claim.machine touched now.table (λ s. refl) ∙ kept.2,
   counted_more (seq_at start.table) (seq_at now.table) (seq_at next.table) claims reply i claim Placed below_claims below_reply (sym placed)
       (ap (λ (c : Claim). list_any (places_on c.machine) (zip (take i claims) (take i reply))) (sym is) ∙ sym first)
       (λ id. ap (λ (b : BoardState). seq_at b.table id) changed ∙ seq_touched now.table claim.machine id there ∙ ap (λ (c : Claim). seq_at now.table id + (if c.machine == id then 1 else 0)) is)
-      kept.2,
+      kept.3,
 )
 
 -- one that is not
@@ -66,11 +67,12 @@ passed : (start now next : BoardState) (claims : List Claim) (reply : List Verdi
     → next ≡ now → Kept start claims reply i now → Kept start claims reply (i + 1) next
 unfolding Kept
 passed start now next claims reply i claim below_claims below_reply is why same kept =
-    subst (λ (b : BoardState). (b.tasks ≡ start.tasks) × (machines_of b.table ≡ machines_of start.table) × CountedSo (seq_at start.table) claims reply (i + 1) (seq_at b.table)) (sym same) (
+    subst (λ (b : BoardState). (b.tasks ≡ start.tasks) × (b.spare ≡ start.spare) × (machines_of b.table ≡ machines_of start.table) × CountedSo (seq_at start.table) claims reply (i + 1) (seq_at b.table)) (sym same) (
       kept.0,
       kept.1,
+      kept.2,
       counted_same (seq_at start.table) (seq_at now.table) claims reply i claim Placed below_claims below_reply
-          (elim why [ inl f ↦ inl f | inr t ↦ inr (ap (λ (c : Claim). list_any (places_on c.machine) (zip (take i claims) (take i reply))) (sym is) ∙ t) ]) kept.2,
+          (elim why [ inl f ↦ inl f | inr t ↦ inr (ap (λ (c : Claim). list_any (places_on c.machine) (zip (take i claims) (take i reply))) (sym is) ∙ t) ]) kept.3,
     )
 
 pub loop-i-preserved : goal.loop-i-preserved
@@ -83,7 +85,7 @@ loop-i-preserved c =
     let claim = c.index-claims-i.result in
     elim c.if-is_placed.branch [
       | then-is_placed+then-first w ↦
-          let there = ap (λ machines. is_listed claim.machine machines) c.loop-i.invariant.1
+          let there = ap (λ machines. is_listed claim.machine machines) c.loop-i.invariant.2
           ∙ c.requires.listed _ (listed c.args.claims.now slice c.args.reply.now verdicts c.loop-i.i claim c.as_slice-claims.ensures c.as_slice-reply.ensures below_claims below_reply c.index-claims-i.is w.if-is_placed.ensures) in
           counted c.args.self.now c.loop-i.self c.if-is_placed.self slice verdicts c.loop-i.i claim below_claims below_reply c.index-claims-i.is w.if-is_placed.ensures w.if-first.ensures there (w.self-is ∙ w.touch.ensures) c.loop-i.invariant
       | else-is_placed w ↦ elim w.else-is_placed.branch [
@@ -99,5 +101,5 @@ returns-clause-seqs c = λ id.
     let slice = c.as_slice-claims.result.now in
     let verdicts = c.as_slice-reply.result.now in
     let past : min (length slice) (length verdicts) ≤ c.loop-i.i = omega (arith, c.loop-i-test.false, c.min-count.ensures) in
-    c.loop-i.invariant.2 id
+    c.loop-i.invariant.3 id
     ∙ ap (λ pairs. seq_at c.args.self.now.table id + (if list_any (places_on id) pairs then 1 else 0)) (zip_all slice verdicts c.loop-i.i past ∙ ap₂ zip c.as_slice-claims.ensures c.as_slice-reply.ensures)

@@ -1,4 +1,4 @@
-use Rattle.std.proofs.Common.{rules, ◌≡◌, ◌==◌, not, length, ap, sym, ◌∙◌, refl}
+use Rattle.std.proofs.Common.{◌==◌, not, length, ap, sym, ◌∙◌}
 use Rattle.std.specs.List.{list_any}
 use Rattle.omega_feed.specs.Asked.{is_task_of}
 use Rattle.omega_feed.proofs.TaskMap.{first_is, some_left, between_at}

@@ -1,4 +1,4 @@
-use Rattle.std.proofs.Common.{rules, ◌≡◌, ◌<◌, ◌^◌, ap, sym, ◌∙◌, refl, map}
+use Rattle.std.proofs.Common.{rules, ◌<◌, ◌^◌, ap, ◌∙◌, map}
 use Rattle.std.proofs.lemmas.Map.Views.{All-keys-insert_entry}
 use Rattle.omega_model.specs.Wanted.{with_wanted}
 use Rattle.omega_feed.specs.Index.{wanted_task, key_cmp}

@@ -1,4 +1,4 @@
-use Rattle.std.proofs.Common.{rules, ◌≡◌, ◌<◌, ◌^◌, ap, sym, ◌∙◌, refl, map, not}
+use Rattle.std.proofs.Common.{◌<◌, ◌^◌, ap, ◌∙◌, map, not}
 use Rattle.std.specs.BTreeMap.{is_at}
 use Rattle.std.specs.List.{filter}
 use Rattle.std.proofs.lemmas.Map.Views.{All-map-remove_entry}

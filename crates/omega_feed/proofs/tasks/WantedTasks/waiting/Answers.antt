@@ -1,4 +1,4 @@
-use Rattle.std.proofs.Common.{◌≡◌, ◌++◌, [], map, ap, sym, ◌∙◌, append-nil}
+use Rattle.std.proofs.Common.{◌++◌, map, ap, sym, ◌∙◌, append-nil}
 use Rattle.std.specs.List.{filter}
 use Rattle.omega_model.specs.Requests.{is_waiting}
 use Rattle.omega_feed.specs.Index.{wanted_task}

@@ -1,4 +1,4 @@
-use Rattle.std.proofs.Common.{◌≡◌, sym, ap, refl}
+use Rattle.std.proofs.Common.{sym, refl}
 use Rattle.omega_feed.proofs.Places.{active_without, active_dropped}
 use Rattle.omega_feed.specs.Index.{AreActive}
 use Rattle.omega_feed.proofs.wanted.Wanted.end.Goals as goal

@@ -1,4 +1,3 @@
-use Rattle.std.proofs.Common.{refl}
 use Rattle.omega_top.proofs.Pushing.{replays_same}
 use Rattle.omega_top.proofs.replaying.Replay.plan.Goals as goal
 

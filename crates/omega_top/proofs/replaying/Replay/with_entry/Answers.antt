@@ -10,4 +10,4 @@ invariant_of-result c =
     subst (λ (history : List Entry). Follows history c.args.entry) (sym c.self.view_is) c.requires.follows in
     rw c.in_ok-push.ensures.items
     (replays_push c.self.inside.board c.apply_entry.new.self c.self.inside.failures c.in_ok-failures.failures c.self.inside.entries.items
-    c.args.entry c.self.invariant follows c.in_ok-apply_entry.ensures.cell c.in_ok-apply_entry.ensures.seqs c.in_ok-failures.ensures)
+    c.args.entry c.self.invariant follows c.in_ok-apply_entry.ensures.cell c.in_ok-apply_entry.ensures.seqs c.in_ok-failures.ensures c.check_sound.ensures)
