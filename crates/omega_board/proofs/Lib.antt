@@ -10,3 +10,4 @@ pub mod Counts
 pub mod Entering
 pub mod Commits
 pub mod Rules
+pub mod Histories

@@ -1,3 +1,4 @@
 pub mod Board
 pub mod Undo
 pub mod Entries
+pub mod Histories

@@ -1,0 +1,138 @@
+-- The claims of a transaction, judged and applied one after the other.
+use Rattle.std.proofs.Common.{◌≡◌, ℕ, ◌+◌, ◌<◌, ◌≤◌, Bool, true, not, List, [], ◌∷◌, ◌++◌, length, map, get_or, take, drop, sum_by, refl, sym, ap, ◌∙◌, arith, append_assoc, length-append, if◌then◌else◌, ◌==◌}
+use Rattle.std.specs.List.{zip, fold, position_or_len}
+use Rattle.std.proofs.lemmas.Bool.{eq-eqb}
+use Rattle.std.proofs.lemmas.List.{drop_more, take_more, take_all, get_or-map, length-take}
+use Rattle.std.proofs.lemmas.List.Sums.{fold-append, sum_by-cons}
+use Rattle.omega_model.specs.Cell.{Cell}
+use Rattle.omega_model.specs.Judge.{judge}
+use Rattle.omega_model.specs.Reply.{after_claim, tasks_after_claim, verdicts, withdrawn_for, first_refusal, all_or_nothing}
+use Rattle.omega_model.specs.Touches.{is_placed, seq}
+use Rattle.omega_model.specs.declared.cells.Task.{Task}
+use Rattle.omega_model.specs.declared.claims.Claim.{Claim}
+use Rattle.omega_model.specs.declared.claims.Rule.{Rule}
+use Rattle.omega_model.specs.declared.claims.Verdict.{Verdict}
+use Rattle.omega_model.specs.declared.entries.Entry.{Entry}
+use Rattle.omega_machines.proofs.Places.{by_answer}
+use Rattle.omega_machines.specs.Table.{machines_of, seq_at}
+use Rattle.omega_board.specs.Board.{BoardState, cell_of}
+use Rattle.omega_board.specs.Undo.{UndoState, IsUndoOf, at_reserve}
+use Rattle.omega_cell.specs.Claiming.{copied_seqs}
+
+-- how many victims some claims have
+abbrev pub victims_in : List Claim → ℕ
+victims_in claims = sum_by (λ claim. length claim.victims) claims
+
+-- the claims before a place are judged
+pub record IsJudging (start board : BoardState) (first undo : UndoState) (rule : Rule) (claims : List Claim) (seqs : List ℕ) (told : List Verdict) (i : ℕ) : Type 0 where
+  pub judged : (history : List Entry) (seen : ℕ) → ((id : ℕ) → seq_at start.table id ≡ seq history id) → seqs ≡ copied_seqs history seen claims
+      → told ++ verdicts history seen (cell_of board) rule (drop i claims) ≡ verdicts history seen (cell_of start) rule claims
+  pub long : length told ≡ i
+  pub tasks : board.tasks ≡ fold tasks_after_claim start.tasks (zip (take i claims) told)
+  pub machines : machines_of board.table ≡ machines_of start.table
+  pub numbers : (id : ℕ) → seq_at board.table id ≡ seq_at start.table id
+  pub undone : IsUndoOf board undo
+  pub content : at_reserve undo board ≡ at_reserve first start
+  pub room : length claims ≤ undo.claims + i
+  pub victims : victims_in (drop i claims) ≤ undo.victims
+
+-- what is known of one claim that is judged
+pub record IsJudged (board next : BoardState) (undo noted : UndoState) (rule : Rule) (claim : Claim) (copy : ℕ) (verdict : Verdict) : Type 0 where
+  pub verdict_is : (history : List Entry) (seen : ℕ) → seq_at board.table claim.machine ≡ seq history claim.machine → copy ≡ seq (take seen history) claim.machine
+      → verdict ≡ judge history seen (cell_of board) rule claim
+  pub cell : cell_of next ≡ after_claim (cell_of board) (claim, verdict)
+  pub numbers : (id : ℕ) → seq_at next.table id ≡ seq_at board.table id
+  pub undone : IsUndoOf next noted
+  pub content : at_reserve noted next ≡ at_reserve undo board
+  pub claims : undo.claims ≤ noted.claims + 1
+  pub victims : undo.victims ≤ noted.victims + length claim.victims
+
+-- two lists of one length, each with one more
+zip_push : {X Y : Type 0} (xs : List X) (ys : List Y) (x : X) (y : Y) → length xs ≡ length ys → zip (xs ++ x ∷ []) (ys ++ y ∷ []) ≡ zip xs ys ++ (x, y) ∷ []
+zip_push [] [] x y same = refl
+zip_push [] (b ∷ ys) x y same = absurd (omega (arith, same))
+zip_push (a ∷ xs) [] x y same = absurd (omega (arith, same))
+zip_push (a ∷ xs) (b ∷ ys) x y same = ap (λ pairs. (a, b) ∷ pairs) (zip_push xs ys x y (omega (arith, same)))
+
+-- once the claim at a place is judged, those before the next place are
+pub judge_next : (start board next : BoardState) (first undo noted : UndoState) (rule : Rule) (claims : List Claim) (seqs : List ℕ) (told : List Verdict) (i : ℕ) (claim : Claim) (copy : ℕ) (verdict : Verdict)
+    → i < length claims → length seqs ≡ length claims → claim ≡ get_or claims i claim → copy ≡ get_or seqs i copy
+    → IsJudged board next undo noted rule claim copy verdict
+    → IsJudging start board first undo rule claims seqs told i → IsJudging start next first noted rule claims seqs (told ++ verdict ∷ []) (i + 1)
+judge_next start board next first undo noted rule claims seqs told i claim copy verdict below same here copied known so =
+    let rest = drop (i + 1) claims in
+    let split : drop i claims ≡ claim ∷ rest = drop_more claims i claim below ∙ ap (λ (c : Claim). c ∷ rest) (sym here) in
+    let front : take (i + 1) claims ≡ take i claims ++ claim ∷ [] = take_more claims i claim below ∙ ap (λ (c : Claim). take i claims ++ c ∷ []) (sym here) in
+    let fewer : victims_in (drop i claims) ≡ length claim.victims + victims_in rest = ap victims_in split ∙ sum_by-cons (λ (c : Claim). length c.victims) claim rest in
+    let long : length (take i claims) ≡ length told = length-take i claims ∙ omega (arith, so.long, below) in
+    record {
+      judged = λ history seen numbered copies.
+          let number : copy ≡ seq (take seen history) claim.machine =
+          copied ∙ ap (λ (ns : List ℕ). get_or ns i copy) copies ∙ get_or-map (λ (c : Claim). seq (take seen history) c.machine) claims i claim copy below
+          ∙ ap (λ (c : Claim). seq (take seen history) c.machine) (sym here) in
+          let is : verdict ≡ judge history seen (cell_of board) rule claim = known.verdict_is history seen (so.numbers claim.machine ∙ numbered claim.machine) number in
+          append_assoc told (verdict ∷ []) (verdicts history seen (cell_of next) rule rest)
+          ∙ ap (λ (c : Cell). told ++ verdict ∷ verdicts history seen c rule rest) known.cell
+          ∙ ap (λ (v : Verdict). told ++ v ∷ verdicts history seen (after_claim (cell_of board) (claim, v)) rule rest) is
+          ∙ ap (λ (cs : List Claim). told ++ verdicts history seen (cell_of board) rule cs) (sym split)
+          ∙ so.judged history seen numbered copies;
+      long = length-append told (verdict ∷ []) ∙ omega (arith, so.long);
+      tasks = ap (λ (c : Cell). c.tasks) known.cell
+          ∙ ap (λ (ts : List Task). tasks_after_claim ts (claim, verdict)) so.tasks
+          ∙ sym (fold-append tasks_after_claim start.tasks (zip (take i claims) told) ((claim, verdict) ∷ []))
+          ∙ ap (fold tasks_after_claim start.tasks) (sym (zip_push (take i claims) told claim verdict long))
+          ∙ ap (λ (cs : List Claim). fold tasks_after_claim start.tasks (zip cs (told ++ verdict ∷ []))) (sym front);
+      machines = ap (λ (c : Cell). c.machines) known.cell ∙ so.machines;
+      numbers = λ id. known.numbers id ∙ so.numbers id;
+      undone = known.undone;
+      content = known.content ∙ so.content;
+      room = omega (arith, so.room, known.claims);
+      victims = omega (arith, so.victims, known.victims, fewer);
+    }
+
+-- at the end all are
+pub judged_all : (start board : BoardState) (first undo : UndoState) (rule : Rule) (claims : List Claim) (seqs : List ℕ) (told : List Verdict) (i : ℕ)
+    → length claims ≤ i → IsJudging start board first undo rule claims seqs told i → board.tasks ≡ fold tasks_after_claim start.tasks (zip claims told)
+judged_all start board first undo rule claims seqs told i past so =
+    so.tasks ∙ ap (λ (cs : List Claim). fold tasks_after_claim start.tasks (zip cs told)) (take_all i claims past)
+
+-- the first place that passes a test is at most the length
+first_within : {X : Type 0} (p : X → Bool) (xs : List X) → position_or_len p xs ≤ length xs
+first_within p [] = omega arith
+first_within p (x ∷ xs) =
+    by_answer (p x)
+    (λ t. rw t (omega arith))
+    (λ f. rw f (let rest = first_within p xs in omega (arith, rest)))
+
+-- where the first refusal isn't before the end, there is none
+pub no_refusal : (reply : List Verdict) → length reply ≤ first_refusal reply → (first_refusal reply == length reply) ≡ true
+no_refusal reply past =
+    let most : first_refusal reply ≤ length reply = first_within (λ verdict. not (is_placed verdict)) reply in
+    eq-eqb (first_refusal reply) (length reply) (omega (arith, past, most))
+
+-- a withdrawn gang leaves the tasks
+pub withdrawn_leaves : (place : ℕ) (tasks : List Task) (claims : List Claim) (reply : List Verdict) → fold tasks_after_claim tasks (zip claims (map (withdrawn_for place) reply)) ≡ tasks
+withdrawn_leaves place tasks [] reply = refl
+withdrawn_leaves place tasks (claim ∷ claims) [] = refl
+withdrawn_leaves place tasks (claim ∷ claims) (verdict ∷ reply) =
+    ap (λ (ts : List Task). fold tasks_after_claim ts (zip claims (map (withdrawn_for place) reply))) (here verdict) ∙ withdrawn_leaves place tasks claims reply
+  where
+    here : (v : Verdict) → tasks_after_claim tasks (claim, withdrawn_for place v) ≡ tasks
+    here v = by_answer (is_placed v) (λ t. rw t refl) (λ f. rw (f, f) refl)
+
+-- a gang keeps its tasks where it has no refusal, and else those of the start
+pub gang_tasks : (start board next : BoardState) (undo : UndoState) (claims : List Claim) (told kept : List Verdict)
+    → board.tasks ≡ fold tasks_after_claim start.tasks (zip claims told) → at_reserve undo board ≡ start
+    → next ≡ (if first_refusal told == length told then board else at_reserve undo board) → kept ≡ all_or_nothing told
+    → next.tasks ≡ fold tasks_after_claim start.tasks (zip claims kept)
+gang_tasks start board next undo claims told kept tasks back next_is kept_is =
+    by_answer (first_refusal told == length told)
+    (λ t.
+    let board_is : next ≡ board = rw t at next_is in
+    let told_is : kept ≡ told = rw t at kept_is in
+    ap (λ (b : BoardState). b.tasks) board_is ∙ tasks ∙ ap (λ (vs : List Verdict). fold tasks_after_claim start.tasks (zip claims vs)) (sym told_is))
+    (λ f.
+    let board_is : next ≡ at_reserve undo board = rw f at next_is in
+    let told_is : kept ≡ map (withdrawn_for (first_refusal told)) told = rw f at kept_is in
+    ap (λ (b : BoardState). b.tasks) (board_is ∙ back) ∙ sym (withdrawn_leaves (first_refusal told) start.tasks claims told)
+    ∙ ap (λ (vs : List Verdict). fold tasks_after_claim start.tasks (zip claims vs)) (sym told_is))

@@ -1,0 +1,7 @@
+use Rattle.std.proofs.Common.{◌≡◌, ◌≤◌, length}
+use Rattle.std.specs.Prelude.{vec_len, vec_capacity}
+use Rattle.omega_cell.proofs.Judging.{IsJudging}
+use Rattle.omega_cell.proofs.deciding.judge_all.Given as goal
+
+abbrev pub invariant-loop-i : goal.invariant-loop-i
+invariant-loop-i l = IsJudging l.fn.board l.board l.fn.undo l.undo l.rule l.claims l.seqs l.told.items l.i × (vec_len l.told ≡ l.i) × (length l.claims ≤ vec_capacity l.told)

@@ -1,0 +1,3 @@
+pub mod Cells
+pub mod Claiming
+pub mod Laws

@@ -1,0 +1,192 @@
+//! The cell.
+ghost use Rattle.std.specs.Prelude.{◌≡◌, ◌≤◌, ◌<◌, ◌^◌, ◌++◌, ◌∷◌, [], false, ℕ, length, IfOk, IfErr, OnOk, OnErr, IfSome};
+ghost use Rattle.omega_board.specs.Board.{cell_of};
+ghost use Rattle.omega_board.specs.Entries.{capacity_in, machine_in, EndsRunning};
+ghost use Rattle.omega_board.specs.Histories.{EachMayApply, ListsOrHasRoom};
+ghost use Rattle.omega_machines.specs.Table.{seq_at};
+ghost use Rattle.omega_model.specs.Copy.{Carries};
+ghost use Rattle.omega_model.specs.Fields.{greatest};
+ghost use Rattle.omega_model.specs.Legal.{Legal};
+ghost use Rattle.omega_model.specs.Need.{Fits};
+ghost use Rattle.omega_model.specs.State.{state, reply_of};
+ghost use Rattle.omega_model.specs.Touches.{seq};
+ghost use Rattle.omega_model.specs.Work.{outcomes_of};
+ghost use Rattle.omega_cell.specs.Cells.{HasRoom, is_commit};
+ghost use Rattle.omega_cell.specs.Claiming.{copied_seqs};
+
+use crate::deciding::{decide, outcomes_of};
+use crate::prepared::Prepared;
+use omega_board::Board;
+use omega_model::{Copied, Delta, Entries, Entry, NoMemory, Reply, Seq, Txn};
+use std::alloc::Global;
+use std::marker::Model;
+
+/// A legal history and the board after it.
+///
+/// A contract sees the history, and for how many more tasks and entries there is room.
+#[derive(Drop)]
+pub struct Cell {
+    board: Board,
+    entries: Vec<Entry>,
+}
+
+impl Model for Cell {
+    ghost use Rattle.std.specs.Prelude.{◌-◌, vec_len, vec_capacity};
+    ghost use Rattle.omega_cell.specs.Cells.{CellState, IsCell};
+
+    ghost Value = { CellState };
+
+    ghost view = { λ c. record { history = c.entries.items; task_room = c.board.spare; entry_room = vec_capacity c.entries - vec_len c.entries } };
+
+    ghost invariant = { λ c. IsCell c.board c.entries.items };
+}
+
+impl Cell {
+    /// The cell with the empty history. Takes no memory.
+    pub fn new(alloc: Global) -> Cell
+        ensures { result.history ≡ [] }
+    {
+        Cell {
+            board: Board::new(alloc),
+            entries: Vec::new(alloc),
+        }
+    }
+
+    /// The board after the history.
+    pub fn board(&self) -> &Board
+        ensures current { cell_of result.now ≡ state self.now.history }
+        ensures numbered { (id : ℕ) → seq_at result.now.table id ≡ seq self.now.history id }
+    {
+        &self.board
+    }
+
+    /// The history, from its first entry on. It is legal, and each of its entries could be applied to
+    /// the state before it.
+    pub fn history(&self) -> &[Entry]
+        ensures history { result.now ≡ self.now.history }
+        ensures legal { Legal self.now.history }
+        ensures applied { EachMayApply self.now.history }
+    {
+        self.entries.as_slice()
+    }
+
+    /// The history itself. Takes no memory.
+    pub fn into_history(self) -> Entries
+        ensures history { result ≡ self.history }
+        ensures legal { Legal self.history }
+        ensures applied { EachMayApply self.history }
+    {
+        let Cell { entries, .. } = self;
+        Seq::of(entries)
+    }
+
+    /// Appends an entry that is no commit, and applies it to the board. Where memory runs out the
+    /// entry is handed back, and the history and the board stay.
+    ///
+    /// Costs what the entry changes, and where it displaces a task the tasks on its machine.
+    pub fn feed(&mut self, alloc: Global, entry: Entry) -> Result<(), (Entry, NoMemory)>
+        requires no_commit { is_commit entry ≡ false }
+        requires capacity { IfSome (capacity_in entry) (λ cap. Fits cap greatest) }
+        requires machines { IfSome (machine_in entry) (ListsOrHasRoom (state self.old.history).machines) }
+        requires ends { EndsRunning (state self.old.history).tasks entry }
+        ensures ok { OnOk result (self.new.history ≡ self.old.history ++ entry ∷ []) }
+        ensures err { OnErr result (self.new.history ≡ self.old.history) }
+        ensures back { IfErr result (λ refused. refused.0 ≡ entry) }
+    {
+        if self.entries.reserve(1).is_err() {
+            return Err((entry, NoMemory));
+        }
+        match self.board.apply_entry(alloc, &entry) {
+            Ok(_) => {
+                self.entries.push_reserved(entry);
+                Ok(())
+            }
+            Err(error) => Err((entry, error)),
+        }
+    }
+
+    /// Makes room for all that the commit of a transaction needs. The history and the board stay.
+    /// Where memory runs out the transaction is handed back. Costs the claims.
+    pub fn reserve(&mut self, alloc: Global, txn: Txn) -> Result<Prepared, (Txn, NoMemory)>
+        requires { length txn.claims < 2 ^ 32 }
+        ensures history { self.new.history ≡ self.old.history }
+        ensures txn { IfOk result (λ prepared. prepared ≡ txn) }
+        ensures room { OnOk result (HasRoom self.new txn) }
+        ensures back { IfErr result (λ refused. refused.0 ≡ txn) }
+    {
+        let Ok(verdicts) = Vec::with_capacity(alloc, txn.claims.len()) else {
+            return Err((txn, NoMemory));
+        };
+        let Ok(outcomes) = Vec::with_capacity(alloc, txn.claims.len()) else {
+            return Err((txn, NoMemory));
+        };
+        if self.entries.reserve(1).is_err() {
+            return Err((txn, NoMemory));
+        }
+        match self.board.reserve(alloc, &txn.claims) {
+            Ok(undo) => Ok(Prepared {
+                txn,
+                undo,
+                verdicts,
+                outcomes,
+            }),
+            Err(error) => Err((txn, error)),
+        }
+    }
+
+    /// Judges the claims of a prepared transaction on this cell, keeps what its mode keeps, and
+    /// appends the commit with its reply. `seen` is the number of entries that the scheduler's copy
+    /// had taken in, and `seqs` has for each claim the sequence number of its machine in that copy.
+    /// Answers the place of the entry, and each claim's verdict.
+    ///
+    /// Costs the claims, each compared with those before it, and their victims. Takes no memory.
+    pub fn commit(&mut self, scheduler: u32, seen: u64, seqs: &[u64], prepared: Prepared) -> Reply
+        requires room { HasRoom self.old prepared }
+        requires seen { seen ≤ length self.old.history }
+        requires seqs { seqs.now ≡ copied_seqs self.old.history seen prepared.claims }
+        ensures history { self.new.history ≡ self.old.history ++ Entry.Commit scheduler seen prepared (reply_of self.old.history seen prepared) ∷ [] }
+        ensures place { result.place ≡ length self.old.history }
+        ensures outcomes { result.outcomes ≡ outcomes_of prepared.claims (reply_of self.old.history seen prepared) }
+    {
+        let Prepared {
+            txn,
+            undo,
+            verdicts,
+            outcomes,
+        } = prepared;
+        let reply = decide(&mut self.board, &txn, seqs, undo, verdicts);
+        self.board.touch_placed(&txn.claims, &reply);
+        let outcomes = outcomes_of(txn.claims.as_slice(), reply.as_slice(), outcomes);
+        let place = self.entries.len() as u64;
+        self.entries.push_reserved(Entry::Commit {
+            scheduler,
+            seen,
+            txn,
+            reply,
+        });
+        Reply {
+            place,
+            outcomes: Seq::of(outcomes),
+        }
+    }
+
+    /// The delta that holds the history from place `n` on. Costs what it holds.
+    pub fn since(&self, alloc: Global, n: u64) -> Result<Delta, NoMemory>
+        requires { n ≤ length self.now.history }
+        ensures { IfOk result (λ delta. Carries delta self.now.history n (length self.now.history)) }
+    {
+        let later = copied(alloc, &self.entries.as_slice()[n as usize..])?;
+        Ok(Delta::of(n, later))
+    }
+}
+
+// Equal entries.
+fn copied(alloc: Global, entries: &[Entry]) -> Result<Entries, NoMemory>
+    ensures { IfOk result (λ copied. copied ≡ entries.now) }
+{
+    let mut copied = Vec::new(alloc);
+    for entry in entries {
+        copied.push(entry.copy(alloc)?)?;
+    }
+    Ok(Seq::of(copied))
+}

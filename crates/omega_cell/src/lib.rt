@@ -1,0 +1,18 @@
+//! The cell that all schedulers share: one history, and the board after it.
+//!
+//! The board is the state of the history at every moment, and the history is legal. What is fed to
+//! the cell is appended, and a commit is judged and appended in one step that takes no memory: all
+//! that it needs was made room for before. No call looks through the history but the one that
+//! hands out a part of it.
+#![tactic(auto)]
+
+mod cell;
+mod deciding;
+mod laws;
+mod prepared;
+#[cfg(test)]
+mod tests;
+
+pub use cell::Cell;
+pub use laws::commits_of_legal_histories;
+pub use prepared::Prepared;
