@@ -6,9 +6,11 @@ use Rattle.std.proofs.lemmas.Bool.{cases_lt}
 use Rattle.std.proofs.lemmas.Option.{none-some}
 use Rattle.std.proofs.lemmas.List.{length-append, take-append-le, take_all}
 use Rattle.std.proofs.lemmas.List.Elements.{All-nil}
-use Rattle.std.proofs.lemmas.List.Sums.{count_by-le-length, fold-append}
+use Rattle.std.proofs.lemmas.List.Sums.{count_by-le-length}
 use Rattle.omega_board.specs.Board.{BoardState, cell_of}
-use Rattle.omega_board.specs.Entries.{EndsRunning, HasRoomFor, MayApply, PlacesInOrder, machine_in}
+use Rattle.omega_board.specs.Entries.{HasRoomFor, MayApply, machine_in}
+use Rattle.omega_board.proofs.Histories.{seq_push, room_in_some}
+use Rattle.omega_board.proofs.Histories.{may_apply as may_apply_after}
 use Rattle.omega_machines.specs.declared.MachineState.{MachineState}
 use Rattle.omega_machines.specs.Table.{machines_of, seq_at}
 use Rattle.omega_model.specs.Cell.{Cell}
@@ -23,11 +25,6 @@ use Rattle.omega_model.proofs.Standing.{failed_push}
 use Rattle.omega_top.specs.Counts.{count_of}
 use Rattle.omega_top.specs.declared.failures.Failures.{Failures}
 use Rattle.omega_top.specs.Replays.{MayAppend, NeverOvercommits, Replays}
-
--- the sequence number of a machine after one more entry
-pub seq_push : (history : List Entry) (entry : Entry) (id : ℕ)
-    → seq (history ++ entry ∷ []) id ≡ seq history id + (if touches id entry then 1 else 0)
-seq_push history entry id = fold-append (λ (count : ℕ) (e : Entry). count + (if touches id e then 1 else 0)) 0 history (entry ∷ [])
 
 -- a history that never overcommits doesn't after one more entry, where the state is sound then
 pub sound_push : (history : List Entry) (entry : Entry) → NeverOvercommits history → Sound (state (history ++ entry ∷ []))
@@ -72,16 +69,13 @@ replays_push board after failures counts history entry replays follows stepped n
 pub may_apply : (board : BoardState) (failures : Failures) (history : List Entry) (entry : Entry)
     → Replays board failures history → MayAppend history entry → IfSome (machine_in entry) (HasRoomFor board.table)
     → length history < 2 ^ 63 → MayApply board entry
-may_apply board failures history entry replays may room short = record {
+may_apply board failures history entry replays may room short = may_apply_after board history entry replays.current replays.numbered (record {
   capacity = may.capacity;
-  machines = room;
-  seqs = λ id touched.
-      let few : seq history id ≤ length history = count_by-le-length (touches id) history in
-      let same : seq_at board.table id ≡ seq history id = replays.numbered id in
-      omega arith;
-  ends = subst (λ (cell : Cell). EndsRunning cell.tasks entry) (sym replays.current) may.ends;
-  places = subst (λ (cell : Cell). PlacesInOrder cell entry) (sym replays.current) may.places;
-}
+  machines = room_in_some board.table (state history).machines (machine_in entry) (ap (λ (cell : Cell). cell.machines) replays.current) room;
+  seqs = λ id touched. let few : seq history id ≤ length history = count_by-le-length (touches id) history in omega arith;
+  ends = may.ends;
+  places = may.places;
+})
 
 -- another board with the same machines and tasks serves as well
 pub replays_same : (board after : BoardState) (failures : Failures) (history : List Entry)
