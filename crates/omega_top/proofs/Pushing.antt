@@ -14,7 +14,7 @@ use Rattle.omega_board.proofs.Histories.{may_apply as may_apply_after}
 use Rattle.omega_machines.specs.declared.MachineState.{MachineState}
 use Rattle.omega_machines.specs.Table.{machines_of, seq_at}
 use Rattle.omega_model.specs.Cell.{Cell}
-use Rattle.omega_model.specs.Legal.{Follows, Sound}
+use Rattle.omega_model.specs.Legal.{Follows, Legal, Sound}
 use Rattle.omega_model.specs.Requests.{failed_after}
 use Rattle.omega_model.specs.State.{state, step}
 use Rattle.omega_model.specs.Touches.{seq, touches}
@@ -37,6 +37,10 @@ sound_push history entry before now n =
           subst (λ h. Sound (state h)) (sym (take_all n (history ++ entry ∷ []) long)) now
     ]
 
+-- the empty history is legal
+pub legal_empty : Legal []
+legal_empty place entry is = absurd (none-some entry is)
+
 -- the empty history doesn't overcommit
 pub sound_empty : NeverOvercommits []
 unfolding IsDistinct
@@ -58,12 +62,12 @@ pub replays_push : (board after : BoardState) (failures counts : Failures) (hist
 replays_push board after failures counts history entry replays follows stepped numbered counted sound =
     let current : cell_of after ≡ state (history ++ entry ∷ []) =
     stepped ∙ ap (λ (c : Cell). step c entry) replays.current ∙ sym (state_push history entry) in record {
-  current = current;
-  numbered = λ id. numbered id ∙ ap (λ (n : ℕ). n + (if touches id entry then 1 else 0)) (replays.numbered id) ∙ sym (seq_push history entry id);
-  legal = legal_push history entry replays.legal follows;
-  sound = sound_push history entry replays.sound (subst Sound current sound);
-  counted = λ job. counted job ∙ ap (λ (count : ℕ). failed_after job count entry) (replays.counted job) ∙ sym (failed_push history entry job);
-}
+      current = current;
+      numbered = λ id. numbered id ∙ ap (λ (n : ℕ). n + (if touches id entry then 1 else 0)) (replays.numbered id) ∙ sym (seq_push history entry id);
+      legal = legal_push history entry replays.legal follows;
+      sound = sound_push history entry replays.sound (subst Sound current sound);
+      counted = λ job. counted job ∙ ap (λ (count : ℕ). failed_after job count entry) (replays.counted job) ∙ sym (failed_push history entry job);
+    }
 
 -- an entry that may be appended to a history may be applied to its board, where it has room
 pub may_apply : (board : BoardState) (failures : Failures) (history : List Entry) (entry : Entry)
@@ -94,7 +98,7 @@ pub replays_empty : (board : BoardState) (failures : Failures) (history : List E
 replays_empty board failures history empty counts none = rw (empty, none) (record {
   current = refl;
   numbered = λ id. refl;
-  legal = λ place entry is. absurd (none-some entry is);
+  legal = legal_empty;
   sound = sound_empty;
   counted = counts;
 })

@@ -2,6 +2,7 @@
 ghost use Rattle.std.specs.Prelude.{◌≡◌, ◌++◌, ◌∷◌, [], IfOk, IfSome, IsTrue, false, length, ℕ};
 ghost use Rattle.omega_board.specs.Board.{cell_of};
 ghost use Rattle.omega_board.specs.Entries.{HasRoomFor, machine_in};
+ghost use Rattle.omega_cell.specs.Laws.{EvictionsGoDown, NoGangIsSplit};
 ghost use Rattle.omega_model.specs.Legal.{Legal, Sound};
 ghost use Rattle.omega_model.specs.Plan.{plan};
 ghost use Rattle.omega_model.specs.Requests.{failed, failed_after};
@@ -76,6 +77,8 @@ impl Replay {
         ensures history { result ≡ self }
         ensures legal { Legal result }
         ensures sound { NeverOvercommits result }
+        ensures gangs { NoGangIsSplit result }
+        ensures evictions { EvictionsGoDown result }
     {
         let Replay { entries, .. } = self;
         Seq::of(entries)

@@ -1,5 +1,6 @@
 //! The top call.
 ghost use Rattle.std.specs.Prelude.{◌≡◌, ◌≢◌, ◌↔◌, ◌⊎◌, [], ◌∷◌, ℕ, List, None, Some, codes, map, IsTrue, IfOk, IfSome};
+ghost use Rattle.omega_cell.specs.Laws.{EvictionsGoDown, NoGangIsSplit};
 ghost use Rattle.omega_io.specs.Edge.{Rose, Tells};
 ghost use Rattle.omega_model.specs.Legal.{Legal};
 ghost use Rattle.omega_model.specs.Refusals.{first_refusal};
@@ -65,6 +66,8 @@ pub fn omega<T: Tables, K: Sink, G: Gate>(
     ensures lawful { (bytes : Table → List ℕ) → Tells (T.rest tables.old) bytes → IsWholeRun default_settings (trace_of bytes) result.history result.status }
     ensures legal { Legal result.history }
     ensures sound { NeverOvercommits result.history }
+    ensures gangs { NoGangIsSplit result.history }
+    ensures evictions { EvictionsGoDown result.history }
     ensures history { HasHistory result.history result.status }
     ensures written { (bytes : Table → List ℕ) → Tells (T.rest tables.old) bytes
         → Writes (report default_settings (trace_of bytes) result.history) (K.written out.old) (K.written out.new) result.status }
@@ -101,6 +104,8 @@ pub fn omega_with<T: Tables, K: Sink, G: Gate>(
     ensures lawful { (bytes : Table → List ℕ) → Tells (T.rest tables.old) bytes → IsWholeRun settings.now (trace_of bytes) result.history result.status }
     ensures legal { Legal result.history }
     ensures sound { NeverOvercommits result.history }
+    ensures gangs { NoGangIsSplit result.history }
+    ensures evictions { EvictionsGoDown result.history }
     ensures history { HasHistory result.history result.status }
     ensures written { (bytes : Table → List ℕ) → Tells (T.rest tables.old) bytes
         → Writes (report settings.now (trace_of bytes) result.history) (K.written out.old) (K.written out.new) result.status }
@@ -127,6 +132,8 @@ fn say_replay(words: &[&str]) -> bool
 fn refused(alloc: Global, status: Status, settings: Option<Settings>) -> Done
     ensures answer { result ≡ record { status = status; settings = settings; history = [] } }
     ensures sound { NeverOvercommits result.history }
+    ensures gangs { NoGangIsSplit result.history }
+    ensures evictions { EvictionsGoDown result.history }
 {
     Done {
         status,
@@ -149,6 +156,8 @@ fn replay_and_write<K: Sink>(
     ensures lawful { IsWholeRun settings.now trace.now result.history result.status }
     ensures legal { Legal result.history }
     ensures sound { NeverOvercommits result.history }
+    ensures gangs { NoGangIsSplit result.history }
+    ensures evictions { EvictionsGoDown result.history }
     ensures history { HasHistory result.history result.status }
     ensures written { Writes (report settings.now trace.now result.history) (K.written out.old) (K.written out.new) result.status }
 {
