@@ -1,6 +1,7 @@
 pub mod Appending
 pub mod Attempting
 pub mod Completing
+pub mod Fitting
 pub mod Lines
 pub mod Placing
 pub mod Pushing

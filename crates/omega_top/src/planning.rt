@@ -8,12 +8,13 @@ ghost use Rattle.omega_board.specs.Undo.{IsUndoOf, at_reserve};
 ghost use Rattle.omega_machines.specs.Table.{machines_of};
 ghost use Rattle.omega_model.specs.JudgeOn.{judge_on};
 ghost use Rattle.omega_model.specs.declared.claims.Verdict.TheVariants.{Placed};
+ghost use Rattle.omega_model.specs.declared.wishes.Wish.{Wish};
 ghost use Rattle.omega_model.specs.Plan.{claim_of, claims_for, free_claim, goes_in, plan, whole_or_none};
 
 use crate::claims::is_placed;
 use crate::scratch::place;
 use omega_board::{Board, Undo};
-use omega_model::{Claim, Claims, Mode, NoMemory, Policy, Request, Seq, Txn, Wish};
+use omega_model::{Claim, Claims, Mode, Need, NoMemory, Policy, Request, Seq, Txn, Wish};
 use std::alloc::Global;
 
 /// The plan of a request, which begins to look at the first machine and evicts nobody. The board
@@ -111,8 +112,22 @@ fn goes_in(alloc: Global, board: &Board, wish: &Wish, id: u64) -> bool
     ensures test { result ≡ goes_in (cell_of board.now) wish.now [] id }
     ensures placed { result ≡ true → judge_on (cell_of board.now) 0 None (claim_of wish.now [] id) ≡ Placed }
 {
+    if !is_room(board, wish.spec.need, id) {
+        return false;
+    }
     let claim = claim_of(alloc, wish, id);
     is_placed(board.judge(&claim, None))
+}
+
+// Whether a machine is up and has this much free. Where it hasn't, no wish that needs as much goes in
+// as it is, which saves judging it.
+fn is_room(board: &Board, need: Need, id: u64) -> bool
+    ensures { (wish : Wish) → wish.spec.need ≡ need → result ≡ false → goes_in (cell_of board.now) wish [] id ≡ false }
+{
+    match board.machines().free(id) {
+        Some(free) => need.fits(free),
+        None => false,
+    }
 }
 
 // The claim of a wish on a machine, without victims.
