@@ -470,22 +470,10 @@ fn refusals(rt: HostRuntime) -> Result<(), Fail> {
             b"0,,10,0,,9,u,0,1,1,1,,0\n".as_slice(),
             bad(tasks, 1, 6, Cause::Range),
         ),
-        (
-            b"00,1,00,p,1,1\n1,1,0,p,1,1\n".as_slice(),
-            TASKS,
-            None,
-        ),
+        (b"00,1,00,p,1,1\n1,1,0,p,1,1\n".as_slice(), TASKS, None),
         (b"0,1,1,p,1,1\n".as_slice(), TASKS, None),
-        (
-            MACHINES,
-            b"0,,10,0,,0,u,0,1,1,1,,1\n".as_slice(),
-            None,
-        ),
-        (
-            MACHINES,
-            b"0,,10,0,,1,u,0,1,1,1,,0\n".as_slice(),
-            None,
-        ),
+        (MACHINES, b"0,,10,0,,0,u,0,1,1,1,,1\n".as_slice(), None),
+        (MACHINES, b"0,,10,0,,1,u,0,1,1,1,,0\n".as_slice(), None),
         (
             MACHINES,
             b"\n0,,1,0,,0,,,,,,,\r\n\n9,,1,0,,0,,,,,,,".as_slice(),
