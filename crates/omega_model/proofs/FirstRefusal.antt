@@ -3,7 +3,7 @@ use Rattle.std.proofs.Common.{◌≡◌, ◌∙◌, ◌++◌, ℕ, List, [], ◌
 use Rattle.std.specs.Prelude.{Result, Ok, Err}
 use Rattle.std.specs.Option.{option_or}
 use Rattle.std.proofs.lemmas.List.{map-append}
-use Rattle.omega_model.specs.Refusals.{first_of, bad_row, refusal_among, table_refusal, trace_refusal, first_refusal}
+use Rattle.omega_model.specs.Refusals.{first_standing, bad_row, refusal_among, table_refusal, trace_refusal, first_refusal}
 use Rattle.omega_model.specs.Columns.{BadColumn}
 use Rattle.omega_model.specs.Rows.{rows_by}
 use Rattle.omega_model.specs.declared.results.Cause.{Cause}
@@ -13,16 +13,16 @@ use Rattle.omega_model.specs.declared.rows.Table.{Table}
 use Rattle.omega_model.specs.declared.results.Status.{Status}
 use Rattle.omega_model.specs.declared.results.Status.TheVariants.{BadRow}
 
-first_of-append : (xs ys : List (Option Status)) → first_of (xs ++ ys) ≡ option_or (first_of xs) (first_of ys)
-first_of-append [] ys = refl
-first_of-append (None ∷ xs) ys = first_of-append xs ys
-first_of-append (Some refusal ∷ xs) ys = refl
+first_standing-append : (xs ys : List (Option Status)) → first_standing (xs ++ ys) ≡ option_or (first_standing xs) (first_standing ys)
+first_standing-append [] ys = refl
+first_standing-append (None ∷ xs) ys = first_standing-append xs ys
+first_standing-append (Some refusal ∷ xs) ys = refl
 
 pub refusal_among-append : (tables others : List Table) (bytes : Table → List ℕ)
     → refusal_among (tables ++ others) bytes ≡ option_or (refusal_among tables bytes) (refusal_among others bytes)
 refusal_among-append tables others bytes =
     let f = λ (table : Table). table_refusal table (bytes table) in
-    ap first_of (map-append f tables others) ∙ first_of-append (map f tables) (map f others)
+    ap first_standing (map-append f tables others) ∙ first_standing-append (map f tables) (map f others)
 
 -- one more table that isn't refused
 pub among_push : (tables : List Table) (table : Table) (bytes : Table → List ℕ)
@@ -50,6 +50,6 @@ tables_first bytes refusal is = rw is refl
 -- where no table is refused, the refusal is that of all rows together
 pub rows_last : (bytes : Table → List ℕ) (answer : Option Status) → refusal_among tables_in_order bytes ≡ None → trace_refusal (trace_of bytes) ≡ answer → first_refusal bytes ≡ answer
 rows_last bytes answer none is = rw (none, is) (alone answer) where
-  alone : (answer : Option Status) → first_of (answer ∷ []) ≡ answer
+  alone : (answer : Option Status) → first_standing (answer ∷ []) ≡ answer
   alone None = refl
   alone (Some refusal) = refl

@@ -1,19 +1,13 @@
--- Rounds one after the other, and who has work in them.
-use Rattle.std.proofs.Common.{◌≡◌, ◌≢◌, ℕ, Bool, false, List, [], ◌∷◌, ◌++◌, refl, sym, ap, subst, append_assoc}
-use Rattle.std.specs.Prelude.{◌==◌, ◌&&◌, not}
-use Rattle.std.specs.List.{filter, filter_map}
+-- Rounds one after the other.
+use Rattle.std.proofs.Common.{◌≡◌, Bool, false, List, [], ◌∷◌, ◌++◌, refl, sym, subst, append_assoc}
+use Rattle.std.specs.List.{filter}
 use Rattle.std.proofs.lemmas.List.{append-nil}
-use Rattle.omega_model.specs.Feed.{feed}
 use Rattle.omega_model.specs.Lawful.{RoundOf, Rounds, rows_of}
-use Rattle.omega_model.specs.Requests.{given_up, jobs_in_order, request_of, requests, wishes_of, works_on}
-use Rattle.omega_model.specs.State.{state}
-use Rattle.omega_model.specs.Wanted.{wanted}
 use Rattle.omega_model.specs.declared.entries.Entry.{Entry}
 use Rattle.omega_model.specs.declared.rows.Row.{Row}
 use Rattle.omega_model.specs.declared.rows.Round.{Round}
 use Rattle.omega_model.specs.declared.rows.TraceTables.{TraceTables}
 use Rattle.omega_model.specs.declared.settings.Settings.{Settings}
-use Rattle.omega_model.proofs.Attempts.{apart-false}
 
 -- one more round after some rounds
 pub rounds_push : (settings : Settings) (trace : TraceTables) (rows : List Row) (start : List Entry) (some : List Round) (round : Round) (middle history : List Entry)
@@ -34,13 +28,3 @@ rounds_push settings trace rows start (first ∷ some) round middle history whol
 pub filter-none : {X : Type 0} (test : X → Bool) → ((x : X) → test x ≡ false) → (xs : List X) → filter test xs ≡ []
 filter-none test fails [] = refl
 filter-none test fails (x ∷ xs) = rw (fails x) (filter-none test fails xs)
-
--- while every job is scheduler 1's, the others have no request
-pub requests-other : (settings : Settings) (trace : TraceTables) (rows : List Row) (history : List Entry) (other : ℕ) → other ≢ 1
-    → requests settings trace rows history other ≡ []
-requests-other settings trace rows history other apart =
-    let theirs : (1 == other) ≡ false = apart-false 1 other apart in
-    let none : filter (works_on settings trace history other) (jobs_in_order (feed trace)) ≡ [] =
-    filter-none (works_on settings trace history other)
-    (λ job. ap (λ (ours : Bool). ours && not (given_up settings history job)) theirs) (jobs_in_order (feed trace)) in
-    ap (λ (jobs : List ℕ). filter_map (λ job. request_of job (wishes_of settings trace (state history) (wanted rows) job)) jobs) none

@@ -10,7 +10,8 @@ use Rattle.omega_model.specs.Touches.{is_placed}
 use Rattle.omega_model.specs.Work.{HasLeft, IsDue, Standing, after_entry, is_commit_of, outcomes_of, standing_of}
 use Rattle.omega_model.specs.declared.claims.Claim.{Claim}
 use Rattle.omega_model.specs.declared.claims.Outcome.{Outcome}
-use Rattle.omega_model.specs.declared.claims.Verdict.{Verdict}
+use Rattle.omega_model.specs.declared.claims.Judgement.{Judgement}
+use Rattle.omega_model.specs.Reply.{admits}
 use Rattle.omega_model.specs.declared.entries.Entry.{Entry}
 use Rattle.omega_model.specs.declared.entries.Entry.TheVariants.{Round, MachineAdd, MachineUpdate, MachineRemove, AttrSet, AttrDelete, End, Commit}
 use Rattle.omega_model.specs.declared.rows.Row.{Row}
@@ -69,14 +70,14 @@ has_left-other settings trace rows opened scheduler history entry left other wit
 }
 
 -- whether a reply places a claim is whether the outcomes do
-pub placed_outcomes : (claims : List Claim) (reply : List Verdict) → length reply ≡ length claims
-    → list_any (λ (outcome : Outcome). is_placed outcome.verdict) (outcomes_of claims reply) ≡ list_any is_placed reply
+pub placed_outcomes : (claims : List Claim) (reply : List Judgement) → length reply ≡ length claims
+    → list_any (λ (outcome : Outcome). is_placed outcome.verdict) (outcomes_of claims reply) ≡ list_any admits reply
 placed_outcomes [] [] same = refl
-placed_outcomes [] (verdict ∷ reply) same = absurd (omega arith)
+placed_outcomes [] (judgement ∷ reply) same = absurd (omega arith)
 placed_outcomes (claim ∷ claims) [] same = absurd (omega arith)
-placed_outcomes (claim ∷ claims) (verdict ∷ reply) same =
+placed_outcomes (claim ∷ claims) (judgement ∷ reply) same =
     let rest : length reply ≡ length claims = omega arith in
-    ap (λ (any : Bool). is_placed verdict || any) (placed_outcomes claims reply rest)
+    ap (λ (any : Bool). admits judgement || any) (placed_outcomes claims reply rest)
 
 -- the failed commits of a job after one more entry are one step on
 pub failed_push : (history : List Entry) (entry : Entry) (job : ℕ) → failed (history ++ entry ∷ []) job ≡ failed_after job (failed history job) entry

@@ -1,7 +1,7 @@
 -- The columns of a record: what each may hold, and the row that they make together.
 use Rattle.std.specs.Prelude.{ℕ, ◌+◌, ◌==◌, nat_le, List, [], ◌∷◌, length, Option, Some, None, Result, Ok, Err, if◌then◌else◌}
 use Rattle.std.specs.Option.{ok_or}
-use Rattle.omega_model.specs.Fields.{MachineFields, AttrFields, TaskFields, ConstraintFields, ActivityFields}
+use Rattle.omega_model.specs.Fields.{MachineFields, AttrFields, TaskFields, ConstraintFields, ActivityFields, DiskFields}
 use Rattle.omega_model.specs.Numbers.{whole, units_up, units_down}
 use Rattle.omega_model.specs.Rows.{column}
 use Rattle.omega_model.specs.declared.cells.Need.{Need}
@@ -68,19 +68,28 @@ time_in number fields = number_in 9223372036854775807 number fields
 abbrev pub id_in : ℕ → List (List ℕ) → Result ℕ BadColumn
 id_in number fields = number_in 18446744073709551615 number fields
 
--- the amounts of CPU and of memory of a machine, in a column and the next
+-- an amount in a column, rounded down
+abbrev pub amount_down_in : ℕ → List (List ℕ) → Result ℕ BadColumn
+amount_down_in number fields = in_column number (amount_down (column fields number))
+
+-- an amount in a column, rounded up
+abbrev pub amount_up_in : ℕ → List (List ℕ) → Result ℕ BadColumn
+amount_up_in number fields = in_column number (amount_up (column fields number))
+
+-- the amounts of CPU and of memory of a machine, in a column and the next; its table says nothing of disk
 abbrev pub capacity_in : ℕ → List (List ℕ) → Result Need BadColumn
 capacity_in number fields =
-    and_then (in_column number (amount_down (column fields number))) (λ amount.
-    and_then (in_column (number + 1) (amount_down (column fields (number + 1)))) (λ memory.
-    Ok record { cpu = amount; mem = memory }))
+    and_then (amount_down_in number fields) (λ amount.
+    and_then (amount_down_in (number + 1) fields) (λ memory.
+    Ok record { cpu = amount; mem = memory; disk = 0 }))
 
--- the amounts of CPU and of memory that a task asks for, in a column and the next
+-- the amounts of CPU, memory and disk that a task asks for, in a column and the next two
 abbrev pub request_in : ℕ → List (List ℕ) → Result Need BadColumn
 request_in number fields =
-    and_then (in_column number (amount_up (column fields number))) (λ amount.
-    and_then (in_column (number + 1) (amount_up (column fields (number + 1)))) (λ memory.
-    Ok record { cpu = amount; mem = memory }))
+    and_then (amount_up_in number fields) (λ amount.
+    and_then (amount_up_in (number + 1) fields) (λ memory.
+    and_then (amount_up_in (number + 2) fields) (λ space.
+    Ok record { cpu = amount; mem = memory; disk = space })))
 
 -- the name of a task: its job in a column, and its index below 2 ^ 31 in the next
 abbrev pub key_in : ℕ → List (List ℕ) → Result TaskKey BadColumn
@@ -89,7 +98,7 @@ key_in number fields =
     and_then (number_in 2147483647 (number + 1) fields) (λ place.
     Ok record { job = work; index = place }))
 
--- what a task asks for: priority to 255, CPU, memory, disk that isn't read, and whether its job wants different machines
+-- what a task asks for: priority to 255, CPU, memory, disk, and whether its job wants different machines
 abbrev pub spec_of : List (List ℕ) → Result Spec BadColumn
 spec_of fields =
     and_then (number_or_blank_in 255 9 fields) (λ priority.
@@ -149,3 +158,11 @@ activity_row fields =
     and_then (id_in 1 fields) (λ work.
     and_then (number_in 10000 2 fields) (λ number.
     Ok record { job = work; activities = number })))
+
+-- the row of `machine_disk`: machine, disk
+abbrev pub disk_row : List (List ℕ) → Result DiskFields BadColumn
+disk_row fields =
+    with_fields 2 fields (
+    and_then (id_in 1 fields) (λ id.
+    and_then (amount_down_in 2 fields) (λ space.
+    Ok record { machine = id; disk = space })))

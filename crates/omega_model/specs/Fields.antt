@@ -1,5 +1,5 @@
 -- The fields of the typed rows, and the ranges that each row type keeps.
-use Rattle.std.specs.Prelude.{ℕ, Bool, List, ◌<◌, ◌≤◌, ◌^◌}
+use Rattle.std.specs.Prelude.{◌≡◌, ℕ, Bool, List, ◌<◌, ◌≤◌, ◌^◌}
 use Rattle.omega_model.specs.Need.{Fits}
 use Rattle.omega_model.specs.declared.cells.Need.{Need}
 use Rattle.omega_model.specs.declared.cells.Spec.{Spec}
@@ -39,15 +39,25 @@ pub record ActivityFields : Type 0 where
   pub job : ℕ
   pub activities : ℕ
 
--- the greatest quantity: 1000 times the trace's normalised amount
-abbrev pub greatest : Need
-greatest = record { cpu = 1000000000000; mem = 1000000000000 }
+-- what a row of `machine_disk` says
+pub record DiskFields : Type 0 where
+  pub machine : ℕ
+  pub disk : ℕ
 
--- the ranges of a machine row
+-- the greatest quantity: 1000 times the trace's normalised amount
+abbrev pub greatest_quantity : ℕ
+greatest_quantity = 1000000000000
+
+-- so much of each component
+abbrev pub greatest : Need
+greatest = record { cpu = greatest_quantity; mem = greatest_quantity; disk = greatest_quantity }
+
+-- the ranges of a machine row, whose table says nothing of disk
 pub record IsMachineRow (moment event : ℕ) (capacity : Need) : Type 0 where
   pub time : moment < 2 ^ 63
   pub code : event ≤ 2
   pub cap : Fits capacity greatest
+  pub disk : capacity.disk ≡ 0
 
 -- the ranges of a task row
 pub record IsTaskRow (moment : ℕ) (name : TaskKey) (event kind : ℕ) (asked : Spec) : Type 0 where

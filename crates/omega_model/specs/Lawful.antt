@@ -7,7 +7,7 @@ use Rattle.omega_model.specs.State.{state, reply_of}
 use Rattle.omega_model.specs.Wanted.{wanted, row_entries}
 use Rattle.omega_model.specs.Work.{HasLeft}
 use Rattle.omega_model.specs.declared.claims.Txn.{Txn}
-use Rattle.omega_model.specs.declared.claims.Verdict.{Verdict}
+use Rattle.omega_model.specs.declared.claims.Judgement.{Judgement}
 use Rattle.omega_model.specs.declared.entries.Entry.{Entry}
 use Rattle.omega_model.specs.declared.entries.Entry.TheVariants.{Round as RoundEntry, Commit}
 use Rattle.omega_model.specs.declared.rows.Row.{Row}
@@ -22,16 +22,16 @@ pub record Applied : Type 0 where
   pub history : List Entry
 
 -- one more row: its entries on the state of the history before it
-abbrev pub with_row : Applied → Row → Applied
-with_row applied row = record {
+abbrev pub with_row : TraceTables → Applied → Row → Applied
+with_row trace applied row = record {
   rows = applied.rows ++ row ∷ [];
-  history = applied.history ++ row_entries (state applied.history) (wanted (applied.rows ++ row ∷ [])) row;
+  history = applied.history ++ row_entries trace (state applied.history) (wanted (applied.rows ++ row ∷ [])) row;
 }
 
 -- a round's entry and those of its rows in order, after these rows and this history
-abbrev pub opened : List Row → List Entry → Round → Applied
-opened rows history round =
-    fold with_row (record { rows = rows; history = history ++ RoundEntry round.number ∷ [] }) round.rows
+abbrev pub opened : TraceTables → List Row → List Entry → Round → Applied
+opened trace rows history round =
+    fold (with_row trace) (record { rows = rows; history = history ++ RoundEntry round.number ∷ [] }) round.rows
 
 -- the place after the last commit of this scheduler, or 0, with these entries read up to place
 pub record LastCommit : Type 0 where
@@ -51,7 +51,7 @@ after_last scheduler history = (fold (note_commit scheduler) (record { place = 0
 -- a commit may stand after these entries of a round whose rows end at place opened: its scheduler is
 -- one of the settings', its copy had seen the round's rows and the scheduler's own last commit and no
 -- entry that wasn't there, and the reply is the one that is due
-pub record MayCommit (settings : Settings) (opened_at : ℕ) (before : List Entry) (scheduler seen : ℕ) (txn : Txn) (reply : List Verdict) : Type 0 where
+pub record MayCommit (settings : Settings) (opened_at : ℕ) (before : List Entry) (scheduler seen : ℕ) (txn : Txn) (reply : List Judgement) : Type 0 where
   pub known : scheduler < schedulers settings
   pub there : seen ≤ length before
   pub rows : opened_at ≤ seen
@@ -66,17 +66,17 @@ IsCommitOfRound settings opened_at before _ = ⊥
 -- a history holds, after these rows and this history, a round's rows and then commits of it, and every
 -- scheduler's commits are attempts on its requests
 pub record RoundSoFar (settings : Settings) (trace : TraceTables) (rows : List Row) (start : List Entry) (round : Round) (history : List Entry) : Type 0 where
-  pub begins : take (length (opened rows start round).history) history ≡ (opened rows start round).history
-  pub commits : (place : ℕ) (entry : Entry) → slice_get history place ≡ Some entry → length (opened rows start round).history ≤ place
-      → IsCommitOfRound settings (length (opened rows start round).history) (take place history) entry
+  pub begins : take (length (opened trace rows start round).history) history ≡ (opened trace rows start round).history
+  pub commits : (place : ℕ) (entry : Entry) → slice_get history place ≡ Some entry → length (opened trace rows start round).history ≤ place
+      → IsCommitOfRound settings (length (opened trace rows start round).history) (take place history) entry
   pub work : (scheduler : ℕ) → scheduler < schedulers settings
-      → (left : List Request) × HasLeft settings trace (rows ++ round.rows) (length (opened rows start round).history) scheduler history left
+      → (left : List Request) × HasLeft settings trace (rows ++ round.rows) (length (opened trace rows start round).history) scheduler history left
 
 -- besides, no scheduler has anything left
 pub record RoundOf (settings : Settings) (trace : TraceTables) (rows : List Row) (start : List Entry) (round : Round) (history : List Entry) : Type 0 where
   pub begun : RoundSoFar settings trace rows start round history
   pub finished : (scheduler : ℕ) → scheduler < schedulers settings
-      → HasLeft settings trace (rows ++ round.rows) (length (opened rows start round).history) scheduler history []
+      → HasLeft settings trace (rows ++ round.rows) (length (opened trace rows start round).history) scheduler history []
 
 -- a history is made of these rounds in order, after these rows and this history
 abbrev pub Rounds : Settings → TraceTables → List Row → List Entry → List Round → List Entry → Type 0

@@ -1,7 +1,6 @@
 pub mod Need
 pub mod Policy
 pub mod Fields
-pub mod Stretch
 pub mod Keys
 pub mod Cell
 pub mod Machines
@@ -20,6 +19,7 @@ pub mod Work
 pub mod Lawful
 pub mod Turns
 pub mod Extras
+pub mod Parts
 pub mod Copy
 pub mod World
 pub mod Numbers
@@ -31,6 +31,5 @@ pub mod Trace
 pub mod Refusals
 pub mod Ranges
 pub mod Jobs
-pub mod Working
-pub mod JudgeOn
 pub mod OpenRequests
+pub mod Applying

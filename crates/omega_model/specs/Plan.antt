@@ -1,10 +1,10 @@
 -- Where a scheduler would put the tasks of a request.
-use Rattle.std.specs.Prelude.{ℕ, Bool, true, List, [], ◌∷◌, ◌++◌, Option, Some, None, option_map, ◌+◌, ◌==◌, ◌&&◌, not, nat_lt, length, map, take, drop, if◌then◌else◌}
-use Rattle.std.specs.List.{find, filter, filter_map, range_with_len}
+use Rattle.std.specs.Prelude.{ℕ, Bool, true, List, [], ◌∷◌, ◌++◌, Option, Some, None, option_map, ◌==◌, ◌&&◌, not, nat_lt, length, take, drop, if◌then◌else◌}
+use Rattle.std.specs.List.{find, filter, filter_map}
 use Rattle.omega_model.specs.Cell.{Cell, is_on, by_rank, keys_of}
-use Rattle.omega_model.specs.Touches.{is_placed}
-use Rattle.omega_model.specs.Judge.{judge}
-use Rattle.omega_model.specs.Reply.{tasks_placed}
+use Rattle.omega_model.specs.Judge.{judge_fine, would_be_placed}
+use Rattle.omega_model.specs.Keys.{beginnings}
+use Rattle.omega_model.specs.Reply.{after_claim}
 use Rattle.omega_model.specs.declared.cells.Attr.{Attr}
 use Rattle.omega_model.specs.declared.cells.Machine.{Machine}
 use Rattle.omega_model.specs.declared.cells.Task.{Task}
@@ -13,7 +13,6 @@ use Rattle.omega_model.specs.declared.claims.Claim.{Claim}
 use Rattle.omega_model.specs.declared.claims.Mode.{Mode}
 use Rattle.omega_model.specs.declared.claims.Mode.TheVariants.{Incremental, Gang}
 use Rattle.omega_model.specs.declared.claims.Policy.{Policy}
-use Rattle.omega_model.specs.declared.claims.Rule.TheVariants.{Fine}
 use Rattle.omega_model.specs.declared.wishes.Wish.{Wish}
 
 -- whether a wish may be placed on a machine with these attributes: for now on every one
@@ -26,7 +25,7 @@ claim_of wish victims id = record { key = wish.key; machine = id; spec = wish.sp
 
 -- whether the wish is placed on this machine when these victims go, whatever the history
 abbrev pub goes_in : Cell → Wish → List TaskKey → ℕ → Bool
-goes_in cell wish victims id = is_placed (judge [] 0 cell Fine (claim_of wish victims id))
+goes_in cell wish victims id = would_be_placed cell (claim_of wish victims id)
 
 -- whether a task may be evicted for a wish: it is of another job, and its precedence is lower
 abbrev pub gives_way : Wish → Task → Bool
@@ -35,10 +34,6 @@ gives_way wish task = not (task.key.job == wish.key.job) && nat_lt task.spec.pre
 -- the tasks on a machine that may be evicted for a wish, in order of eviction
 abbrev pub candidates : Cell → ℕ → Wish → List TaskKey
 candidates cell id wish = keys_of (by_rank (filter (λ task. is_on id task && gives_way wish task) cell.tasks))
-
--- the beginnings of a list, the shortest first
-abbrev pub beginnings : List TaskKey → List (List TaskKey)
-beginnings keys = map (λ n. take n keys) (range_with_len 0 (length keys + 1))
 
 -- the fewest candidates that must go for the wish to be placed on this machine
 abbrev pub victims : Cell → ℕ → Wish → Option (List TaskKey)
@@ -86,7 +81,7 @@ and_claims (Some claim) claims = claim ∷ claims
 -- the cell once a planned claim, if there is one, is placed
 abbrev pub after_planned : Cell → Option Claim → Cell
 after_planned cell None = cell
-after_planned cell (Some claim) = record { machines = cell.machines; tasks = tasks_placed cell.tasks claim }
+after_planned cell (Some claim) = after_claim cell (claim, judge_fine cell claim)
 
 -- the claims for the wishes in order, each on the cell after the claims before it
 abbrev pub claims_for : Cell → ℕ → Bool → List Wish → List Claim

@@ -1,10 +1,12 @@
 -- The lines that are printed of a history, and their bytes.
-use Rattle.std.specs.Prelude.{ℕ, List, [], ◌∷◌, ◌++◌, map, codes, decimal}
+use Rattle.std.specs.Prelude.{ℕ, List, [], ◌∷◌, ◌++◌, map, codes, decimal, if◌then◌else◌}
 use Rattle.std.specs.List.{flat_map, join_with_byte, zip}
 use Rattle.omega_model.specs.declared.cells.TaskKey.{TaskKey}
 use Rattle.omega_model.specs.declared.claims.Claim.{Claim}
+use Rattle.omega_model.specs.Touches.{is_placed}
+use Rattle.omega_model.specs.declared.claims.Judgement.{Judgement}
 use Rattle.omega_model.specs.declared.claims.Verdict.{Verdict}
-use Rattle.omega_model.specs.declared.claims.Verdict.TheVariants.{Placed, NoMachine, AlreadyRunning, Changed, VictimGone, VictimRank, SameJob, Full, Withdrawn}
+use Rattle.omega_model.specs.declared.claims.Verdict.TheVariants.{Placed, NoMachine, AlreadyRunning, Changed, VictimRank, SameJob, Full, Withdrawn}
 use Rattle.omega_model.specs.declared.entries.Entry.{Entry}
 use Rattle.omega_model.specs.declared.entries.Entry.TheVariants.{Round, Commit}
 use Rattle.omega_model.specs.declared.rows.TraceTables.{TraceTables}
@@ -29,10 +31,9 @@ refusal_words Placed = []
 refusal_words NoMachine = Name (codes "no-machine") ∷ []
 refusal_words (AlreadyRunning machine) = Name (codes "running") ∷ Number machine ∷ []
 refusal_words (Changed now copy) = Name (codes "changed") ∷ Number now ∷ Number copy ∷ []
-refusal_words (VictimGone key) = Name (codes "victim-gone") ∷ Number key.job ∷ Number key.index ∷ []
 refusal_words (VictimRank key) = Name (codes "victim-rank") ∷ Number key.job ∷ Number key.index ∷ []
 refusal_words (SameJob key) = Name (codes "same-job") ∷ Number key.job ∷ Number key.index ∷ []
-refusal_words (Full free) = Name (codes "full") ∷ Number free.cpu ∷ Number free.mem ∷ []
+refusal_words (Full free) = Name (codes "full") ∷ Number free.cpu ∷ Number free.mem ∷ Number free.disk ∷ []
 refusal_words (Withdrawn place) = Name (codes "withdrawn") ∷ Number place ∷ []
 
 -- the line of a task that stops to make room for a placed claim
@@ -43,11 +44,17 @@ evict_line claim key = Name (codes "evict") ∷ task_words key claim.machine
 abbrev pub refuse_line : Claim → Verdict → Line
 refuse_line claim verdict = Name (codes "refuse") ∷ task_words claim.key claim.machine ++ refusal_words verdict
 
--- the lines of a claim and its verdict: those it evicts and where it is placed, or why it is refused
-abbrev pub claim_lines : Claim × Verdict → List Line
-claim_lines (claim, Placed) =
-    map (evict_line claim) claim.victims ++ (Name (codes "place") ∷ task_words claim.key claim.machine) ∷ []
-claim_lines (claim, verdict) = refuse_line claim verdict ∷ []
+-- the line of a claim that was placed
+abbrev pub place_line : Claim → Line
+place_line claim = Name (codes "place") ∷ task_words claim.key claim.machine
+
+-- the lines of a claim and what was answered to it: those it evicts and where it is placed, or why it
+-- is refused
+abbrev pub claim_lines : Claim × Judgement → List Line
+claim_lines (claim, judgement) =
+    if is_placed judgement.verdict
+    then map (evict_line claim) judgement.evicted ++ place_line claim ∷ []
+    else refuse_line claim judgement.verdict ∷ []
 
 -- the lines of an entry: so far those of rounds and commits alone
 abbrev pub entry_lines : Entry → List Line
@@ -59,7 +66,7 @@ entry_lines _ = []
 
 -- the first line, and the lines of the entries of a history
 abbrev pub history_lines : List Entry → List Line
-history_lines history = (Name (codes "omega") ∷ Number 1 ∷ []) ∷ flat_map entry_lines history
+history_lines history = (Name (codes "omega") ∷ Number 2 ∷ []) ∷ flat_map entry_lines history
 
 -- the lines of the report of a history: so far those of its entries, whatever the settings and the trace
 abbrev pub report_lines : Settings → TraceTables → List Entry → List Line

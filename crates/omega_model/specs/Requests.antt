@@ -3,7 +3,7 @@ use Rattle.std.specs.Prelude.{ℕ, Bool, true, false, List, [], ◌∷◌, ◌++
 use Rattle.std.specs.List.{filter, filter_map, fold, list_any}
 use Rattle.omega_model.specs.Keys.{same_key}
 use Rattle.omega_model.specs.Cell.{Cell, task_at}
-use Rattle.omega_model.specs.Touches.{is_placed}
+use Rattle.omega_model.specs.Reply.{admits}
 use Rattle.omega_model.specs.Feed.{feed, each_once}
 use Rattle.omega_model.specs.State.{state}
 use Rattle.omega_model.specs.Wanted.{WantedTask, wanted}
@@ -60,7 +60,7 @@ wishes_of settings trace cell asked job =
 -- how many commits for a job in a row placed nothing, when there were so many before this entry
 abbrev pub failed_after : ℕ → ℕ → Entry → ℕ
 failed_after job count (Commit scheduler seen txn reply) =
-    if txn.job == job then (if list_any is_placed reply then 0 else count + 1) else count
+    if txn.job == job then (if list_any admits reply then 0 else count + 1) else count
 failed_after job count _ = count
 
 -- how many commits for a job there were after its last one that placed a claim

@@ -11,7 +11,7 @@ use Rattle.omega_model.specs.declared.cells.Need.{Need}
 use Rattle.omega_model.specs.declared.cells.Task.{Task}
 use Rattle.omega_model.specs.declared.cells.TaskKey.{TaskKey}
 use Rattle.omega_model.specs.declared.claims.Txn.{Txn}
-use Rattle.omega_model.specs.declared.claims.Verdict.{Verdict}
+use Rattle.omega_model.specs.declared.claims.Judgement.{Judgement}
 use Rattle.omega_model.specs.declared.entries.Entry.{Entry}
 use Rattle.omega_model.specs.declared.entries.Entry.TheVariants.{Round, MachineAdd, MachineUpdate, MachineRemove, AttrSet, AttrDelete, End, Commit}
 
@@ -20,7 +20,7 @@ abbrev pub excess : Need → List Task → List Task
 excess cap [] = []
 excess cap (task ∷ tasks) = if fits (total (task ∷ tasks)) cap then [] else task ∷ excess cap tasks
 
--- the tasks on a machine in order of eviction
+-- the tasks on a machine in order of precedence, job, index
 abbrev pub ranked_on : ℕ → List Task → List Task
 ranked_on id tasks = by_rank (filter (is_on id) tasks)
 
@@ -71,5 +71,5 @@ abbrev pub state : List Entry → Cell
 state history = fold step empty_cell history
 
 -- the reply to a transaction on the state of the history
-abbrev pub reply_of : List Entry → ℕ → Txn → List Verdict
+abbrev pub reply_of : List Entry → ℕ → Txn → List Judgement
 reply_of history seen txn = reply_on history (state history) seen txn

@@ -2,6 +2,7 @@
 use Rattle.std.specs.Prelude.{ℕ, Bool, true, false, List, ◌==◌, ◌&&◌}
 use Rattle.std.specs.List.{list_any, count_by, zip}
 use Rattle.omega_model.specs.declared.claims.Claim.{Claim}
+use Rattle.omega_model.specs.declared.claims.Judgement.{Judgement}
 use Rattle.omega_model.specs.declared.claims.Verdict.{Verdict}
 use Rattle.omega_model.specs.declared.claims.Verdict.TheVariants.{Placed}
 use Rattle.omega_model.specs.declared.entries.Entry.{Entry}
@@ -13,8 +14,8 @@ is_placed Placed = true
 is_placed _ = false
 
 -- whether a claim was placed on this machine
-abbrev pub places_on : ℕ → Claim × Verdict → Bool
-places_on id (claim, verdict) = is_placed verdict && claim.machine == id
+abbrev pub places_on : ℕ → Claim × Judgement → Bool
+places_on id (claim, judgement) = is_placed judgement.verdict && claim.machine == id
 
 -- whether an entry touches a machine: it is about the machine, or it placed a claim there
 abbrev pub touches : ℕ → Entry → Bool

@@ -1,9 +1,10 @@
 -- Which tasks are wanted after some rows, and which entries a row gives.
-use Rattle.std.specs.Prelude.{ℕ, Bool, List, [], ◌∷◌, ◌++◌, Option, Some, None, ◌==◌, ◌&&◌, not, nat_le, if◌then◌else◌}
-use Rattle.std.specs.List.{filter, fold, list_any}
-use Rattle.omega_model.specs.Fields.{MachineFields, AttrFields, TaskFields}
+use Rattle.std.specs.Prelude.{ℕ, Bool, List, [], ◌∷◌, ◌++◌, Option, Some, None, ◌==◌, ◌&&◌, not, nat_le, map, unwrap_or, if◌then◌else◌}
+use Rattle.std.specs.List.{filter, fold, last_or, list_any}
+use Rattle.omega_model.specs.Fields.{MachineFields, AttrFields, TaskFields, DiskFields, greatest_quantity}
 use Rattle.omega_model.specs.Keys.{same_key, key_lt}
 use Rattle.omega_model.specs.Cell.{Cell, task_at}
+use Rattle.omega_model.specs.declared.cells.Need.{Need}
 use Rattle.omega_model.specs.declared.cells.Spec.{Spec}
 use Rattle.omega_model.specs.declared.cells.Task.{Task}
 use Rattle.omega_model.specs.declared.cells.TaskKey.{TaskKey}
@@ -11,6 +12,7 @@ use Rattle.omega_model.specs.declared.entries.Entry.{Entry}
 use Rattle.omega_model.specs.declared.entries.Entry.TheVariants.{MachineAdd, MachineUpdate, MachineRemove, AttrSet, AttrDelete, End}
 use Rattle.omega_model.specs.declared.rows.Row.{Row}
 use Rattle.omega_model.specs.declared.rows.Row.TheVariants.{Machine, Attr as AttrEvent, Task as TaskEvent}
+use Rattle.omega_model.specs.declared.rows.TraceTables.{TraceTables}
 
 -- a task that is to run, and how
 pub record WantedTask : Type 0 where
@@ -55,11 +57,20 @@ wanted_after wanted (TaskEvent row) = wanted_after_task wanted row
 abbrev pub wanted : List Row → List WantedTask
 wanted rows = fold wanted_after [] rows
 
+-- the disk of a machine: that of the last row for it, and the greatest quantity where it has none
+abbrev pub disk_of : List DiskFields → ℕ → ℕ
+disk_of disks machine =
+    unwrap_or (last_or None (map (λ row. row.disk) (filter (λ row. row.machine == machine) disks))) greatest_quantity
+
+-- the capacity that a machine row gives: its CPU and memory, and the disk of its machine
+abbrev pub capacity_from : List DiskFields → MachineFields → Need
+capacity_from disks row = record row.cap { disk = disk_of disks row.machine }
+
 -- the entry of a machine row
-abbrev pub machine_entry : MachineFields → Entry
-machine_entry row =
-    if row.code == 0 then MachineAdd row.machine row.cap
-    else (if row.code == 1 then MachineRemove row.machine else MachineUpdate row.machine row.cap)
+abbrev pub machine_entry : List DiskFields → MachineFields → Entry
+machine_entry disks row =
+    if row.code == 0 then MachineAdd row.machine (capacity_from disks row)
+    else (if row.code == 1 then MachineRemove row.machine else MachineUpdate row.machine (capacity_from disks row))
 
 -- the entry of an attribute row
 abbrev pub attr_entry : AttrFields → Entry
@@ -80,7 +91,7 @@ task_entries cell left row =
     if ends row.code then end_of (task_at cell.tasks row.key) ++ extra_ends cell left row.key.job else []
 
 -- the entries of a row on a cell, where the row leaves these tasks wanted
-abbrev pub row_entries : Cell → List WantedTask → Row → List Entry
-row_entries cell left (Machine row) = machine_entry row ∷ []
-row_entries cell left (AttrEvent row) = attr_entry row ∷ []
-row_entries cell left (TaskEvent row) = task_entries cell left row
+abbrev pub row_entries : TraceTables → Cell → List WantedTask → Row → List Entry
+row_entries trace cell left (Machine row) = machine_entry trace.disks row ∷ []
+row_entries trace cell left (AttrEvent row) = attr_entry row ∷ []
+row_entries trace cell left (TaskEvent row) = task_entries cell left row

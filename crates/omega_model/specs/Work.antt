@@ -11,7 +11,7 @@ use Rattle.omega_model.specs.Touches.{is_placed}
 use Rattle.omega_model.specs.declared.claims.Claim.{Claim}
 use Rattle.omega_model.specs.declared.claims.Outcome.{Outcome}
 use Rattle.omega_model.specs.declared.claims.Txn.{Txn}
-use Rattle.omega_model.specs.declared.claims.Verdict.{Verdict}
+use Rattle.omega_model.specs.declared.claims.Judgement.{Judgement}
 use Rattle.omega_model.specs.declared.entries.Entry.{Entry}
 use Rattle.omega_model.specs.declared.entries.Entry.TheVariants.{Commit}
 use Rattle.omega_model.specs.declared.rows.Row.{Row}
@@ -69,27 +69,16 @@ moved_on settings standing request rest outcomes =
       failing = failing_with standing.failing request.job outcomes;
     }
 
--- where a scheduler stands in its requests: those that remain, and how many attempts the first of them
--- has had
-pub record Position : Type 0 where
-  pub requests : List Request
-  pub taken : ℕ
-
--- the position after an attempt on the first request, whose job has then failed so often in a row
-abbrev pub next_position : Settings → ℕ → ℕ → Request → List Request → List Outcome → Position
-next_position settings taken failing request rest outcomes =
-    if ends_request settings (taken + 1) failing request outcomes
-    then record { requests = rest; taken = 0 }
-    else record { requests = rest_of request outcomes ∷ rest; taken = taken + 1 }
-
 -- the requests after one more list of outcomes; there is no answer where no request remains for it
 abbrev pub after_outcomes : Settings → Standing → List Request → List Outcome → Option Standing
 after_outcomes settings standing [] outcomes = None
 after_outcomes settings standing (request ∷ rest) outcomes = Some (moved_on settings standing request rest outcomes)
 
--- the outcomes of a commit: each claim's task with its verdict
-abbrev pub outcomes_of : List Claim → List Verdict → List Outcome
-outcomes_of claims reply = map (λ decided. record { key = decided.0.key; verdict = decided.1 }) (zip claims reply)
+-- the outcomes of a commit: each claim's task with its verdict and those that it evicted
+abbrev pub outcomes_of : List Claim → List Judgement → List Outcome
+outcomes_of claims reply =
+    map (λ decided. record { key = decided.0.key; verdict = decided.1.verdict; evicted = decided.1.evicted })
+    (zip claims reply)
 
 -- the requests of a scheduler after an entry: only its own commits change them
 abbrev pub after_entry : Settings → ℕ → Option Standing → Entry → Option Standing

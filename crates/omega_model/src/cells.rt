@@ -1,35 +1,56 @@
 //! Machines and running tasks, of which a cell is made.
 ghost use Rattle.std.specs.Prelude.{◌≡◌, ◌+◌, ◌<◌, ◌^◌, ◌↔◌, IsTrue};
-ghost use Rattle.omega_model.specs.Need.{Fits, plus};
+ghost use Rattle.omega_model.specs.Need.{Fits, minus, plus};
 
 use crate::list::{Bytes, Copied, NoMemory, Seq};
 use std::alloc::Global;
 
-/// An amount of CPU and of memory, each in units of 10^-9 of the trace's normalised amount.
+/// An amount of CPU, of memory and of disk, each in units of 10^-9 of the trace's normalised amount.
 #[derive(Clone, Copy, Debug, PartialEq, Eq)]
 pub struct Need {
     pub cpu: u64,
     pub mem: u64,
+    pub disk: u64,
 }
 
 impl Need {
+    /// Nothing of any component.
+    pub const NOTHING: Need = Need {
+        cpu: 0,
+        mem: 0,
+        disk: 0,
+    };
+
     /// The sum, component by component.
     pub fn plus(self, other: Need) -> Need
         requires cpu { self.cpu + other.cpu < 2 ^ 64 }
         requires mem { self.mem + other.mem < 2 ^ 64 }
+        requires disk { self.disk + other.disk < 2 ^ 64 }
         ensures { result ≡ plus self other }
     {
         Need {
             cpu: self.cpu + other.cpu,
             mem: self.mem + other.mem,
+            disk: self.disk + other.disk,
         }
     }
 
-    /// Whether both components are at most those of `free`.
+    /// What is left when `other` is taken off; a component stops at 0.
+    pub fn minus(self, other: Need) -> Need
+        ensures { result ≡ minus self other }
+    {
+        Need {
+            cpu: self.cpu.saturating_sub(other.cpu),
+            mem: self.mem.saturating_sub(other.mem),
+            disk: self.disk.saturating_sub(other.disk),
+        }
+    }
+
+    /// Whether each component is at most that of `free`.
     pub fn fits(self, free: Need) -> bool
         ensures { IsTrue result ↔ Fits self free }
     {
-        self.cpu <= free.cpu && self.mem <= free.mem
+        self.cpu <= free.cpu && self.mem <= free.mem && self.disk <= free.disk
     }
 }
 
@@ -77,6 +98,8 @@ pub struct Task {
 pub type Attrs = Seq<Attr>;
 
 pub type Keys = Seq<TaskKey>;
+
+pub type Tasks = Seq<Task>;
 
 impl Copied for TaskKey {
     fn copy(&self, _alloc: Global) -> Result<TaskKey, NoMemory> {

@@ -1,9 +1,12 @@
 //! Transactions of schedulers, and what is answered to them.
+ghost use Rattle.std.specs.Prelude.{◌≡◌};
+ghost use Rattle.omega_model.specs.Touches.{is_placed};
+
 use crate::cells::{Keys, Need, Spec, TaskKey};
 use crate::list::{Copied, NoMemory, Seq};
 use std::alloc::Global;
 
-/// Puts one task on one machine, and takes the victims off it.
+/// Puts one task on one machine, and takes victims off it as far as that is needed.
 #[derive(Debug, Drop)]
 pub struct Claim {
     pub key: TaskKey,
@@ -53,9 +56,7 @@ pub enum Verdict {
     AlreadyRunning(u64),
     /// The machine changed since the copy: its sequence number now, and in the copy.
     Changed { now: u64, copy: u64 },
-    /// The first victim that doesn't run on the machine.
-    VictimGone(TaskKey),
-    /// The first victim whose precedence isn't lower.
+    /// The first victim on the machine whose precedence isn't lower.
     VictimRank(TaskKey),
     /// A task of the same job that stays on the machine.
     SameJob(TaskKey),
@@ -65,11 +66,29 @@ pub enum Verdict {
     Withdrawn(u32),
 }
 
-/// A task and the verdict on its claim.
-#[derive(Clone, Copy, Debug, PartialEq, Eq)]
+impl Verdict {
+    /// Whether the claim is placed.
+    pub fn is_placed(self) -> bool
+        ensures { result ≡ is_placed self }
+    {
+        matches!(self, Verdict::Placed)
+    }
+}
+
+/// The verdict on a claim, and the tasks that were evicted for it in order. None are where the
+/// claim isn't placed.
+#[derive(Debug, Drop)]
+pub struct Judgement {
+    pub verdict: Verdict,
+    pub evicted: Keys,
+}
+
+/// A task, the verdict on its claim, and the tasks that were evicted for it.
+#[derive(Debug, Drop)]
 pub struct Outcome {
     pub key: TaskKey,
     pub verdict: Verdict,
+    pub evicted: Keys,
 }
 
 /// The answer to a commit. `place` is that of its entry in the history, from 0.
@@ -81,7 +100,7 @@ pub struct Reply {
 
 pub type Claims = Seq<Claim>;
 
-pub type Verdicts = Seq<Verdict>;
+pub type Judgements = Seq<Judgement>;
 
 pub type Outcomes = Seq<Outcome>;
 
@@ -113,8 +132,21 @@ impl Copied for Verdict {
     }
 }
 
+impl Copied for Judgement {
+    fn copy(&self, alloc: Global) -> Result<Judgement, NoMemory> {
+        Ok(Judgement {
+            verdict: self.verdict,
+            evicted: self.evicted.copy(alloc)?,
+        })
+    }
+}
+
 impl Copied for Outcome {
-    fn copy(&self, _alloc: Global) -> Result<Outcome, NoMemory> {
-        Ok(*self)
+    fn copy(&self, alloc: Global) -> Result<Outcome, NoMemory> {
+        Ok(Outcome {
+            key: self.key,
+            verdict: self.verdict,
+            evicted: self.evicted.copy(alloc)?,
+        })
     }
 }

@@ -1,54 +1,97 @@
 //! What a copy needs to catch up with a history.
-ghost use Rattle.std.specs.Prelude.{◌≡◌, ◌+◌, ◌<◌, ◌^◌, length};
+ghost use Rattle.std.specs.Prelude.{◌≡◌, ◌≤◌, length, option_map, slice_get};
+ghost use Rattle.omega_model.specs.Parts.{PositionsRise};
 
-use crate::entries::Entries;
+use crate::cells::{Machine, Tasks};
+use crate::list::{Copied, NoMemory, Seq};
+use std::alloc::Global;
 use std::marker::Model;
 
-/// The entries of a history from one place up to another.
+/// A machine of a cell as it is now: its position in the list from 0, its row, how many entries
+/// touched it, and its running tasks in order of key.
+#[derive(Debug, Drop)]
+pub struct Part {
+    pub position: u64,
+    pub machine: Machine,
+    pub seq: u64,
+    pub tasks: Tasks,
+}
+
+pub type Parts = Seq<Part>;
+
+/// The machines that changed between two places of a history, each as it is at the later one, in
+/// order of position.
 #[derive(Debug, Drop)]
 pub struct Delta {
     from: u64,
-    entries: Entries,
+    to: u64,
+    parts: Parts,
 }
 
 impl Model for Delta {
-    ghost use Rattle.std.specs.Prelude.{◌+◌, ◌<◌, ◌^◌, length};
-    ghost use Rattle.omega_model.specs.Stretch.{Stretch};
+    ghost use Rattle.omega_model.specs.Parts.{DeltaState, IsDelta};
 
-    ghost Value = { Stretch };
+    ghost Value = { DeltaState };
 
-    ghost view = { λ d. record { from = d.from; entries = d.entries } };
+    ghost view = { λ d. record { from = d.from; to = d.to; parts = d.parts } };
 
-    ghost invariant = { λ d. d.from + length d.entries < 2 ^ 64 };
+    ghost invariant = { λ d. IsDelta d.from d.to d.parts };
 }
 
 impl Delta {
-    /// The delta that begins at place `from` and holds these entries.
-    pub fn of(from: u64, entries: Entries) -> Delta
-        requires { from + length entries < 2 ^ 64 }
-        ensures { result ≡ record { from = from; entries = entries } }
+    /// The delta from one place to another with these parts. Takes no memory.
+    pub fn of(from: u64, to: u64, parts: Parts) -> Delta
+        requires order { from ≤ to }
+        requires positions { PositionsRise parts }
+        ensures { result ≡ record { from = from; to = to; parts = parts } }
     {
-        Delta { from, entries }
+        Delta { from, to, parts }
     }
 
-    /// The place of the first entry.
+    /// How many entries a copy had seen that this delta brings up to date.
     pub fn from(&self) -> u64
         ensures { result ≡ self.now.from }
     {
         self.from
     }
 
-    /// The place after the last entry.
+    /// How many entries the copy has seen then.
     pub fn to(&self) -> u64
-        ensures { result ≡ self.now.from + length self.now.entries }
+        ensures { result ≡ self.now.to }
     {
-        self.from + self.entries.len() as u64
+        self.to
     }
 
-    /// The entries in order.
-    pub fn entries(&self) -> &Entries
-        ensures { result.now ≡ self.now.entries }
+    /// How many machines changed.
+    pub fn touched(&self) -> u64
+        ensures { result ≡ length self.now.parts }
     {
-        &self.entries
+        self.parts.len() as u64
+    }
+
+    /// The part at place `i` in order of position. `None` exactly where `i` isn't below `touched`.
+    pub fn part(&self, i: u64) -> Option<&Part>
+        ensures { option_map (λ part. part.now) result ≡ slice_get self.now.parts i }
+    {
+        self.parts.get(i as usize)
+    }
+
+    /// The parts in order of position. Takes no memory.
+    pub fn into_parts(self) -> Parts
+        ensures { result ≡ self.parts }
+    {
+        let Delta { parts, .. } = self;
+        parts
+    }
+}
+
+impl Copied for Part {
+    fn copy(&self, alloc: Global) -> Result<Part, NoMemory> {
+        Ok(Part {
+            position: self.position,
+            machine: self.machine.copy(alloc)?,
+            seq: self.seq,
+            tasks: self.tasks.copy(alloc)?,
+        })
     }
 }

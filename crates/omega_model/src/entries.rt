@@ -1,6 +1,6 @@
 //! What a history is made of.
 use crate::cells::{Need, TaskKey};
-use crate::claims::{Txn, Verdicts};
+use crate::claims::{Judgements, Txn};
 use crate::list::{Bytes, Copied, NoMemory, Seq};
 use std::alloc::Global;
 
@@ -39,7 +39,7 @@ pub enum Entry {
         scheduler: u32,
         seen: u64,
         txn: Txn,
-        reply: Verdicts,
+        reply: Judgements,
     },
 }
 

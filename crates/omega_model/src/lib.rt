@@ -15,17 +15,18 @@ mod settings;
 mod text;
 mod wishes;
 
-pub use cells::{Attr, Attrs, Keys, Machine, Need, Spec, Task, TaskKey};
+pub use cells::{Attr, Attrs, Keys, Machine, Need, Spec, Task, TaskKey, Tasks};
 pub use claims::{
-    Claim, Claims, Mode, Outcome, Outcomes, Policy, Reply, Rule, Txn, Verdict, Verdicts,
+    Claim, Claims, Judgement, Judgements, Mode, Outcome, Outcomes, Policy, Reply, Rule, Txn,
+    Verdict,
 };
-pub use delta::Delta;
+pub use delta::{Delta, Part, Parts};
 pub use entries::{Entries, Entry};
 pub use list::{Bytes, Copied, NoMemory, Seq};
 pub use results::{Cause, Done, Kind, Status};
 pub use rows::{
-    ActivityRow, AttrRow, ConstraintRow, MachineRow, Round, Rounds, Row, Rows, Table, TaskRow,
-    TraceTables,
+    ActivityRow, AttrRow, ConstraintRow, DiskRow, MachineRow, Round, Rounds, Row, Rows, Table,
+    TaskRow, TraceTables,
 };
 pub use settings::{Command, Extra, Format, Preempt, Settings};
 pub use text::Text;

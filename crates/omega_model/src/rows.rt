@@ -1,4 +1,4 @@
-//! Typed rows of the five tables of a trace.
+//! Typed rows of the six tables of a trace.
 //!
 //! Each row type keeps the ranges of its columns. A contract sees a row as its fields.
 ghost use Rattle.std.specs.Prelude.{◌≡◌, []};
@@ -17,10 +17,12 @@ pub enum Table {
     TaskEvents,
     TaskConstraints,
     MapreduceJobs,
+    MachineDisk,
 }
 
 /// A row of `machine_events`. The time is in microseconds, below 2^63. The code is 0 (add),
-/// 1 (remove) or 2 (update). Each component of the capacity is at most 10^12.
+/// 1 (remove) or 2 (update). CPU and memory are at most 10^12 units each; the disk is 0 here, since
+/// it stands in a table of its own.
 #[derive(Clone, Copy, Debug)]
 pub struct MachineRow {
     pub time: u64,
@@ -123,7 +125,27 @@ impl Model for ActivityRow {
     ghost inverse = { λ v. record { job = v.job; activities = v.activities } };
 }
 
-/// The rows of the five tables, each list in the order of its file.
+/// A row of `machine_disk`. There are at most 10^12 units of disk.
+#[derive(Clone, Copy, Debug)]
+pub struct DiskRow {
+    pub machine: u64,
+    pub disk: u64,
+}
+
+impl Model for DiskRow {
+    ghost use Rattle.std.specs.Prelude.{◌≤◌};
+    ghost use Rattle.omega_model.specs.Fields.{DiskFields, greatest_quantity};
+
+    ghost Value = { DiskFields };
+
+    ghost view = { λ r. record { machine = r.machine; disk = r.disk } };
+
+    ghost invariant = { λ r. r.disk ≤ greatest_quantity };
+
+    ghost inverse = { λ v. record { machine = v.machine; disk = v.disk } };
+}
+
+/// The rows of the six tables, each list in the order of its file.
 #[derive(Debug, Drop)]
 pub struct TraceTables {
     pub machines: Seq<MachineRow>,
@@ -131,12 +153,13 @@ pub struct TraceTables {
     pub tasks: Seq<TaskRow>,
     pub constraints: Seq<ConstraintRow>,
     pub activities: Seq<ActivityRow>,
+    pub disks: Seq<DiskRow>,
 }
 
 impl TraceTables {
     /// Tables without rows. Takes no memory.
     pub fn new(alloc: Global) -> TraceTables
-        ensures { result ≡ record { machines = []; attrs = []; tasks = []; constraints = []; activities = [] } }
+        ensures { result ≡ record { machines = []; attrs = []; tasks = []; constraints = []; activities = []; disks = [] } }
     {
         TraceTables {
             machines: Seq::new(alloc),
@@ -144,6 +167,7 @@ impl TraceTables {
             tasks: Seq::new(alloc),
             constraints: Seq::new(alloc),
             activities: Seq::new(alloc),
+            disks: Seq::new(alloc),
         }
     }
 }
@@ -202,6 +226,12 @@ impl Copied for ConstraintRow {
 
 impl Copied for ActivityRow {
     fn copy(&self, _alloc: Global) -> Result<ActivityRow, NoMemory> {
+        Ok(*self)
+    }
+}
+
+impl Copied for DiskRow {
+    fn copy(&self, _alloc: Global) -> Result<DiskRow, NoMemory> {
         Ok(*self)
     }
 }
