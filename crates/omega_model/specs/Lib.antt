@@ -33,3 +33,9 @@ pub mod Ranges
 pub mod Jobs
 pub mod OpenRequests
 pub mod Applying
+pub mod Totals
+pub mod ReportCounts
+pub mod ReportLines
+pub mod ReportForms
+pub mod RandomWords
+pub mod Generated
