@@ -5,3 +5,4 @@ pub mod FirstRefusal
 pub mod Standing
 pub mod RoundsInOrder
 pub mod OpenRequests
+mod ExamplesReport
