@@ -1,5 +1,5 @@
 -- Worked answers: whole reports as text and as JSON, and the lines of single entries.
-use Rattle.std.proofs.Common.{◌≡◌, ℕ, Bool, true, false, List, [], ◌∷◌, ◌++◌, refl, take, codes}
+use Rattle.std.proofs.Common.{◌≡◌, ℕ, false, List, [], ◌∷◌, ◌++◌, refl, codes}
 use Rattle.std.specs.Fmt.{digits}
 use Rattle.csv.proofs.OnLiterals.{csv_on_literals}
 use Rattle.omega_model.specs.Numbers.{ten_to}
@@ -15,7 +15,7 @@ use Rattle.omega_model.specs.declared.claims.Txn.{Txn}
 use Rattle.omega_model.specs.declared.claims.Verdict.{Verdict}
 use Rattle.omega_model.specs.declared.claims.Verdict.TheVariants.{Placed, Full, Withdrawn}
 use Rattle.omega_model.specs.declared.entries.Entry.{Entry}
-use Rattle.omega_model.specs.declared.entries.Entry.TheVariants.{Round, MachineAdd, MachineUpdate, AttrSet, End, Commit}
+use Rattle.omega_model.specs.declared.entries.Entry.TheVariants.{Round, MachineAdd, MachineUpdate, End, Commit}
 use Rattle.omega_model.specs.declared.rows.Table.{Table}
 use Rattle.omega_model.specs.declared.rows.Table.TheVariants.{MachineEvents, MachineAttributes, TaskEvents, TaskConstraints, MapreduceJobs, MachineDisk}
 use Rattle.omega_model.specs.declared.rows.TraceTables.{TraceTables}
@@ -176,6 +176,37 @@ displaces : printed_report (settings Replay Text) shrinking shrunk ≡
     ++ codes "waiting 2 abandoned 0\n"
 unfolding settings amount key claim asks placed two_tables shrinking task_of_three shrunk digits csv_on_literals ten_to
 displaces = refl
+
+-- two jobs of two tasks: nothing of job 10 fits and it is given up, and one task of job 11 is placed
+unfoldable crowd : TraceTables
+crowd = trace_of (two_tables (codes "0,1,0,p,0.5,0.5\n")
+    (codes "0,,10,0,,0,u,0,1,0.6,0.6,,0\n" ++ codes "0,,10,1,,0,u,0,1,0.7,0.7,,0\n"
+    ++ codes "0,,11,0,,0,u,0,1,0.4,0.4,,0\n" ++ codes "0,,11,1,,0,u,0,1,0.4,0.4,,0\n"))
+
+unfoldable given : List Entry
+given =
+    Round 0
+    ∷ MachineAdd 1 (amount 500000000 1000000000000)
+    ∷ Commit 1 2 (asks 10 []) []
+    ∷ Commit 1 3 (asks 11 (claim 11 0 1 (amount 400000000 0) 1 [] ∷ [])) (placed ∷ [])
+    ∷ Commit 1 4 (asks 11 []) [] ∷ []
+
+gives_up : printed_report (record (settings Replay Text) { give_up = 1 }) crowd given ≡
+    codes "omega 2\n"
+    ++ codes "round 0\n"
+    ++ codes "commit 1 2 10\n"
+    ++ codes "commit 1 3 11\n"
+    ++ codes "place 11 0 1\n"
+    ++ codes "commit 1 4 11\n"
+    ++ codes "use cpu 400000000 500000000 mem 400000000 500000000 disk 0 1000000000000\n"
+    ++ codes "entries 5 rounds 1\n"
+    ++ codes "scheduler 0 commits 0 empty 0 placing 0 conflicted 0 placed 0 refused 0 withdrawn 0 evicted 0\n"
+    ++ codes "scheduler 1 commits 3 empty 2 placing 1 conflicted 0 placed 1 refused 0 withdrawn 0 evicted 0\n"
+    ++ codes "scheduler 2 commits 0 empty 0 placing 0 conflicted 0 placed 0 refused 0 withdrawn 0 evicted 0\n"
+    ++ codes "use cpu 400000000 500000000 mem 400000000 500000000 disk 0 1000000000000\n"
+    ++ codes "waiting 3 abandoned 2\n"
+unfolding settings amount key claim asks placed two_tables crowd given digits csv_on_literals ten_to
+gives_up = refl
 
 -- a task that makes room for one of higher priority
 unfoldable rivals : TraceTables

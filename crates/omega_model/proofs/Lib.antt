@@ -6,3 +6,5 @@ pub mod Standing
 pub mod RoundsInOrder
 pub mod OpenRequests
 mod ExamplesReport
+mod ExamplesSlice
+mod ExamplesGenerated

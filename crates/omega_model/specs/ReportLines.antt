@@ -8,7 +8,7 @@ use Rattle.omega_model.specs.Policy.{schedulers}
 use Rattle.omega_model.specs.Report.{Line, Name, Number, task_words, entry_lines}
 use Rattle.omega_model.specs.ReportCounts.{Counts, counts_of, waiting, abandoned}
 use Rattle.omega_model.specs.State.{state, displaced}
-use Rattle.omega_model.specs.Totals.{total_use, total_capacity}
+use Rattle.omega_model.specs.Totals.{used_in, capacity_in_all}
 use Rattle.omega_model.specs.declared.cells.Task.{Task}
 use Rattle.omega_model.specs.declared.entries.Entry.{Entry}
 use Rattle.omega_model.specs.declared.entries.Entry.TheVariants.{Round, MachineAdd, MachineUpdate, MachineRemove, AttrSet, AttrDelete, End, Commit}
@@ -44,9 +44,9 @@ lines_on cell (Commit scheduler seen txn reply) = entry_lines (Commit scheduler 
 abbrev pub use_line : Cell → Line
 use_line cell =
     Name (codes "use")
-    ∷ Name (codes "cpu") ∷ Number (total_use cell).cpu ∷ Number (total_capacity cell).cpu
-    ∷ Name (codes "mem") ∷ Number (total_use cell).mem ∷ Number (total_capacity cell).mem
-    ∷ Name (codes "disk") ∷ Number (total_use cell).disk ∷ Number (total_capacity cell).disk ∷ []
+    ∷ Name (codes "cpu") ∷ Number (used_in cell).cpu ∷ Number (capacity_in_all cell).cpu
+    ∷ Name (codes "mem") ∷ Number (used_in cell).mem ∷ Number (capacity_in_all cell).mem
+    ∷ Name (codes "disk") ∷ Number (used_in cell).disk ∷ Number (capacity_in_all cell).disk ∷ []
 
 -- whether a round ends before this entry: it begins the next one, or there is no entry
 abbrev pub is_round_end : Option Entry → Bool
