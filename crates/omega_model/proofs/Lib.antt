@@ -1,3 +1,10 @@
+mod Examples
+mod ExamplesCell
+mod ExamplesFeed
+mod ExamplesLawful
+mod ExamplesTurns
+mod ExamplesWork
+mod TableExamples
 pub mod Growing
 pub mod Records
 pub mod TypedRows
