@@ -1,11 +1,10 @@
 -- Worked answers: the order of the rows, the cut into rounds, the wanted tasks and the entries of rows.
-use Rattle.std.proofs.Common.{◌≡◌, ℕ, Bool, true, false, [], ◌∷◌, refl, map}
+use Rattle.std.proofs.Common.{◌≡◌, ℕ, Bool, true, false, List, [], ◌∷◌, refl, map}
 use Rattle.omega_model.specs.Fields.{MachineFields, AttrFields, TaskFields, DiskFields}
 use Rattle.omega_model.specs.Cell.{Cell, empty_cell}
 use Rattle.omega_model.specs.Feed.{feed, rounds, each_once}
 use Rattle.omega_model.specs.Wanted.{WantedTask, wanted, row_entries}
 use Rattle.omega_model.specs.State.{state}
-use Rattle.omega_model.specs.Trace.{no_rows}
 use Rattle.omega_model.specs.declared.cells.Need.{Need}
 use Rattle.omega_model.specs.declared.cells.Spec.{Spec}
 use Rattle.omega_model.specs.declared.cells.TaskKey.{TaskKey}
@@ -162,15 +161,15 @@ unfolding amount task_key spec_of machine_row attr_row task_row row_of asked
 other_tables = refl
 
 -- the entries of machine rows: added, removed, updated
-machine_added : row_entries no_rows empty_cell [] (Machine (machine_row 0 1 0)) ≡ MachineAdd 1 (room 10) ∷ []
+machine_added : row_entries [] empty_cell [] (Machine (machine_row 0 1 0)) ≡ MachineAdd 1 (room 10) ∷ []
 unfolding amount machine_row room
 machine_added = refl
 
-machine_removed : row_entries no_rows empty_cell [] (Machine (machine_row 0 1 1)) ≡ MachineRemove 1 ∷ []
+machine_removed : row_entries [] empty_cell [] (Machine (machine_row 0 1 1)) ≡ MachineRemove 1 ∷ []
 unfolding amount machine_row room
 machine_removed = refl
 
-machine_updated : row_entries no_rows empty_cell [] (Machine (machine_row 0 1 2)) ≡ MachineUpdate 1 (room 10) ∷ []
+machine_updated : row_entries [] empty_cell [] (Machine (machine_row 0 1 2)) ≡ MachineUpdate 1 (room 10) ∷ []
 unfolding amount machine_row room
 machine_updated = refl
 
@@ -178,8 +177,8 @@ machine_updated = refl
 unfoldable disk_row : ℕ → ℕ → DiskFields
 disk_row machine disk = record { machine = machine; disk = disk }
 
-unfoldable with_disks : TraceTables
-with_disks = record no_rows { disks = disk_row 1 5 ∷ disk_row 2 7 ∷ disk_row 1 900000 ∷ disk_row 3 0 ∷ [] }
+unfoldable with_disks : List DiskFields
+with_disks = disk_row 1 5 ∷ disk_row 2 7 ∷ disk_row 1 900000 ∷ disk_row 3 0 ∷ []
 
 last_disk : row_entries with_disks empty_cell [] (Machine (machine_row 0 1 0)) ≡ MachineAdd 1 (record { cpu = 10; mem = 10; disk = 900000 }) ∷ []
 unfolding amount machine_row disk_row with_disks
@@ -198,11 +197,11 @@ unfolding amount room machine_row disk_row with_disks
 any_disk = refl
 
 -- the entries of attribute rows: set, or deleted where the row says so
-attribute_set : row_entries no_rows empty_cell [] (Attr (attr_row 0 1 false)) ≡ AttrSet 1 (107 ∷ []) (49 ∷ []) ∷ []
+attribute_set : row_entries [] empty_cell [] (Attr (attr_row 0 1 false)) ≡ AttrSet 1 (107 ∷ []) (49 ∷ []) ∷ []
 unfolding attr_row
 attribute_set = refl
 
-attribute_deleted : row_entries no_rows empty_cell [] (Attr (attr_row 0 1 true)) ≡ AttrDelete 1 (107 ∷ []) ∷ []
+attribute_deleted : row_entries [] empty_cell [] (Attr (attr_row 0 1 true)) ≡ AttrDelete 1 (107 ∷ []) ∷ []
 unfolding attr_row
 attribute_deleted = refl
 
@@ -214,44 +213,44 @@ unfoldable busy : Cell
 busy = state (MachineAdd 4 (room 10) ∷ Commit 1 1 (record { job = 1; rule = Fine; mode = Incremental; claims = first_task ∷ [] }) (placed ∷ []) ∷ [])
 
 -- a task that runs is ended on the machine on which it runs, by each of the four codes
-ends_running : row_entries no_rows busy [] (row_of 4 2) ≡ End (task_key 1 0) 4 ∷ []
+ends_running : row_entries [] busy [] (row_of 4 2) ≡ End (task_key 1 0) 4 ∷ []
 unfolding amount task_key spec_of task_row row_of first_task busy room placed
 ends_running = refl
 
-fails_running : row_entries no_rows busy [] (row_of 3 2) ≡ End (task_key 1 0) 4 ∷ []
+fails_running : row_entries [] busy [] (row_of 3 2) ≡ End (task_key 1 0) 4 ∷ []
 unfolding amount task_key spec_of task_row row_of first_task busy room placed
 fails_running = refl
 
-kills_running : row_entries no_rows busy [] (row_of 5 2) ≡ End (task_key 1 0) 4 ∷ []
+kills_running : row_entries [] busy [] (row_of 5 2) ≡ End (task_key 1 0) 4 ∷ []
 unfolding amount task_key spec_of task_row row_of first_task busy room placed
 kills_running = refl
 
-loses_running : row_entries no_rows busy [] (row_of 6 2) ≡ End (task_key 1 0) 4 ∷ []
+loses_running : row_entries [] busy [] (row_of 6 2) ≡ End (task_key 1 0) 4 ∷ []
 unfolding amount task_key spec_of task_row row_of first_task busy room placed
 loses_running = refl
 
 -- the end of a task that doesn't run gives no entry
-ends_waiting : row_entries no_rows busy [] (Task (task_row 0 1 4 2)) ≡ []
+ends_waiting : row_entries [] busy [] (Task (task_row 0 1 4 2)) ≡ []
 unfolding amount task_key spec_of task_row first_task busy room placed
 ends_waiting = refl
 
 -- the other codes give no entry and so leave a running task alone
-submits_running : row_entries no_rows busy (asked 0 2 ∷ []) (row_of 0 2) ≡ []
+submits_running : row_entries [] busy (asked 0 2 ∷ []) (row_of 0 2) ≡ []
 unfolding amount task_key spec_of task_row row_of asked first_task busy room placed
 submits_running = refl
 
-schedules_running : row_entries no_rows busy (asked 0 2 ∷ []) (row_of 1 2) ≡ []
+schedules_running : row_entries [] busy (asked 0 2 ∷ []) (row_of 1 2) ≡ []
 unfolding amount task_key spec_of task_row row_of asked first_task busy room placed
 schedules_running = refl
 
-evicts_running : row_entries no_rows busy (asked 0 2 ∷ []) (row_of 2 2) ≡ []
+evicts_running : row_entries [] busy (asked 0 2 ∷ []) (row_of 2 2) ≡ []
 unfolding amount task_key spec_of task_row row_of asked first_task busy room placed
 evicts_running = refl
 
-updates_pending : row_entries no_rows busy (asked 0 2 ∷ []) (row_of 7 2) ≡ []
+updates_pending : row_entries [] busy (asked 0 2 ∷ []) (row_of 7 2) ≡ []
 unfolding amount task_key spec_of task_row row_of asked first_task busy room placed
 updates_pending = refl
 
-updates_running : row_entries no_rows busy (asked 0 2 ∷ []) (row_of 8 2) ≡ []
+updates_running : row_entries [] busy (asked 0 2 ∷ []) (row_of 8 2) ≡ []
 unfolding amount task_key spec_of task_row row_of asked first_task busy room placed
 updates_running = refl

@@ -68,7 +68,7 @@ unfolding amount nothing_by turns
 fourth_start = refl
 
 unfoldable ten : Extra → ℕ
-ten choice = extras choice 10 1 0 (amount 100) (amount 500) (amount 1000)
+ten choice = extras choice 10 1 0 (amount 100) (amount 500) (record { cpu = 1000; mem = 1000; disk = 1000 })
 
 -- ten activities, one task wanted, none of the extras running: within 60 percent there is room for one
 -- more, all nine come without a bound, and three at four times the tasks
@@ -103,6 +103,10 @@ roomy = refl
 scarce : extras (Cap 100) 10 1 0 (record { cpu = 1; mem = 100; disk = 0 }) (amount 500) (amount 1000) ≡ 5
 unfolding amount
 scarce = refl
+
+-- also where that is disk
+scarce_disk : extras (Cap 100) 10 1 0 (record { cpu = 1; mem = 1; disk = 100 }) (record { cpu = 0; mem = 0; disk = 650 }) (record { cpu = 1000; mem = 1000; disk = 1000 }) ≡ 3
+scarce_disk = refl
 
 -- tasks that need nothing always have room, unless the cell is used beyond the percentage
 weightless : extras (Cap 50) 10 1 0 (amount 0) (amount 500) (amount 1000) ≡ 9

@@ -1,5 +1,7 @@
 mod Examples
 mod ExamplesCell
+mod ExamplesDraws
+mod ExamplesExtras
 mod ExamplesFeed
 mod ExamplesLawful
 mod ExamplesTurns

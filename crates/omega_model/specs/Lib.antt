@@ -33,3 +33,8 @@ pub mod Ranges
 pub mod Jobs
 pub mod OpenRequests
 pub mod Applying
+pub mod Draws
+pub mod Planning
+pub mod Routing
+pub mod ExtraTasks
+pub mod Assigned
