@@ -1,17 +1,11 @@
--- Worked answers: the words of the generator, and the tables that it makes of them.
+-- Worked answers: the tables that are made of a seed.
 use Rattle.std.proofs.Common.{◌≡◌, ℕ, [], ◌∷◌, ◌++◌, refl, codes}
 use Rattle.std.specs.Fmt.{digits}
 use Rattle.rand_pcg.specs.Lcg.{state_after}
-use Rattle.omega_model.specs.RandomWords.{random_word}
 use Rattle.omega_model.specs.Generated.{generated}
 use Rattle.omega_model.specs.declared.rows.Table.TheVariants.{MachineEvents, MachineAttributes, TaskEvents, TaskConstraints, MapreduceJobs, MachineDisk}
 
--- the first words of seed 0 in three streams
-first_words : random_word 0 0 0 ∷ random_word 0 1 0 ∷ random_word 0 2 0 ∷ [] ≡ 0xE4C14788 ∷ 0x0F5DEBA9 ∷ 0x7AA10266 ∷ []
-unfolding state_after
-first_words = refl
-
--- the first word is 1 modulo 3, so that one machine has three quarters
+-- the first word of seed 0 is 1 modulo 3, so that one machine has three quarters
 one_machine : generated 0 1 0 MachineEvents ≡ codes "0,1,0,g,0.75,0.75\n"
 unfolding state_after digits
 one_machine = refl

@@ -177,7 +177,8 @@ displaces : printed_report (settings Replay Text) shrinking shrunk ≡
 unfolding settings amount key claim asks placed two_tables shrinking task_of_three shrunk digits csv_on_literals ten_to
 displaces = refl
 
--- two jobs of two tasks: nothing of job 10 fits and it is given up, and one task of job 11 is placed
+-- two jobs of two tasks, and one commit that places nothing is enough to give a job up: job 10 is given
+-- up at once, and job 11 after its first task was placed
 unfoldable crowd : TraceTables
 crowd = trace_of (two_tables (codes "0,1,0,p,0.5,0.5\n")
     (codes "0,,10,0,,0,u,0,1,0.6,0.6,,0\n" ++ codes "0,,10,1,,0,u,0,1,0.7,0.7,,0\n"

@@ -1,3 +1,12 @@
+mod Examples
+mod ExamplesCell
+mod ExamplesDraws
+mod ExamplesExtras
+mod ExamplesFeed
+mod ExamplesLawful
+mod ExamplesTurns
+mod ExamplesWork
+mod TableExamples
 pub mod Growing
 pub mod Records
 pub mod TypedRows
@@ -8,3 +17,4 @@ pub mod OpenRequests
 mod ExamplesReport
 mod ExamplesSlice
 mod ExamplesGenerated
+pub mod PlainWords

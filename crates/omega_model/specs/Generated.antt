@@ -2,7 +2,7 @@
 -- each, and then come six for each job.
 use Rattle.std.specs.Prelude.{ℕ, List, [], ◌∷◌, ◌++◌, ◌+◌, ◌*◌, ◌/◌, ◌%◌, ◌==◌, codes, decimal, if◌then◌else◌}
 use Rattle.std.specs.List.{flat_map, join_with_byte, range_with_len}
-use Rattle.omega_model.specs.RandomWords.{random_word}
+use Rattle.omega_model.specs.Draws.{new_generator, word_at}
 use Rattle.omega_model.specs.declared.rows.Table.{Table}
 use Rattle.omega_model.specs.declared.rows.Table.TheVariants.{MachineEvents, MachineAttributes, TaskEvents, TaskConstraints, MapreduceJobs, MachineDisk}
 use Rattle.omega_model.specs.declared.settings.Command.{Command}
@@ -84,9 +84,9 @@ made_of word machines jobs TaskConstraints = []
 made_of word machines jobs MapreduceJobs = []
 made_of word machines jobs MachineDisk = []
 
--- the bytes of each table made of a seed
+-- the bytes of each table made of a seed, by the words of the generator's stream 0
 abbrev pub generated : ℕ → ℕ → ℕ → Table → List ℕ
-generated seed machines jobs = made_of (random_word seed 0) machines jobs
+generated seed machines jobs = made_of (word_at (new_generator seed 0)) machines jobs
 
 -- of the tables that a run makes and those that it is handed, the ones that a command reads
 abbrev pub tables_by : Command → (Table → List ℕ) → (Table → List ℕ) → Table → List ℕ

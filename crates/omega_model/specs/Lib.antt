@@ -33,9 +33,12 @@ pub mod Ranges
 pub mod Jobs
 pub mod OpenRequests
 pub mod Applying
-pub mod Totals
+pub mod Draws
+pub mod Planning
+pub mod Routing
+pub mod ExtraTasks
+pub mod Assigned
 pub mod ReportCounts
 pub mod ReportLines
 pub mod ReportForms
-pub mod RandomWords
 pub mod Generated

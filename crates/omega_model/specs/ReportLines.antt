@@ -3,12 +3,12 @@
 use Rattle.std.specs.Prelude.{ℕ, Bool, true, false, List, [], ◌∷◌, ◌++◌, Option, Some, None, ◌+◌, length, map, take, slice_get, codes, if◌then◌else◌}
 use Rattle.std.specs.List.{flat_map, enumerate_from, range_with_len}
 use Rattle.omega_model.specs.Cell.{Cell}
+use Rattle.omega_model.specs.ExtraTasks.{used_in, capacity_in_all}
 use Rattle.omega_model.specs.Feed.{rounds}
 use Rattle.omega_model.specs.Policy.{schedulers}
 use Rattle.omega_model.specs.Report.{Line, Name, Number, task_words, entry_lines}
 use Rattle.omega_model.specs.ReportCounts.{Counts, counts_of, waiting, abandoned}
 use Rattle.omega_model.specs.State.{state, displaced}
-use Rattle.omega_model.specs.Totals.{used_in, capacity_in_all}
 use Rattle.omega_model.specs.declared.cells.Task.{Task}
 use Rattle.omega_model.specs.declared.entries.Entry.{Entry}
 use Rattle.omega_model.specs.declared.entries.Entry.TheVariants.{Round, MachineAdd, MachineUpdate, MachineRemove, AttrSet, AttrDelete, End, Commit}
