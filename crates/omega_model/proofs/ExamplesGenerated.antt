@@ -1,5 +1,5 @@
 -- Worked answers: the tables that are made of a seed.
-use Rattle.std.proofs.Common.{◌≡◌, ℕ, [], ◌∷◌, ◌++◌, refl, codes}
+use Rattle.std.proofs.Common.{◌≡◌, ℕ, [], ◌++◌, refl, codes}
 use Rattle.std.specs.Fmt.{digits}
 use Rattle.rand_pcg.specs.Lcg.{state_after}
 use Rattle.omega_model.specs.Generated.{generated}
