@@ -13,3 +13,4 @@ pub mod Attempts
 pub mod RoundsInOrder
 mod TableExamples
 pub mod OpenRequests
+pub mod WordRanges

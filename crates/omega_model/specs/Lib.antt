@@ -34,3 +34,6 @@ pub mod Jobs
 pub mod Working
 pub mod JudgeOn
 pub mod OpenRequests
+pub mod Options
+pub mod PlainWords
+pub mod WordSettings
