@@ -14,3 +14,4 @@ pub mod RoundsInOrder
 mod TableExamples
 pub mod OpenRequests
 pub mod WordRanges
+mod ExamplesWords

@@ -39,22 +39,22 @@ pub enum WordsRefusal {
 /// take the words or a text isn't among the values of its option, and so never on plain words.
 /// `Ok` comes only where `clap` finds no fault in the words and all texts are values; settings and
 /// folder are those of its matches, and on plain words what the words write.
-pub fn read_words<'a>(alloc: Global, words: &'a [&'a str]) -> Result<Parsed, WordsRefusal>
-    ensures usage { let given = map (λ word. word.now) words.entry.now in
+pub fn read_words(alloc: Global, words: &[&str]) -> Result<Parsed, WordsRefusal>
+    ensures usage { let given = map (λ word. word.now) words.now in
         IfErr result (λ e. is_taken built_words given ≡ true → e ≡ WordsRefusal.NoMemory) }
-    ensures never_on_plain { let given = map (λ word. word.now) words.entry.now in
+    ensures never_on_plain { let given = map (λ word. word.now) words.now in
         IfErr result (λ e. is_plain built_words given ≡ true → e ≡ WordsRefusal.NoMemory) }
-    ensures accepted { let given = map (λ word. word.now) words.entry.now in
+    ensures accepted { let given = map (λ word. word.now) words.now in
         IfOk result (λ _. fault_of (app built_words) given ≡ []) }
-    ensures values { let given = map (λ word. word.now) words.entry.now in
+    ensures values { let given = map (λ word. word.now) words.now in
         IfOk result (λ _. are_of_table built_words (text_in built_words given) ≡ true) }
-    ensures settings { let given = map (λ word. word.now) words.entry.now in
+    ensures settings { let given = map (λ word. word.now) words.now in
         IfOk result (λ r. r.settings ≡ settings_in built_words given) }
-    ensures folder { let given = map (λ word. word.now) words.entry.now in
+    ensures folder { let given = map (λ word. word.now) words.now in
         IfOk result (λ r. r.folder ≡ folder_in built_words given) }
-    ensures plain { let given = map (λ word. word.now) words.entry.now in
+    ensures plain { let given = map (λ word. word.now) words.now in
         IfOk result (λ r. is_plain built_words given ≡ true → r.settings ≡ settings_of given) }
-    ensures plain_folder { let given = map (λ word. word.now) words.entry.now in
+    ensures plain_folder { let given = map (λ word. word.now) words.now in
         IfOk result (λ r. is_plain built_words given ≡ true → r.folder ≡ folder_of given) }
     ensures in_range { IfOk result (λ r. IsInRange r.settings) }
 {
