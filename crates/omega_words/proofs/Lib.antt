@@ -6,3 +6,4 @@ pub mod Texts
 pub mod Building
 pub mod Where
 pub mod Tables
+mod Examples

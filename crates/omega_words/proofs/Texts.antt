@@ -6,7 +6,7 @@ use Rattle.std.specs.Str.{bytes_eq}
 use Rattle.clap.specs.Words.{Text, first_of}
 use Rattle.omega_model.specs.Options.{Choice, Values, WordTable, a_folder, a_number, one_of, is_among, is_value, dashed, choice_at}
 use Rattle.omega_model.specs.PlainWords.{begins_plainly, is_plain_value, pair_is_plain, options_are_plain, is_plain, text_after, text_given}
-use Rattle.omega_words.specs.Taken.{text_in, is_taken}
+use Rattle.omega_words.specs.Taken.{text_in}
 use Rattle.omega_words.proofs.Sound.{is_name, names_begin_plainly, is_sound, has_value, has_values}
 use Rattle.omega_words.proofs.Built.{both, row_for, same_text}
 use Rattle.omega_words.proofs.Walked.{choices_are_sound, pair_of, rows_given}

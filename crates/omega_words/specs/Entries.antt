@@ -10,7 +10,7 @@ use Rattle.omega_words.specs.declared.entries.Kind.TheVariants.{Folder, Number, 
 -- the values of a kind
 abbrev pub values_of : Kind → Values
 values_of Folder = a_folder
-values_of (Number low high) = a_number low high
+values_of (Number span) = a_number span.low span.high
 values_of (OneOf names) = one_of (map (λ name. name.now) names.now)
 
 -- the option of an entry

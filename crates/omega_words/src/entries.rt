@@ -4,12 +4,18 @@ ghost use Rattle.omega_model.specs.Options.{is_among, is_value, number_from};
 ghost use Rattle.omega_words.specs.Built.{built_words};
 ghost use Rattle.omega_words.specs.Entries.{choice_of, values_of};
 
+/// The numbers from `low` up to `high`.
+#[derive(Clone, Copy)]
+pub struct Span {
+    pub low: u64,
+    pub high: u64,
+}
+
 /// What an option's value may be.
 #[derive(Clone, Copy)]
 pub enum Kind<'a> {
     Folder,
-    /// A number from the first bound up to the second.
-    Number(u64, u64),
+    Number(Span),
     OneOf(&'a [&'a str]),
 }
 
@@ -19,6 +25,46 @@ pub struct Entry<'a> {
     pub name: &'a str,
     pub kind: Kind<'a>,
 }
+
+pub const SEEDS: Span = Span {
+    low: 0,
+    high: u64::MAX,
+};
+
+pub const BATCHES: Span = Span {
+    low: 1,
+    high: 30,
+};
+
+pub const CAPS: Span = Span {
+    low: 0,
+    high: 100,
+};
+
+pub const TRIES: Span = Span {
+    low: 1,
+    high: 100,
+};
+
+pub const GIVE_UPS: Span = Span {
+    low: 1,
+    high: 1_000,
+};
+
+pub const WINDOWS: Span = Span {
+    low: 1,
+    high: 1_099_511_627_776,
+};
+
+pub const MACHINES: Span = Span {
+    low: 0,
+    high: 4_096,
+};
+
+pub const JOBS: Span = Span {
+    low: 0,
+    high: 20_000,
+};
 
 /// An option of this name and kind.
 fn make_entry<'a>(name: &'a str, kind: Kind<'a>) -> Entry<'a>
@@ -33,27 +79,27 @@ pub fn table() -> [Entry<'static>; 12]
 {
     [
         make_entry("tables", Kind::Folder),
-        make_entry("seed", Kind::Number(0, u64::MAX)),
-        make_entry("batch", Kind::Number(1, 30)),
+        make_entry("seed", Kind::Number(SEEDS)),
+        make_entry("batch", Kind::Number(BATCHES)),
         make_entry("rule", Kind::OneOf(&["fine", "coarse"])),
         make_entry("mode", Kind::OneOf(&["incremental", "gang"])),
         make_entry("preempt", Kind::OneOf(&["none", "service", "all"])),
         make_entry("extra", Kind::OneOf(&["max", "cap", "relative"])),
-        make_entry("cap", Kind::Number(0, 100)),
-        make_entry("tries", Kind::Number(1, 100)),
-        make_entry("give-up", Kind::Number(1, 1_000)),
-        make_entry("window", Kind::Number(1, 1_099_511_627_776)),
+        make_entry("cap", Kind::Number(CAPS)),
+        make_entry("tries", Kind::Number(TRIES)),
+        make_entry("give-up", Kind::Number(GIVE_UPS)),
+        make_entry("window", Kind::Number(WINDOWS)),
         make_entry("format", Kind::OneOf(&["text", "json"])),
     ]
 }
 
-/// The whole number from `low` to `high` that the text writes.
-pub fn number_from(text: &str, low: u64, high: u64) -> Option<u64>
-    ensures value { result ≡ number_from low high text.now }
-    ensures within { IfSome result (λ number. number ≤ high) }
+/// The whole number of the span that the text writes.
+pub fn number_from(text: &str, span: Span) -> Option<u64>
+    ensures value { result ≡ number_from span.low span.high text.now }
+    ensures within { IfSome result (λ number. number ≤ span.high) }
 {
     match omega_units::read_u64(text.as_bytes()) {
-        Ok(number) if low <= number && number <= high => Some(number),
+        Ok(number) if span.low <= number && number <= span.high => Some(number),
         _ => None,
     }
 }
@@ -76,7 +122,7 @@ pub fn is_value<'a>(kind: Kind<'a>, text: &str) -> bool
 {
     match kind {
         Kind::Folder => true,
-        Kind::Number(low, high) => number_from(text, low, high).is_some(),
+        Kind::Number(span) => number_from(text, span).is_some(),
         Kind::OneOf(names) => is_among(names, text),
     }
 }

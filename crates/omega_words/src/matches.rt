@@ -1,5 +1,5 @@
 //! Settings and folder of what `clap` found.
-ghost use Rattle.std.specs.Prelude.{◌≡◌, ◌≤◌, false, true, codes, map, option_map};
+ghost use Rattle.std.specs.Prelude.{◌≡◌, ◌<◌, ◌≤◌, ◌^◌, false, true, codes, map, option_map};
 ghost use Rattle.std.specs.Option.{option_map_or};
 ghost use Rattle.clap.specs.Words.{found_of, rows_of};
 ghost use Rattle.omega_model.specs.Options.{is_among, is_value};
@@ -8,7 +8,7 @@ ghost use Rattle.omega_words.specs.Built.{built_commands};
 ghost use Rattle.omega_words.specs.Entries.{choice_of, number_or, texts_of, where_it};
 ghost use Rattle.omega_words.specs.Taken.{are_values};
 
-use crate::entries::{self, Entry};
+use crate::entries::{self, Entry, Span};
 use clap::ArgMatches;
 use omega_model::{Command, Extra, Format, Mode, Preempt, Rule, Settings};
 
@@ -42,39 +42,28 @@ pub fn entries_pass<'a>(matches: &ArgMatches<'a>, entries: &[Entry<'a>]) -> bool
     true
 }
 
-/// The number of an option from `low` to `high`, `default` where there is none.
-fn number_of<'a>(matches: &ArgMatches<'a>, name: &str, low: u64, high: u64, default: u64) -> u64
-    requires { default ≤ high }
-    ensures value { result ≡ number_or low high default (texts_of (rows_of (found_of matches.now)) name.now) }
-    ensures within { result ≤ high }
+/// The number of an option, `default` where none of the span is given.
+fn number_of<'a>(matches: &ArgMatches<'a>, name: &str, span: Span, default: u64) -> u64
+    requires { default ≤ span.high }
+    ensures value { result ≡ number_or span.low span.high default (texts_of (rows_of (found_of matches.now)) name.now) }
+    ensures within { result ≤ span.high }
 {
     let Some(text) = text_of(matches, name) else {
         return default;
     };
-    match entries::number_from(text, low, high) {
+    match entries::number_from(text, span) {
         Some(number) => number,
         None => default,
     }
 }
 
-/// The same for a number of 32 bits.
-fn small_number_of<'a>(
-    matches: &ArgMatches<'a>,
-    name: &str,
-    low: u32,
-    high: u32,
-    default: u32,
-) -> u32
-    requires { default ≤ high }
-    ensures { result ≡ number_or low high default (texts_of (rows_of (found_of matches.now)) name.now) }
+/// The same for numbers of 32 bits.
+fn small_number_of<'a>(matches: &ArgMatches<'a>, name: &str, span: Span, default: u32) -> u32
+    requires high { span.high < 2 ^ 32 }
+    requires default { default ≤ span.high }
+    ensures { result ≡ number_or span.low span.high default (texts_of (rows_of (found_of matches.now)) name.now) }
 {
-    number_of(
-        matches,
-        name,
-        u64::from(low),
-        u64::from(high),
-        u64::from(default),
-    ) as u32
+    number_of(matches, name, span, u64::from(default)) as u32
 }
 
 /// Whether the text of a name is this one.
@@ -123,7 +112,7 @@ fn extra_of<'a>(matches: &ArgMatches<'a>) -> Extra
     ensures { let texts = texts_of (rows_of (found_of matches.now)) in
         result ≡ extra_of (number_or 0 100 60 (texts (codes "cap"))) (texts (codes "extra")) }
 {
-    let percent = small_number_of(matches, "cap", 0, 100, 60);
+    let percent = small_number_of(matches, "cap", entries::CAPS, 60);
     if is_text(matches, "extra", "max") {
         Extra::Max
     } else if is_text(matches, "extra", "cap") {
@@ -158,20 +147,21 @@ pub fn command_of<'a>(matches: &ArgMatches<'a>) -> Option<Command>
 pub fn settings_of<'a>(matches: &ArgMatches<'a>, command: Command) -> Settings
     ensures { result ≡ (record (settings_by (texts_of (rows_of (found_of matches.now)))) { command = command }) }
 {
+    let default = Settings::default();
     Settings {
         command,
-        seed: number_of(matches, "seed", 0, u64::MAX, 0),
-        batch: small_number_of(matches, "batch", 1, 30, 1),
+        seed: number_of(matches, "seed", entries::SEEDS, default.seed),
+        batch: small_number_of(matches, "batch", entries::BATCHES, default.batch),
         rule: rule_of(matches),
         mode: mode_of(matches),
         preempt: preempt_of(matches),
         extra: extra_of(matches),
-        tries: small_number_of(matches, "tries", 1, 100, 5),
-        give_up: small_number_of(matches, "give-up", 1, 1_000, 1_000),
-        window: number_of(matches, "window", 1, 1_099_511_627_776, 300_000_000),
+        tries: small_number_of(matches, "tries", entries::TRIES, default.tries),
+        give_up: small_number_of(matches, "give-up", entries::GIVE_UPS, default.give_up),
+        window: number_of(matches, "window", entries::WINDOWS, default.window),
         format: format_of(matches),
-        machines: small_number_of(matches, "machines", 0, 4_096, 64),
-        jobs: small_number_of(matches, "jobs", 0, 20_000, 500),
+        machines: small_number_of(matches, "machines", entries::MACHINES, default.machines),
+        jobs: small_number_of(matches, "jobs", entries::JOBS, default.jobs),
     }
 }
 
