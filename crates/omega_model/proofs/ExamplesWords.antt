@@ -1,15 +1,14 @@
 -- Worked words: which are plain, and which settings they give.
 use Rattle.std.proofs.Common.{◌≡◌, List, ℕ, [], ◌∷◌, true, false, refl, codes}
-use Rattle.omega_model.specs.Options.{WordTable, is_value, part, whole_table, a_folder, a_number}
+use Rattle.omega_model.specs.Options.{WordTable, is_value, part, whole_table, a_folder}
 use Rattle.omega_model.specs.PlainWords.{is_plain, is_plain_value}
-use Rattle.omega_model.specs.WordSettings.{default_settings, folder_of, settings_by, settings_of}
+use Rattle.omega_model.specs.WordSettings.{default_settings, folder_of, settings_of}
 use Rattle.omega_model.specs.declared.claims.Mode.TheVariants.{Incremental, Gang}
 use Rattle.omega_model.specs.declared.claims.Rule.TheVariants.{Fine, Coarse}
 use Rattle.omega_model.specs.declared.settings.Command.TheVariants.{Replay, Run, Generate}
 use Rattle.omega_model.specs.declared.settings.Extra.TheVariants.{Cap, Relative}
 use Rattle.omega_model.specs.declared.settings.Format.TheVariants as format
 use Rattle.omega_model.specs.declared.settings.Preempt.TheVariants.{Nobody, All}
-use Rattle.omega_model.specs.declared.settings.Settings.{Settings}
 
 -- ---- words that are plain
 

@@ -36,8 +36,10 @@ number_given texts name default = unwrap_or (option_and_then (number_named name)
 abbrev pub is_text : List ℕ → Option (List ℕ) → Bool
 is_text name text = option_map_or (λ given. bytes_eq given name) text false
 
+-- what each word says; no text, as any other text, stands for the default
 abbrev pub command_of : Option (List ℕ) → Command
-command_of text = if is_text (codes "run") text then Run else (if is_text (codes "generate") text then Generate else Replay)
+command_of text =
+    if is_text (codes "run") text then Run else (if is_text (codes "generate") text then Generate else Replay)
 
 abbrev pub rule_of : Option (List ℕ) → Rule
 rule_of text = if is_text (codes "coarse") text then Coarse else Fine
@@ -46,11 +48,13 @@ abbrev pub mode_of : Option (List ℕ) → Mode
 mode_of text = if is_text (codes "gang") text then Gang else Incremental
 
 abbrev pub preempt_of : Option (List ℕ) → Preempt
-preempt_of text = if is_text (codes "service") text then Service else (if is_text (codes "all") text then All else Nobody)
+preempt_of text =
+    if is_text (codes "service") text then Service else (if is_text (codes "all") text then All else Nobody)
 
--- the percentage is that of another option
+-- with the percentage that another option says
 abbrev pub extra_of : ℕ → Option (List ℕ) → Extra
-extra_of percent text = if is_text (codes "max") text then Max else (if is_text (codes "cap") text then Cap percent else Relative)
+extra_of percent text =
+    if is_text (codes "max") text then Max else (if is_text (codes "cap") text then Cap percent else Relative)
 
 abbrev pub format_of : Option (List ℕ) → Format
 format_of text = if is_text (codes "json") text then format.Json else format.Text

@@ -57,7 +57,7 @@ pub fn matches_for<'a>(
         IfOk result (λ _. fault_of (app_of_choices (map choice_of entries.now)) given ≡ []) }
     ensures usage { let given = map (λ word. word.now) words.entry.now in
         IfErr result (λ e. takes (app_of_choices (map choice_of entries.now)) given ≡ true
-            → e ≡ WordsRefusal.NoMemory) }
+        → e ≡ WordsRefusal.NoMemory) }
 {
     let Ok(command) = command(alloc, entries) else {
         return Err(WordsRefusal::NoMemory);

@@ -26,25 +26,18 @@ pub struct Entry<'a> {
     pub kind: Kind<'a>,
 }
 
+// The numbers of each option that has numbers.
+
 pub const SEEDS: Span = Span {
     low: 0,
     high: u64::MAX,
 };
 
-pub const BATCHES: Span = Span {
-    low: 1,
-    high: 30,
-};
+pub const BATCHES: Span = Span { low: 1, high: 30 };
 
-pub const CAPS: Span = Span {
-    low: 0,
-    high: 100,
-};
+pub const CAPS: Span = Span { low: 0, high: 100 };
 
-pub const TRIES: Span = Span {
-    low: 1,
-    high: 100,
-};
+pub const TRIES: Span = Span { low: 1, high: 100 };
 
 pub const GIVE_UPS: Span = Span {
     low: 1,

@@ -21,39 +21,116 @@ const REPLAY: Settings = Settings {
 /// Words that are taken, with what they say.
 const TAKEN: [(&[&str], Settings, &str); 27] = [
     (&["replay"], REPLAY, "."),
-    (&["replay", "--seed", "5"], Settings { seed: 5, ..REPLAY }, "."),
-    (&["replay", "--seed=5"], Settings { seed: 5, ..REPLAY }, "."),
-    (&["replay", "--seed=007"], Settings { seed: 7, ..REPLAY }, "."),
     (
-        &["replay", "--seed", "00000000000018446744073709551615"],
-        Settings { seed: u64::MAX, ..REPLAY },
+        &["replay", "--seed", "5"],
+        Settings { seed: 5, ..REPLAY },
         ".",
     ),
-    (&["replay", "--batch", "30"], Settings { batch: 30, ..REPLAY }, "."),
-    (&["replay", "--rule", "coarse"], Settings { rule: Rule::Coarse, ..REPLAY }, "."),
+    (&["replay", "--seed=5"], Settings { seed: 5, ..REPLAY }, "."),
+    (
+        &["replay", "--seed=007"],
+        Settings { seed: 7, ..REPLAY },
+        ".",
+    ),
+    (
+        &["replay", "--seed", "00000000000018446744073709551615"],
+        Settings {
+            seed: u64::MAX,
+            ..REPLAY
+        },
+        ".",
+    ),
+    (
+        &["replay", "--batch", "30"],
+        Settings {
+            batch: 30,
+            ..REPLAY
+        },
+        ".",
+    ),
+    (
+        &["replay", "--rule", "coarse"],
+        Settings {
+            rule: Rule::Coarse,
+            ..REPLAY
+        },
+        ".",
+    ),
     (&["replay", "--rule", "fine"], REPLAY, "."),
-    (&["replay", "--mode", "gang"], Settings { mode: Mode::Gang, ..REPLAY }, "."),
-    (&["replay", "--preempt", "service"], Settings { preempt: Preempt::Service, ..REPLAY }, "."),
-    (&["replay", "--preempt", "all"], Settings { preempt: Preempt::All, ..REPLAY }, "."),
-    (&["replay", "--extra", "max"], Settings { extra: Extra::Max, ..REPLAY }, "."),
-    (&["replay", "--extra", "cap"], Settings { extra: Extra::Cap(60), ..REPLAY }, "."),
+    (
+        &["replay", "--mode", "gang"],
+        Settings {
+            mode: Mode::Gang,
+            ..REPLAY
+        },
+        ".",
+    ),
+    (
+        &["replay", "--preempt", "service"],
+        Settings {
+            preempt: Preempt::Service,
+            ..REPLAY
+        },
+        ".",
+    ),
+    (
+        &["replay", "--preempt", "all"],
+        Settings {
+            preempt: Preempt::All,
+            ..REPLAY
+        },
+        ".",
+    ),
+    (
+        &["replay", "--extra", "max"],
+        Settings {
+            extra: Extra::Max,
+            ..REPLAY
+        },
+        ".",
+    ),
+    (
+        &["replay", "--extra", "cap"],
+        Settings {
+            extra: Extra::Cap(60),
+            ..REPLAY
+        },
+        ".",
+    ),
     (
         &["replay", "--cap", "0", "--extra", "cap"],
-        Settings { extra: Extra::Cap(0), ..REPLAY },
+        Settings {
+            extra: Extra::Cap(0),
+            ..REPLAY
+        },
         ".",
     ),
     (&["replay", "--cap", "7"], REPLAY, "."),
     (
         &["replay", "--tries", "100", "--give-up", "1"],
-        Settings { tries: 100, give_up: 1, ..REPLAY },
+        Settings {
+            tries: 100,
+            give_up: 1,
+            ..REPLAY
+        },
         ".",
     ),
     (
         &["replay", "--window", "1099511627776"],
-        Settings { window: 1_099_511_627_776, ..REPLAY },
+        Settings {
+            window: 1_099_511_627_776,
+            ..REPLAY
+        },
         ".",
     ),
-    (&["replay", "--format", "json"], Settings { format: Format::Json, ..REPLAY }, "."),
+    (
+        &["replay", "--format", "json"],
+        Settings {
+            format: Format::Json,
+            ..REPLAY
+        },
+        ".",
+    ),
     (&["replay", "--tables", "a b"], REPLAY, "a b"),
     (&["replay", "--tables", "größe"], REPLAY, "größe"),
     (&["replay", "--tables", ""], REPLAY, ""),
@@ -62,7 +139,11 @@ const TAKEN: [(&[&str], Settings, &str); 27] = [
     (&["replay", "--tables=-x"], REPLAY, "-x"),
     (&["replay", "--"], REPLAY, "."),
     (&["--", "replay"], REPLAY, "."),
-    (&["--seed", "5", "replay"], Settings { seed: 5, ..REPLAY }, "."),
+    (
+        &["--seed", "5", "replay"],
+        Settings { seed: 5, ..REPLAY },
+        ".",
+    ),
 ];
 
 /// Words that are refused.
@@ -99,7 +180,11 @@ const REFUSED: [&[&str]; 42] = [
     &["replay", "--seed=+5"],
     &["replay", "--seed", " 5"],
     &["replay", "--seed", "5 "],
-    &["replay", "--seed", "0000000000000000000000000000000000000005"],
+    &[
+        "replay",
+        "--seed",
+        "0000000000000000000000000000000000000005",
+    ],
     &["replay", "--seed", "18446744073709551616"],
     &["replay", "--seed", "٥"],
     &["replay", "--batch", "0"],
