@@ -5,3 +5,5 @@ pub mod FirstRefusal
 pub mod Standing
 pub mod RoundsInOrder
 pub mod OpenRequests
+pub mod WordRanges
+mod ExamplesWords

@@ -33,3 +33,6 @@ pub mod Ranges
 pub mod Jobs
 pub mod OpenRequests
 pub mod Applying
+pub mod Options
+pub mod PlainWords
+pub mod WordSettings
