@@ -1,3 +1,12 @@
+mod Examples
+mod ExamplesCell
+mod ExamplesDraws
+mod ExamplesExtras
+mod ExamplesFeed
+mod ExamplesLawful
+mod ExamplesTurns
+mod ExamplesWork
+mod TableExamples
 pub mod Growing
 pub mod Records
 pub mod TypedRows
@@ -7,3 +16,7 @@ pub mod RoundsInOrder
 pub mod OpenRequests
 pub mod WordRanges
 mod ExamplesWords
+mod ExamplesReport
+mod ExamplesSlice
+mod ExamplesGenerated
+pub mod PlainWords

@@ -36,3 +36,12 @@ pub mod Applying
 pub mod Options
 pub mod PlainWords
 pub mod WordSettings
+pub mod Draws
+pub mod Planning
+pub mod Routing
+pub mod ExtraTasks
+pub mod Assigned
+pub mod ReportCounts
+pub mod ReportLines
+pub mod ReportForms
+pub mod Generated
