@@ -38,3 +38,4 @@ pub mod Planning
 pub mod Routing
 pub mod ExtraTasks
 pub mod Assigned
+pub mod Stepping
