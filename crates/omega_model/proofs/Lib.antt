@@ -1,11 +1,13 @@
 mod Examples
 mod ExamplesCell
+mod ExamplesCopy
 mod ExamplesDraws
 mod ExamplesExtras
 mod ExamplesFeed
 mod ExamplesLawful
 mod ExamplesTurns
 mod ExamplesWork
+mod ExamplesWorld
 mod TableExamples
 pub mod Growing
 pub mod Records

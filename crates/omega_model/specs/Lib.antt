@@ -45,3 +45,4 @@ pub mod ReportCounts
 pub mod ReportLines
 pub mod ReportForms
 pub mod Generated
+pub mod Stepping
