@@ -1,11 +1,13 @@
 mod Examples
 mod ExamplesCell
+mod ExamplesCopy
 mod ExamplesDraws
 mod ExamplesExtras
 mod ExamplesFeed
 mod ExamplesLawful
 mod ExamplesTurns
 mod ExamplesWork
+mod ExamplesWorld
 mod TableExamples
 pub mod Growing
 pub mod Records
@@ -14,6 +16,8 @@ pub mod FirstRefusal
 pub mod Standing
 pub mod RoundsInOrder
 pub mod OpenRequests
+pub mod WordRanges
+mod ExamplesWords
 mod ExamplesReport
 mod ExamplesSlice
 mod ExamplesGenerated

@@ -33,6 +33,9 @@ pub mod Ranges
 pub mod Jobs
 pub mod OpenRequests
 pub mod Applying
+pub mod Options
+pub mod PlainWords
+pub mod WordSettings
 pub mod Draws
 pub mod Planning
 pub mod Routing
@@ -42,3 +45,4 @@ pub mod ReportCounts
 pub mod ReportLines
 pub mod ReportForms
 pub mod Generated
+pub mod Stepping
