@@ -24,3 +24,9 @@ pub mod Standing
 pub mod Remaining
 pub mod RoundsInOrder
 pub mod OpenRequests
+pub mod WordRanges
+mod ExamplesWords
+mod ExamplesReport
+mod ExamplesSlice
+mod ExamplesGenerated
+pub mod PlainWords
