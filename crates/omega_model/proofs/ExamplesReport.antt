@@ -272,7 +272,7 @@ gangs =
     ∷ MachineAdd 2 (amount 1000000000 1000000000000)
     ∷ Commit 0 3 (gang 4 (claim 4 0 1 (amount 400000000 0) 9 [] ∷ [])) (placed ∷ [])
     ∷ Commit 1 3 (gang 10 three_claims)
-        (refused (Withdrawn 1) ∷ refused (Full (amount 100000000 1000000000000)) ∷ refused (Withdrawn 1) ∷ [])
+    (refused (Withdrawn 1) ∷ refused (Full (amount 100000000 1000000000000)) ∷ refused (Withdrawn 1) ∷ [])
     ∷ Commit 1 5 (gang 10 []) []
     ∷ Round 1
     ∷ End (key 4 0) 1

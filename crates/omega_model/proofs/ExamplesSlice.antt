@@ -91,9 +91,9 @@ run =
     ∷ AttrSet 5 (codes "kernel") (codes "17") ∷ AttrSet 6 (codes "kernel") (codes "17")
     ∷ AttrSet 7 (codes "kernel") (codes "21")
     ∷ Commit 0 8
-        (asks 3418309 (claim 3418309 0 5 (amount 125000000 74460000 424400) 9 false
-        ∷ claim 3418309 1 7 (amount 125000000 74460000 424400) 9 false ∷ []))
-        (placed ∷ placed ∷ [])
+    (asks 3418309 (claim 3418309 0 5 (amount 125000000 74460000 424400) 9 false
+    ∷ claim 3418309 1 7 (amount 125000000 74460000 424400) 9 false ∷ []))
+    (placed ∷ placed ∷ [])
     ∷ Commit 1 8 (asks 3418314 (claim 3418314 0 6 (amount 62500000 63600000 100000) 1 false ∷ [])) (placed ∷ [])
     ∷ Round 2
     ∷ End (record { job = 3418314; index = 0 }) 6

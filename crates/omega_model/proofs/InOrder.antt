@@ -15,9 +15,9 @@ Before a b = (a.job < b.job) ⊎ ((a.job ≡ b.job) × (a.index < b.index))
 
 pub before_tested : (a b : TaskKey) → key_lt a b ≡ true → Before a b
 before_tested a b e = elim (or_cases _ _ e) [
-      inl less ↦ inl (ltb-true _ _ less)
-    | inr both ↦ let parts = and_parts _ _ both in inr (eqb-true _ _ parts.0, ltb-true _ _ parts.1)
-    ]
+  | inl less ↦ inl (ltb-true _ _ less)
+  | inr both ↦ let parts = and_parts _ _ both in inr (eqb-true _ _ parts.0, ltb-true _ _ parts.1)
+]
 
 pub tested_before : (a b : TaskKey) → Before a b → key_lt a b ≡ true
 tested_before a b (inl less) = or_left _ _ (lt-ltb _ _ less)
@@ -48,7 +48,7 @@ key_asym a b p = false_from_ne_true _ (λ q. before_not_back a b (before_tested 
 -- names in order are of two tasks
 pub key_differs : (a b : TaskKey) → key_lt a b ≡ true → same_key a b ≡ false
 key_differs a b p = false_from_ne_true _ (λ same.
-  let parts = and_parts _ _ same in before_differs a b (before_tested a b p) (eqb-true _ _ parts.0) (eqb-true _ _ parts.1))
+    let parts = and_parts _ _ same in before_differs a b (before_tested a b p) (eqb-true _ _ parts.0) (eqb-true _ _ parts.1))
 
 -- a name is its own
 pub key_itself : (key : TaskKey) → same_key key key ≡ true
