@@ -1,0 +1,9 @@
+pub mod Places
+pub mod RowEntries
+pub mod LastCommits
+pub mod Agreeing
+pub mod RoundGrows
+pub mod RoundsAdd
+pub mod AnyOrder
+pub mod CommitsRead
+pub mod TurnOrder

@@ -1,0 +1,9 @@
+//! Rounds in which schedulers commit in an order.
+//!
+//! So far these are laws over the definitions alone: what comes next in a round, and that nothing
+//! else could have.
+#![tactic(auto)]
+
+mod laws;
+
+pub use laws::{lawful_histories_in_turns, next_commits_in_turns, rounds_in_any_order};
