@@ -7,3 +7,7 @@ pub mod RoundsAdd
 pub mod AnyOrder
 pub mod CommitsRead
 pub mod TurnOrder
+pub mod TurnsTaken
+pub mod Taking
+pub mod AttemptsLeft
+pub mod Worlds

@@ -3,3 +3,5 @@ pub mod Orders
 pub mod TurnOrder
 pub mod Taking
 pub mod Passes
+pub mod AttemptsLeft
+pub mod InRound
