@@ -11,3 +11,6 @@ pub mod TurnsTaken
 pub mod Taking
 pub mod AttemptsLeft
 pub mod Worlds
+pub mod TwoPasses
+pub mod Suited
+pub mod MachinesStay

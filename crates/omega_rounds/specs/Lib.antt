@@ -5,3 +5,4 @@ pub mod Taking
 pub mod Passes
 pub mod AttemptsLeft
 pub mod InRound
+pub mod Constraints

@@ -34,3 +34,8 @@ pub record AwaitTurn (settings : Settings) (trace : TraceTables) (rows : List Ro
 pub record Committing (settings : Settings) (trace : TraceTables) (rows : List Row) (start : List Entry) (round : Round) (world : World) (turn next : ℕ) : Type 0 where
   pub taking : Taking settings trace rows start round world.history turn next
   pub await : AwaitTurn settings trace (rows ++ round.rows) (length (opened trace rows start round).history) world turn next
+
+-- the schedulers below next have no work
+abbrev pub IdleBelow : Settings → TraceTables → List Row → ℕ → List Entry → ℕ → Type 0
+IdleBelow settings trace rows opened_at history next =
+    (scheduler : ℕ) → scheduler < next → HasNoWork settings trace rows opened_at history scheduler

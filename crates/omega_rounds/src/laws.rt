@@ -1,13 +1,21 @@
 //! What comes next in a round, by the definitions alone.
-ghost use Rattle.std.specs.Prelude.{◌≡◌, ℕ, ◌≤◌, List, ◌++◌, Option, length, take, drop, slice_get};
+ghost use Rattle.std.specs.Prelude.{◌≡◌, ℕ, ◌≤◌, List, ◌++◌, All, Option, Some, length, take, drop, slice_get};
 ghost use Rattle.omega_model.specs.Lawful.{Lawful, RoundOf, RoundSoFar, opened};
+ghost use Rattle.omega_model.specs.Planning.{plan_for};
+ghost use Rattle.omega_model.specs.State.{state};
 ghost use Rattle.omega_model.specs.Turns.{InTurns};
 ghost use Rattle.omega_model.specs.Work.{commits_of};
+ghost use Rattle.omega_model.specs.declared.claims.Judgement.{Judgement};
+ghost use Rattle.omega_model.specs.declared.claims.Policy.{Policy};
+ghost use Rattle.omega_model.specs.declared.claims.Txn.{Txn};
 ghost use Rattle.omega_model.specs.declared.entries.Entry.{Entry};
+ghost use Rattle.omega_model.specs.declared.entries.Entry.TheVariants.{Commit};
 ghost use Rattle.omega_model.specs.declared.rows.Round.{Round};
 ghost use Rattle.omega_model.specs.declared.rows.Row.{Row};
 ghost use Rattle.omega_model.specs.declared.rows.TraceTables.{TraceTables};
 ghost use Rattle.omega_model.specs.declared.settings.Settings.{Settings};
+ghost use Rattle.omega_model.specs.declared.wishes.Wish.{Wish};
+ghost use Rattle.omega_rounds.specs.Constraints.{SuitsItsWish};
 ghost use Rattle.omega_rounds.specs.NextCommit.{ComesNext};
 ghost use Rattle.omega_rounds.specs.Orders.{OrderedRound, OrderedRounds, Rule, RuleBefore, RuleKeeps, RuleOrders};
 ghost use Rattle.omega_rounds.specs.TurnOrder.{ComesNextInTurns, turn_of};
@@ -69,4 +77,18 @@ pub fn rounds_in_any_order()
         → OrderedRounds settings trace (λ rows start round. RuleKeeps (rule rows start round)) rows start some one
         → OrderedRounds settings trace (λ rows start round. RuleKeeps (rule rows start round)) rows start some other
         → one ≡ other }
+{}
+
+/// Where the claims of a commit are a plan on what its copy had seen, each claim's machine meets the
+/// constraints of its wish in the state at that commit, and so does that of each placed claim: no
+/// machine changes between a round's rows and its end. Does nothing: the contract is the law.
+pub fn claims_meet_constraints()
+    ensures { (settings : Settings) (trace : TraceTables) (rows : List Row) (start : List Entry) (round : Round)
+        (history : List Entry) → RoundSoFar settings trace rows start round history
+        → (place scheduler seen : ℕ) (txn : Txn) (reply : List Judgement)
+        → slice_get history place ≡ Some (Commit scheduler seen txn reply)
+        → length (opened trace rows start round).history ≤ place
+        → (wishes : List Wish) (first : ℕ) (policy : Policy)
+        → txn.claims ≡ plan_for (state (take seen (take place history))) wishes first policy
+        → All (SuitsItsWish (state (take place history)).machines wishes) txn.claims }
 {}

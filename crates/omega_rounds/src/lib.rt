@@ -6,4 +6,6 @@
 
 mod laws;
 
-pub use laws::{lawful_histories_in_turns, next_commits_in_turns, rounds_in_any_order};
+pub use laws::{
+    claims_meet_constraints, lawful_histories_in_turns, next_commits_in_turns, rounds_in_any_order,
+};
