@@ -18,7 +18,7 @@ use Rattle.omega_model.specs.declared.rows.TraceTables.{TraceTables}
 use Rattle.omega_model.specs.declared.settings.Settings.{Settings}
 use Rattle.omega_model.specs.declared.wishes.Request.{Request}
 use Rattle.omega_rounds.specs.NextCommit.{ComesNext, GoesNext, HasNoWork, NobodyHasWork, WorksOn, attempt, attempt_txn, left_of}
-use Rattle.omega_rounds.specs.Orders.{KeepsFrom, OrderedRound, OrderedRounds, Orders}
+use Rattle.omega_rounds.specs.Orders.{EachComesNext, KeepsFrom, OrderedRound, OrderedRounds, Orders}
 use Rattle.omega_rounds.proofs.Agreeing.{first_agrees, is_attempt, left_push-other, works_or_idle}
 use Rattle.omega_rounds.proofs.Places.{IsCut, IsEnd, at_seam_from, end_or_cut, front_push, longer}
 use Rattle.omega_rounds.proofs.RoundsAdd.{round_from}
@@ -187,9 +187,7 @@ module _ (settings : Settings) (trace : TraceTables) (rows : List Row) (start : 
 
   -- at each place of a round that keeps to the rule, from its rows to its end, stands what comes next
   pub comes_next : (history : List Entry) → OrderedRound settings trace rows start round Keeps history
-      → (place : ℕ) → length (opened trace rows start round).history ≤ place → place ≤ length history
-      → ComesNext settings trace (rows ++ round.rows) (length (opened trace rows start round).history) GoesBefore sees
-      (take place history) (slice_get history place)
+      → EachComesNext settings trace rows start round GoesBefore sees history
   comes_next history kept place from within =
       let all : List Row = rows ++ round.rows in
       let at : ℕ = length (opened trace rows start round).history in

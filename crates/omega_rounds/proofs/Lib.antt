@@ -14,3 +14,4 @@ pub mod Worlds
 pub mod TwoPasses
 pub mod Suited
 pub mod MachinesStay
+mod Examples

@@ -16,8 +16,8 @@ use Rattle.omega_model.specs.declared.rows.TraceTables.{TraceTables}
 use Rattle.omega_model.specs.declared.settings.Settings.{Settings}
 use Rattle.omega_model.proofs.Remaining.{by_place_front}
 use Rattle.omega_rounds.specs.NextCommit.{ComesNext}
-use Rattle.omega_rounds.specs.Orders.{OrderedRound, OrderedRounds, Orders}
-use Rattle.omega_rounds.specs.TurnOrder.{ComesNextInTurns, GoesEarlier, LostItsTurn, sees_in_turn, turn_of}
+use Rattle.omega_rounds.specs.Orders.{EachComesNext, OrderedRound, OrderedRounds, Orders}
+use Rattle.omega_rounds.specs.TurnOrder.{GoesEarlier, LostItsTurn, sees_in_turn, turn_of}
 use Rattle.omega_rounds.proofs.AnyOrder.{comes_next, one_comes_next, only_rounds}
 use Rattle.omega_rounds.proofs.CommitsRead.{commits_push, nothing_read, turn_push-other}
 use Rattle.omega_rounds.proofs.Places.{all_front, all_last}
@@ -96,8 +96,7 @@ rounds_in_turns settings trace rows start (round ∷ some) history whole turns =
 -- at each place of a round in turns, from its rows to its end, stands what comes next
 pub comes_next_in_turns : (settings : Settings) (trace : TraceTables) (rows : List Row) (start : List Entry) (round : Round) (history : List Entry)
     → RoundOf settings trace rows start round history → InTurns history
-    → (place : ℕ) → length (opened trace rows start round).history ≤ place → place ≤ length history
-    → ComesNextInTurns settings trace (rows ++ round.rows) (length (opened trace rows start round).history) (take place history) (slice_get history place)
+    → EachComesNext settings trace rows start round GoesEarlier sees_in_turn history
 comes_next_in_turns settings trace rows start round history whole turns =
     comes_next settings trace rows start round KeepsTurns GoesEarlier LostItsTurn sees_in_turn
     (turns_order settings trace (rows ++ round.rows) (length (opened trace rows start round).history)) history
@@ -105,7 +104,8 @@ comes_next_in_turns settings trace rows start round history whole turns =
 
 -- and nothing else does
 pub one_comes_next_in_turns : (settings : Settings) (trace : TraceTables) (rows : List Row) (opened_at : ℕ) (before : List Entry) (one other : Option Entry)
-    → ComesNextInTurns settings trace rows opened_at before one → ComesNextInTurns settings trace rows opened_at before other → one ≡ other
+    → ComesNext settings trace rows opened_at GoesEarlier sees_in_turn before one
+    → ComesNext settings trace rows opened_at GoesEarlier sees_in_turn before other → one ≡ other
 one_comes_next_in_turns settings trace rows opened_at =
     one_comes_next settings trace rows opened_at KeepsTurns GoesEarlier LostItsTurn sees_in_turn (turns_order settings trace rows opened_at)
 

@@ -10,7 +10,7 @@ use Rattle.omega_model.specs.declared.rows.Round.{Round}
 use Rattle.omega_model.specs.declared.rows.TraceTables.{TraceTables}
 use Rattle.omega_model.specs.declared.settings.Settings.{Settings}
 use Rattle.omega_model.specs.declared.wishes.Request.{Request}
-use Rattle.omega_rounds.specs.NextCommit.{WorksOn}
+use Rattle.omega_rounds.specs.NextCommit.{ComesNext, WorksOn}
 
 -- the entries of a history from a place on keep to a rule that is said of an entry and those before it
 abbrev pub KeepsFrom : (List Entry → Entry → Type 0) → ℕ → List Entry → Type 0
@@ -72,3 +72,24 @@ OrderedRounds settings trace Keeps rows start [] history = history ≡ start
 OrderedRounds settings trace Keeps rows start (round ∷ rest) history =
     (middle : List Entry) × (OrderedRound settings trace rows start round (Keeps rows start round) middle
     × OrderedRounds settings trace Keeps (rows ++ round.rows) middle rest history)
+
+-- at each place of a round, from its rows to its end, stands what comes next after the entries before it
+abbrev pub EachComesNext : Settings → TraceTables → List Row → List Entry → Round → (List Entry → ℕ → ℕ → Type 0) → (List Entry → ℕ → ℕ) → List Entry → Type 0
+EachComesNext settings trace rows start round GoesBefore sees history =
+    (place : ℕ) → length (opened trace rows start round).history ≤ place → place ≤ length history
+    → ComesNext settings trace (rows ++ round.rows) (length (opened trace rows start round).history) GoesBefore sees
+    (take place history) (slice_get history place)
+
+-- a rule puts the commits of this round in one order
+abbrev pub RuleOrdersRound : Settings → TraceTables → List Row → List Entry → Round → Rule → Type 0
+RuleOrdersRound settings trace rows start round rule =
+    RuleOrders settings trace (rows ++ round.rows) (length (opened trace rows start round).history) rule
+
+-- a history is a whole round whose commits keep to a rule
+abbrev pub RuledRound : Settings → TraceTables → List Row → List Entry → Round → Rule → List Entry → Type 0
+RuledRound settings trace rows start round rule history = OrderedRound settings trace rows start round (RuleKeeps rule) history
+
+-- a history is made of these rounds, each of which keeps to its rule
+abbrev pub RuledRounds : Settings → TraceTables → (List Row → List Entry → Round → Rule) → List Row → List Entry → List Round → List Entry → Type 0
+RuledRounds settings trace rule rows start some history =
+    OrderedRounds settings trace (λ rows start round. RuleKeeps (rule rows start round)) rows start some history

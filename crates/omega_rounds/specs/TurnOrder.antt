@@ -1,12 +1,10 @@
 -- The order in which the schedulers commit where they take turns.
-use Rattle.std.specs.Prelude.{◌≡◌, ℕ, List, Option, ◌<◌, ◌⊎◌, All, length}
+use Rattle.std.specs.Prelude.{◌≡◌, ℕ, List, ◌<◌, ◌⊎◌, All, length}
 use Rattle.omega_model.specs.Turns.{StandsBefore, next_turn, round_commits, turn_start}
 use Rattle.omega_model.specs.declared.entries.Entry.{Entry}
-use Rattle.omega_model.specs.declared.rows.Row.{Row}
-use Rattle.omega_model.specs.declared.rows.TraceTables.{TraceTables}
 use Rattle.omega_model.specs.declared.settings.Settings.{Settings}
 use Rattle.omega_model.specs.declared.wishes.Request.{Request}
-use Rattle.omega_rounds.specs.NextCommit.{ComesNext, attempt}
+use Rattle.omega_rounds.specs.NextCommit.{attempt}
 
 -- how many commits a scheduler has in the round so far, which is the turn of its next one
 abbrev pub turn_of : List Entry → ℕ → ℕ
@@ -28,11 +26,6 @@ sees_in_turn before scheduler = began before (turn_of before scheduler)
 -- the commit of a scheduler that has its turn, for a request
 abbrev pub attempt_in_turn : Settings → List Entry → ℕ → Request → Entry
 attempt_in_turn settings before scheduler request = attempt settings before scheduler (sees_in_turn before scheduler) request
-
--- what comes next where the schedulers take turns
-abbrev pub ComesNextInTurns : Settings → TraceTables → List Row → ℕ → List Entry → Option Entry → Type 0
-ComesNextInTurns settings trace rows opened_at before next =
-    ComesNext settings trace rows opened_at GoesEarlier sees_in_turn before next
 
 -- a scheduler has lost its turn: some commit of the round stands there that must not stand before its next
 abbrev pub LostItsTurn : List Entry → ℕ → Type 0

@@ -17,28 +17,26 @@ ghost use Rattle.omega_model.specs.declared.settings.Settings.{Settings};
 ghost use Rattle.omega_model.specs.declared.wishes.Wish.{Wish};
 ghost use Rattle.omega_rounds.specs.Constraints.{SuitsItsWish};
 ghost use Rattle.omega_rounds.specs.NextCommit.{ComesNext};
-ghost use Rattle.omega_rounds.specs.Orders.{OrderedRound, OrderedRounds, Rule, RuleBefore, RuleKeeps, RuleOrders};
-ghost use Rattle.omega_rounds.specs.TurnOrder.{ComesNextInTurns, turn_of};
+ghost use Rattle.omega_rounds.specs.Orders.{EachComesNext, Rule, RuleBefore, RuleOrders, RuleOrdersRound, RuledRound, RuledRounds};
+ghost use Rattle.omega_rounds.specs.TurnOrder.{GoesEarlier, sees_in_turn, turn_of};
 
 /// In a round in which the schedulers take turns, the entries so far fix the next one.
 ///
 /// At each place from the round's rows on stands what comes next after the entries before it: the
-/// commit of the scheduler that has work and, of all that have, had the fewest commits in this
-/// round, the one with the least number among equals. It is that scheduler's attempt on the first
-/// request that it has left, it had seen what stood before the turn, and it has the reply that is
-/// due. Where nobody has work the round is over, and only there. Does nothing: the contract is the
-/// law.
+/// commit of the scheduler that, of all that have work, had the fewest commits in this round, and of
+/// equals the one with the least number. It is that scheduler's attempt on the first request that it
+/// has left, it had seen what stood before the turn, and it has the reply that is due. Where nobody
+/// has work the round is over, and only there. Does nothing: the contract is the law.
 pub fn next_commits_in_turns()
     ensures stands { (settings : Settings) (trace : TraceTables) (rows : List Row) (start : List Entry)
         (round : Round) (history : List Entry)
         → RoundOf settings trace rows start round history → InTurns history
-        → (place : ℕ) → length (opened trace rows start round).history ≤ place → place ≤ length history
-        → ComesNextInTurns settings trace (rows ++ round.rows)
-        (length (opened trace rows start round).history) (take place history) (slice_get history place) }
+        → EachComesNext settings trace rows start round GoesEarlier sees_in_turn history }
     ensures alone { (settings : Settings) (trace : TraceTables) (rows : List Row) (opened_at : ℕ)
         (before : List Entry) (one other : Option Entry)
-        → ComesNextInTurns settings trace rows opened_at before one
-        → ComesNextInTurns settings trace rows opened_at before other → one ≡ other }
+        → ComesNext settings trace rows opened_at GoesEarlier sees_in_turn before one
+        → ComesNext settings trace rows opened_at GoesEarlier sees_in_turn before other
+        → one ≡ other }
     ensures turn { (settings : Settings) (trace : TraceTables) (rows : List Row) (start : List Entry)
         (round : Round) (history : List Entry)
         → RoundSoFar settings trace rows start round history → (scheduler : ℕ)
@@ -59,32 +57,33 @@ pub fn lawful_histories_in_turns()
 /// only ones after their start. Does nothing: the contract is the law.
 pub fn rounds_in_any_order()
     ensures stands { (settings : Settings) (trace : TraceTables) (rows : List Row) (start : List Entry)
-        (round : Round) (rule : Rule)
-        → RuleOrders settings trace (rows ++ round.rows) (length (opened trace rows start round).history) rule
-        → (history : List Entry) → OrderedRound settings trace rows start round (RuleKeeps rule) history
-        → (place : ℕ) → length (opened trace rows start round).history ≤ place → place ≤ length history
-        → ComesNext settings trace (rows ++ round.rows) (length (opened trace rows start round).history)
-        (RuleBefore rule) rule.sees (take place history) (slice_get history place) }
-    ensures alone { (settings : Settings) (trace : TraceTables) (rows : List Row) (opened_at : ℕ) (rule : Rule)
-        → RuleOrders settings trace rows opened_at rule
+        (round : Round) (rule : Rule) → RuleOrdersRound settings trace rows start round rule
+        → (history : List Entry) → RuledRound settings trace rows start round rule history
+        → EachComesNext settings trace rows start round (RuleBefore rule) rule.sees history }
+    ensures alone { (settings : Settings) (trace : TraceTables) (rows : List Row) (opened_at : ℕ)
+        (rule : Rule) → RuleOrders settings trace rows opened_at rule
         → (before : List Entry) (one other : Option Entry)
         → ComesNext settings trace rows opened_at (RuleBefore rule) rule.sees before one
-        → ComesNext settings trace rows opened_at (RuleBefore rule) rule.sees before other → one ≡ other }
-    ensures only { (settings : Settings) (trace : TraceTables) (rule : List Row → List Entry → Round → Rule)
-        → ((rows : List Row) (start : List Entry) (round : Round) → RuleOrders settings trace (rows ++ round.rows)
-        (length (opened trace rows start round).history) (rule rows start round))
+        → ComesNext settings trace rows opened_at (RuleBefore rule) rule.sees before other
+        → one ≡ other }
+    ensures only { (settings : Settings) (trace : TraceTables)
+        (rule : List Row → List Entry → Round → Rule)
+        → ((rows : List Row) (start : List Entry) (round : Round)
+        → RuleOrdersRound settings trace rows start round (rule rows start round))
         → (rows : List Row) (start : List Entry) (some : List Round) (one other : List Entry)
-        → OrderedRounds settings trace (λ rows start round. RuleKeeps (rule rows start round)) rows start some one
-        → OrderedRounds settings trace (λ rows start round. RuleKeeps (rule rows start round)) rows start some other
+        → RuledRounds settings trace rule rows start some one
+        → RuledRounds settings trace rule rows start some other
         → one ≡ other }
 {}
 
-/// Where the claims of a commit are a plan on what its copy had seen, each claim's machine meets the
-/// constraints of its wish in the state at that commit, and so does that of each placed claim: no
-/// machine changes between a round's rows and its end. Does nothing: the contract is the law.
+/// Where the claims of a commit are a plan for some wishes on what its copy had seen, each claim is
+/// for one of these wishes, and its machine meets the wish's constraints in the state at that
+/// commit. So it is of each placed claim. No machine changes between a round's rows and its end,
+/// and so the copy's attributes are those of the state. Does nothing: the contract is the law.
 pub fn claims_meet_constraints()
-    ensures { (settings : Settings) (trace : TraceTables) (rows : List Row) (start : List Entry) (round : Round)
-        (history : List Entry) → RoundSoFar settings trace rows start round history
+    ensures { (settings : Settings) (trace : TraceTables) (rows : List Row) (start : List Entry)
+        (round : Round) (history : List Entry)
+        → RoundSoFar settings trace rows start round history
         → (place scheduler seen : ℕ) (txn : Txn) (reply : List Judgement)
         → slice_get history place ≡ Some (Commit scheduler seen txn reply)
         → length (opened trace rows start round).history ≤ place

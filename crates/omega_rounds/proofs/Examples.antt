@@ -1,0 +1,69 @@
+-- Worked answers: whose turn it is, what it has seen, and how many attempts are left.
+use Rattle.std.proofs.Common.{◌≡◌, ℕ, List, [], ◌∷◌, refl, inl, inr, arith, take}
+use Rattle.std.proofs.lemmas.List.Elements.{recursion_from_All}
+use Rattle.omega_model.specs.Turns.{StandsBefore, round_commits}
+use Rattle.omega_model.specs.Work.{fresh, Standing}
+use Rattle.omega_model.specs.declared.cells.Need.{Need}
+use Rattle.omega_model.specs.declared.claims.Mode.TheVariants.{Incremental}
+use Rattle.omega_model.specs.declared.claims.Rule.TheVariants.{Fine}
+use Rattle.omega_model.specs.declared.entries.Entry.{Entry}
+use Rattle.omega_model.specs.declared.entries.Entry.TheVariants.{Round, MachineAdd, Commit}
+use Rattle.omega_model.specs.declared.settings.Settings.{Settings}
+use Rattle.omega_model.specs.declared.wishes.Request.{Request}
+use Rattle.omega_rounds.specs.AttemptsLeft.{attempts_left}
+use Rattle.omega_rounds.specs.TurnOrder.{GoesEarlier, LostItsTurn, began, sees_in_turn, turn_of}
+
+unfoldable amount : ℕ → Need
+amount n = record { cpu = n; mem = n; disk = 0 }
+
+-- an empty commit of this scheduler
+unfoldable nothing_by : ℕ → ℕ → Entry
+nothing_by scheduler seen = Commit scheduler seen (record { job = 1; rule = Fine; mode = Incremental; claims = [] }) []
+
+-- schedulers 0, 1 and 2 have committed in the first turn of the last round, and 1 in the second
+unfoldable turns : List Entry
+turns =
+    Round 0 ∷ nothing_by 1 1
+    ∷ Round 4 ∷ MachineAdd 1 (amount 10) ∷ nothing_by 0 4 ∷ nothing_by 1 4 ∷ nothing_by 2 4 ∷ nothing_by 1 7 ∷ []
+
+-- the commit of the round before isn't counted
+second_turn : turn_of turns 0 ≡ 1
+unfolding amount nothing_by turns
+second_turn = refl
+
+third_turn : turn_of turns 1 ≡ 2
+unfolding amount nothing_by turns
+third_turn = refl
+
+-- scheduler 2 commits next in the second turn, which began with the commit of scheduler 1
+sees_the_first_turn : sees_in_turn turns 2 ≡ 7
+unfolding amount nothing_by turns
+sees_the_first_turn = refl
+
+-- the third turn begins now
+sees_all : sees_in_turn turns 1 ≡ 8
+unfolding amount nothing_by turns
+sees_all = refl
+
+-- a lesser turn goes first, whatever the numbers
+by_turn : GoesEarlier turns 2 1
+unfolding amount nothing_by turns
+by_turn = inl (omega arith)
+
+-- and of equal turns the lesser number
+by_number : GoesEarlier turns 0 2
+unfolding amount nothing_by turns
+by_number = inr (refl, omega arith)
+
+-- scheduler 0 has lost its second turn to scheduler 1
+lost : LostItsTurn turns 0
+unfolding amount nothing_by turns
+lost all = by_last (recursion_from_All (StandsBefore 1 0) (round_commits turns) all).1.1.1.0 where
+  by_last : StandsBefore 1 0 (record { place = 7; scheduler = 1; turn = 1 }) → ⊥
+  by_last (inl earlier) = absurd (omega arith)
+  by_last (inr same) = let below = same.1 in absurd (omega arith)
+
+-- two requests with three tries each, of which the first has had one
+five_left : (settings : Settings) (request : Request) (failing : ℕ → ℕ) → settings.tries ≡ 3
+    → attempts_left settings (record { requests = request ∷ request ∷ []; taken = 1; failing = failing }) ≡ 5
+five_left settings request failing three = rw three refl
