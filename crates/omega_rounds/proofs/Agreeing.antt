@@ -1,7 +1,7 @@
 -- Attempts on the first request that a scheduler has left.
 use Rattle.std.proofs.Common.{◌≡◌, ◌≤◌, ℕ, false, List, [], ◌∷◌, ◌++◌, length, Option, Some, None, sym, ap, ◌∙◌}
 use Rattle.std.specs.Prelude.{option_map}
-use Rattle.omega_model.specs.Work.{Agrees, AgreesWithFirst, Standing, after_entry, is_commit_of, standing_of}
+use Rattle.omega_model.specs.Work.{Agrees, AgreesWithFirst, Standing, is_commit_of, standing_of}
 use Rattle.omega_model.specs.declared.claims.Claim.{Claim}
 use Rattle.omega_model.specs.declared.claims.Mode.{Mode}
 use Rattle.omega_model.specs.declared.claims.Rule.{Rule}

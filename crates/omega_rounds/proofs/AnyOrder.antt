@@ -1,6 +1,6 @@
 -- Where a rule puts the commits of a round in one order, the entries so far fix the next one.
-use Rattle.std.proofs.Common.{◌≡◌, ◌≢◌, ◌≤◌, ◌<◌, ℕ, false, List, [], ◌∷◌, ◌++◌, length, take, drop, Option, Some, None, refl, sym, ap, ap₂, subst, arith, ◌∙◌, inl, inr}
-use Rattle.std.specs.Prelude.{slice_get, ◌==◌}
+use Rattle.std.proofs.Common.{◌≡◌, ◌≢◌, ◌≤◌, ◌<◌, ℕ, List, [], ◌∷◌, ◌++◌, length, take, drop, Option, Some, None, refl, sym, ap, ap₂, subst, arith, ◌∙◌, inl, inr}
+use Rattle.std.specs.Prelude.{slice_get}
 use Rattle.std.proofs.lemmas.Bool.{ne_eqb}
 use Rattle.std.proofs.lemmas.Bool.Decides.{eqb_tells}
 use Rattle.std.proofs.lemmas.List.{append-nil}
@@ -20,7 +20,7 @@ use Rattle.omega_model.specs.declared.wishes.Request.{Request}
 use Rattle.omega_rounds.specs.NextCommit.{ComesNext, GoesNext, HasNoWork, NobodyHasWork, WorksOn, attempt, attempt_txn, left_of}
 use Rattle.omega_rounds.specs.Orders.{EachComesNext, KeepsFrom, OrderedRound, OrderedRounds, Orders}
 use Rattle.omega_rounds.proofs.Agreeing.{first_agrees, is_attempt, left_push-other, works_or_idle}
-use Rattle.omega_rounds.proofs.Places.{IsCut, IsEnd, at_seam_from, end_or_cut, front_push, longer}
+use Rattle.omega_rounds.proofs.Places.{at_seam_from, end_or_cut, front_push, longer}
 use Rattle.omega_rounds.proofs.RoundsAdd.{round_from}
 
 module _ (settings : Settings) (trace : TraceTables) (rows : List Row) (opened_at : ℕ) where

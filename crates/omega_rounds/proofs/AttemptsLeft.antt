@@ -1,5 +1,5 @@
 -- Attempts come to an end.
-use Rattle.std.proofs.Common.{◌≡◌, ◌≢◌, ◌≤◌, ◌<◌, ◌+◌, ◌*◌, ◌-◌, ℕ, zero, suc, Bool, true, false, List, [], ◌∷◌, ◌++◌, length, take, Option, Some, None, refl, sym, ap, subst, arith, ◌∙◌, inl, inr}
+use Rattle.std.proofs.Common.{◌≡◌, ◌≢◌, ◌≤◌, ◌<◌, ◌+◌, ◌*◌, ◌-◌, ℕ, zero, suc, Bool, true, false, List, ◌∷◌, length, Option, Some, None, refl, sym, ap, subst, arith, ◌∙◌, inl, inr}
 use Rattle.std.specs.Prelude.{if◌then◌else◌, ◌==◌, option_map}
 use Rattle.std.proofs.lemmas.Bool.{eq-eqb, ne_eqb}
 use Rattle.std.proofs.lemmas.Bool.Decides.{eqb_tells}
@@ -9,12 +9,11 @@ use Rattle.omega_model.specs.Policy.{schedulers}
 use Rattle.omega_model.specs.Requests.{failed, requests}
 use Rattle.omega_model.specs.State.{reply_of}
 use Rattle.omega_model.specs.Stepping.{Step}
-use Rattle.omega_model.specs.Work.{HasLeft, Standing, after_entry, ends_request, failing_after, failing_with, fresh, is_commit_of, moved_on, outcomes_of, rest_of, standing_of}
+use Rattle.omega_model.specs.Work.{HasLeft, Standing, after_entry, ends_request, failing_after, failing_with, fresh, moved_on, outcomes_of, rest_of, standing_of}
 use Rattle.omega_model.specs.World.{Commits, StepAnswer, World}
 use Rattle.omega_model.specs.World.StepAnswer.{Idle, Synced, Committed}
 use Rattle.omega_model.specs.declared.claims.Judgement.{Judgement}
 use Rattle.omega_model.specs.declared.claims.Outcome.{Outcome}
-use Rattle.omega_model.specs.declared.claims.Txn.{Txn}
 use Rattle.omega_model.specs.declared.entries.Entry.{Entry}
 use Rattle.omega_model.specs.declared.entries.Entry.TheVariants.{Commit}
 use Rattle.omega_model.specs.declared.rows.Row.{Row}
@@ -23,7 +22,6 @@ use Rattle.omega_model.specs.declared.settings.Settings.{Settings}
 use Rattle.omega_model.specs.declared.wishes.Request.{Request}
 use Rattle.omega_model.proofs.Standing.{after_entry-other, standing_push}
 use Rattle.omega_rounds.specs.AttemptsLeft.{HasTries, attempts_at, attempts_below, attempts_left, to_do}
-use Rattle.omega_rounds.specs.NextCommit.{left_of}
 
 -- an attempt leaves fewer of them, and the next request has a try left
 pub attempt_less : (settings : Settings) (standing : Standing) (request : Request) (rest : List Request) (outcomes : List Outcome)

@@ -1,5 +1,5 @@
 -- The commits of the last round of a history, as one more entry is read.
-use Rattle.std.proofs.Common.{◌≡◌, ◌≤◌, ◌+◌, ℕ, Bool, true, false, List, [], ◌∷◌, ◌++◌, length, take, drop, Some, refl, sym, ap, arith, ◌∙◌, cond}
+use Rattle.std.proofs.Common.{◌≡◌, ◌≤◌, ◌+◌, ℕ, Bool, false, List, [], ◌∷◌, ◌++◌, length, take, drop, Some, refl, ap, arith, ◌∙◌, cond}
 use Rattle.std.specs.Prelude.{slice_get, ◌==◌, All}
 use Rattle.std.specs.List.{fold, count_by}
 use Rattle.std.proofs.lemmas.Grind.{common_steps}

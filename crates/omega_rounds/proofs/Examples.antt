@@ -1,8 +1,7 @@
 -- Worked answers: whose turn it is, what it has seen, and how many attempts are left.
-use Rattle.std.proofs.Common.{◌≡◌, ℕ, List, [], ◌∷◌, refl, inl, inr, arith, take}
+use Rattle.std.proofs.Common.{◌≡◌, ℕ, List, [], ◌∷◌, refl, inl, inr, arith}
 use Rattle.std.proofs.lemmas.List.Elements.{recursion_from_All}
 use Rattle.omega_model.specs.Turns.{StandsBefore, round_commits}
-use Rattle.omega_model.specs.Work.{fresh, Standing}
 use Rattle.omega_model.specs.declared.cells.Need.{Need}
 use Rattle.omega_model.specs.declared.claims.Mode.TheVariants.{Incremental}
 use Rattle.omega_model.specs.declared.claims.Rule.TheVariants.{Fine}
@@ -11,7 +10,7 @@ use Rattle.omega_model.specs.declared.entries.Entry.TheVariants.{Round, MachineA
 use Rattle.omega_model.specs.declared.settings.Settings.{Settings}
 use Rattle.omega_model.specs.declared.wishes.Request.{Request}
 use Rattle.omega_rounds.specs.AttemptsLeft.{attempts_left}
-use Rattle.omega_rounds.specs.TurnOrder.{GoesEarlier, LostItsTurn, began, sees_in_turn, turn_of}
+use Rattle.omega_rounds.specs.TurnOrder.{GoesEarlier, LostItsTurn, sees_in_turn, turn_of}
 
 unfoldable amount : ℕ → Need
 amount n = record { cpu = n; mem = n; disk = 0 }

@@ -1,10 +1,9 @@
 -- Between a round's rows and its end no machine changes.
-use Rattle.std.proofs.Common.{◌≡◌, ◌≤◌, ℕ, List, [], ◌∷◌, ◌++◌, length, take, drop, nat_eq, Some, refl, sym, ap, subst, arith, ◌∙◌, append_assoc}
+use Rattle.std.proofs.Common.{◌≡◌, ◌≤◌, ℕ, List, [], ◌∷◌, ◌++◌, length, take, drop, nat_eq, Some, refl, sym, ap, subst, ◌∙◌, append_assoc}
 use Rattle.std.specs.List.{fold, IsDistinct, AllByRecursion as Each}
 use Rattle.std.specs.Prelude.{All, slice_get}
 use Rattle.std.proofs.lemmas.List.{append-nil, length-take-le, take-append-drop}
 use Rattle.std.proofs.lemmas.List.Elements.{All-from_recursion}
-use Rattle.std.proofs.lemmas.Option.{slice_get_within}
 use Rattle.omega_model.specs.Cell.{Cell, empty_cell}
 use Rattle.omega_model.specs.Lawful.{IsCommitOfRound, MayCommit, RoundSoFar, opened}
 use Rattle.omega_model.specs.Machines.{added, attr_deleted, attr_set, change, ensured, numbers_of, removed, updated}

@@ -1,5 +1,5 @@
 -- Rounds add to the history before them.
-use Rattle.std.proofs.Common.{◌≡◌, List, [], ◌∷◌, ◌++◌, length, drop, refl, sym, ap, ◌∙◌, append_assoc}
+use Rattle.std.proofs.Common.{◌≡◌, List, [], ◌∷◌, ◌++◌, length, drop, sym, ap, ◌∙◌, append_assoc}
 use Rattle.std.specs.List.{fold}
 use Rattle.std.proofs.lemmas.List.{append-nil, take-append-drop}
 use Rattle.omega_model.specs.Lawful.{Applied, RoundOf, RoundSoFar, Rounds, opened, with_row}

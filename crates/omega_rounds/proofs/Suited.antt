@@ -1,8 +1,8 @@
 -- A plan puts each wish on a machine that meets its constraints.
-use Rattle.std.proofs.Common.{◌≡◌, ℕ, zero, suc, Bool, true, false, List, [], ◌∷◌, ◌++◌, length, map, take, drop, nat_eq, Option, Some, None, refl, sym, ap, subst, ◌∙◌, ◌==◌, if◌then◌else◌}
-use Rattle.std.specs.List.{cons_option, filter, filter_map, find, IsDistinct, AllByRecursion as Each}
+use Rattle.std.proofs.Common.{◌≡◌, ℕ, zero, suc, Bool, true, false, List, [], ◌∷◌, length, map, take, drop, nat_eq, Option, Some, None, refl, sym, subst, ◌∙◌, ◌==◌, if◌then◌else◌}
+use Rattle.std.specs.List.{cons_option, filter_map, find, IsDistinct, AllByRecursion as Each}
 use Rattle.std.specs.Prelude.{IsSomeAnd, IsTrue, option_map}
-use Rattle.std.proofs.lemmas.Bool.{both_ways, eq-eqb}
+use Rattle.std.proofs.lemmas.Bool.{eq-eqb}
 use Rattle.std.proofs.lemmas.Map.Keys.{IsDistinct-head, IsDistinct-tail}
 use Rattle.omega_model.specs.Cell.{Cell, machine_at}
 use Rattle.omega_model.specs.Machines.{numbers_of}
@@ -76,8 +76,7 @@ each_at_its_number [] distinct = tt
 each_at_its_number (machine ∷ machines) distinct =
     let itself : (machine.id == machine.id) ≡ true = eq-eqb machine.id machine.id refl in
     let differ : Each (λ other. nat_eq machine.id other.id ≡ false) machines =
-    each_unmapped (λ n. nat_eq machine.id n ≡ false) (λ (other : Machine). other.id) machines (IsDistinct-head nat_eq machine.id (numbers_of machines) distinct) in
-    (
+    each_unmapped (λ n. nat_eq machine.id n ≡ false) (λ (other : Machine). other.id) machines (IsDistinct-head nat_eq machine.id (numbers_of machines) distinct) in (
       rw itself refl,
       each_both (λ other. nat_eq machine.id other.id ≡ false) (λ other. machine_at machines other.id ≡ Some other)
           (λ other. machine_at (machine ∷ machines) other.id ≡ Some other) later machines differ

@@ -1,6 +1,6 @@
 -- Turns put the commits of a round in one order.
-use Rattle.std.proofs.Common.{◌≡◌, ◌≢◌, ◌<◌, ◌≤◌, ℕ, false, List, [], ◌∷◌, ◌++◌, length, take, Option, Some, sym, subst, arith, inl, inr}
-use Rattle.std.specs.Prelude.{All, slice_get, ◌==◌, ◌⊎◌}
+use Rattle.std.proofs.Common.{◌≡◌, ◌≢◌, ℕ, false, List, [], ◌∷◌, ◌++◌, length, Option, subst, arith, inl, inr}
+use Rattle.std.specs.Prelude.{All, ◌==◌, ◌⊎◌}
 use Rattle.std.specs.List.{fold}
 use Rattle.std.proofs.lemmas.Bool.{ne_eqb}
 use Rattle.omega_model.specs.Feed.{rounds}
@@ -16,7 +16,7 @@ use Rattle.omega_model.specs.declared.rows.TraceTables.{TraceTables}
 use Rattle.omega_model.specs.declared.settings.Settings.{Settings}
 use Rattle.omega_model.proofs.Remaining.{by_place_front}
 use Rattle.omega_rounds.specs.NextCommit.{ComesNext}
-use Rattle.omega_rounds.specs.Orders.{EachComesNext, OrderedRound, OrderedRounds, Orders}
+use Rattle.omega_rounds.specs.Orders.{EachComesNext, OrderedRounds, Orders}
 use Rattle.omega_rounds.specs.TurnOrder.{GoesEarlier, LostItsTurn, sees_in_turn, turn_of}
 use Rattle.omega_rounds.proofs.AnyOrder.{comes_next, one_comes_next, only_rounds}
 use Rattle.omega_rounds.proofs.CommitsRead.{commits_push, nothing_read, turn_push-other}

@@ -1,14 +1,14 @@
 -- The schedulers take turns: what each does when it has its turn keeps to the turns.
 use Rattle.std.proofs.Common.{◌≡◌, ◌≢◌, ◌≤◌, ◌<◌, ◌+◌, ℕ, Bool, true, false, List, [], ◌∷◌, ◌++◌, length, Some, refl, sym, ap, subst, arith, ◌∙◌, inl, inr, length-append}
 use Rattle.std.specs.Prelude.{option_map, unwrap_or, ◌==◌, All, if◌then◌else◌}
-use Rattle.std.specs.List.{fold, find}
+use Rattle.std.specs.List.{find}
 use Rattle.std.proofs.lemmas.Bool.{eq-eqb, ne_eqb}
 use Rattle.std.proofs.lemmas.Bool.Decides.{eqb_tells}
 use Rattle.std.proofs.lemmas.List.Elements.{All-head, All-nil, All-push, All-same, All-tail, All-weaker}
 use Rattle.omega_model.specs.Lawful.{MayCommit, after_last, opened}
 use Rattle.omega_model.specs.Policy.{schedulers}
 use Rattle.omega_model.specs.State.{reply_of}
-use Rattle.omega_model.specs.Turns.{KeepsTurns, StandsBefore, Taken, next_turn, read_entry, round_commits, turn_start}
+use Rattle.omega_model.specs.Turns.{KeepsTurns, StandsBefore, Taken, next_turn, round_commits, turn_start}
 use Rattle.omega_model.specs.Work.{AgreesWithFirst, standing_of}
 use Rattle.omega_model.specs.declared.claims.Judgement.{Judgement}
 use Rattle.omega_model.specs.declared.claims.Txn.{Txn}
@@ -23,7 +23,7 @@ use Rattle.omega_rounds.specs.NextCommit.{HasNoWork, WorksOn, attempt_txn}
 use Rattle.omega_rounds.specs.Taking.{TurnsAt}
 use Rattle.omega_rounds.specs.TurnOrder.{attempt_in_turn, began, sees_in_turn, turn_of}
 use Rattle.omega_rounds.proofs.Agreeing.{agrees_first, left_push-other, works_or_idle}
-use Rattle.omega_rounds.proofs.CommitsRead.{commits_push, nothing_read, opened_has_none, place_read, turn_push, turn_push-other}
+use Rattle.omega_rounds.proofs.CommitsRead.{commits_push, opened_has_none, place_read, turn_push, turn_push-other}
 use Rattle.omega_rounds.proofs.LastCommits.{after_last-other, after_last-within}
 
 -- where no commit is of a turn, the turn begins at the next place

@@ -4,12 +4,12 @@ use Rattle.std.specs.Prelude.{slice_get}
 use Rattle.std.proofs.lemmas.Bool.{ne_eqb}
 use Rattle.std.proofs.lemmas.Bool.Decides.{eqb_tells}
 use Rattle.omega_model.specs.Feed.{rounds}
-use Rattle.omega_model.specs.Lawful.{Lawful, RoundSoFar, Rounds, Underway, after_last, opened, rows_of}
+use Rattle.omega_model.specs.Lawful.{Lawful, RoundSoFar, Rounds, Underway, opened, rows_of}
 use Rattle.omega_model.specs.Policy.{schedulers}
 use Rattle.omega_model.specs.State.{reply_of}
-use Rattle.omega_model.specs.Stepping.{BeginsRound, EachIsBetween, IsBetween, IsInRound, IsNew, Step, rows_end}
+use Rattle.omega_model.specs.Stepping.{BeginsRound, EachIsBetween, IsBetween, IsInRound, IsNew, rows_end}
 use Rattle.omega_model.specs.Work.{HasLeft, standing_of}
-use Rattle.omega_model.specs.World.{Commits, IsIdle, NobodySynced, StepAnswer, Syncs, World}
+use Rattle.omega_model.specs.World.{Commits, NobodySynced, StepAnswer, Syncs, World}
 use Rattle.omega_model.specs.World.StepAnswer.{Idle, Synced, Committed}
 use Rattle.omega_model.specs.declared.claims.Judgement.{Judgement}
 use Rattle.omega_model.specs.declared.claims.Txn.{Txn}

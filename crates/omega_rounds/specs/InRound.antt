@@ -1,5 +1,5 @@
 -- The rows of the round that is under way in a run.
-use Rattle.std.specs.Prelude.{ℕ, List, ◌++◌, take, suc}
+use Rattle.std.specs.Prelude.{ℕ, List, ◌++◌, take}
 use Rattle.omega_model.specs.Feed.{rounds}
 use Rattle.omega_model.specs.Lawful.{Underway, rows_of}
 use Rattle.omega_model.specs.Stepping.{IsInRound, Step, rows_end}
