@@ -1,0 +1,13 @@
+pub mod Sums
+pub mod Entries
+pub mod Draws
+pub mod Numbers
+pub mod Looks
+pub mod Publishes
+pub mod Nexts
+pub mod Joinings
+pub mod Opening
+pub mod Pigeons
+pub mod Closing
+pub mod SeatFacts
+pub mod Seating
