@@ -7,16 +7,19 @@ use mathlib.Core.Logic.{dite}
 use native.Mathlib.Decide.{ℕ_discrete}
 use lib.ListN.{get_elem?}
 use Rattle.atomic_table.specs.Table.{State}
-use Rattle.omega_lock.specs.declared.View.{View}
-use Rattle.omega_lock.specs.declared.Terms.{Terms}
-use Rattle.omega_lock.specs.Turns.{Kept, same, lists, named_list, answers, holding, StartsWith, since, Listed, Given, AllBegin, first_list, joined}
+use Rattle.omega_lock.specs.declared.view.View.{View}
+use Rattle.omega_lock.specs.declared.rule.Terms.{Terms}
+use Rattle.omega_lock.specs.Lists.{EachBelow, EachHasItsEntries, StartsWith, StartsWithEach, entries_since, same}
+use Rattle.omega_lock.specs.Views.{Rests, answers, holding, joined, lists, own_list}
+use Rattle.omega_lock.specs.Rule.{LockRule, first_list}
+use Rattle.omega_lock.specs.Seats.{LockState, SeatState, seat_state}
+use Rattle.omega_lock.specs.Gathering.{EachIsKnown, Has, HasAll, In, pair_of}
 use Rattle.omega_lock.proofs.Sums.{same-same, same-other, below_le, below_is, term_le, terms_le, sum_le}
 use Rattle.omega_lock.proofs.Pigeons.{pigeons}
 use Rattle.std.specs.Prelude.{All, Any, map}
 use Rattle.std.proofs.lemmas.List.Elements.{All-nil, All-cons, All-push, All-same}
 use Rattle.atomic_table.specs.Table.{Final, Seen}
 use Rattle.std.proofs.Common.{inl, inr}
-use Rattle.omega_lock.specs.Seats.{Sitting, In, Has, Gathered, Rests, sitting, Locked, Known, pair_of}
 
 sum-none : {V : Type 0} (l : List V) → sum_by (λ (_ : V). 0) l ≡ 0
 sum-none [] = refl
@@ -32,31 +35,31 @@ module _ {A : Type 0} where
   in_right x (z ∷ zs) ys h = inr (in_right x zs ys h)
 
 module _ {E : Type 0} where
-  pub has_joined : (v w : View E) (s : Sitting E) → Has v s → Has (joined v w) s
+  pub has_joined : (v w : View E) (s : SeatState E) → Has v s → Has (joined v w) s
   has_joined v w s h = (
-    subst (In (s.number, s.own)) (append_assoc (named_list v) v.kept (lists w)) (in_left (s.number, s.own) (lists v) (lists w) h.0),
-    inr (⊎_elim (λ (e : s.seen ≡ v.seen). inl e) (λ (r : In s.seen v.seens). inr (inr (in_left s.seen v.seens w.seens r))) h.1),
+    subst (In (s.number, s.own)) (append_assoc (own_list v) v.kept (lists w)) (in_left (s.number, s.own) (lists v) (lists w) h.0),
+    inr (⊎_elim (λ (e : s.seen ≡ v.seen). inl e) (λ (r : In s.seen v.also_seen). inr (inr (in_left s.seen v.also_seen w.also_seen r))) h.1),
   )
 
-  pub gathered_joined : (v w : View E) (ss : List (Sitting E)) → Gathered v ss → Gathered (joined v w) ss
+  pub gathered_joined : (v w : View E) (ss : List (SeatState E)) → HasAll v ss → HasAll (joined v w) ss
   gathered_joined v w [] g = tt
   gathered_joined v w (s ∷ ss) g = (has_joined v w s g.0, gathered_joined v w ss g.1)
 
 module _ {E : Type 0} (number : E → Option ℕ) where
-  pub listed_in : (base n : ℕ) (log own : List E) (ps : List (ℕ × List E)) → Listed number base log ps → In (n, own) ps → own ≡ since number base n log
+  pub listed_in : (base n : ℕ) (log own : List E) (ps : List (ℕ × List E)) → EachHasItsEntries number base log ps → In (n, own) ps → own ≡ entries_since number base n log
   listed_in base n log own [] l h = absurd h
   listed_in base n log own (p ∷ ps) l h = ⊎_elim
-      (λ (e : (n, own) ≡ p). ap (λ q. q.1) e ∙ l.0 ∙ ap (λ (q : ℕ × List E). since number base q.0 log) (sym e))
+      (λ (e : (n, own) ≡ p). ap (λ q. q.1) e ∙ l.0 ∙ ap (λ (q : ℕ × List E). entries_since number base q.0 log) (sym e))
       (λ (r : In (n, own) ps). listed_in base n log own ps l.1 r) h
 
 module _ {E : Type 0} where
-  pub seens_in : (log x : List E) (xs : List (List E)) → AllBegin log xs → In x xs → StartsWith log x
-  seens_in log x [] a h = absurd h
-  seens_in log x (y ∷ ys) a h = ⊎_elim (λ (e : x ≡ y). subst (StartsWith log) (sym e) a.0) (λ (r : In x ys). seens_in log x ys a.1 r) h
+  pub starts_each_in : (log x : List E) (xs : List (List E)) → StartsWithEach log xs → In x xs → StartsWith log x
+  starts_each_in log x [] a h = absurd h
+  starts_each_in log x (y ∷ ys) a h = ⊎_elim (λ (e : x ≡ y). subst (StartsWith log) (sym e) a.0) (λ (r : In x ys). starts_each_in log x ys a.1 r) h
 
 module _ {T E : Type 0} (entries : T → List E) (number : E → Option ℕ) where
-  -- the seat has all numbers and rests: nobody holds the turn
-  pub closes : (k : Terms T) (s : State (Option T) (View E)) (r : Kept entries number k s) (id : ℕ) (v : View E) → get_elem? s.views id ≡ some v → Rests v → k.callers ≤ length (lists v)
+  -- the seat has all number_keeps and rests: nobody holds the turn
+  pub closes : (k : Terms T) (s : State (Option T) (View E)) (r : LockRule entries number k s) (id : ℕ) (v : View E) → get_elem? s.views id ≡ some v → Rests v → k.callers ≤ length (lists v)
       → ((y : T) × (get_elem? s.homes 0 ≡ some (some (Some y))) × (entries y ≡ r.log)) × ((n : ℕ) → n < get_or s.words 0 0 → 1 ≤ answers n v)
   closes k s r id v at quiet all = (r.home nobody, all_there)
     where
@@ -69,13 +72,13 @@ module _ {T E : Type 0} (entries : T → List E) (number : E → Option ℕ) whe
           (λ m. let a = term_le (answers m) s.views id v at in let b = r.numbers m in let c = below_le m x in omega (arith, a, b, c))
           (let f = r.few in omega (arith, f, all)) lt
 
-      answers_own : (u : View E) → u.named ≡ true → 1 ≤ answers u.number u
+      answers_own : (u : View E) → u.has_number ≡ true → 1 ≤ answers u.number u
       answers_own u is = let c = sum_by-cons (λ (p : ℕ × List E). same u.number p.0) (u.number, u.own) u.kept in let one = same-same u.number in
           let l : answers u.number u ≡ sum_by (λ (p : ℕ × List E). same u.number p.0) ((u.number, u.own) ∷ u.kept) = ap (λ (z : Bool). sum_by (λ (p : ℕ × List E). same u.number p.0) ((if z then (u.number, u.own) ∷ [] else []) ++ u.kept)) is in
           omega (arith, c, one, l)
 
-      no_holder : (j : ℕ) (u : View E) → get_elem? s.views j ≡ some u → (named holds : Bool) → u.named ≡ named → u.holds ≡ holds → holding u ≤ 0
-      no_holder j u e named false is h = rw h (omega arith)
+      no_holder : (j : ℕ) (u : View E) → get_elem? s.views j ≡ some u → (has_number holds : Bool) → u.has_number ≡ has_number → u.holds ≡ holds → holding u ≤ 0
+      no_holder j u e has_number false is h = rw h (omega arith)
       no_holder j u e false true is h = let f = r.fits j u e in let a = (f.turn h).0 in let b = (f.idle is).1 in absurd (cc (sym a ∙ b))
       no_holder j u e true true is h = dite (ℕ_discrete j id)
           (λ q. let z : u ≡ v = some-injective u v (sym e ∙ ap (λ i. get_elem? s.views i) q ∙ at) in let b : v.holds ≡ true = ap (λ (y : View E). y.holds) (sym z) ∙ h in absurd (cc (sym b ∙ quiet.1)))
@@ -89,51 +92,51 @@ module _ {T E : Type 0} (entries : T → List E) (number : E → Option ℕ) whe
           absurd (omega (arith, a, both, total, bound, mine)))
 
       nobody : sum_by holding s.views ≡ 0
-      nobody = let z = sum-none s.views in let le = sum_le holding (λ _. 0) s.views (λ j u e. no_holder j u e u.named u.holds refl refl) in omega (arith, z, le)
+      nobody = let z = sum-none s.views in let le = sum_le holding (λ _. 0) s.views (λ j u e. no_holder j u e u.has_number u.holds refl refl) in omega (arith, z, le)
 
 module _ {E : Type 0} where
-  pub has_new : (of : Rattle.atomic_table.specs.Seated.TableId) (v w : View E) (s : Sitting E) → w.named ≡ true → sitting of w ≡ s → Has (joined v w) s
+  pub has_new : (of : Rattle.atomic_table.specs.Seated.TableId) (v w : View E) (s : SeatState E) → w.has_number ≡ true → seat_state of w ≡ s → Has (joined v w) s
   has_new of v w s is same_seat = subst (Has (joined v w)) same_seat (
-    subst (In (w.number, w.own)) (append_assoc (named_list v) v.kept (lists w)) (in_right (w.number, w.own) (lists v) (lists w) (subst (λ (z : Bool). In (w.number, w.own) ((if z then (w.number, w.own) ∷ [] else []) ++ w.kept)) (sym is) (inl refl))),
+    subst (In (w.number, w.own)) (append_assoc (own_list v) v.kept (lists w)) (in_right (w.number, w.own) (lists v) (lists w) (subst (λ (z : Bool). In (w.number, w.own) ((if z then (w.number, w.own) ∷ [] else []) ++ w.kept)) (sym is) (inl refl))),
     inr (inr (inl refl)),
   )
 
-  pub has_first : (of : Rattle.atomic_table.specs.Seated.TableId) (v : View E) (s : Sitting E) → v.named ≡ true → sitting of v ≡ s → Has v s
+  pub has_first : (of : Rattle.atomic_table.specs.Seated.TableId) (v : View E) (s : SeatState E) → v.has_number ≡ true → seat_state of v ≡ s → Has v s
   has_first of v s is same_seat = subst (Has v) same_seat (subst (λ (z : Bool). In (v.number, v.own) ((if z then (v.number, v.own) ∷ [] else []) ++ v.kept)) (sym is) (inl refl), inl refl)
 
-  pub gathered_more : (v : View E) (ss ts : List (Sitting E)) → Gathered v ss → Gathered v ts → Gathered v (ss ++ ts)
+  pub gathered_more : (v : View E) (ss ts : List (SeatState E)) → HasAll v ss → HasAll v ts → HasAll v (ss ++ ts)
   gathered_more v [] ts a b = b
   gathered_more v (s ∷ ss) ts a b = (a.0, gathered_more v ss ts a.1 b)
 
 module _ {E : Type 0} (number : E → Option ℕ) where
-  known_all : (n : ℕ) (ps : List (ℕ × List E)) (es : List E) → ((m : ℕ) → m < n → 1 ≤ sum_by (λ (p : ℕ × List E). same m p.0) ps) → Given number n es → Known number ps es
+  known_all : (n : ℕ) (ps : List (ℕ × List E)) (es : List E) → ((m : ℕ) → m < n → 1 ≤ sum_by (λ (p : ℕ × List E). same m p.0) ps) → EachBelow number n es → EachIsKnown number ps es
   known_all n ps [] h g = tt
   known_all n ps (e ∷ es) h g = ((g.0.0, g.0.1, h g.0.0 g.0.2), known_all n ps es h g.1)
 
-  any_number : (n : ℕ) (ss : List (Sitting E)) → 1 ≤ sum_by (λ (s : Sitting E). same n s.number) ss → Any (λ (s : Sitting E). n ≡ s.number) ss
+  any_number : (n : ℕ) (ss : List (SeatState E)) → 1 ≤ sum_by (λ (s : SeatState E). same n s.number) ss → Any (λ (s : SeatState E). n ≡ s.number) ss
   any_number n [] h = absurd (omega (arith, h))
   any_number n (s ∷ ss) h = dite (ℕ_discrete n s.number)
       (λ e. (0, s, omega arith, refl, e))
-      (λ ne. let c = sum_by-cons (λ (s : Sitting E). same n s.number) s ss in let z = same-other n s.number ne in
+      (λ ne. let c = sum_by-cons (λ (s : SeatState E). same n s.number) s ss in let z = same-other n s.number ne in
       let (k, x, lt, at, is) = any_number n ss (omega (arith, h, c, z)) in (suc k, x, omega (arith, lt), at, is))
 
-  pub known_seats : (ps : List (ℕ × List E)) (ss : List (Sitting E)) (es : List E) → ((m : ℕ) → sum_by (λ (p : ℕ × List E). same m p.0) ps ≡ sum_by (λ (s : Sitting E). same m s.number) ss)
-      → Known number ps es → All (λ e. Any (λ (s : Sitting E). number e ≡ Some s.number) ss) es
-  known_seats ps ss [] h g = All-nil (λ e. Any (λ (s : Sitting E). number e ≡ Some s.number) ss)
+  pub known_seats : (ps : List (ℕ × List E)) (ss : List (SeatState E)) (es : List E) → ((m : ℕ) → sum_by (λ (p : ℕ × List E). same m p.0) ps ≡ sum_by (λ (s : SeatState E). same m s.number) ss)
+      → EachIsKnown number ps es → All (λ e. Any (λ (s : SeatState E). number e ≡ Some s.number) ss) es
+  known_seats ps ss [] h g = All-nil (λ e. Any (λ (s : SeatState E). number e ≡ Some s.number) ss)
   known_seats ps ss (e ∷ es) h g =
       let (m, by, some_there) = g.0 in
       let all = h m in
       let (k, x, lt, at, is) = any_number m ss (omega (arith, some_there, all)) in
-      All-cons (λ e. Any (λ (s : Sitting E). number e ≡ Some s.number) ss) e es (k, x, lt, at, by ∙ ap Some is) (known_seats ps ss es h g.1)
+      All-cons (λ e. Any (λ (s : SeatState E). number e ≡ Some s.number) ss) e es (k, x, lt, at, by ∙ ap Some is) (known_seats ps ss es h g.1)
 
 module _ {E : Type 0} where
-  times_map : (m : ℕ) (ss : List (Sitting E)) → sum_by (λ (p : ℕ × List E). same m p.0) (map pair_of ss) ≡ sum_by (λ (s : Sitting E). same m s.number) ss
+  times_map : (m : ℕ) (ss : List (SeatState E)) → sum_by (λ (p : ℕ × List E). same m p.0) (map pair_of ss) ≡ sum_by (λ (s : SeatState E). same m s.number) ss
   times_map m [] = refl
-  times_map m (s ∷ ss) = let a = sum_by-cons (λ (p : ℕ × List E). same m p.0) (pair_of s) (map pair_of ss) in let b = sum_by-cons (λ (s : Sitting E). same m s.number) s ss in let c = times_map m ss in omega (arith, a, b, c)
+  times_map m (s ∷ ss) = let a = sum_by-cons (λ (p : ℕ × List E). same m p.0) (pair_of s) (map pair_of ss) in let b = sum_by-cons (λ (s : SeatState E). same m s.number) s ss in let c = times_map m ss in omega (arith, a, b, c)
 
-  pub all_pairs : (ps : List (ℕ × List E)) (all rest : List (Sitting E)) (first : Sitting E) → ps ≡ map pair_of (first ∷ rest) → all ≡ rest ++ first ∷ [] → (m : ℕ) → sum_by (λ (p : ℕ × List E). same m p.0) ps ≡ sum_by (λ (s : Sitting E). same m s.number) all
+  pub all_pairs : (ps : List (ℕ × List E)) (all rest : List (SeatState E)) (first : SeatState E) → ps ≡ map pair_of (first ∷ rest) → all ≡ rest ++ first ∷ [] → (m : ℕ) → sum_by (λ (p : ℕ × List E). same m p.0) ps ≡ sum_by (λ (s : SeatState E). same m s.number) all
   all_pairs ps all rest first e is m =
-      let f : Sitting E → ℕ = λ s. same m s.number in
+      let f : SeatState E → ℕ = λ s. same m s.number in
       let a = ap (sum_by (λ (p : ℕ × List E). same m p.0)) e ∙ times_map m (first ∷ rest) in
       let b = sum_by-cons f first rest in
       let c = sum_by-append f rest (first ∷ []) in
@@ -141,35 +144,35 @@ module _ {E : Type 0} where
       let g = ap (sum_by f) is in
       omega (arith, a, b, c, d, g)
 
-  pub joined_pairs : (of : Rattle.atomic_table.specs.Seated.TableId) (v w : View E) (s : Sitting E) → w.named ≡ true → w.kept ≡ [] → sitting of w ≡ s → lists (joined v w) ≡ lists v ++ pair_of s ∷ []
-  joined_pairs of v w s is nothing same_seat = sym (append_assoc (named_list v) v.kept (lists w)) ∙ ap (λ l. lists v ++ l) (only w is nothing ∙ ap (λ (t : Sitting E). pair_of t ∷ []) same_seat)
+  pub joined_pairs : (of : Rattle.atomic_table.specs.Seated.TableId) (v w : View E) (s : SeatState E) → w.has_number ≡ true → w.kept ≡ [] → seat_state of w ≡ s → lists (joined v w) ≡ lists v ++ pair_of s ∷ []
+  joined_pairs of v w s is nothing same_seat = sym (append_assoc (own_list v) v.kept (lists w)) ∙ ap (λ l. lists v ++ l) (only w is nothing ∙ ap (λ (t : SeatState E). pair_of t ∷ []) same_seat)
     where
-      only : (w : View E) → w.named ≡ true → w.kept ≡ [] → lists w ≡ (w.number, w.own) ∷ []
+      only : (w : View E) → w.has_number ≡ true → w.kept ≡ [] → lists w ≡ (w.number, w.own) ∷ []
       only w is nothing = rw (is, nothing) refl
 
 -- what is known of the value at the end, where the seat's view is v
 module _ {T E : Type 0} (entries : T → List E) (number : E → Option ℕ) where
-  abbrev pub Ended : Locked E → View E → T → Type 0
-  Ended l v y = Known number (lists v) (drop (length l.first) (entries y)) × StartsWith (entries y) l.first
-      × ((s : Sitting E) → Has v s → StartsWith (entries y) s.seen × (s.own ≡ since number (length l.first) s.number (entries y)))
+  abbrev pub Ended : LockState E → View E → T → Type 0
+  Ended l v y = EachIsKnown number (lists v) (drop (length l.first) (entries y)) × StartsWith (entries y) l.first
+      × ((s : SeatState E) → Has v s → StartsWith (entries y) s.seen × (s.own ≡ entries_since number (length l.first) s.number (entries y)))
 
   abbrev value_in : Option T → T → T
   value_in None d = d
   value_in (Some y) d = y
 
-  pub ended : (of : Rattle.atomic_table.specs.Seated.TableId) (k : Terms T) (id : ℕ) (v : View E) (ws : List ℕ) (xs : List (Option T)) → Final (Seen (Kept entries number k) id v) ws xs → Rests v → k.callers ≤ length (lists v)
-      → (y : T) × (get_elem? xs 0 ≡ some (Some y)) × Ended (record { of = of; callers = k.callers; turns = k.turns; first = first_list entries number k }) v y
+  pub ended : (of : Rattle.atomic_table.specs.Seated.TableId) (k : Terms T) (id : ℕ) (v : View E) (ws : List ℕ) (xs : List (Option T)) → Final (Seen (LockRule entries number k) id v) ws xs → Rests v → k.callers ≤ length (lists v)
+      → (y : T) × (get_elem? xs 0 ≡ some (Some y)) × Ended (record { of = of; callers = k.callers; turns = k.turns; first = first_list entries k }) v y
   ended of k id v ws xs (s, (r, at), words, slots, homes) quiet all =
       let (c, there) = closes entries number k s r id v at quiet all in
-      let b : ℕ = length (first_list entries number k) in
+      let b : ℕ = length (first_list entries k) in
       let f = r.fits id v at in
       let log : entries c.0 ≡ r.log = c.2 in (
         c.0,
         homes 0 (Some c.0) c.1,
         rw log (
           known_all number (get_or s.words 0 0) (lists v) (drop b r.log) there r.given,
-          r.from,
-          λ t h. (seens_in r.log t.seen (v.seen ∷ v.seens) (f.seen, f.seens) h.1, listed_in number b t.number r.log t.own (lists v) f.listed h.0),
+          r.from_first,
+          λ t h. (starts_each_in r.log t.seen (v.seen ∷ v.also_seen) (f.seen, f.also_seen) h.1, listed_in number b t.number r.log t.own (lists v) f.listed h.0),
         ),
       )
 
@@ -180,10 +183,10 @@ module _ {T E : Type 0} (entries : T → List E) (number : E → Option ℕ) whe
   no_none xs r y a b c = let bad : Some y ≡ None = some-injective (Some y) None (sym b ∙ a ∙ ap some c) in absurd (cc bad)
 
 module _ {E : Type 0} where
-  pub gathered_all : (v : View E) (Q : Sitting E → Type 0) → ((s : Sitting E) → Has v s → Q s) → (ss : List (Sitting E)) → Gathered v ss → All Q ss
+  pub gathered_all : (v : View E) (Q : SeatState E → Type 0) → ((s : SeatState E) → Has v s → Q s) → (ss : List (SeatState E)) → HasAll v ss → All Q ss
   gathered_all v Q h [] g = All-nil Q
   gathered_all v Q h (s ∷ ss) g = All-cons Q s ss (h s g.0) (gathered_all v Q h ss g.1)
 
   -- the seats as they were before the last was taken
-  pub all_seats : (v : View E) (Q : Sitting E → Type 0) (all rest : List (Sitting E)) (first : Sitting E) → ((s : Sitting E) → Has v s → Q s) → all ≡ rest ++ first ∷ [] → Gathered v (first ∷ rest) → All Q all
+  pub all_seats : (v : View E) (Q : SeatState E → Type 0) (all rest : List (SeatState E)) (first : SeatState E) → ((s : SeatState E) → Has v s → Q s) → all ≡ rest ++ first ∷ [] → HasAll v (first ∷ rest) → All Q all
   all_seats v Q all rest first h is g = All-same Q all (rest ++ first ∷ []) is (All-push Q rest first (gathered_all v Q h rest g.1) (h first g.0))

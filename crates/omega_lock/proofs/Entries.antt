@@ -4,7 +4,7 @@ use Rattle.std.specs.Prelude.{sum_by}
 use Rattle.std.proofs.lemmas.List.{append-nil}
 use Rattle.std.proofs.lemmas.List.Elements.{filter-append}
 use Rattle.std.proofs.lemmas.List.Sums.{sum_by-cons}
-use Rattle.omega_lock.specs.Turns.{same, is_by, StartsWith, own_of, since, Listed, Given, AllBegin}
+use Rattle.omega_lock.specs.Lists.{EachBelow, EachHasItsEntries, StartsWith, StartsWithEach, entries_of, entries_since, is_by, same}
 use Rattle.omega_lock.proofs.Sums.{same-same}
 
 module _ {E : Type 0} where
@@ -51,28 +51,28 @@ module _ {E : Type 0} where
       y.1 ∙ ap (λ l. c ++ l) (none_left y.0 (omega (arith, p, q, r))) ∙ append-nil c
 
 module _ {E : Type 0} (number : E → Option ℕ) where
-  pub since_starts : (base n : ℕ) (a b : List E) → StartsWith a b → StartsWith (since number base n a) (since number base n b)
+  pub since_starts : (base n : ℕ) (a b : List E) → StartsWith a b → StartsWith (entries_since number base n a) (entries_since number base n b)
   since_starts base n a b s = let d = drop_starts base a b s in
-      (own_of number n d.0, ap (own_of number n) d.1 ∙ filter-append (λ f. is_by n (number f)) (drop base b) d.0)
+      (entries_of number n d.0, ap (entries_of number n) d.1 ∙ filter-append (λ f. is_by n (number f)) (drop base b) d.0)
 
   -- one more entry
-  pub since_more : (base n : ℕ) (log : List E) (e : E) → base ≤ length log → since number base n (log ++ e ∷ []) ≡ since number base n log ++ own_of number n (e ∷ [])
-  since_more base n log e h = ap (own_of number n) (drop_more base log (e ∷ []) h) ∙ filter-append (λ f. is_by n (number f)) (drop base log) (e ∷ [])
+  pub since_more : (base n : ℕ) (log : List E) (e : E) → base ≤ length log → entries_since number base n (log ++ e ∷ []) ≡ entries_since number base n log ++ entries_of number n (e ∷ [])
+  since_more base n log e h = ap (entries_of number n) (drop_more base log (e ∷ []) h) ∙ filter-append (λ f. is_by n (number f)) (drop base log) (e ∷ [])
 
-  pub one_mine : (n : ℕ) (e : E) → number e ≡ Some n → own_of number n (e ∷ []) ≡ e ∷ []
+  pub one_mine : (n : ℕ) (e : E) → number e ≡ Some n → entries_of number n (e ∷ []) ≡ e ∷ []
   one_mine n e by = rw (by, eq-eqb n n refl) refl
 
-  pub one_other : (n m : ℕ) (e : E) → number e ≡ Some m → n ≢ m → own_of number n (e ∷ []) ≡ []
+  pub one_other : (n m : ℕ) (e : E) → number e ≡ Some m → n ≢ m → entries_of number n (e ∷ []) ≡ []
   one_other n m e by ne = rw (by, ne_eqb n m ne) refl
 
-  pub since_mine : (base n : ℕ) (log : List E) (e : E) → base ≤ length log → number e ≡ Some n → since number base n (log ++ e ∷ []) ≡ since number base n log ++ e ∷ []
-  since_mine base n log e h by = since_more base n log e h ∙ ap (λ z. since number base n log ++ z) (one_mine n e by)
+  pub since_mine : (base n : ℕ) (log : List E) (e : E) → base ≤ length log → number e ≡ Some n → entries_since number base n (log ++ e ∷ []) ≡ entries_since number base n log ++ e ∷ []
+  since_mine base n log e h by = since_more base n log e h ∙ ap (λ z. entries_since number base n log ++ z) (one_mine n e by)
 
-  pub since_other : (base n m : ℕ) (log : List E) (e : E) → base ≤ length log → number e ≡ Some m → n ≢ m → since number base n (log ++ e ∷ []) ≡ since number base n log
-  since_other base n m log e h by ne = since_more base n log e h ∙ ap (λ z. since number base n log ++ z) (one_other n m e by ne) ∙ append-nil (since number base n log)
+  pub since_other : (base n m : ℕ) (log : List E) (e : E) → base ≤ length log → number e ≡ Some m → n ≢ m → entries_since number base n (log ++ e ∷ []) ≡ entries_since number base n log
+  since_other base n m log e h by ne = since_more base n log e h ∙ ap (λ z. entries_since number base n log ++ z) (one_other n m e by ne) ∙ append-nil (entries_since number base n log)
 
-  -- lists of other numbers stay
-  pub listed_other : (base m : ℕ) (log : List E) (e : E) (ps : List (ℕ × List E)) → base ≤ length log → number e ≡ Some m → sum_by (λ (p : ℕ × List E). same m p.0) ps ≡ 0 → Listed number base log ps → Listed number base (log ++ e ∷ []) ps
+  -- lists of other number_keeps stay
+  pub listed_other : (base m : ℕ) (log : List E) (e : E) (ps : List (ℕ × List E)) → base ≤ length log → number e ≡ Some m → sum_by (λ (p : ℕ × List E). same m p.0) ps ≡ 0 → EachHasItsEntries number base log ps → EachHasItsEntries number base (log ++ e ∷ []) ps
   listed_other base m log e [] h by none l = tt
   listed_other base m log e (p ∷ ps) h by none l =
       let f : ℕ × List E → ℕ = λ p. same m p.0 in
@@ -80,29 +80,29 @@ module _ {E : Type 0} (number : E → Option ℕ) where
       let ne : p.0 ≢ m = λ q. let one : same m p.0 ≡ 1 = rw q (same-same m) in omega (arith, c, one, none) in
       (l.0 ∙ sym (since_other base p.0 m log e h by ne), listed_other base m log e ps h by (omega (arith, c, none)) l.1)
 
-  pub listed_both : (base : ℕ) (log : List E) (ps qs : List (ℕ × List E)) → Listed number base log ps → Listed number base log qs → Listed number base log (ps ++ qs)
+  pub listed_both : (base : ℕ) (log : List E) (ps qs : List (ℕ × List E)) → EachHasItsEntries number base log ps → EachHasItsEntries number base log qs → EachHasItsEntries number base log (ps ++ qs)
   listed_both base log [] qs a b = b
   listed_both base log (p ∷ ps) qs a b = (a.0, listed_both base log ps qs a.1 b)
 
-  pub given_more : (n m : ℕ) (es : List E) → n ≤ m → Given number n es → Given number m es
+  pub given_more : (n m : ℕ) (es : List E) → n ≤ m → EachBelow number n es → EachBelow number m es
   given_more n m [] h g = tt
   given_more n m (e ∷ es) h g = let lt = g.0.2 in ((g.0.0, g.0.1, omega (arith, lt)), given_more n m es h g.1)
 
-  pub given_both : (n : ℕ) (es fs : List E) → Given number n es → Given number n fs → Given number n (es ++ fs)
+  pub given_both : (n : ℕ) (es fs : List E) → EachBelow number n es → EachBelow number n fs → EachBelow number n (es ++ fs)
   given_both n [] fs a b = b
   given_both n (e ∷ es) fs a b = (a.0, given_both n es fs a.1 b)
 
   -- no entry has a number that was not given
-  pub given_none : (n m : ℕ) (es : List E) → n ≤ m → Given number n es → own_of number m es ≡ []
+  pub given_none : (n m : ℕ) (es : List E) → n ≤ m → EachBelow number n es → entries_of number m es ≡ []
   given_none n m [] h g = refl
   given_none n m (e ∷ es) h g = let lt = g.0.2 in let ne : m ≢ g.0.0 = λ q. omega (arith, lt) in
       let rest = given_none n m es h g.1 in rw (g.0.1, ne_eqb m g.0.0 ne) rest
 
 module _ {E : Type 0} where
-  pub seens_more : (log : List E) (e : E) (xs : List (List E)) → AllBegin log xs → AllBegin (log ++ e ∷ []) xs
-  seens_more log e [] a = tt
-  seens_more log e (x ∷ xs) a = (starts_trans (log ++ e ∷ []) log x (e ∷ [], refl) a.0, seens_more log e xs a.1)
+  pub starts_each_more : (log : List E) (e : E) (xs : List (List E)) → StartsWithEach log xs → StartsWithEach (log ++ e ∷ []) xs
+  starts_each_more log e [] a = tt
+  starts_each_more log e (x ∷ xs) a = (starts_trans (log ++ e ∷ []) log x (e ∷ [], refl) a.0, starts_each_more log e xs a.1)
 
-  pub seens_both : (log : List E) (xs ys : List (List E)) → AllBegin log xs → AllBegin log ys → AllBegin log (xs ++ ys)
-  seens_both log [] ys a b = b
-  seens_both log (x ∷ xs) ys a b = (a.0, seens_both log xs ys a.1 b)
+  pub starts_each_both : (log : List E) (xs ys : List (List E)) → StartsWithEach log xs → StartsWithEach log ys → StartsWithEach log (xs ++ ys)
+  starts_each_both log [] ys a b = b
+  starts_each_both log (x ∷ xs) ys a b = (a.0, starts_each_both log xs ys a.1 b)

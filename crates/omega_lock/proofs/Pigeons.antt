@@ -1,10 +1,10 @@
--- As many pairs as there are numbers, and no number twice: each number is there.
+-- As many pairs as there are number_keeps, and no number twice: each number is there.
 use Rattle.std.proofs.Common.{◌≡◌, ℕ, zero, suc, ◌+◌, ◌<◌, ◌≤◌, List, [], ◌∷◌, length, sym, refl, ap, ◌∙◌, arith}
 use Rattle.std.specs.Prelude.{sum_by}
 use Rattle.std.proofs.lemmas.List.Sums.{sum_by-cons}
 use mathlib.Core.Logic.{dite}
 use native.Mathlib.Decide.{ℕ_discrete, dec_le}
-use Rattle.omega_lock.specs.Turns.{same, below}
+use Rattle.omega_lock.specs.Lists.{below, same}
 use Rattle.omega_lock.proofs.Sums.{same-same, same-other, below-in, below_is}
 
 same-turned : (n m : ℕ) → same n m ≡ same m n

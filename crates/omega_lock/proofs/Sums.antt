@@ -1,4 +1,4 @@
--- Sums over the views, and numbers below a bound.
+-- Sums over the views, and number_keeps below a bound.
 use Rattle.std.proofs.Common.{◌≡◌, ◌≢◌, ℕ, zero, suc, ◌+◌, ◌<◌, ◌≤◌, List, [], ◌∷◌, length, set, get_or, sym, refl, ap, subst, arith, ⊎_elim, eq-eqb, ne_eqb}
 use Rattle.std.specs.Prelude.{sum_by}
 use Rattle.std.proofs.lemmas.List.Sums.{sum_by-cons}
@@ -7,7 +7,7 @@ use mathlib.Core.Logic.{dite}
 use native.Mathlib.Decide.{ℕ_discrete}
 use lib.ListN.{get_elem?}
 use Rattle.atomic_table.proofs.Lists.{at_set}
-use Rattle.omega_lock.specs.Turns.{same, below}
+use Rattle.omega_lock.specs.Lists.{below, same}
 
 pub same-same : (n : ℕ) → same n n ≡ 1
 same-same n = rw (eq-eqb n n refl) refl

@@ -1,81 +1,68 @@
 -- A lock and a seat as callers see them.
-use Rattle.std.specs.Prelude.{◌≡◌, ℕ, zero, suc, ◌≤◌, ◌⊎◌, Bool, true, false, List, [], ◌∷◌, ◌++◌, length, Option, Some, None, sum_by}
+use Rattle.std.specs.Prelude.{◌≡◌, ℕ, zero, suc, ◌⊎◌, Bool, true, false, List, [], ◌∷◌, ◌++◌, length, Option, Some, None}
 use Rattle.atomic_table.specs.Seated.{TableId}
 use Rattle.atomic_table.specs.Table.{Me}
-use Rattle.omega_lock.specs.declared.View.{View}
-use Rattle.omega_lock.specs.Turns.{since, lists, same}
+use Rattle.omega_lock.specs.declared.view.View.{View}
+use Rattle.omega_lock.specs.Lists.{entries_since}
 
-pub record Sitting (E : Type 0) : Type 0 where
+-- a seat: the lock that it is of, its number, and how long the list was when the lock began, which never
+-- change; whether it holds the turn, how many turns it has left, the list that it has seen, and its own
+-- entries since the lock began
+pub record SeatState (E : Type 0) : Type 0 where
   pub of : TableId
   pub number : ℕ
-  pub base : ℕ
+  pub first_length : ℕ
   pub holds : Bool
   pub turns : ℕ
   pub seen : List E
   pub own : List E
 
-pub record Locked (E : Type 0) : Type 0 where
+-- a lock: which it is, for how many callers, how many turns each was given, and the list when it began
+pub record LockState (E : Type 0) : Type 0 where
   pub of : TableId
   pub callers : ℕ
   pub turns : ℕ
   pub first : List E
 
-abbrev pub sitting : {E : Type 0} → TableId → View E → Sitting E
-sitting id v = record { of = id; number = v.number; base = v.base; holds = v.holds; turns = v.turns; seen = v.seen; own = v.own }
+-- a seat of the table
+abbrev pub seat_state : {E : Type 0} → TableId → View E → SeatState E
+seat_state of v = record { of = of; number = v.number; first_length = v.first_length; holds = v.holds; turns = v.turns; seen = v.seen; own = v.own }
 
--- the seat has the same lock, number and first length
-abbrev pub SameSeat : {E : Type 0} → Sitting E → Sitting E → Type 0
-SameSeat s t = (t.of ≡ s.of) × (t.number ≡ s.number) × (t.base ≡ s.base)
+-- the seat is the same one: its lock, its number and the first length stay
+pub record IsSameSeat {E : Type 0} (old new : SeatState E) : Type 0 where
+  pub of : new.of ≡ old.of
+  pub number : new.number ≡ old.number
+  pub first_length : new.first_length ≡ old.first_length
 
--- the own list is what the seat has seen of its number since the lock began
-abbrev pub IsMine : {E : Type 0} → (E → Option ℕ) → Sitting E → Type 0
-IsMine number s = s.own ≡ since number s.base s.number s.seen
+-- what the seat has seen of its number since the lock began is its own list, in order
+abbrev pub OwnIsSeen : {E : Type 0} → (E → Option ℕ) → SeatState E → Type 0
+OwnIsSeen number seat = seat.own ≡ entries_since number seat.first_length seat.number seat.seen
 
-module _ {T E : Type 0} (entries : T → List E) (number : E → Option ℕ) where
-  pub record IsSeat (me : Me (Option T) (View E)) (n turns count : ℕ) : Type 0 where
-    pub named : me.0.named ≡ true
-    pub number_is : me.0.number ≡ n
-    pub turns_are : me.0.turns ≡ turns
-    pub kept : me.0.kept ≡ []
-    pub seens : me.0.seens ≡ []
-    pub told : me.0.told ≡ false
-    pub waits : me.0.waits ≡ me.0.holds
-    pub read : me.0.read ≡ me.0.holds
-    pub own : me.0.own ≡ since number me.0.base me.0.number me.0.seen
-    pub home : me.0.holds ≡ false → me.1 ≡ []
-    pub out : me.0.holds ≡ true → (me.1 ≡ (0, None) ∷ []) × (me.0.held ≡ me.0.seen) × (count ≡ length me.0.seen)
+-- a list is another, or that and one more entry of this number
+abbrev pub AddsAtMostOne : {E : Type 0} → (E → Option ℕ) → ℕ → List E → List E → Type 0
+AddsAtMostOne {E} number n old new = (new ≡ old) ⊎ ((e : E) × (new ≡ old ++ e ∷ []) × (number e ≡ Some n))
 
-  -- what a seat that gives its turn back may have done to the list
-  abbrev pub MayRelease : Sitting E → T → Type 0
-  MayRelease s y = (entries y ≡ s.seen) ⊎ ((e : E) × (entries y ≡ s.seen ++ e ∷ []) × (number e ≡ Some s.number))
+-- the seat of this number of a new lock
+abbrev pub new_seat : {E : Type 0} → TableId → ℕ → List E → ℕ → SeatState E
+new_seat of turns es n = record { of = of; number = n; first_length = length es; holds = false; turns = turns; seen = es; own = [] }
 
-abbrev pub In : {A : Type 0} → A → List A → Type 0
-In x [] = ⊥
-In x (y ∷ ys) = (x ≡ y) ⊎ In x ys
+-- the seats of a new lock, by number
+abbrev pub new_seats : {E : Type 0} → TableId → ℕ → List E → ℕ → List (SeatState E)
+new_seats of turns es zero = []
+new_seats of turns es (suc n) = new_seats of turns es n ++ new_seat of turns es n ∷ []
 
--- a seat's number, its own list and what it has seen are kept in the view
-abbrev pub Has : {E : Type 0} → View E → Sitting E → Type 0
-Has v s = In (s.number, s.own) (lists v) × In s.seen (v.seen ∷ v.seens)
-
-abbrev pub Gathered : {E : Type 0} → View E → List (Sitting E) → Type 0
-Gathered v [] = Unit {0}
-Gathered v (s ∷ ss) = Has v s × Gathered v ss
-
--- the seats of a new lock
-abbrev pub seat_of : {E : Type 0} → TableId → ℕ → List E → ℕ → Sitting E
-seat_of of turns es n = record { of = of; number = n; base = length es; holds = false; turns = turns; seen = es; own = [] }
-
-abbrev pub seats_of : {E : Type 0} → TableId → ℕ → List E → ℕ → List (Sitting E)
-seats_of of turns es zero = []
-seats_of of turns es (suc n) = seats_of of turns es n ++ seat_of of turns es n ∷ []
-
-abbrev pub Rests : {E : Type 0} → View E → Type 0
-Rests v = (v.waits ≡ false) × (v.holds ≡ false) × (v.read ≡ false) × (v.told ≡ false)
-
-abbrev pub pair_of : {E : Type 0} → Sitting E → ℕ × List E
-pair_of s = (s.number, s.own)
-
--- each entry has the number of one of the pairs
-abbrev pub Known : {E : Type 0} → (E → Option ℕ) → List (ℕ × List E) → List E → Type 0
-Known number ps [] = Unit {0}
-Known {E} number ps (e ∷ es) = ((m : ℕ) × (number e ≡ Some m) × (1 ≤ sum_by (λ (p : ℕ × List E). same m p.0) ps)) × Known number ps es
+-- what every seat keeps between calls, where `count` is how long the list was when it was handed out last
+pub record IsSeat {T E : Type 0} (number : E → Option ℕ) (me : Me (Option T) (View E)) (count : ℕ) : Type 0 where
+  pub has_number : me.0.has_number ≡ true
+  -- no seat was joined to it
+  pub kept : me.0.kept ≡ []
+  pub also_seen : me.0.also_seen ≡ []
+  -- it has a ticket, and has read, exactly while it holds the turn
+  pub has_ticket : me.0.has_ticket ≡ me.0.holds
+  pub read : me.0.read ≡ me.0.holds
+  pub told : me.0.told ≡ false
+  -- its own list is what it has seen of its number since the lock began
+  pub own : me.0.own ≡ entries_since number me.0.first_length me.0.number me.0.seen
+  -- the slot is out with it, and empty, exactly while it holds the turn
+  pub home : me.0.holds ≡ false → me.1 ≡ []
+  pub out : me.0.holds ≡ true → (me.1 ≡ (0, None) ∷ []) × (me.0.held ≡ me.0.seen) × (count ≡ length me.0.seen)

@@ -1,8 +1,0 @@
-use Rattle.std.proofs.Common.{◌≡◌, ◌≤◌}
-use Rattle.std.specs.Prelude.{vec_capacity, vec_len}
-use Rattle.omega_lock.specs.Seats.{seats_of}
-use Rattle.omega_lock.proofs.Lock.seats.Given as goal
-
-abbrev pub invariant-loop-number : goal.invariant-loop-number
-invariant-loop-number g l = (l.number ≤ l.callers) × (l.first.table_id ≡ l.fn.first.table_id) × (l.first.me ≡ l.fn.first.me)
-    × (l.seats.items ≡ seats_of l.self.of l.turns l.self.first l.number) × (vec_capacity l.seats ≡ vec_capacity l.fn.seats) × (vec_len l.seats ≡ l.number)
