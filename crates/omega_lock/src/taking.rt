@@ -9,7 +9,12 @@ use crate::lock::Lock;
 use crate::rule::{Look, Pass, Publish};
 use crate::view::View;
 use atomic_table::Seat as Token;
+use std::hint::spin_loop;
 use std::sync::Wait;
+use std::thread::yield_now;
+
+// How often a waiting thread looks again before it lets another thread run between two looks.
+const LOOKS: u32 = 100;
 
 impl<T: Counted> Lock<T> {
     // Waits until the seat's ticket is served. The turn is then the seat's, and the slot with it.
@@ -26,10 +31,13 @@ impl<T: Counted> Lock<T> {
         ensures turn { (y : T) × (token.new.me ≡ (record token.old.me.0 { holds = true; held = T.entries y }, (0, Some y) ∷ [])) }
     {
         let shared = &self.table.shared;
+        let mut looks = 0;
         for _ in rt.forever() {
             if shared.load::<Look>(token, 2) == ticket {
                 return;
             }
+            pause(looks);
+            looks = looks.saturating_add(1);
         }
         unreachable!()
     }
@@ -92,5 +100,14 @@ impl<T: Counted> Lock<T> {
         ensures now { token.new.me ≡ (turned_over token.old.me.0, []) }
     {
         self.table.shared.fetch_add::<Pass>(token, 2, 1);
+    }
+}
+
+// What a thread does between two looks at the served ticket, after so many of them.
+fn pause(looks: u32) {
+    if looks < LOOKS {
+        spin_loop();
+    } else {
+        yield_now();
     }
 }

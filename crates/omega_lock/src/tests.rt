@@ -1,10 +1,14 @@
-// Two callers on threads.
-ghost use Rattle.std.specs.Prelude.{◌≡◌, ◌≤◌, ◌+◌, true, false, Some};
+//! Callers on threads of their own: what they did to the value, whatever their order.
+ghost use Rattle.std.specs.Prelude.{◌≡◌, ◌≤◌, false, Some};
 
-use super::{Counted, Lock, Seat};
+use crate::{Counted, Lock, Seat};
+use std::alloc::Global;
+use std::process::Abort;
 use std::sync::Wait;
-use std::thread::join;
+use std::thread;
+use std::thread::Threads;
 
+// A list of the numbers of seats, and how often it was added to.
 #[derive(Drop)]
 struct Tally {
     entries: Vec<u32>,
@@ -25,13 +29,12 @@ impl Counted for Tally {
     }
 }
 
-fn work<R: Wait>(rt: &R, lock: &Lock<Tally>, mut seat: Seat<Tally>, rounds: u32) -> Seat<Tally>
-    requires of { seat.of ≡ lock.now.of }
-    requires free { (seat.holds ≡ false) × (rounds ≤ seat.turns) }
-    ensures of { result.of ≡ seat.of }
-    ensures free { result.holds ≡ false }
+// Takes all turns of a seat, and adds an entry in each.
+fn take_turns<R: Wait>(rt: &R, lock: &Lock<Tally>, mut seat: Seat<Tally>) -> Seat<Tally>
+    requires { (seat.of ≡ lock.now.of) × (seat.holds ≡ false) }
+    ensures { (result.of ≡ lock.now.of) × (result.holds ≡ false) }
 {
-    for _ in 0..rounds {
+    for _ in 0..seat.turns_left() {
         let mut tally = lock.turn(rt, &mut seat);
         if tally.entries.push(seat.number()).is_ok() {
             tally.raised = tally.raised.wrapping_add(1);
@@ -41,38 +44,64 @@ fn work<R: Wait>(rt: &R, lock: &Lock<Tally>, mut seat: Seat<Tally>, rounds: u32)
     seat
 }
 
-#[test]
-fn two_callers(rt: HostRuntime) {
+// What callers leave that each take all turns in a thread of their own, but for the idle ones, which
+// have the least numbers.
+fn count_turns<R: Threads + Wait + Abort + Sync>(
+    rt: &R,
+    alloc: Global,
+    callers: u32,
+    turns: u32,
+    idle: u32,
+) -> Tally
+    requires { (1 ≤ callers) × (callers ≤ 32) }
+{
     let tally = Tally {
-        entries: Vec::new(rt.alloc()),
+        entries: Vec::new(alloc),
         raised: 0,
     };
-    let Ok((lock, mut seats)) = Lock::begin(&rt, rt.alloc(), tally, 2, 1000) else {
+    let Ok((lock, seats)) = Lock::begin(rt, alloc, tally, callers, turns) else {
         panic!(rt; "no memory");
     };
-    let Some(second) = seats.pop() else {
-        unreachable!();
-    };
-    let Some(first) = seats.pop() else {
-        unreachable!();
-    };
-    let (first, second) = join(
-        &rt,
-        || -> Seat<Tally>
-            requires { (first.of ≡ lock.of) × (first.holds ≡ false) × (1000 ≤ first.turns) }
-            ensures { (result.of ≡ first.of) × (result.holds ≡ false) }
-        { work(&rt, &lock, first, 1000) },
-        || -> Seat<Tally>
-            requires { (second.of ≡ lock.of) × (second.holds ≡ false) × (1000 ≤ second.turns) }
-            ensures { (result.of ≡ second.of) × (result.holds ≡ false) }
-        { work(&rt, &lock, second, 1000) },
-    );
-    seats.push_reserved(first);
-    seats.push_reserved(second);
-    let tally = lock.close(seats);
-    let zeros = tally.entries.iter().filter(|n| **n == 0).count();
-    let ones = tally.entries.iter().filter(|n| **n == 1).count();
+    let seats = thread::map_vec(rt, seats, &|seat: Seat<Tally>| -> Seat<Tally>
+        requires { (seat.of ≡ lock.of) × (seat.holds ≡ false) }
+        ensures { (result.of ≡ lock.of) × (result.holds ≡ false) }
+    {
+        if seat.number() < idle {
+            seat
+        } else {
+            take_turns(rt, &lock, seat)
+        }
+    });
+    lock.close(seats.expect(rt, "memory"))
+}
+
+// How many entries of a number there are.
+fn entries_of(tally: &Tally, number: u32) -> usize {
+    tally.entries.iter().filter(|n| **n == number).count()
+}
+
+#[test]
+fn two_callers(rt: HostRuntime) {
+    let tally = count_turns(&rt, rt.alloc(), 2, 1000, 0);
     assert_eq!(rt; tally.raised, 2000);
-    assert_eq!(rt; zeros, 1000);
-    assert_eq!(rt; ones, 1000);
+    assert_eq!(rt; entries_of(&tally, 0), 1000);
+    assert_eq!(rt; entries_of(&tally, 1), 1000);
+}
+
+#[test]
+fn as_many_callers_as_can_be(rt: HostRuntime) {
+    let tally = count_turns(&rt, rt.alloc(), 32, 100, 0);
+    assert_eq!(rt; tally.raised, 3200);
+    for number in 0..32 {
+        assert_eq!(rt; entries_of(&tally, number), 100);
+    }
+}
+
+#[test]
+fn a_caller_that_does_nothing(rt: HostRuntime) {
+    let tally = count_turns(&rt, rt.alloc(), 3, 1000, 1);
+    assert_eq!(rt; tally.raised, 2000);
+    assert_eq!(rt; entries_of(&tally, 0), 0);
+    assert_eq!(rt; entries_of(&tally, 1), 1000);
+    assert_eq!(rt; entries_of(&tally, 2), 1000);
 }
