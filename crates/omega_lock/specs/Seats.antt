@@ -1,7 +1,8 @@
 -- A lock and a seat as callers see them.
-use Rattle.std.specs.Prelude.{◌≡◌, ℕ, zero, suc, ◌⊎◌, Bool, true, false, List, [], ◌∷◌, ◌++◌, length, Option, Some, None}
+use Rattle.std.specs.Prelude.{◌≡◌, ℕ, zero, suc, ◌*◌, ◌<◌, ◌≤◌, ◌^◌, ◌⊎◌, Bool, true, false, List, [], ◌∷◌, ◌++◌, length, Option, Some, None}
 use Rattle.atomic_table.specs.Seated.{TableId}
 use Rattle.atomic_table.specs.Table.{Me}
+use Rattle.omega_lock.specs.declared.rule.Terms.{Terms}
 use Rattle.omega_lock.specs.declared.view.View.{View}
 use Rattle.omega_lock.specs.Lists.{entries_since}
 
@@ -23,6 +24,18 @@ pub record LockState (E : Type 0) : Type 0 where
   pub callers : ℕ
   pub turns : ℕ
   pub first : List E
+
+-- a lock over a table that was made under these terms
+abbrev pub lock_state : {T E : Type 0} → (T → List E) → TableId → Terms T → LockState E
+lock_state entries of terms = record { of = of; callers = terms.callers; turns = terms.turns; first = entries terms.first.value }
+
+-- what every lock keeps. By the last two no word ever reaches its end
+pub record IsLock {T E : Type 0} (entries : T → List E) (of : TableId) (terms : Terms T) : Type 0 where
+  pub four_words : of.words ≡ 4
+  pub one_slot : of.slots ≡ 1
+  pub callers : 1 ≤ terms.callers
+  pub few_turns : terms.callers * terms.turns < 2 ^ 62
+  pub short : length (entries terms.first.value) < 2 ^ 63
 
 -- a seat of the table
 abbrev pub seat_state : {E : Type 0} → TableId → View E → SeatState E

@@ -34,11 +34,14 @@ Reads number step old found new =
     × StartsWith old.0.held old.0.seen × (old.0.own ≡ entries_since number old.0.first_length old.0.number old.0.held)
 
 -- where the value in its slot has one entry more, the seat has seen that one too, and it is the last of its own
-abbrev pub Publishes : {T E : Type 0} → (T → List E) → (E → Option ℕ) → Step (Option T) → Me (Option T) (View E) → ℕ → Me (Option T) (View E) → Type 0
-Publishes {T} {E} entries number step old found new =
+abbrev pub HasPublished : {T E : Type 0} → (T → List E) → (E → Option ℕ) → Me (Option T) (View E) → Me (Option T) (View E) → Type 0
+HasPublished {T} {E} entries number old new =
     (y : T) (e : E) → old.1 ≡ (0, Some y) ∷ [] → entries y ≡ old.0.held ++ e ∷ []
       → (new ≡ (record old.0 { told = true; held = entries y; seen = entries y; own = old.0.own ++ e ∷ [] }, old.1))
       × (old.0.own ++ e ∷ [] ≡ entries_since number old.0.first_length old.0.number (entries y))
+
+abbrev pub Publishes : {T E : Type 0} → (T → List E) → (E → Option ℕ) → Step (Option T) → Me (Option T) (View E) → ℕ → Me (Option T) (View E) → Type 0
+Publishes entries number step old found new = HasPublished entries number old new
 
 -- the slot, the ticket and the turn are given back
 abbrev pub Passes : {T E : Type 0} → Step (Option T) → Me (Option T) (View E) → ℕ → Me (Option T) (View E) → Type 0

@@ -7,7 +7,7 @@ ghost use Rattle.omega_lock.specs.Views.{Rests, lists};
 
 use crate::counted::Counted;
 use crate::lock::Lock;
-use crate::rule::Together;
+use crate::rule::{Together, VALUE};
 use crate::seat::Seat;
 use crate::view::View;
 use atomic_table::Seat as Token;
@@ -38,13 +38,15 @@ impl<T: Counted> Lock<T> {
     // Joins a seat to another.
     fn take_in(&self, all: &mut Token<Option<T>, View<T::Entry>>, seat: Seat<T>)
         requires of { (all.old.table_id ≡ self.now.of) × (seat.of ≡ self.now.of) }
-        requires rest { (all.old.me.0.has_number ≡ true) × Rests all.old.me.0 × (all.old.me.1 ≡ []) × (seat.holds ≡ false) }
+        requires rest { (all.old.me.0.has_number ≡ true) × Rests all.old.me.0 × (all.old.me.1 ≡ []) }
+        requires free { seat.holds ≡ false }
         ensures of { all.new.table_id ≡ all.old.table_id }
         ensures rest { (all.new.me.0.has_number ≡ true) × Rests all.new.me.0 × (all.new.me.1 ≡ []) }
         ensures count { length (lists all.new.me.0) ≡ length (lists all.old.me.0) + 1 }
         ensures pairs { lists all.new.me.0 ≡ lists all.old.me.0 ++ pair_of seat ∷ [] }
         ensures has { Has all.new.me.0 seat }
-        ensures kept { (seats : List (SeatState T.Entry)) → HasAll all.old.me.0 seats → HasAll all.new.me.0 seats }
+        ensures kept { (seats : List (SeatState T.Entry)) → HasAll all.old.me.0 seats
+            → HasAll all.new.me.0 seats }
     {
         self.table.shared.join_seat::<Together>(all, seat.token);
     }
@@ -54,13 +56,16 @@ impl<T: Counted> Lock<T> {
         requires of { all.table_id ≡ self.of }
         requires rest { Rests all.me.0 × (all.me.1 ≡ []) }
         requires all { self.callers ≤ length (lists all.me.0) }
-        ensures known { EachIsKnown T.number (lists all.me.0) (drop (length self.first) (T.entries result)) }
+        ensures known { EachIsKnown T.number (lists all.me.0)
+            (drop (length self.first) (T.entries result)) }
         ensures begins { StartsWith (T.entries result) self.first }
-        ensures each { (seat : SeatState T.Entry) → Has all.me.0 seat → StartsWith (T.entries result) seat.seen × (seat.own ≡ entries_since T.number (length self.first) seat.number (T.entries result)) }
+        ensures each { (seat : SeatState T.Entry) → Has all.me.0 seat
+            → StartsWith (T.entries result) seat.seen
+            × (seat.own ≡ entries_since T.number (length self.first) seat.number (T.entries result)) }
     {
         let Lock { table } = self;
         let mut closed = table.close_with(all);
-        let value = closed.take(0);
+        let value = closed.take(VALUE);
         closed.free();
         match value {
             Some(value) => value,

@@ -4,7 +4,7 @@ ghost use Rattle.omega_lock.specs.Lists.{StartsWith, entries_since};
 ghost use Rattle.omega_lock.specs.Seats.{IsSameSeat, OwnIsSeen, AddsAtMostOne, new_seat, new_seats};
 
 use crate::counted::Counted;
-use crate::rule::{Draw, Read, Terms, Turns};
+use crate::rule::{Draw, LENGTH, Read, TICKETS, Terms, Turns, VALUE};
 use crate::seat::Seat;
 use crate::view::View;
 use atomic_table::Table;
@@ -26,14 +26,13 @@ pub struct Lock<T: Counted> {
 }
 
 impl<T: Counted> Model for Lock<T> {
-    ghost use Rattle.std.specs.Prelude.{◌≡◌, ◌*◌, ◌^◌, ◌<◌, ◌≤◌, length};
-    ghost use Rattle.omega_lock.specs.Seats.{LockState};
+    ghost use Rattle.omega_lock.specs.Seats.{LockState, lock_state, IsLock};
 
     ghost Value = { LockState T.Entry };
 
-    ghost view = { λ l. record { of = l.table.shared.table_id; callers = l.table.shared.key.callers; turns = l.table.shared.key.turns; first = T.entries l.table.shared.key.first.value } };
+    ghost view = { λ l. lock_state T.entries l.table.shared.table_id l.table.shared.key };
 
-    ghost invariant = { λ l. (l.table.shared.table_id.words ≡ 4) × (l.table.shared.table_id.slots ≡ 1) × (l.table.shared.key.callers * l.table.shared.key.turns < 2 ^ 62) × (length (T.entries l.table.shared.key.first.value) < 2 ^ 63) × (1 ≤ l.table.shared.key.callers) };
+    ghost invariant = { λ l. IsLock T.entries l.table.shared.table_id l.table.shared.key };
 }
 
 impl<T: Counted> Lock<T> {
@@ -51,9 +50,11 @@ impl<T: Counted> Lock<T> {
         requires short { length (T.entries value) < 2 ^ 63 }
         ensures callers { IfOk result (λ made. made.0.callers ≡ callers) }
         ensures first { IfOk result (λ made. made.0.first ≡ T.entries value) }
-        ensures seats { IfOk result (λ made. made.1.items ≡ new_seats made.0.of turns (T.entries value) callers) }
         ensures count { IfOk result (λ made. length made.1.items ≡ callers) }
-        ensures seat { IfOk result (λ made. (i : ℕ) → i < callers → slice_get made.1.items i ≡ Some (new_seat made.0.of turns (T.entries value) i)) }
+        ensures seat { IfOk result (λ made. (i : ℕ) → i < callers
+            → slice_get made.1.items i ≡ Some (new_seat made.0.of turns (T.entries value) i)) }
+        ensures seats { IfOk result (λ made.
+            made.1.items ≡ new_seats made.0.of turns (T.entries value) callers) }
         ensures back { IfErr result (λ refused. refused.0 ≡ value) }
     {
         let Ok(seats) = Vec::with_capacity(alloc, callers as usize) else {
@@ -102,11 +103,11 @@ impl<T: Counted> Lock<T> {
         ensures own_seen { OwnIsSeen T.number seat.new }
     {
         let shared = &self.table.shared;
-        let ticket = shared.fetch_add::<Draw>(&mut seat.token, 1, 1);
+        let ticket = shared.fetch_add::<Draw>(&mut seat.token, TICKETS, 1);
         self.wait(rt, &mut seat.token, ticket);
-        seat.count = shared.load::<Read>(&mut seat.token, 3);
+        seat.count = shared.load::<Read>(&mut seat.token, LENGTH);
         seat.turns -= 1;
-        match shared.exchange(&mut seat.token, 0, None) {
+        match shared.exchange(&mut seat.token, VALUE, None) {
             Some(value) => value,
             None => unreachable!(),
         }
@@ -123,7 +124,8 @@ impl<T: Counted> Lock<T> {
         ensures turns { seat.new.turns ≡ seat.old.turns }
         ensures seen { seat.new.seen ≡ T.entries value }
         ensures same { T.entries value ≡ seat.old.seen → seat.new.own ≡ seat.old.own }
-        ensures more { (e : T.Entry) → T.entries value ≡ seat.old.seen ++ e ∷ [] → seat.new.own ≡ seat.old.own ++ e ∷ [] }
+        ensures more { (e : T.Entry) → T.entries value ≡ seat.old.seen ++ e ∷ []
+            → seat.new.own ≡ seat.old.own ++ e ∷ [] }
         ensures own_seen { OwnIsSeen T.number seat.new }
     {
         self.put_back(&mut seat.token, value, seat.count);
@@ -139,8 +141,10 @@ impl<T: Counted> Lock<T> {
         requires free { All (λ seat. seat.holds ≡ false) seats.items }
         ensures begins { StartsWith (T.entries result) self.first }
         ensures seen { All (λ seat. StartsWith (T.entries result) seat.seen) seats.items }
-        ensures given { All (λ e. Any (λ seat. T.number e ≡ Some seat.number) seats.items) (drop (length self.first) (T.entries result)) }
-        ensures own { All (λ seat. seat.own ≡ entries_since T.number (length self.first) seat.number (T.entries result)) seats.items }
+        ensures given { All (λ e. Any (λ seat. T.number e ≡ Some seat.number) seats.items)
+            (drop (length self.first) (T.entries result)) }
+        ensures own { All (λ seat. seat.own
+            ≡ entries_since T.number (length self.first) seat.number (T.entries result)) seats.items }
     {
         let Some(first) = seats.pop() else {
             unreachable!();

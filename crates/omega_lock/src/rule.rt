@@ -5,6 +5,16 @@ use atomic_table::{Join, Play, Split, TableRule};
 use std::marker::PhantomData;
 use std::snapshot::Snapshot;
 
+// The words of the table: how many numbers were given, the ticket that is drawn next, the ticket that
+// is served, and the length of the list.
+pub(crate) const NUMBERS: usize = 0;
+pub(crate) const TICKETS: usize = 1;
+pub(crate) const SERVED: usize = 2;
+pub(crate) const LENGTH: usize = 3;
+
+// Its one slot, which has the value.
+pub(crate) const VALUE: usize = 0;
+
 /// What a lock was made with: for how many callers, how many turns each has, and the value.
 #[derive(Drop)]
 pub struct Terms<T> {

@@ -5,7 +5,7 @@ ghost use Rattle.omega_lock.specs.Views.{first_view};
 
 use crate::counted::Counted;
 use crate::lock::Lock;
-use crate::rule::{Number, SplitOff};
+use crate::rule::{NUMBERS, Number, SplitOff};
 use crate::seat::Seat;
 use crate::view::View;
 use atomic_table::Seat as Token;
@@ -68,12 +68,16 @@ impl<T: Counted> Lock<T> {
         requires first { token.old.me ≡ (first_view self.now.turns self.now.first, []) }
         requires number { number < self.now.callers }
         ensures of { token.new.table_id ≡ token.old.table_id }
-        ensures now { token.new.me ≡ (record (first_view self.now.turns self.now.first) { has_number = true; number = number; turns = self.now.turns }, []) }
+        ensures now { token.new.me ≡ (record (first_view self.now.turns self.now.first) {
+                has_number = true;
+                number = number;
+                turns = self.now.turns
+            }, []) }
     {
         let shared = &self.table.shared;
         let number = u64::from(number);
         for _ in rt.forever() {
-            if shared.compare_exchange::<Number>(token, 0, number, number + 1) == number {
+            if shared.compare_exchange::<Number>(token, NUMBERS, number, number + 1) == number {
                 return;
             }
         }

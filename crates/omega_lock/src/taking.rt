@@ -2,11 +2,11 @@
 ghost use Rattle.std.specs.Prelude.{◌≡◌, true, false, [], ◌∷◌, ◌++◌, None, Some};
 ghost use Rattle.omega_lock.specs.Lists.{entries_since};
 ghost use Rattle.omega_lock.specs.Seats.{AddsAtMostOne, IsSeat};
-ghost use Rattle.omega_lock.specs.Steps.{turned_over};
+ghost use Rattle.omega_lock.specs.Steps.{turned_over, HasPublished};
 
 use crate::counted::Counted;
 use crate::lock::Lock;
-use crate::rule::{Look, Pass, Publish};
+use crate::rule::{LENGTH, Look, Pass, Publish, SERVED, VALUE};
 use crate::view::View;
 use atomic_table::Seat as Token;
 use std::hint::spin_loop;
@@ -26,14 +26,16 @@ impl<T: Counted> Lock<T> {
     )
         requires of { token.old.table_id ≡ self.now.of }
         requires ticket { (token.old.me.0.has_ticket ≡ true) × (token.old.me.0.ticket ≡ ticket) }
-        requires before { (token.old.me.0.holds ≡ false) × (token.old.me.0.read ≡ false) × (token.old.me.1 ≡ []) }
+        requires no_turn { (token.old.me.0.holds ≡ false) × (token.old.me.0.read ≡ false) }
+        requires no_slot { token.old.me.1 ≡ [] }
         ensures of { token.new.table_id ≡ token.old.table_id }
-        ensures turn { (y : T) × (token.new.me ≡ (record token.old.me.0 { holds = true; held = T.entries y }, (0, Some y) ∷ [])) }
+        ensures turn { (y : T) × (token.new.me
+            ≡ (record token.old.me.0 { holds = true; held = T.entries y }, (0, Some y) ∷ [])) }
     {
         let shared = &self.table.shared;
         let mut looks = 0;
         for _ in rt.forever() {
-            if shared.load::<Look>(token, 2) == ticket {
+            if shared.load::<Look>(token, SERVED) == ticket {
                 return;
             }
             pause(looks);
@@ -53,10 +55,18 @@ impl<T: Counted> Lock<T> {
         requires of { token.old.table_id ≡ self.now.of }
         requires seat { IsSeat T.number token.old.me count }
         requires holds { token.old.me.0.holds ≡ true }
-        requires list { AddsAtMostOne T.number token.old.me.0.number token.old.me.0.seen (T.entries value) }
+        requires list { AddsAtMostOne T.number token.old.me.0.number token.old.me.0.seen
+            (T.entries value) }
         ensures of { token.new.table_id ≡ token.old.table_id }
-        ensures now { token.new.me ≡ (record token.old.me.0 { told = token.new.me.0.told; held = T.entries value; seen = T.entries value; own = entries_since T.number token.old.me.0.first_length token.old.me.0.number (T.entries value) }, (0, Some value) ∷ []) }
-        ensures more { (e : T.Entry) → T.entries value ≡ token.old.me.0.seen ++ e ∷ [] → token.new.me.0.own ≡ token.old.me.0.own ++ e ∷ [] }
+        ensures now { token.new.me ≡ (record token.old.me.0 {
+                told = token.new.me.0.told;
+                held = T.entries value;
+                seen = T.entries value;
+                own = entries_since T.number token.old.me.0.first_length token.old.me.0.number
+                    (T.entries value)
+            }, (0, Some value) ∷ []) }
+        ensures more { (e : T.Entry) → T.entries value ≡ token.old.me.0.seen ++ e ∷ []
+            → token.new.me.0.own ≡ token.old.me.0.own ++ e ∷ [] }
     {
         let grown = value.count() != count;
         self.put(token, value);
@@ -72,7 +82,7 @@ impl<T: Counted> Lock<T> {
         ensures of { token.new.table_id ≡ token.old.table_id }
         ensures now { token.new.me ≡ (token.old.me.0, (0, Some value) ∷ []) }
     {
-        match self.table.shared.exchange(token, 0, Some(value)) {
+        match self.table.shared.exchange(token, VALUE, Some(value)) {
             None => {}
             Some(_) => unreachable!(),
         }
@@ -81,25 +91,27 @@ impl<T: Counted> Lock<T> {
     // Tells of the one entry that the value in the slot has more.
     fn publish(&self, token: &mut Token<Option<T>, View<T::Entry>>)
         requires of { token.old.table_id ≡ self.now.of }
-        requires turn { (token.old.me.0.has_number ≡ true) × (token.old.me.0.holds ≡ true) × (token.old.me.0.read ≡ true) × (token.old.me.0.told ≡ false) }
-        requires slot { (y : T) × (e : T.Entry) × (token.old.me.1 ≡ (0, Some y) ∷ []) × (T.entries y ≡ token.old.me.0.held ++ e ∷ []) × (T.number e ≡ Some token.old.me.0.number) }
+        requires turn { (token.old.me.0.has_number ≡ true) × (token.old.me.0.holds ≡ true) }
+        requires once { (token.old.me.0.read ≡ true) × (token.old.me.0.told ≡ false) }
+        requires slot { (y : T) × (e : T.Entry) × (token.old.me.1 ≡ (0, Some y) ∷ [])
+            × (T.entries y ≡ token.old.me.0.held ++ e ∷ [])
+            × (T.number e ≡ Some token.old.me.0.number) }
         ensures of { token.new.table_id ≡ token.old.table_id }
-        ensures now { (y : T) (e : T.Entry) → token.old.me.1 ≡ (0, Some y) ∷ [] → T.entries y ≡ token.old.me.0.held ++ e ∷ []
-            → (token.new.me ≡ (record token.old.me.0 { told = true; held = T.entries y; seen = T.entries y; own = token.old.me.0.own ++ e ∷ [] }, token.old.me.1))
-            × (token.old.me.0.own ++ e ∷ [] ≡ entries_since T.number token.old.me.0.first_length token.old.me.0.number (T.entries y)) }
+        ensures now { HasPublished T.entries T.number token.old.me token.new.me }
     {
-        self.table.shared.fetch_add::<Publish>(token, 3, 1);
+        self.table.shared.fetch_add::<Publish>(token, LENGTH, 1);
     }
 
     // Passes the turn on to the next ticket, and gives the slot back.
     pub(crate) fn pass(&self, token: &mut Token<Option<T>, View<T::Entry>>)
         requires of { token.old.table_id ≡ self.now.of }
         requires turn { (token.old.me.0.has_number ≡ true) × (token.old.me.0.holds ≡ true) }
-        requires slot { (y : T) × (token.old.me.1 ≡ (0, Some y) ∷ []) × (T.entries y ≡ token.old.me.0.held) }
+        requires slot { (y : T) × (token.old.me.1 ≡ (0, Some y) ∷ [])
+            × (T.entries y ≡ token.old.me.0.held) }
         ensures of { token.new.table_id ≡ token.old.table_id }
         ensures now { token.new.me ≡ (turned_over token.old.me.0, []) }
     {
-        self.table.shared.fetch_add::<Pass>(token, 2, 1);
+        self.table.shared.fetch_add::<Pass>(token, SERVED, 1);
     }
 }
 

@@ -8,5 +8,5 @@ fetch_add-requires g c =
     let s = c.requires.slot in (
       search rules,
       search rules,
-      pass_keeps g.T.Counted.entries g.T.Counted.number _ _ _ _ s.0 c.self.invariant.2 s.1 t.0 t.1 s.2,
+      pass_keeps g.T.Counted.entries g.T.Counted.number _ _ _ _ s.0 c.self.invariant.few_turns s.1 t.0 t.1 s.2,
     )

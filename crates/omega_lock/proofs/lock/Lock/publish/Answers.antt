@@ -8,5 +8,5 @@ fetch_add-requires g c =
     let s = c.requires.slot in (
       search rules,
       search rules,
-      publish_keeps g.T.Counted.entries g.T.Counted.number _ _ _ _ s.0 s.1 c.self.invariant.2 c.self.invariant.3 s.2 t.0 t.1 t.2 t.3 s.3 s.4,
+      publish_keeps g.T.Counted.entries g.T.Counted.number _ _ _ _ s.0 s.1 c.self.invariant.few_turns c.self.invariant.short s.2 t.0 t.1 c.requires.once.0 c.requires.once.1 s.3 s.4,
     )

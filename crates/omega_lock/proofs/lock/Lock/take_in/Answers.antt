@@ -9,7 +9,7 @@ pub join_seat-requires : goal.join_seat-requires
 join_seat-requires g c =
     let r = c.requires.rest in
     let i = c.seat.invariant in
-    let free = ap (λ s. s.holds) c.seat.view_is ∙ r.3 in (
+    let free = ap (λ s. s.holds) c.seat.view_is ∙ c.requires.free in (
       search rules,
       search rules,
       i.0.home free,

@@ -10,7 +10,7 @@ fetch_add-ticket-requires g c =
     let free = ap (λ s. s.holds) c.seat.view_is ∙ c.requires.free in (
       search rules,
       search rules,
-      draw_keeps g.T.Counted.entries g.T.Counted.number _ _ _ _ c.self.invariant.2 i.0.has_number (i.0.has_ticket ∙ free) free (rw (ap (λ s. s.turns) c.seat.view_is) c.requires.left),
+      draw_keeps g.T.Counted.entries g.T.Counted.number _ _ _ _ c.self.invariant.few_turns i.0.has_number (i.0.has_ticket ∙ free) free (rw (ap (λ s. s.turns) c.seat.view_is) c.requires.left),
     )
 
 pub load-seat-inside-requires : goal.load-seat-inside-requires

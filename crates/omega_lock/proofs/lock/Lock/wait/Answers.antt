@@ -7,5 +7,5 @@ load-requires g c =
     let same = c.loop.invariant.1 in (
       search rules,
       search rules,
-      look_keeps g.T.Counted.entries g.T.Counted.number _ _ _ _ (ap (λ m. m.0.has_ticket) same ∙ c.requires.ticket.0) (ap (λ m. m.0.holds) same ∙ c.requires.before.0) (ap (λ m. m.0.read) same ∙ c.requires.before.1),
+      look_keeps g.T.Counted.entries g.T.Counted.number _ _ _ _ (ap (λ m. m.0.has_ticket) same ∙ c.requires.ticket.0) (ap (λ m. m.0.holds) same ∙ c.requires.no_turn.0) (ap (λ m. m.0.read) same ∙ c.requires.no_turn.1),
     )
