@@ -1,12 +1,14 @@
--- What is known when the table is closed.
-use Rattle.std.proofs.Common.{◌≡◌, ℕ, suc, ◌<◌, ◌≤◌, List, [], ◌∷◌, ◌++◌, length, drop, get_or, sym, refl, ap, ◌∙◌, subst, arith, append_assoc, true, false, Some, None, Option, ⊎_elim, Bool}
-use Rattle.std.specs.Prelude.{sum_by, if◌then◌else◌}
+-- What is known when the table is closed with the seat that all others were joined to.
+use Rattle.std.proofs.Common.{◌≡◌, ℕ, suc, ◌<◌, ◌≤◌, List, [], ◌∷◌, ◌++◌, length, drop, get_or, sym, refl, ap, ◌∙◌, subst, arith, append_assoc, true, false, Some, None, Option, ⊎_elim, Bool, inl, inr}
+use Rattle.std.specs.Prelude.{sum_by, if◌then◌else◌, All, Any, map}
 use Rattle.std.proofs.lemmas.List.Sums.{sum_by-cons, sum_by-append}
+use Rattle.std.proofs.lemmas.List.Elements.{All-nil, All-cons, All-push, All-same}
 use mathlib.Core.Option.{some, some-injective}
 use mathlib.Core.Logic.{dite}
 use native.Mathlib.Decide.{ℕ_discrete}
 use lib.ListN.{get_elem?}
-use Rattle.atomic_table.specs.Table.{State}
+use Rattle.atomic_table.specs.Table.{State, Final, Seen}
+use Rattle.atomic_table.specs.Seated.{TableId}
 use Rattle.omega_lock.specs.declared.view.View.{View}
 use Rattle.omega_lock.specs.declared.rule.Terms.{Terms}
 use Rattle.omega_lock.specs.Lists.{EachBelow, EachHasItsEntries, StartsWith, StartsWithEach, entries_since, same}
@@ -16,50 +18,57 @@ use Rattle.omega_lock.specs.Seats.{LockState, SeatState, seat_state}
 use Rattle.omega_lock.specs.Gathering.{EachIsKnown, Has, HasAll, In, pair_of}
 use Rattle.omega_lock.proofs.Sums.{same-same, same-other, below_le, below_is, term_le, terms_le, sum_le}
 use Rattle.omega_lock.proofs.Pigeons.{pigeons}
-use Rattle.std.specs.Prelude.{All, Any, map}
-use Rattle.std.proofs.lemmas.List.Elements.{All-nil, All-cons, All-push, All-same}
-use Rattle.atomic_table.specs.Table.{Final, Seen}
-use Rattle.std.proofs.Common.{inl, inr}
 
+-- a sum of zeros
 sum-none : {V : Type 0} (l : List V) → sum_by (λ (_ : V). 0) l ≡ 0
 sum-none [] = refl
 sum-none (x ∷ xs) = let h = sum-none xs in let c = sum_by-cons (λ _. 0) x xs in omega (arith, h, c)
 
 module _ {A : Type 0} where
+  -- what is in the first of two lists
   pub in_left : (x : A) (xs ys : List A) → In x xs → In x (xs ++ ys)
   in_left x [] ys h = absurd h
   in_left x (z ∷ zs) ys h = ⊎_elim (λ (e : x ≡ z). inl e) (λ (r : In x zs). inr (in_left x zs ys r)) h
 
+  -- what is in the second
   pub in_right : (x : A) (xs ys : List A) → In x ys → In x (xs ++ ys)
   in_right x [] ys h = h
   in_right x (z ∷ zs) ys h = inr (in_right x zs ys h)
 
 module _ {E : Type 0} where
+  -- what a view keeps of a seat it keeps after one more join
   pub has_joined : (v w : View E) (s : SeatState E) → Has v s → Has (joined v w) s
   has_joined v w s h = (
     subst (In (s.number, s.own)) (append_assoc (own_list v) v.kept (lists w)) (in_left (s.number, s.own) (lists v) (lists w) h.0),
     inr (⊎_elim (λ (e : s.seen ≡ v.seen). inl e) (λ (r : In s.seen v.also_seen). inr (inr (in_left s.seen v.also_seen w.also_seen r))) h.1),
   )
 
+  -- so it does of all seats that it keeps
   pub gathered_joined : (v w : View E) (ss : List (SeatState E)) → HasAll v ss → HasAll (joined v w) ss
   gathered_joined v w [] g = tt
   gathered_joined v w (s ∷ ss) g = (has_joined v w s g.0, gathered_joined v w ss g.1)
 
 module _ {E : Type 0} (number : E → Option ℕ) where
-  pub listed_in : (base n : ℕ) (log own : List E) (ps : List (ℕ × List E)) → EachHasItsEntries number base log ps → In (n, own) ps → own ≡ entries_since number base n log
+  -- the own list of a seat that is kept is all that the list has of its number
+  pub listed_in : (base n : ℕ) (log own : List E) (ps : List (ℕ × List E))
+      → EachHasItsEntries number base log ps → In (n, own) ps
+      → own ≡ entries_since number base n log
   listed_in base n log own [] l h = absurd h
   listed_in base n log own (p ∷ ps) l h = ⊎_elim
       (λ (e : (n, own) ≡ p). ap (λ q. q.1) e ∙ l.0 ∙ ap (λ (q : ℕ × List E). entries_since number base q.0 log) (sym e))
       (λ (r : In (n, own) ps). listed_in base n log own ps l.1 r) h
 
 module _ {E : Type 0} where
-  pub starts_each_in : (log x : List E) (xs : List (List E)) → StartsWithEach log xs → In x xs → StartsWith log x
+  -- the list goes on from what a kept seat had seen
+  pub starts_each_in : (log x : List E) (xs : List (List E)) → StartsWithEach log xs → In x xs
+      → StartsWith log x
   starts_each_in log x [] a h = absurd h
   starts_each_in log x (y ∷ ys) a h = ⊎_elim (λ (e : x ≡ y). subst (StartsWith log) (sym e) a.0) (λ (r : In x ys). starts_each_in log x ys a.1 r) h
 
 module _ {T E : Type 0} (entries : T → List E) (number : E → Option ℕ) where
   -- the seat has all number_keeps and rests: nobody holds the turn
-  pub closes : (k : Terms T) (s : State (Option T) (View E)) (r : LockRule entries number k s) (id : ℕ) (v : View E) → get_elem? s.views id ≡ some v → Rests v → k.callers ≤ length (lists v)
+  pub closes : (k : Terms T) (s : State (Option T) (View E)) (r : LockRule entries number k s) (id : ℕ) (v : View E)
+      → get_elem? s.views id ≡ some v → Rests v → k.callers ≤ length (lists v)
       → ((y : T) × (get_elem? s.homes 0 ≡ some (some (Some y))) × (entries y ≡ r.log)) × ((n : ℕ) → n < get_or s.words 0 0 → 1 ≤ answers n v)
   closes k s r id v at quiet all = (r.home nobody, all_there)
     where
@@ -77,7 +86,8 @@ module _ {T E : Type 0} (entries : T → List E) (number : E → Option ℕ) whe
           let l : answers u.number u ≡ sum_by (λ (p : ℕ × List E). same u.number p.0) ((u.number, u.own) ∷ u.kept) = ap (λ (z : Bool). sum_by (λ (p : ℕ × List E). same u.number p.0) ((if z then (u.number, u.own) ∷ [] else []) ++ u.kept)) is in
           omega (arith, c, one, l)
 
-      no_holder : (j : ℕ) (u : View E) → get_elem? s.views j ≡ some u → (has_number holds : Bool) → u.has_number ≡ has_number → u.holds ≡ holds → holding u ≤ 0
+      no_holder : (j : ℕ) (u : View E) → get_elem? s.views j ≡ some u → (has_number holds : Bool)
+          → u.has_number ≡ has_number → u.holds ≡ holds → holding u ≤ 0
       no_holder j u e has_number false is h = rw h (omega arith)
       no_holder j u e false true is h = let f = r.fits j u e in let a = (f.turn h).0 in let b = (f.idle is).1 in absurd (cc (sym a ∙ b))
       no_holder j u e true true is h = dite (ℕ_discrete j id)
@@ -95,32 +105,45 @@ module _ {T E : Type 0} (entries : T → List E) (number : E → Option ℕ) whe
       nobody = let z = sum-none s.views in let le = sum_le holding (λ _. 0) s.views (λ j u e. no_holder j u e u.has_number u.holds refl refl) in omega (arith, z, le)
 
 module _ {E : Type 0} where
-  pub has_new : (of : Rattle.atomic_table.specs.Seated.TableId) (v w : View E) (s : SeatState E) → w.has_number ≡ true → seat_state of w ≡ s → Has (joined v w) s
+  -- a seat that was just joined is kept
+  pub has_new : (of : TableId) (v w : View E) (s : SeatState E)
+      → w.has_number ≡ true → seat_state of w ≡ s → Has (joined v w) s
   has_new of v w s is same_seat = subst (Has (joined v w)) same_seat (
     subst (In (w.number, w.own)) (append_assoc (own_list v) v.kept (lists w)) (in_right (w.number, w.own) (lists v) (lists w) (subst (λ (z : Bool). In (w.number, w.own) ((if z then (w.number, w.own) ∷ [] else []) ++ w.kept)) (sym is) (inl refl))),
     inr (inr (inl refl)),
   )
 
-  pub has_first : (of : Rattle.atomic_table.specs.Seated.TableId) (v : View E) (s : SeatState E) → v.has_number ≡ true → seat_state of v ≡ s → Has v s
+  -- a seat is kept by its own view
+  pub has_first : (of : TableId) (v : View E) (s : SeatState E)
+      → v.has_number ≡ true → seat_state of v ≡ s → Has v s
   has_first of v s is same_seat = subst (Has v) same_seat (subst (λ (z : Bool). In (v.number, v.own) ((if z then (v.number, v.own) ∷ [] else []) ++ v.kept)) (sym is) (inl refl), inl refl)
 
-  pub gathered_more : (v : View E) (ss ts : List (SeatState E)) → HasAll v ss → HasAll v ts → HasAll v (ss ++ ts)
+  -- two lists of kept seats together
+  pub gathered_more : (v : View E) (ss ts : List (SeatState E)) → HasAll v ss → HasAll v ts
+      → HasAll v (ss ++ ts)
   gathered_more v [] ts a b = b
   gathered_more v (s ∷ ss) ts a b = (a.0, gathered_more v ss ts a.1 b)
 
 module _ {E : Type 0} (number : E → Option ℕ) where
-  known_all : (n : ℕ) (ps : List (ℕ × List E)) (es : List E) → ((m : ℕ) → m < n → 1 ≤ sum_by (λ (p : ℕ × List E). same m p.0) ps) → EachBelow number n es → EachIsKnown number ps es
+  -- entries with numbers below a bound, where each such number is there
+  known_all : (n : ℕ) (ps : List (ℕ × List E)) (es : List E)
+      → ((m : ℕ) → m < n → 1 ≤ sum_by (λ (p : ℕ × List E). same m p.0) ps) → EachBelow number n es
+      → EachIsKnown number ps es
   known_all n ps [] h g = tt
   known_all n ps (e ∷ es) h g = ((g.0.0, g.0.1, h g.0.0 g.0.2), known_all n ps es h g.1)
 
-  any_number : (n : ℕ) (ss : List (SeatState E)) → 1 ≤ sum_by (λ (s : SeatState E). same n s.number) ss → Any (λ (s : SeatState E). n ≡ s.number) ss
+  -- a number that counts is the number of one of the seats
+  any_number : (n : ℕ) (ss : List (SeatState E))
+      → 1 ≤ sum_by (λ (s : SeatState E). same n s.number) ss → Any (λ (s : SeatState E). n ≡ s.number) ss
   any_number n [] h = absurd (omega (arith, h))
   any_number n (s ∷ ss) h = dite (ℕ_discrete n s.number)
       (λ e. (0, s, omega arith, refl, e))
       (λ ne. let c = sum_by-cons (λ (s : SeatState E). same n s.number) s ss in let z = same-other n s.number ne in
       let (k, x, lt, at, is) = any_number n ss (omega (arith, h, c, z)) in (suc k, x, omega (arith, lt), at, is))
 
-  pub known_seats : (ps : List (ℕ × List E)) (ss : List (SeatState E)) (es : List E) → ((m : ℕ) → sum_by (λ (p : ℕ × List E). same m p.0) ps ≡ sum_by (λ (s : SeatState E). same m s.number) ss)
+  -- entries of known pairs are entries of the seats
+  pub known_seats : (ps : List (ℕ × List E)) (ss : List (SeatState E)) (es : List E)
+      → ((m : ℕ) → sum_by (λ (p : ℕ × List E). same m p.0) ps ≡ sum_by (λ (s : SeatState E). same m s.number) ss)
       → EachIsKnown number ps es → All (λ e. Any (λ (s : SeatState E). number e ≡ Some s.number) ss) es
   known_seats ps ss [] h g = All-nil (λ e. Any (λ (s : SeatState E). number e ≡ Some s.number) ss)
   known_seats ps ss (e ∷ es) h g =
@@ -130,11 +153,16 @@ module _ {E : Type 0} (number : E → Option ℕ) where
       All-cons (λ e. Any (λ (s : SeatState E). number e ≡ Some s.number) ss) e es (k, x, lt, at, by ∙ ap Some is) (known_seats ps ss es h g.1)
 
 module _ {E : Type 0} where
-  times_map : (m : ℕ) (ss : List (SeatState E)) → sum_by (λ (p : ℕ × List E). same m p.0) (map pair_of ss) ≡ sum_by (λ (s : SeatState E). same m s.number) ss
+  -- a number counts among the pairs as among the seats
+  times_map : (m : ℕ) (ss : List (SeatState E))
+      → sum_by (λ (p : ℕ × List E). same m p.0) (map pair_of ss) ≡ sum_by (λ (s : SeatState E). same m s.number) ss
   times_map m [] = refl
   times_map m (s ∷ ss) = let a = sum_by-cons (λ (p : ℕ × List E). same m p.0) (pair_of s) (map pair_of ss) in let b = sum_by-cons (λ (s : SeatState E). same m s.number) s ss in let c = times_map m ss in omega (arith, a, b, c)
 
-  pub all_pairs : (ps : List (ℕ × List E)) (all rest : List (SeatState E)) (first : SeatState E) → ps ≡ map pair_of (first ∷ rest) → all ≡ rest ++ first ∷ [] → (m : ℕ) → sum_by (λ (p : ℕ × List E). same m p.0) ps ≡ sum_by (λ (s : SeatState E). same m s.number) all
+  -- the pairs are those of all seats, also of the one that was taken out first
+  pub all_pairs : (ps : List (ℕ × List E)) (all rest : List (SeatState E)) (first : SeatState E)
+      → ps ≡ map pair_of (first ∷ rest) → all ≡ rest ++ first ∷ [] → (m : ℕ)
+      → sum_by (λ (p : ℕ × List E). same m p.0) ps ≡ sum_by (λ (s : SeatState E). same m s.number) all
   all_pairs ps all rest first e is m =
       let f : SeatState E → ℕ = λ s. same m s.number in
       let a = ap (sum_by (λ (p : ℕ × List E). same m p.0)) e ∙ times_map m (first ∷ rest) in
@@ -144,7 +172,10 @@ module _ {E : Type 0} where
       let g = ap (sum_by f) is in
       omega (arith, a, b, c, d, g)
 
-  pub joined_pairs : (of : Rattle.atomic_table.specs.Seated.TableId) (v w : View E) (s : SeatState E) → w.has_number ≡ true → w.kept ≡ [] → seat_state of w ≡ s → lists (joined v w) ≡ lists v ++ pair_of s ∷ []
+  -- one more pair after a join
+  pub joined_pairs : (of : TableId) (v w : View E) (s : SeatState E)
+      → w.has_number ≡ true → w.kept ≡ [] → seat_state of w ≡ s
+      → lists (joined v w) ≡ lists v ++ pair_of s ∷ []
   joined_pairs of v w s is nothing same_seat = sym (append_assoc (own_list v) v.kept (lists w)) ∙ ap (λ l. lists v ++ l) (only w is nothing ∙ ap (λ (t : SeatState E). pair_of t ∷ []) same_seat)
     where
       only : (w : View E) → w.has_number ≡ true → w.kept ≡ [] → lists w ≡ (w.number, w.own) ∷ []
@@ -156,11 +187,13 @@ module _ {T E : Type 0} (entries : T → List E) (number : E → Option ℕ) whe
   Ended l v y = EachIsKnown number (lists v) (drop (length l.first) (entries y)) × StartsWith (entries y) l.first
       × ((s : SeatState E) → Has v s → StartsWith (entries y) s.seen × (s.own ≡ entries_since number (length l.first) s.number (entries y)))
 
+  -- the value in a slot
   abbrev value_in : Option T → T → T
   value_in None d = d
   value_in (Some y) d = y
 
-  pub ended : (of : Rattle.atomic_table.specs.Seated.TableId) (k : Terms T) (id : ℕ) (v : View E) (ws : List ℕ) (xs : List (Option T)) → Final (Seen (LockRule entries number k) id v) ws xs → Rests v → k.callers ≤ length (lists v)
+  pub ended : (of : TableId) (k : Terms T) (id : ℕ) (v : View E) (ws : List ℕ) (xs : List (Option T))
+      → Final (Seen (LockRule entries number k) id v) ws xs → Rests v → k.callers ≤ length (lists v)
       → (y : T) × (get_elem? xs 0 ≡ some (Some y)) × Ended (record { of = of; callers = k.callers; turns = k.turns; first = first_list entries k }) v y
   ended of k id v ws xs (s, (r, at), words, slots, homes) quiet all =
       let (c, there) = closes entries number k s r id v at quiet all in
@@ -176,17 +209,25 @@ module _ {T E : Type 0} (entries : T → List E) (number : E → Option ℕ) whe
         ),
       )
 
-  pub same_value : (xs : List (Option T)) (r : Option T) (y z : T) → get_elem? xs 0 ≡ some r → get_elem? xs 0 ≡ some (Some y) → r ≡ Some z → y ≡ z
+  -- the value that was taken out is the one that was at home
+  pub same_value : (xs : List (Option T)) (r : Option T) (y z : T) → get_elem? xs 0 ≡ some r
+      → get_elem? xs 0 ≡ some (Some y) → r ≡ Some z → y ≡ z
   same_value xs r y z a b c = ap (λ o. value_in o y) (some-injective (Some y) (Some z) (sym b ∙ a ∙ ap some c))
 
-  pub no_none : (xs : List (Option T)) (r : Option T) (y : T) → get_elem? xs 0 ≡ some r → get_elem? xs 0 ≡ some (Some y) → r ≡ None → ⊥
+  -- and there was one
+  pub no_none : (xs : List (Option T)) (r : Option T) (y : T) → get_elem? xs 0 ≡ some r
+      → get_elem? xs 0 ≡ some (Some y) → r ≡ None → ⊥
   no_none xs r y a b c = let bad : Some y ≡ None = some-injective (Some y) None (sym b ∙ a ∙ ap some c) in absurd (cc bad)
 
 module _ {E : Type 0} where
-  pub gathered_all : (v : View E) (Q : SeatState E → Type 0) → ((s : SeatState E) → Has v s → Q s) → (ss : List (SeatState E)) → HasAll v ss → All Q ss
+  -- what holds of each kept seat holds of all
+  pub gathered_all : (v : View E) (Q : SeatState E → Type 0) → ((s : SeatState E) → Has v s → Q s)
+      → (ss : List (SeatState E)) → HasAll v ss → All Q ss
   gathered_all v Q h [] g = All-nil Q
   gathered_all v Q h (s ∷ ss) g = All-cons Q s ss (h s g.0) (gathered_all v Q h ss g.1)
 
   -- the seats as they were before the last was taken
-  pub all_seats : (v : View E) (Q : SeatState E → Type 0) (all rest : List (SeatState E)) (first : SeatState E) → ((s : SeatState E) → Has v s → Q s) → all ≡ rest ++ first ∷ [] → HasAll v (first ∷ rest) → All Q all
+  pub all_seats : (v : View E) (Q : SeatState E → Type 0) (all rest : List (SeatState E)) (first : SeatState E)
+      → ((s : SeatState E) → Has v s → Q s) → all ≡ rest ++ first ∷ [] → HasAll v (first ∷ rest)
+      → All Q all
   all_seats v Q all rest first h is g = All-same Q all (rest ++ first ∷ []) is (All-push Q rest first (gathered_all v Q h rest g.1) (h first g.0))

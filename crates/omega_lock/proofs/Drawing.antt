@@ -1,4 +1,4 @@
--- A seat that draw_keeps a ticket keeps the rule.
+-- A seat that draws a ticket keeps the rule: it has one turn less.
 use Rattle.std.proofs.Common.{◌≡◌, ℕ, ◌+◌, ◌-◌, ◌*◌, ◌%◌, ◌^◌, ◌<◌, ◌≤◌, List, length, set, get_or, sym, refl, ◌∙◌, arith, length-set, get_or-set_other, get_or-set_same, true, false, Option, mul-le-mul_right}
 use Rattle.std.specs.Prelude.{sum_by}
 use mathlib.Core.Option.{none}
@@ -11,7 +11,9 @@ use Rattle.omega_lock.specs.Steps.{Draws}
 use Rattle.omega_lock.proofs.Sums.{below_more, total_set, term_le, each_set}
 
 module _ {T E : Type 0} (entries : T → List E) (number : E → Option ℕ) where
-  pub draw_keeps : (k : Terms T) (n id : ℕ) (me : Me (Option T) (View E)) → k.callers * k.turns < 2 ^ 62 → me.0.has_number ≡ true → me.0.has_ticket ≡ false → me.0.holds ≡ false → 0 < me.0.turns
+  pub draw_keeps : (k : Terms T) (n id : ℕ) (me : Me (Option T) (View E))
+      → k.callers * k.turns < 2 ^ 62 → me.0.has_number ≡ true → me.0.has_ticket ≡ false
+      → me.0.holds ≡ false → 0 < me.0.turns
       → Allows (LockRule entries number k) n id me 1 (λ m. (m + 1) % 2 ^ 64) (Draws (step n 1 1 0 none) me)
   draw_keeps k n id me small is idle free left s r one at fits =
       let x : ℕ = get_or s.words 1 0 in

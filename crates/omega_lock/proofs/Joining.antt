@@ -1,9 +1,11 @@
--- A seat that another is joined to keeps the rule.
-use Rattle.std.proofs.Common.{◌≡◌, ◌⊎◌, ℕ, ◌+◌, ◌≤◌, List, [], ◌∷◌, ◌++◌, length, set, get_or, sym, refl, ap, ◌∙◌, subst, arith, length-append, append_assoc, inl, inr, true, Option, ⊎_elim, Bool}
+-- A seat that another is joined to keeps the rule: it answers for the numbers of both.
+use Rattle.std.proofs.Common.{◌≡◌, ◌⊎◌, ℕ, ◌+◌, ◌≤◌, List, [], ◌∷◌, ◌++◌, length, set, get_or, sym, refl, ap, ◌∙◌, subst, arith, length-append, append_assoc, inl, inr, true, Option, ⊎_elim, Bool, le-leb}
 use Rattle.std.specs.Prelude.{sum_by, if◌then◌else◌}
 use Rattle.std.proofs.lemmas.List.Sums.{sum_by-append}
+use Rattle.std.proofs.lemmas.Bool.{lt-leb}
 use mathlib.Core.Option.{some}
 use mathlib.Core.Logic.{dite}
+use native.Mathlib.Decide.{dec_le}
 use lib.ListN.{get_elem?}
 use Rattle.atomic_table.specs.Table.{Joins}
 use Rattle.atomic_table.proofs.Lists.{set_else}
@@ -13,19 +15,19 @@ use Rattle.omega_lock.specs.Lists.{EachHasItsEntries, StartsWith, entries_since,
 use Rattle.omega_lock.specs.Views.{Rests, answers, holding, joined, lists, longer, own_list, spent, telling, ticket_is, ticketed}
 use Rattle.omega_lock.specs.Rule.{Fits, LockRule, first_list}
 use Rattle.omega_lock.proofs.Sums.{total_set, each_set}
+use Rattle.omega_lock.proofs.SeatLists.{own_is_all}
 use Rattle.omega_lock.proofs.Entries.{starts_between, since_starts, listed_both, starts_each_both}
-use Rattle.std.proofs.Common.{le-leb}
-use Rattle.std.proofs.lemmas.Bool.{lt-leb}
-use native.Mathlib.Decide.{dec_le}
 
 module _ {E : Type 0} where
-  pub longer_is : (xs ys : List E) → ((longer xs ys ≡ xs) × (length ys ≤ length xs)) ⊎ ((longer xs ys ≡ ys) × (length xs ≤ length ys))
+  pub longer_is : (xs ys : List E)
+      → ((longer xs ys ≡ xs) × (length ys ≤ length xs)) ⊎ ((longer xs ys ≡ ys) × (length xs ≤ length ys))
   longer_is xs ys = dite (dec_le (length ys) (length xs))
       (λ h. inl (rw (le-leb (length ys) (length xs) h) refl, h))
       (λ h. inr (rw (lt-leb (length ys) (length xs) (omega (arith, h))) refl, omega (arith, h)))
 
   -- of two beginnings of one list the longer begins with the shorter
-  pub begins_longer : (l a b : List E) → StartsWith l a → StartsWith l b → length b ≤ length a → StartsWith a b
+  pub begins_longer : (l a b : List E) → StartsWith l a → StartsWith l b → length b ≤ length a
+      → StartsWith a b
   begins_longer l a [] s t h = (a, refl)
   begins_longer l [] (y ∷ ys) s t h = absurd (omega arith)
   begins_longer [] (x ∷ xs) (y ∷ ys) s t h = absurd (omega (arith, ap length s.1 ∙ length-append (x ∷ xs) s.0))
@@ -63,7 +65,7 @@ module _ {T E : Type 0} (entries : T → List E) (number : E → Option ℕ) whe
       let told_sum' = total_set telling (set s.views id both) other w spent at' in
       let w_told : telling w ≡ 0 = rw still.3 refl in
       let all : lists both ≡ lists v ++ lists w = sym (append_assoc (own_list v) v.kept (lists w)) in
-      let own : v.own ≡ entries_since number b v.number r.log = first_listed v b r.log is f.listed in
+      let own : v.own ≡ entries_since number b v.number r.log = own_is_all number v b r.log is f.listed in
       let seen : StartsWith r.log both.seen = ⊎_elim
       (λ (h : (longer v.seen w.seen ≡ v.seen) × (length w.seen ≤ length v.seen)). subst (StartsWith r.log) (sym h.0) f.seen)
       (λ (h : (longer v.seen w.seen ≡ w.seen) × (length v.seen ≤ length w.seen)). subst (StartsWith r.log) (sym h.0) g.seen)
@@ -122,6 +124,3 @@ module _ {T E : Type 0} (entries : T → List E) (number : E → Option ℕ) whe
             };
         home = λ none_holds. r.home (omega (arith, holders, holders', w_holds, none_holds));
       }
-    where
-      first_listed : (v : View E) (b : ℕ) (log : List E) → v.has_number ≡ true → EachHasItsEntries number b log (lists v) → v.own ≡ entries_since number b v.number log
-      first_listed v b log is l = let m : EachHasItsEntries number b log ((v.number, v.own) ∷ v.kept) = subst (λ (z : Bool). EachHasItsEntries number b log ((if z then (v.number, v.own) ∷ [] else []) ++ v.kept)) is l in m.0

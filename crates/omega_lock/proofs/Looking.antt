@@ -1,4 +1,4 @@
--- A seat that look_keeps at the ticket served, and one that read_keeps the length of the list, keep the rule.
+-- A seat that looks whether its ticket is served keeps the rule: where it is, the turn is the seat's, with the slot.
 use Rattle.std.proofs.Common.{◌≡◌, ℕ, ◌≤◌, List, [], ◌∷◌, ◌++◌, length, set, get_or, sym, refl, ap, ◌∙◌, subst, arith, length-set, true, false, Some, Option, Bool}
 use Rattle.std.specs.Prelude.{sum_by, if◌then◌else◌}
 use mathlib.Core.Option.{some, none}
@@ -18,7 +18,9 @@ use Rattle.omega_lock.proofs.Entries.{starts_self}
 
 module _ {T E : Type 0} (entries : T → List E) (number : E → Option ℕ) where
   -- the seat whose ticket is served takes the slot
-  served_now : (k : Terms T) (s : State (Option T) (View E)) (r : LockRule entries number k s) (id : ℕ) (v : View E) → get_elem? s.views id ≡ some v → v.has_ticket ≡ true → v.holds ≡ false → v.read ≡ false → get_or s.words 2 0 ≡ v.ticket
+  served_now : (k : Terms T) (s : State (Option T) (View E)) (r : LockRule entries number k s) (id : ℕ) (v : View E)
+      → get_elem? s.views id ≡ some v → v.has_ticket ≡ true → v.holds ≡ false → v.read ≡ false
+      → get_or s.words 2 0 ≡ v.ticket
       → (y : T) × (get_elem? s.homes 0 ≡ some (some (Some y))) × LockRule entries number k (record { words = s.words; homes = set s.homes 0 none; views = set s.views id (record v { holds = true; held = entries y }) })
   served_now k s r id v at has_ticket free unread hit =
       let b : ℕ = length (first_list entries k) in
@@ -67,11 +69,14 @@ module _ {T E : Type 0} (entries : T → List E) (number : E → Option ℕ) whe
         },
       )
     where
-      bounded : (u : View E) → Fits number (length (first_list entries k)) (get_or s.words 2 0) r.log u → (h : Bool) → u.holds ≡ h → holding u ≤ ticket_is (get_or s.words 2 0) u
+      bounded : (u : View E)
+          → Fits number (length (first_list entries k)) (get_or s.words 2 0) r.log u → (h : Bool)
+          → u.holds ≡ h → holding u ≤ ticket_is (get_or s.words 2 0) u
       bounded u g false is = rw is (omega arith)
       bounded u g true is = let t = g.turn is in let c = same-same (get_or s.words 2 0) in rw (is, t.0, t.1) (omega (arith, c))
 
-  pub look_keeps : (k : Terms T) (n id : ℕ) (me : Me (Option T) (View E)) → me.0.has_ticket ≡ true → me.0.holds ≡ false → me.0.read ≡ false
+  pub look_keeps : (k : Terms T) (n id : ℕ) (me : Me (Option T) (View E)) → me.0.has_ticket ≡ true
+      → me.0.holds ≡ false → me.0.read ≡ false
       → Allows (LockRule entries number k) n id me 2 (λ m. m) (Looks entries (step n 2 0 0 none) me)
   look_keeps k n id me has_ticket free unread s r one at fits =
       rw (set_word s.words 2) (
@@ -79,52 +84,3 @@ module _ {T E : Type 0} (entries : T → List E) (number : E → Option ℕ) whe
       (λ hit. let t = served_now k s r id me.0 at has_ticket free unread hit in (record me.0 { holds = true; held = entries t.0 }, takes 0 (Some t.0), t.1, t.2, ((λ _. (t.0, refl)), λ miss. absurd (miss hit))))
       (λ miss. (me.0, keeps, tt, rw (set_again s.views id me.0 at) r, ((λ hit. absurd (miss hit)), λ _. refl)))
       )
-
-  pub read_keeps : (k : Terms T) (n id : ℕ) (me : Me (Option T) (View E)) → me.0.has_number ≡ true → me.0.holds ≡ true
-      → Allows (LockRule entries number k) n id me 3 (λ m. m) (Reads number (step n 3 0 0 none) me)
-  read_keeps k n id me is holds s r one at fits =
-      let b : ℕ = length (first_list entries k) in
-      let v : View E = me.0 in
-      let f = r.fits id v at in
-      let held : v.held ≡ r.log = (f.turn holds).2 in
-      let w : View E = record v { read = true; seen = v.held } in
-      let turns = total_set (λ (u : View E). u.turns) s.views id v w at in
-      let holders = total_set holding s.views id v w at in
-      let told_sum = total_set telling s.views id v w at in
-      let own : v.own ≡ entries_since number b v.number r.log = first_listed v b r.log is f.listed in
-      rw (set_word s.words 3) (
-        w,
-        keeps,
-        tt,
-        record {
-          log = r.log;
-          four_words = r.four_words;
-          one_slot = r.one_slot;
-          from_first = r.from_first;
-          few = r.few;
-          turns = omega (arith, turns, r.turns);
-          tickets = λ m. let t = total_set (ticket_is m) s.views id v w at in omega (arith, t, r.tickets m);
-          queue = let t = total_set ticketed s.views id v w at in omega (arith, t, r.queue);
-          numbers = λ m. let t = total_set (answers m) s.views id v w at in omega (arith, t, r.numbers m);
-          long = r.long;
-          slow = omega (arith, told_sum, r.slow);
-          single = omega (arith, holders, r.single);
-          given = r.given;
-          fits = each_set (Fits number b (get_or s.words 2 0) r.log) s.views id w (λ j u ne e. r.fits j u e) record {
-            seen = rw held (starts_self r.log);
-            idle = f.idle;
-            based = f.based;
-            mine = λ e. rw held own;
-            listed = f.listed;
-            also_seen = f.also_seen;
-            turn = f.turn;
-            read = λ h. (holds, held);
-            tells = λ h. refl;
-          };
-          home = λ none_holds. r.home (omega (arith, holders, none_holds));
-        },
-        (refl, r.long ∙ ap length (sym held), rw held f.seen, rw (held, f.based is) own),
-      )
-    where
-      first_listed : (v : View E) (b : ℕ) (log : List E) → v.has_number ≡ true → EachHasItsEntries number b log (lists v) → v.own ≡ entries_since number b v.number log
-      first_listed v b log is l = let m : EachHasItsEntries number b log ((v.number, v.own) ∷ v.kept) = subst (λ (z : Bool). EachHasItsEntries number b log ((if z then (v.number, v.own) ∷ [] else []) ++ v.kept)) is l in m.0

@@ -1,10 +1,11 @@
--- A seat that gets a number, and a seat that is split off, keep the rule.
+-- A seat that asks for a number keeps the rule: it gets the number, with its turns, where that is the next.
 use Rattle.std.proofs.Common.{◌≡◌, ℕ, ◌+◌, ◌*◌, ◌<◌, List, [], ◌∷◌, ◌++◌, length, drop, set, get_or, sym, refl, ap, ◌∙◌, subst, arith, length-set, length-append, get_or-set_other, get_or-set_same, true, false, Option, ⊎_elim}
-use Rattle.std.specs.Prelude.{sum_by}
+use Rattle.std.specs.Prelude.{sum_by, ◌==◌}
 use Rattle.std.proofs.lemmas.List.Sums.{sum_by-cons, sum_by-append}
 use mathlib.Core.Option.{some, none}
 use lib.ListN.{get_elem?}
-use Rattle.atomic_table.specs.Table.{State, Me, step, keeps, takes, gives, Allows, Splits, Joins, stepped}
+use prog.Atomic.{either}
+use Rattle.atomic_table.specs.Table.{State, Me, step, keeps, takes, gives, Allows, Splits, Joins, stepped, Act, Valid, carried_after}
 use Rattle.atomic_table.proofs.Lists.{set_again, at_snoc, exchanged}
 use Rattle.omega_lock.specs.declared.view.View.{View}
 use Rattle.omega_lock.specs.declared.rule.Terms.{Terms}
@@ -13,10 +14,7 @@ use Rattle.omega_lock.specs.Views.{answers, holding, split_off, telling, ticket_
 use Rattle.omega_lock.specs.Rule.{Fits, LockRule, first_list}
 use Rattle.omega_lock.specs.Steps.{Numbers}
 use Rattle.omega_lock.proofs.Sums.{below_more, total_set, set_word, each_set}
-use Rattle.omega_lock.proofs.Entries.{since_starts, given_more}
-use prog.Atomic.{either}
-use Rattle.std.specs.Prelude.{◌==◌}
-use Rattle.omega_lock.proofs.Entries.{given_none}
+use Rattle.omega_lock.proofs.Entries.{since_starts, given_more, given_none}
 
 nothing_before : {E : Type 0} (a b : List E) → StartsWith a b → a ≡ [] → b ≡ []
 nothing_before a [] s e = refl
@@ -24,8 +22,10 @@ nothing_before a (x ∷ xs) s e = let h = ap length (sym e ∙ s.1) in let g = l
 
 module _ {T E : Type 0} (entries : T → List E) (number : E → Option ℕ) where
   -- the word is i, and the seat gets the number i
-  given_now : (k : Terms T) (s : State (Option T) (View E)) (r : LockRule entries number k s) (id i : ℕ) (v : View E) → get_elem? s.views id ≡ some v → v.has_number ≡ false → v.holds ≡ false → v.kept ≡ []
-      → v.allotted ≡ k.turns → v.first_length ≡ length (first_list entries k) → i < k.callers → get_or s.words 0 0 ≡ i
+  given_now : (k : Terms T) (s : State (Option T) (View E)) (r : LockRule entries number k s) (id i : ℕ) (v : View E)
+      → get_elem? s.views id ≡ some v → v.has_number ≡ false → v.holds ≡ false → v.kept ≡ []
+      → v.allotted ≡ k.turns → v.first_length ≡ length (first_list entries k) → i < k.callers
+      → get_or s.words 0 0 ≡ i
       → LockRule entries number k (record { words = set s.words 0 (i + 1); homes = s.homes; views = set s.views id (record v { has_number = true; number = i; turns = v.allotted; own = [] }) })
   given_now k s r id i v at anon free nothing pays base few hit =
       let w : View E = record v { has_number = true; number = i; turns = v.allotted; own = [] } in
@@ -78,7 +78,8 @@ module _ {T E : Type 0} (entries : T → List E) (number : E → Option ℕ) whe
         home = λ none_holds. r.home (omega (arith, holders, none_holds));
       }
 
-  pub number_keeps : (k : Terms T) (n id i : ℕ) (me : Me (Option T) (View E)) → me.0.has_number ≡ false → me.0.holds ≡ false → me.0.kept ≡ []
+  pub number_keeps : (k : Terms T) (n id i : ℕ) (me : Me (Option T) (View E))
+      → me.0.has_number ≡ false → me.0.holds ≡ false → me.0.kept ≡ []
       → me.0.allotted ≡ k.turns → me.0.first_length ≡ length (first_list entries k) → i < k.callers
       → Allows (LockRule entries number k) n id me 0 (λ m. either (m == i) (i + 1) m) (Numbers (step n 0 i (i + 1) none) me)
   number_keeps k n id i me anon free nothing pays base few s r one at fits =
@@ -86,41 +87,6 @@ module _ {T E : Type 0} (entries : T → List E) (number : E → Option ℕ) whe
       let x : ℕ = get_or s.words 0 0 in
       let w : View E = record v { has_number = true; number = i; turns = v.allotted; own = [] } in
       exchanged x i (i + 1)
-      (λ y. (w : View E) × (a : Rattle.atomic_table.specs.Table.Act (Option T)) × Rattle.atomic_table.specs.Table.Valid s.homes me.1 a × LockRule entries number k (stepped s 0 y id me.1 w a) × Numbers (step n 0 i (i + 1) none) me x (w, Rattle.atomic_table.specs.Table.carried_after me.1 a))
+      (λ y. (w : View E) × (a : Act (Option T)) × Valid s.homes me.1 a × LockRule entries number k (stepped s 0 y id me.1 w a) × Numbers (step n 0 i (i + 1) none) me x (w, carried_after me.1 a))
       (λ hit. (w, keeps, tt, given_now k s r id i v at anon free nothing pays base few hit, ((λ _. refl), λ miss. absurd (miss hit))))
       (λ miss. (v, keeps, tt, rw (set_word s.words 0, set_again s.views id v at) r, ((λ hit. absurd (miss hit)), λ _. refl)))
-
-  pub split_keeps : (k : Terms T) (id : ℕ) (v : View E) → Splits (LockRule entries number k) id v v (split_off v)
-  split_keeps k id v s r at =
-      let w : View E = split_off v in
-      let b : ℕ = length (first_list entries k) in
-      let f = r.fits id v at in
-      let more : (g : View E → ℕ) → g w ≡ 0 → sum_by g (s.views ++ w ∷ []) ≡ sum_by g s.views = λ g z. let p = sum_by-append g s.views (w ∷ []) in let q = sum_by-cons g w [] in omega (arith, p, q, z) in
-      let anew : Fits number b (get_or s.words 2 0) r.log w = record {
-        seen = f.seen;
-        idle = λ _. (refl, refl);
-        based = λ e. absurd (cc e);
-        mine = λ e. absurd (cc e);
-        listed = tt;
-        also_seen = tt;
-        turn = λ e. absurd (cc e);
-        read = λ e. absurd (cc e);
-        tells = λ e. absurd (cc e);
-      } in
-      rw (set_again s.views id v at) record {
-        log = r.log;
-        four_words = r.four_words;
-        one_slot = r.one_slot;
-        from_first = r.from_first;
-        few = r.few;
-        turns = rw (more (λ (u : View E). u.turns) refl) r.turns;
-        tickets = λ m. rw (more (ticket_is m) refl) (r.tickets m);
-        queue = rw (more ticketed refl) r.queue;
-        numbers = λ m. rw (more (answers m) refl) (r.numbers m);
-        long = r.long;
-        slow = rw (more telling refl) r.slow;
-        single = rw (more holding refl) r.single;
-        given = r.given;
-        fits = λ j u e. ⊎_elim (λ (h : get_elem? s.views j ≡ some u). r.fits j u h) (λ (h : w ≡ u). subst (Fits number b (get_or s.words 2 0) r.log) h anew) (at_snoc s.views w u j e);
-        home = λ none_holds. r.home (sym (more holding refl) ∙ none_holds);
-      }

@@ -1,4 +1,4 @@
--- A seat that gives its turn to the next keeps the rule.
+-- A seat that passes the turn on keeps the rule: the value is back, and the next ticket is served.
 use Rattle.std.proofs.Common.{◌≡◌, ◌≢◌, ℕ, ◌+◌, ◌*◌, ◌%◌, ◌^◌, ◌<◌, ◌≤◌, List, [], ◌∷◌, length, set, get_or, sym, refl, ◌∙◌, arith, length-set, get_or-set_other, get_or-set_same, true, false, Some, Option, Bool, mul-le-mul_right}
 use mathlib.Core.Option.{some, none}
 use lib.ListN.{get_elem?}
@@ -13,7 +13,8 @@ use Rattle.omega_lock.specs.Steps.{Passes}
 use Rattle.omega_lock.proofs.Sums.{same-same, below_more, below_is, total_set, term_le, terms_le, each_set}
 
 module _ {T E : Type 0} (entries : T → List E) (number : E → Option ℕ) where
-  pub pass_keeps : (k : Terms T) (n id : ℕ) (me : Me (Option T) (View E)) (y : T) → k.callers * k.turns < 2 ^ 62
+  pub pass_keeps : (k : Terms T) (n id : ℕ) (me : Me (Option T) (View E)) (y : T)
+      → k.callers * k.turns < 2 ^ 62
       → me.1 ≡ (0, Some y) ∷ [] → me.0.has_number ≡ true → me.0.holds ≡ true → entries y ≡ me.0.held
       → Allows (LockRule entries number k) n id me 2 (λ m. (m + 1) % 2 ^ 64) (Passes (step n 2 1 0 none) me)
   pass_keeps k n id me y small slot is holds same_list s r one at fits =

@@ -1,10 +1,10 @@
--- A seat that publish_keeps, and one that gives its turn to the next, keep the rule.
+-- A seat that tells of one more entry keeps the rule: the list, what it has seen and its own list get that entry.
 use Rattle.std.proofs.Common.{◌≡◌, ◌≢◌, ℕ, ◌+◌, ◌*◌, ◌%◌, ◌^◌, ◌<◌, ◌≤◌, List, [], ◌∷◌, ◌++◌, length, drop, set, get_or, sym, refl, ap, ◌∙◌, subst, arith, length-set, length-append, get_or-set_other, get_or-set_same, true, false, Some, None, Option, Bool, mul-le-mul_right}
 use Rattle.std.specs.Prelude.{sum_by, if◌then◌else◌}
 use Rattle.std.proofs.lemmas.List.Sums.{sum_by-cons}
 use mathlib.Core.Option.{some, none}
 use mathlib.Core.Logic.{dite}
-use native.Mathlib.Decide.{ℕ_discrete}
+use native.Mathlib.Decide.{ℕ_discrete, dec_le}
 use lib.ListN.{get_elem?}
 use Rattle.atomic_table.specs.Table.{Me, State, step, keeps, Allows}
 use Rattle.omega_lock.specs.declared.view.View.{View}
@@ -14,6 +14,7 @@ use Rattle.omega_lock.specs.Views.{answers, holding, lists, telling, ticket_is, 
 use Rattle.omega_lock.specs.Rule.{Fits, LockRule, first_list}
 use Rattle.omega_lock.specs.Steps.{Publishes}
 use Rattle.omega_lock.proofs.Sums.{same-same, below-past, below-in, below_le, below_is, total_set, term_le, terms_le, sum_le, each_set}
+use Rattle.omega_lock.proofs.SeatLists.{own_first, own_and_kept}
 use Rattle.omega_lock.proofs.Entries.{starts_self, starts_trans, drop_more, starts_length, since_mine, listed_other, given_both, starts_each_more}
 
 -- the value that a seat holds
@@ -31,11 +32,10 @@ last_append [] e d = refl
 last_append (x ∷ xs) e d = last_append xs e x
 
 module _ {T E : Type 0} (entries : T → List E) (number : E → Option ℕ) where
-  own_first : (v : View E) → v.has_number ≡ true → lists v ≡ (v.number, v.own) ∷ v.kept
-  own_first v is = ap (λ (z : Bool). (if z then (v.number, v.own) ∷ [] else []) ++ v.kept) is
-
-  pub publish_keeps : (k : Terms T) (n id : ℕ) (me : Me (Option T) (View E)) (y : T) (e : E) → k.callers * k.turns < 2 ^ 62 → length (first_list entries k) < 2 ^ 63
-      → me.1 ≡ (0, Some y) ∷ [] → me.0.has_number ≡ true → me.0.holds ≡ true → me.0.read ≡ true → me.0.told ≡ false → entries y ≡ me.0.held ++ e ∷ [] → number e ≡ Some me.0.number
+  pub publish_keeps : (k : Terms T) (n id : ℕ) (me : Me (Option T) (View E)) (y : T) (e : E)
+      → k.callers * k.turns < 2 ^ 62 → length (first_list entries k) < 2 ^ 63
+      → me.1 ≡ (0, Some y) ∷ [] → me.0.has_number ≡ true → me.0.holds ≡ true → me.0.read ≡ true
+      → me.0.told ≡ false → entries y ≡ me.0.held ++ e ∷ [] → number e ≡ Some me.0.number
       → Allows (LockRule entries number k) n id me 3 (λ m. (m + 1) % 2 ^ 64) (Publishes entries number (step n 3 1 0 none) me)
   publish_keeps k n id me y e small short slot is holds read untold more by s r one at fits =
       let x : ℕ = get_or s.words 3 0 in
@@ -63,7 +63,7 @@ module _ {T E : Type 0} (entries : T → List E) (number : E → Option ℕ) whe
       let longer : length (log ++ e ∷ []) ≡ length log + 1 = length-append log (e ∷ []) in
       let base : b ≤ length log = starts_length log (first_list entries k) r.from_first in
       let grown : StartsWith (log ++ e ∷ []) log = (e ∷ [], refl) in
-      let ls : EachHasItsEntries number b log ((v.number, v.own) ∷ v.kept) = subst (EachHasItsEntries number b log) (own_first v is) f.listed in
+      let ls : EachHasItsEntries number b log ((v.number, v.own) ∷ v.kept) = own_and_kept number v b log is f.listed in
       let own_more : v.own ++ e ∷ [] ≡ entries_since number b v.number (log ++ e ∷ []) = ap (λ l. l ++ e ∷ []) ls.0 ∙ sym (since_mine number b v.number log e base by) in
       -- only this view answers for its number, and only once
       let mine : answers v.number v ≡ 1 + sum_by (λ (p : ℕ × List E). same v.number p.0) v.kept =
@@ -125,15 +125,19 @@ module _ {T E : Type 0} (entries : T → List E) (number : E → Option ℕ) whe
             rw (← same_list, ← same_entry) (refl, rw (f.based is) own_more),
       )
     where
-      tellers : {b x : ℕ} {log : List E} (u : View E) → Fits number b x log u → (h : Bool) → u.told ≡ h → telling u ≤ holding u
+      tellers : {b x : ℕ} {log : List E} (u : View E) → Fits number b x log u → (h : Bool)
+          → u.told ≡ h → telling u ≤ holding u
       tellers u g false t = rw t (omega arith)
       tellers u g true t = let h = (g.read (g.tells t)).0 in rw (t, h) (omega arith)
 
-      tickets_order : {k : Terms T} (s : State (Option T) (View E)) (r : LockRule entries number k s) → get_or s.words 2 0 ≤ get_or s.words 1 0
+      tickets_order : {k : Terms T} (s : State (Option T) (View E)) (r : LockRule entries number k s)
+          → get_or s.words 2 0 ≤ get_or s.words 1 0
       tickets_order s r = let a : ℕ = get_or s.words 1 0 in let c : ℕ = get_or s.words 2 0 in let t = r.tickets a in let z = below-past a a (omega arith) in
-          dite (native.Mathlib.Decide.dec_le c a) (λ h. h) (λ h. let i = below-in a c (omega (arith, h)) in absurd (omega (arith, t, z, i)))
+          dite (dec_le c a) (λ h. h) (λ h. let i = below-in a c (omega (arith, h)) in absurd (omega (arith, t, z, i)))
 
-      one_holder : {k : Terms T} (s : State (Option T) (View E)) (r : LockRule entries number k s) (i j : ℕ) (u t : View E) → get_elem? s.views i ≡ some u → get_elem? s.views j ≡ some t → u.holds ≡ true → t.holds ≡ true → i ≡ j
+      one_holder : {k : Terms T} (s : State (Option T) (View E)) (r : LockRule entries number k s) (i j : ℕ) (u t : View E)
+          → get_elem? s.views i ≡ some u → get_elem? s.views j ≡ some t → u.holds ≡ true
+          → t.holds ≡ true → i ≡ j
       one_holder s r i j u t g h p q = dite (ℕ_discrete i j) (λ e. e) (λ ne. let both = terms_le holding s.views j i t u ne h g in let a : holding u ≡ 1 = rw p refl in let c : holding t ≡ 1 = rw q refl in let z = r.single in absurd (omega (arith, both, a, c, z)))
 
       same_answers : (m : ℕ) (v : View E) (e : E) → v.has_number ≡ true → answers m (record v { own = v.own ++ e ∷ [] }) ≡ answers m v

@@ -13,7 +13,8 @@ module _ {E : Type 0} (number : E → Option ℕ) where
       (λ (h : (e : E) × (new ≡ old ++ e ∷ []) × (number e ≡ Some n)). h) may
 
 -- what a seat knows that has put the value back and then told of its entry
-pub has_told : {T E : Type 0} (v : View E) (slot : List (ℕ × Option T)) (mid new : Me (Option T) (View E)) (es own own' : List E) → mid ≡ (v, slot)
+pub has_told : {T E : Type 0} (v : View E) (slot : List (ℕ × Option T)) (mid new : Me (Option T) (View E)) (es own own' : List E)
+    → mid ≡ (v, slot)
     → new ≡ (record mid.0 { told = true; held = es; seen = es; own = own }, mid.1) → own ≡ own'
     → new ≡ (record v { told = new.0.told; held = es; seen = es; own = own' }, slot)
 has_told {T} {E} v slot mid new es own own' put told is =

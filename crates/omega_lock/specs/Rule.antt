@@ -74,11 +74,13 @@ module _ {T E : Type 0} (entries : T → List E) (number : E → Option ℕ) whe
     -- at most one seat holds the turn
     pub single : sum_by holding s.views ≤ 1
     -- while none does, the value is in the slot, and the list behind it is the list
-    pub home : sum_by holding s.views ≡ 0 → (y : T) × (get_elem? s.homes 0 ≡ some (some (Some y))) × (entries y ≡ log)
+    pub home : sum_by holding s.views ≡ 0
+        → (y : T) × (get_elem? s.homes 0 ≡ some (some (Some y))) × (entries y ≡ log)
     -- the length is that of the list, which a turn makes longer by one entry at most
     pub long : list_length s ≡ length log
     pub slow : list_length s ≤ length (first_list entries terms) + served s + sum_by telling s.views
     -- each entry since the beginning has a number that was given
     pub given : EachBelow number (numbers_given s) (drop (length (first_list entries terms)) log)
     -- each seat fits
-    pub fits : (j : ℕ) (v : View E) → get_elem? s.views j ≡ some v → Fits number (length (first_list entries terms)) (served s) log v
+    pub fits : (j : ℕ) (v : View E) → get_elem? s.views j ≡ some v
+        → Fits number (length (first_list entries terms)) (served s) log v

@@ -1,4 +1,4 @@
-use Rattle.std.proofs.Common.{rules, arith, ap, sym, ◌∙◌, ◌≡◌}
+use Rattle.std.proofs.Common.{rules, arith, ap, sym, ◌∙◌, ◌≡◌, length}
 use Rattle.omega_lock.proofs.Numbering.{number_keeps}
 use Rattle.omega_lock.proofs.lock.Lock.name.Goals as goal
 
@@ -10,5 +10,5 @@ compare_exchange-requires g c =
       search rules,
       search rules,
       number_keeps g.T.Counted.entries g.T.Counted.number _ _ _ _ _ (ap (λ v. v.has_number) v) (ap (λ v. v.holds) v) (ap (λ v. v.kept) v)
-          (ap (λ v. v.allotted) v ∙ ap (λ l. l.turns) (sym k)) (ap (λ v. v.first_length) v ∙ ap (λ l. Rattle.std.proofs.Common.length l.first) (sym k)) (let few = ap (λ l. l.callers) k in omega (arith, few, c.requires.number, c.from-number.ensures)),
+          (ap (λ v. v.allotted) v ∙ ap (λ l. l.turns) (sym k)) (ap (λ v. v.first_length) v ∙ ap (λ l. length l.first) (sym k)) (let few = ap (λ l. l.callers) k in omega (arith, few, c.requires.number, c.from-number.ensures)),
     )

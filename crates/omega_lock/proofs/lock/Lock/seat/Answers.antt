@@ -1,5 +1,5 @@
 use Rattle.std.proofs.Common.{rules}
-use Rattle.omega_lock.proofs.Numbering.{split_keeps}
+use Rattle.omega_lock.proofs.Splitting.{split_keeps}
 use Rattle.omega_lock.proofs.lock.Lock.seat.Goals as goal
 
 pub split_seat-token-requires : goal.split_seat-token-requires

@@ -1,7 +1,7 @@
 use Rattle.std.proofs.Common.{rules, ◌∙◌, ap, sym, ◌∷◌, Some}
 use Rattle.atomic_table.specs.Table.{rest}
 use Rattle.omega_lock.proofs.Drawing.{draw_keeps}
-use Rattle.omega_lock.proofs.Looking.{read_keeps}
+use Rattle.omega_lock.proofs.Reading.{read_keeps}
 use Rattle.omega_lock.proofs.lock.Lock.turn.Goals as goal
 
 pub fetch_add-ticket-requires : goal.fetch_add-ticket-requires
