@@ -76,7 +76,7 @@ module _ {T E : Type 0} (entries : T → List E) (number : E → Option ℕ) whe
       x = get_or s.words 0 0
 
       all_there : (n : ℕ) → n < x → 1 ≤ answers n v
-      all_there n lt = pigeons (λ (p : ℕ × List E). p.0) x 0 n (lists v)
+      all_there n lt = pigeons (λ (p : ℕ × List E). p.0) x n (lists v)
           (λ m. let a = term_le (answers m) s.views id v at in let b = r.numbers m in omega (arith, a, b))
           (λ m. let a = term_le (answers m) s.views id v at in let b = r.numbers m in let c = below_le m x in omega (arith, a, b, c))
           (let f = r.few in omega (arith, f, all)) lt
@@ -112,11 +112,6 @@ module _ {E : Type 0} where
     subst (In (w.number, w.own)) (append_assoc (own_list v) v.kept (lists w)) (in_right (w.number, w.own) (lists v) (lists w) (subst (λ (z : Bool). In (w.number, w.own) ((if z then (w.number, w.own) ∷ [] else []) ++ w.kept)) (sym is) (inl refl))),
     inr (inr (inl refl)),
   )
-
-  -- a seat is kept by its own view
-  pub has_first : (of : TableId) (v : View E) (s : SeatState E)
-      → v.has_number ≡ true → seat_state of v ≡ s → Has v s
-  has_first of v s is same_seat = subst (Has v) same_seat (subst (λ (z : Bool). In (v.number, v.own) ((if z then (v.number, v.own) ∷ [] else []) ++ v.kept)) (sym is) (inl refl), inl refl)
 
   -- two lists of kept seats together
   pub gathered_more : (v : View E) (ss ts : List (SeatState E)) → HasAll v ss → HasAll v ts

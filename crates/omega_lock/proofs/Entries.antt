@@ -34,11 +34,6 @@ module _ {E : Type 0} where
   drop_more (suc n) [] b h = absurd (omega arith)
   drop_more (suc n) (x ∷ xs) b h = drop_more n xs b (omega arith)
 
-  -- nothing comes behind all entries
-  pub drop_whole : (l : List E) → drop (length l) l ≡ []
-  drop_whole [] = refl
-  drop_whole (x ∷ xs) = drop_whole xs
-
   -- a list that goes on from another is no shorter
   pub starts_length : (a b : List E) → StartsWith a b → length b ≤ length a
   starts_length a b s = let h = ap length s.1 ∙ length-append b s.0 in omega (arith, h)

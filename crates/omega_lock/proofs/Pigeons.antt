@@ -63,8 +63,8 @@ module _ {A : Type 0} (f : A → ℕ) where
       (λ ne. let a = spread_lt m n ps h (omega (arith, lt, ne)) z in let b = h m in omega (arith, a, b))
 
   -- no number is left out
-  pub pigeons : (m c n : ℕ) (ps : List A)
+  pub pigeons : (m n : ℕ) (ps : List A)
       → ((n : ℕ) → sum_by (λ p. same n (f p)) ps ≤ below n m) → ((n : ℕ) → sum_by (λ p. same n (f p)) ps ≤ 1) → m ≤ length ps
       → n < m → 1 ≤ sum_by (λ p. same n (f p)) ps
-  pigeons m c n ps h once long lt = dite (dec_le 1 (times n ps)) (λ e. e)
+  pigeons m n ps h once long lt = dite (dec_le 1 (times n ps)) (λ e. e)
       (λ ne. let a = spread-all m ps h in let b = spread_lt m n ps once lt (omega (arith, ne)) in absurd (omega (arith, a, b, long)))

@@ -85,12 +85,6 @@ module _ {V : Type 0} where
   sum_gap f g (x ∷ xs) zero v e h = let a : f x ≡ f v = ap f (some-injective x v e) in let c : g x ≡ g v = ap g (some-injective x v e) in let b = sum_le f g xs (λ j u d. h (suc j) u d) in omega (arith, a, b, c, sum_by-cons f x xs, sum_by-cons g x xs)
   sum_gap f g (x ∷ xs) (suc i) v e h = let a = h zero x refl in let b = sum_gap f g xs i v e (λ j u d. h (suc j) u d) in omega (arith, a, b, sum_by-cons f x xs, sum_by-cons g x xs)
 
-  -- a seat that is there has a place below the length
-  pub in_range : (l : List V) (i : ℕ) (u : V) → get_elem? l i ≡ some u → i < length l
-  in_range [] i u e = absurd (some-ne-none u (sym e))
-  in_range (x ∷ xs) zero u e = omega arith
-  in_range (x ∷ xs) (suc i) u e = let h = in_range xs i u e in omega (arith, h)
-
 -- a word that becomes what it was
 pub set_word : (l : List ℕ) (i : ℕ) → set l i (get_or l i 0) ≡ l
 set_word [] i = refl
