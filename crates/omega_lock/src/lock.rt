@@ -21,6 +21,7 @@ pub struct NoMemory;
 ///
 /// A contract sees which lock it is, for how many callers, how many turns each was given, and the
 /// value's list when it began.
+#[derive(Drop)]
 pub struct Lock<T: Counted> {
     pub(crate) table: Table<Option<T>, View<T::Entry>, Terms<T>, Turns<T>, Global>,
 }

@@ -3,7 +3,6 @@ ghost use Rattle.std.specs.Prelude.{◌≡◌, ◌≤◌, false, Some};
 
 use crate::{Counted, Lock, Seat};
 use std::alloc::Global;
-use std::process::Abort;
 use std::sync::Wait;
 use std::thread;
 use std::thread::Threads;
@@ -45,14 +44,14 @@ fn take_turns<R: Wait>(rt: &R, lock: &Lock<Tally>, mut seat: Seat<Tally>) -> Sea
 }
 
 // What callers leave that each take all turns in a thread of their own, but for the idle ones, which
-// have the least numbers.
-fn count_turns<R: Threads + Wait + Abort + Sync>(
+// have the least numbers. Where memory runs out there is nothing, and the lock is dropped.
+fn count_turns<R: Threads + Wait + Sync>(
     rt: &R,
     alloc: Global,
     callers: u32,
     turns: u32,
     idle: u32,
-) -> Tally
+) -> Option<Tally>
     requires { (1 ≤ callers) × (callers ≤ 32) }
 {
     let tally = Tally {
@@ -60,7 +59,7 @@ fn count_turns<R: Threads + Wait + Abort + Sync>(
         raised: 0,
     };
     let Ok((lock, seats)) = Lock::begin(rt, alloc, tally, callers, turns) else {
-        panic!(rt; "no memory");
+        return None;
     };
     let seats = thread::map_vec(rt, seats, &|seat: Seat<Tally>| -> Seat<Tally>
         requires { (seat.of ≡ lock.of) × (seat.holds ≡ false) }
@@ -72,7 +71,7 @@ fn count_turns<R: Threads + Wait + Abort + Sync>(
             take_turns(rt, &lock, seat)
         }
     });
-    lock.close(seats.expect(rt, "memory"))
+    Some(lock.close(seats.ok()?))
 }
 
 // How many entries of a number there are.
@@ -82,7 +81,7 @@ fn entries_of(tally: &Tally, number: u32) -> usize {
 
 #[test]
 fn two_callers(rt: HostRuntime) {
-    let tally = count_turns(&rt, rt.alloc(), 2, 1000, 0);
+    let tally = count_turns(&rt, rt.alloc(), 2, 1000, 0).expect(&rt, "memory");
     assert_eq!(rt; tally.raised, 2000);
     assert_eq!(rt; entries_of(&tally, 0), 1000);
     assert_eq!(rt; entries_of(&tally, 1), 1000);
@@ -90,7 +89,7 @@ fn two_callers(rt: HostRuntime) {
 
 #[test]
 fn as_many_callers_as_can_be(rt: HostRuntime) {
-    let tally = count_turns(&rt, rt.alloc(), 32, 100, 0);
+    let tally = count_turns(&rt, rt.alloc(), 32, 100, 0).expect(&rt, "memory");
     assert_eq!(rt; tally.raised, 3200);
     for number in 0..32 {
         assert_eq!(rt; entries_of(&tally, number), 100);
@@ -99,7 +98,7 @@ fn as_many_callers_as_can_be(rt: HostRuntime) {
 
 #[test]
 fn a_caller_that_does_nothing(rt: HostRuntime) {
-    let tally = count_turns(&rt, rt.alloc(), 3, 1000, 1);
+    let tally = count_turns(&rt, rt.alloc(), 3, 1000, 1).expect(&rt, "memory");
     assert_eq!(rt; tally.raised, 2000);
     assert_eq!(rt; entries_of(&tally, 0), 0);
     assert_eq!(rt; entries_of(&tally, 1), 1000);
