@@ -1,6 +1,6 @@
 -- A seat that another is joined to keeps the rule: it answers for the numbers of both.
-use Rattle.std.proofs.Common.{◌≡◌, ◌⊎◌, ℕ, ◌+◌, ◌≤◌, List, [], ◌∷◌, ◌++◌, length, set, get_or, sym, refl, ap, ◌∙◌, subst, arith, length-append, append_assoc, inl, inr, true, Option, ⊎_elim, Bool, le-leb}
-use Rattle.std.specs.Prelude.{sum_by, if◌then◌else◌}
+use Rattle.std.proofs.Common.{◌≡◌, ◌⊎◌, ℕ, ◌+◌, ◌≤◌, List, [], ◌∷◌, ◌++◌, length, set, get_or, sym, refl, ap, ◌∙◌, subst, arith, length-append, append_assoc, inl, inr, true, Option, ⊎_elim, le-leb}
+use Rattle.std.specs.Prelude.{sum_by}
 use Rattle.std.proofs.lemmas.List.Sums.{sum_by-append}
 use Rattle.std.proofs.lemmas.Bool.{lt-leb}
 use mathlib.Core.Option.{some}
@@ -11,7 +11,7 @@ use Rattle.atomic_table.specs.Table.{Joins}
 use Rattle.atomic_table.proofs.Lists.{set_else}
 use Rattle.omega_lock.specs.declared.view.View.{View}
 use Rattle.omega_lock.specs.declared.rule.Terms.{Terms}
-use Rattle.omega_lock.specs.Lists.{EachHasItsEntries, StartsWith, entries_since, same}
+use Rattle.omega_lock.specs.Lists.{StartsWith, entries_since, same}
 use Rattle.omega_lock.specs.Views.{Rests, answers, holding, joined, lists, longer, own_list, spent, telling, ticket_is, ticketed}
 use Rattle.omega_lock.specs.Rule.{Fits, LockRule, first_list}
 use Rattle.omega_lock.proofs.Sums.{total_set, each_set}

@@ -1,6 +1,6 @@
 -- A seat that looks whether its ticket is served keeps the rule: where it is, the turn is the seat's, with the slot.
-use Rattle.std.proofs.Common.{◌≡◌, ℕ, ◌≤◌, List, [], ◌∷◌, ◌++◌, length, set, get_or, sym, refl, ap, ◌∙◌, subst, arith, length-set, true, false, Some, Option, Bool}
-use Rattle.std.specs.Prelude.{sum_by, if◌then◌else◌}
+use Rattle.std.proofs.Common.{◌≡◌, ℕ, ◌≤◌, List, length, set, get_or, sym, refl, ◌∙◌, arith, length-set, true, false, Some, Option, Bool}
+use Rattle.std.specs.Prelude.{sum_by}
 use mathlib.Core.Option.{some, none}
 use mathlib.Core.Logic.{dite}
 use native.Mathlib.Decide.{ℕ_discrete}
@@ -9,12 +9,10 @@ use Rattle.atomic_table.specs.Table.{Me, State, step, keeps, takes, Allows}
 use Rattle.atomic_table.proofs.Lists.{set_again}
 use Rattle.omega_lock.specs.declared.view.View.{View}
 use Rattle.omega_lock.specs.declared.rule.Terms.{Terms}
-use Rattle.omega_lock.specs.Lists.{EachHasItsEntries, entries_since}
-use Rattle.omega_lock.specs.Views.{answers, holding, lists, telling, ticket_is, ticketed}
+use Rattle.omega_lock.specs.Views.{answers, holding, telling, ticket_is, ticketed}
 use Rattle.omega_lock.specs.Rule.{Fits, LockRule, first_list}
-use Rattle.omega_lock.specs.Steps.{Looks, Reads}
+use Rattle.omega_lock.specs.Steps.{Looks}
 use Rattle.omega_lock.proofs.Sums.{same-same, below_le, total_set, sum_gap, set_word, each_set}
-use Rattle.omega_lock.proofs.Entries.{starts_self}
 
 module _ {T E : Type 0} (entries : T → List E) (number : E → Option ℕ) where
   -- the seat whose ticket is served takes the slot

@@ -1,16 +1,15 @@
 -- A seat that asks for a number keeps the rule: it gets the number, with its turns, where that is the next.
-use Rattle.std.proofs.Common.{◌≡◌, ℕ, ◌+◌, ◌*◌, ◌<◌, List, [], ◌∷◌, ◌++◌, length, drop, set, get_or, sym, refl, ap, ◌∙◌, subst, arith, length-set, length-append, get_or-set_other, get_or-set_same, true, false, Option, ⊎_elim}
+use Rattle.std.proofs.Common.{◌≡◌, ℕ, ◌+◌, ◌*◌, ◌<◌, List, [], ◌∷◌, length, drop, set, get_or, sym, refl, ap, ◌∙◌, arith, length-set, length-append, get_or-set_other, get_or-set_same, true, false, Option}
 use Rattle.std.specs.Prelude.{sum_by, ◌==◌}
-use Rattle.std.proofs.lemmas.List.Sums.{sum_by-cons, sum_by-append}
 use mathlib.Core.Option.{some, none}
 use lib.ListN.{get_elem?}
 use prog.Atomic.{either}
-use Rattle.atomic_table.specs.Table.{State, Me, step, keeps, takes, gives, Allows, Splits, Joins, stepped, Act, Valid, carried_after}
-use Rattle.atomic_table.proofs.Lists.{set_again, at_snoc, exchanged}
+use Rattle.atomic_table.specs.Table.{State, Me, step, keeps, Allows, stepped, Act, Valid, carried_after}
+use Rattle.atomic_table.proofs.Lists.{set_again, exchanged}
 use Rattle.omega_lock.specs.declared.view.View.{View}
 use Rattle.omega_lock.specs.declared.rule.Terms.{Terms}
 use Rattle.omega_lock.specs.Lists.{EachBelow, StartsWith, below, entries_since, same}
-use Rattle.omega_lock.specs.Views.{answers, holding, split_off, telling, ticket_is, ticketed}
+use Rattle.omega_lock.specs.Views.{answers, holding, telling, ticket_is, ticketed}
 use Rattle.omega_lock.specs.Rule.{Fits, LockRule, first_list}
 use Rattle.omega_lock.specs.Steps.{Numbers}
 use Rattle.omega_lock.proofs.Sums.{below_more, total_set, set_word, each_set}

@@ -1,22 +1,16 @@
 -- A seat that holds the turn and reads the length of the list keeps the rule: it has then seen the whole list.
-use Rattle.std.proofs.Common.{◌≡◌, ℕ, ◌≤◌, List, [], ◌∷◌, ◌++◌, length, set, get_or, sym, refl, ap, ◌∙◌, subst, arith, length-set, true, false, Some, Option, Bool}
-use Rattle.std.specs.Prelude.{sum_by, if◌then◌else◌}
-use mathlib.Core.Option.{some, none}
-use mathlib.Core.Logic.{dite}
-use native.Mathlib.Decide.{ℕ_discrete}
-use lib.ListN.{get_elem?}
-use Rattle.atomic_table.specs.Table.{Me, State, step, keeps, takes, Allows}
-use Rattle.atomic_table.proofs.Lists.{set_again}
+use Rattle.std.proofs.Common.{◌≡◌, ℕ, List, length, get_or, sym, refl, ap, ◌∙◌, arith, true, Option}
+use mathlib.Core.Option.{none}
+use Rattle.atomic_table.specs.Table.{Me, step, keeps, Allows}
 use Rattle.omega_lock.specs.declared.view.View.{View}
 use Rattle.omega_lock.specs.declared.rule.Terms.{Terms}
-use Rattle.omega_lock.specs.Lists.{EachHasItsEntries, entries_since}
-use Rattle.omega_lock.specs.Views.{answers, holding, lists, telling, ticket_is, ticketed}
+use Rattle.omega_lock.specs.Lists.{entries_since}
+use Rattle.omega_lock.specs.Views.{answers, holding, telling, ticket_is, ticketed}
 use Rattle.omega_lock.specs.Rule.{Fits, LockRule, first_list}
-use Rattle.omega_lock.specs.Steps.{Looks, Reads}
-use Rattle.omega_lock.proofs.Sums.{same-same, below_le, total_set, sum_gap, set_word, each_set}
+use Rattle.omega_lock.specs.Steps.{Reads}
+use Rattle.omega_lock.proofs.Sums.{total_set, set_word, each_set}
 use Rattle.omega_lock.proofs.Entries.{starts_self}
 use Rattle.omega_lock.proofs.SeatLists.{own_is_all}
-
 
 module _ {T E : Type 0} (entries : T → List E) (number : E → Option ℕ) where
   pub read_keeps : (k : Terms T) (n id : ℕ) (me : Me (Option T) (View E)) → me.0.has_number ≡ true

@@ -1,5 +1,5 @@
 -- What each kind of step tells the seat that makes it. A seat is its view, and the slot while it has that.
-use Rattle.std.specs.Prelude.{◌≡◌, ◌≢◌, ℕ, ◌+◌, Bool, true, false, List, [], ◌∷◌, ◌++◌, length, Option, Some}
+use Rattle.std.specs.Prelude.{◌≡◌, ◌≢◌, ℕ, ◌+◌, true, false, List, [], ◌∷◌, ◌++◌, length, Option, Some}
 use Rattle.atomic_table.specs.Table.{Me, Step, rest}
 use Rattle.omega_lock.specs.declared.view.View.{View}
 use Rattle.omega_lock.specs.Lists.{StartsWith, entries_since}
@@ -42,8 +42,8 @@ abbrev pub HasPublished : {T E : Type 0} → (T → List E) → (E → Option �
     → Me (Option T) (View E) → Type 0
 HasPublished {T} {E} entries number old new =
     (y : T) (e : E) → old.1 ≡ (0, Some y) ∷ [] → entries y ≡ old.0.held ++ e ∷ []
-      → (new ≡ (record old.0 { told = true; held = entries y; seen = entries y; own = old.0.own ++ e ∷ [] }, old.1))
-      × (old.0.own ++ e ∷ [] ≡ entries_since number old.0.first_length old.0.number (entries y))
+    → (new ≡ (record old.0 { told = true; held = entries y; seen = entries y; own = old.0.own ++ e ∷ [] }, old.1))
+    × (old.0.own ++ e ∷ [] ≡ entries_since number old.0.first_length old.0.number (entries y))
 
 abbrev pub Publishes : {T E : Type 0} → (T → List E) → (E → Option ℕ) → Step (Option T)
     → Me (Option T) (View E) → ℕ → Me (Option T) (View E) → Type 0

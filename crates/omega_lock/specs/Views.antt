@@ -1,5 +1,5 @@
 -- What seats know, counted over all of them.
-use Rattle.std.specs.Prelude.{◌≡◌, ℕ, ◌+◌, Bool, true, false, List, [], ◌∷◌, ◌++◌, length, leb, if◌then◌else◌, sum_by}
+use Rattle.std.specs.Prelude.{◌≡◌, ℕ, ◌+◌, false, List, [], ◌∷◌, ◌++◌, length, leb, if◌then◌else◌, sum_by}
 use Rattle.omega_lock.specs.declared.view.View.{View}
 use Rattle.omega_lock.specs.Lists.{same}
 

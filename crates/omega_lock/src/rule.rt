@@ -8,8 +8,11 @@ use std::snapshot::Snapshot;
 // The words of the table: how many numbers were given, the ticket that is drawn next, the ticket that
 // is served, and the length of the list.
 pub(crate) const NUMBERS: usize = 0;
+
 pub(crate) const TICKETS: usize = 1;
+
 pub(crate) const SERVED: usize = 2;
+
 pub(crate) const LENGTH: usize = 3;
 
 // Its one slot, which has the value.

@@ -68,11 +68,14 @@ impl<T: Counted> Lock<T> {
         requires first { token.old.me ≡ (first_view self.now.turns self.now.first, []) }
         requires number { number < self.now.callers }
         ensures of { token.new.table_id ≡ token.old.table_id }
-        ensures now { token.new.me ≡ (record (first_view self.now.turns self.now.first) {
-                has_number = true;
-                number = number;
-                turns = self.now.turns
-            }, []) }
+        ensures now { token.new.me ≡ (
+          record (first_view self.now.turns self.now.first) {
+            has_number = true;
+            number = number;
+            turns = self.now.turns;
+          },
+          [],
+        ) }
     {
         let shared = &self.table.shared;
         let number = u64::from(number);

@@ -58,13 +58,16 @@ impl<T: Counted> Lock<T> {
         requires list { AddsAtMostOne T.number token.old.me.0.number token.old.me.0.seen
             (T.entries value) }
         ensures of { token.new.table_id ≡ token.old.table_id }
-        ensures now { token.new.me ≡ (record token.old.me.0 {
-                told = token.new.me.0.told;
-                held = T.entries value;
-                seen = T.entries value;
-                own = entries_since T.number token.old.me.0.first_length token.old.me.0.number
-                    (T.entries value)
-            }, (0, Some value) ∷ []) }
+        ensures now { token.new.me ≡ (
+          record token.old.me.0 {
+            told = token.new.me.0.told;
+            held = T.entries value;
+            seen = T.entries value;
+            own = entries_since T.number token.old.me.0.first_length token.old.me.0.number
+                (T.entries value);
+          },
+          (0, Some value) ∷ [],
+        ) }
         ensures more { (e : T.Entry) → T.entries value ≡ token.old.me.0.seen ++ e ∷ []
             → token.new.me.0.own ≡ token.old.me.0.own ++ e ∷ [] }
     {

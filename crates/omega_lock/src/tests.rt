@@ -61,16 +61,20 @@ fn count_turns<R: Threads + Wait + Sync>(
     let Ok((lock, seats)) = Lock::begin(rt, alloc, tally, callers, turns) else {
         return None;
     };
-    let seats = thread::map_vec(rt, seats, &|seat: Seat<Tally>| -> Seat<Tally>
-        requires { (seat.of ≡ lock.of) × (seat.holds ≡ false) }
-        ensures { (result.of ≡ lock.of) × (result.holds ≡ false) }
-    {
-        if seat.number() < idle {
-            seat
-        } else {
-            take_turns(rt, &lock, seat)
-        }
-    });
+    let seats = thread::map_vec(
+        rt,
+        seats,
+        &|seat: Seat<Tally>| -> Seat<Tally>
+            requires { (seat.of ≡ lock.of) × (seat.holds ≡ false) }
+            ensures { (result.of ≡ lock.of) × (result.holds ≡ false) }
+        {
+            if seat.number() < idle {
+                seat
+            } else {
+                take_turns(rt, &lock, seat)
+            }
+        },
+    );
     Some(lock.close(seats.ok()?))
 }
 

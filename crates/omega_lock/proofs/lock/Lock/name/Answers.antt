@@ -1,4 +1,4 @@
-use Rattle.std.proofs.Common.{rules, arith, ap, sym, ◌∙◌, ◌≡◌, length}
+use Rattle.std.proofs.Common.{rules, arith, ap, sym, ◌∙◌, length}
 use Rattle.omega_lock.proofs.Numbering.{number_keeps}
 use Rattle.omega_lock.proofs.lock.Lock.name.Goals as goal
 

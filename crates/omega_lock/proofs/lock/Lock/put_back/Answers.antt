@@ -12,4 +12,4 @@ returns-then-grown-clause-now g c =
     let put = c.put.ensures.now in
     let now = c.publish.ensures.now c.args.value e.0 (ap (λ m. m.1) put) (e.1 ∙ ap (λ l. l ++ e.0 ∷ []) (sym out.1 ∙ sym (ap (λ m. m.0.held) put))) in
     has_told v _ c.put.new.token.me c.publish.new.token.me es _ _ put now.0
-        (now.1 ∙ ap (λ m. entries_since g.T.Counted.number m.0.first_length m.0.number es) put)
+    (now.1 ∙ ap (λ m. entries_since g.T.Counted.number m.0.first_length m.0.number es) put)
