@@ -1,4 +1,5 @@
 -- A seat that draws a ticket keeps the rule: it has one turn less.
+-- k: the terms of the lock; s: the table before, and r: that it meets the rule; v and w: the seat before and after.
 use Rattle.std.proofs.Common.{◌≡◌, ℕ, ◌+◌, ◌-◌, ◌*◌, ◌%◌, ◌^◌, ◌<◌, ◌≤◌, List, length, set, get_or, sym, refl, ◌∙◌, arith, length-set, get_or-set_other, get_or-set_same, true, false, Option, mul-le-mul_right}
 use Rattle.std.specs.Prelude.{sum_by}
 use mathlib.Core.Option.{none}
@@ -19,15 +20,18 @@ module _ {T E : Type 0} (entries : T → List E) (number : E → Option ℕ) whe
       let x : ℕ = get_or s.words 1 0 in
       let v : View E = me.0 in
       let w : View E = record v { turns = v.turns - 1; has_ticket = true; ticket = x } in
+      -- the word stays below its end
       let most : get_or s.words 0 0 * k.turns ≤ k.callers * k.turns = mul-le-mul_right k.turns r.few in
       let mine : v.turns ≤ sum_by (λ (u : View E). u.turns) s.views = term_le (λ (u : View E). u.turns) s.views id v at in
       let room : x + 1 < 2 ^ 64 = omega (arith, r.turns, most, mine, small, left) in
       let next : (x + 1) % 2 ^ 64 ≡ x + 1 = omega (arith, room) in
+      -- the words after
       let size : 4 ≡ length s.words = sym r.four_words in
       let here : get_or (set s.words 1 (x + 1)) 1 0 ≡ x + 1 = get_or-set_same s.words 1 (x + 1) 0 (omega (arith, size)) in
       let w0 : get_or (set s.words 1 (x + 1)) 0 0 ≡ get_or s.words 0 0 = get_or-set_other s.words 1 0 (x + 1) 0 (λ e. omega arith) in
       let w2 : get_or (set s.words 1 (x + 1)) 2 0 ≡ get_or s.words 2 0 = get_or-set_other s.words 1 2 (x + 1) 0 (λ e. omega arith) in
       let w3 : get_or (set s.words 1 (x + 1)) 3 0 ≡ get_or s.words 3 0 = get_or-set_other s.words 1 3 (x + 1) 0 (λ e. omega arith) in
+      -- the sums after
       let turns = total_set (λ (u : View E). u.turns) s.views id v w at in
       let holders = total_set holding s.views id v w at in
       let told_sum = total_set telling s.views id v w at in

@@ -1,4 +1,5 @@
 -- A seat that another is joined to keeps the rule: it answers for the numbers of both.
+-- k: the terms of the lock; s: the table before, and r: that it meets the rule; v and w: the two seats before.
 use Rattle.std.proofs.Common.{◌≡◌, ◌⊎◌, ℕ, ◌+◌, ◌≤◌, List, [], ◌∷◌, ◌++◌, length, set, get_or, sym, refl, ap, ◌∙◌, subst, arith, length-append, append_assoc, inl, inr, true, Option, ⊎_elim, le-leb}
 use Rattle.std.specs.Prelude.{sum_by}
 use Rattle.std.proofs.lemmas.List.Sums.{sum_by-append}
@@ -56,6 +57,7 @@ module _ {T E : Type 0} (entries : T → List E) (number : E → Option ℕ) whe
       let there : get_elem? s.views other ≡ some w = sym (set_else s.views id other both ne) ∙ at' in
       let f = r.fits id v at in
       let g = r.fits other w there in
+      -- the sums after
       let turns = total_set (λ (u : View E). u.turns) s.views id v both at in
       let turns' = total_set (λ (u : View E). u.turns) (set s.views id both) other w spent at' in
       let holders = total_set holding s.views id v both at in

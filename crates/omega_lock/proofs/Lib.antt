@@ -1,6 +1,7 @@
 pub mod Sums
 pub mod Entries
 pub mod SeatLists
+pub mod Holders
 pub mod Splitting
 pub mod Numbering
 pub mod Drawing

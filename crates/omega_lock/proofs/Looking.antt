@@ -1,4 +1,5 @@
 -- A seat that looks whether its ticket is served keeps the rule: where it is, the turn is the seat's, with the slot.
+-- k: the terms of the lock; s: the table before, and r: that it meets the rule; v and w: the seat before and after.
 use Rattle.std.proofs.Common.{◌≡◌, ℕ, ◌≤◌, List, length, set, get_or, sym, refl, ◌∙◌, arith, length-set, true, false, Some, Option, Bool}
 use Rattle.std.specs.Prelude.{sum_by}
 use mathlib.Core.Option.{some, none}
@@ -33,6 +34,7 @@ module _ {T E : Type 0} (entries : T → List E) (number : E → Option ℕ) whe
       let nobody : sum_by holding s.views ≡ 0 = omega (arith, gap, mine, zero_here, t, bound) in
       let home = r.home nobody in
       let w : View E = record v { holds = true; held = entries home.0 } in
+      -- the sums after
       let turns = total_set (λ (u : View E). u.turns) s.views id v w at in
       let holders = total_set holding s.views id v w at in
       let told_sum = total_set telling s.views id v w at in (

@@ -1,4 +1,5 @@
 -- A seat that asks for a number keeps the rule: it gets the number, with its turns, where that is the next.
+-- k: the terms of the lock; s: the table before, and r: that it meets the rule; v and w: the seat before and after.
 use Rattle.std.proofs.Common.{◌≡◌, ℕ, ◌+◌, ◌*◌, ◌<◌, List, [], ◌∷◌, length, drop, set, get_or, sym, refl, ap, ◌∙◌, arith, length-set, length-append, get_or-set_other, get_or-set_same, true, false, Option}
 use Rattle.std.specs.Prelude.{sum_by, ◌==◌}
 use mathlib.Core.Option.{some, none}
@@ -29,11 +30,13 @@ module _ {T E : Type 0} (entries : T → List E) (number : E → Option ℕ) whe
   given_now k s r id i v at anon free nothing pays base few hit =
       let w : View E = record v { has_number = true; number = i; turns = v.allotted; own = [] } in
       let b : ℕ = length (first_list entries k) in
+      -- the words after
       let size : 4 ≡ length s.words = sym r.four_words in
       let here : get_or (set s.words 0 (i + 1)) 0 0 ≡ i + 1 = get_or-set_same s.words 0 (i + 1) 0 (omega (arith, size)) in
       let w1 : get_or (set s.words 0 (i + 1)) 1 0 ≡ get_or s.words 1 0 = get_or-set_other s.words 0 1 (i + 1) 0 (λ e. omega arith) in
       let w2 : get_or (set s.words 0 (i + 1)) 2 0 ≡ get_or s.words 2 0 = get_or-set_other s.words 0 2 (i + 1) 0 (λ e. omega arith) in
       let w3 : get_or (set s.words 0 (i + 1)) 3 0 ≡ get_or s.words 3 0 = get_or-set_other s.words 0 3 (i + 1) 0 (λ e. omega arith) in
+      -- the sums after
       let turns = total_set (λ (u : View E). u.turns) s.views id v w at in
       let holders = total_set holding s.views id v w at in
       let told_sum = total_set telling s.views id v w at in

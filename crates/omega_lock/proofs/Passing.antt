@@ -1,7 +1,7 @@
 -- A seat that passes the turn on keeps the rule: the value is back, and the next ticket is served.
-use Rattle.std.proofs.Common.{◌≡◌, ◌≢◌, ℕ, ◌+◌, ◌*◌, ◌%◌, ◌^◌, ◌<◌, ◌≤◌, List, [], ◌∷◌, length, set, get_or, sym, refl, ◌∙◌, arith, length-set, get_or-set_other, get_or-set_same, true, false, Some, Option, Bool, mul-le-mul_right}
+-- k: the terms of the lock; s: the table before, and r: that it meets the rule; v and w: the seat before and after.
+use Rattle.std.proofs.Common.{◌≡◌, ℕ, ◌+◌, ◌*◌, ◌%◌, ◌^◌, ◌<◌, ◌≤◌, List, [], ◌∷◌, length, set, get_or, sym, refl, ◌∙◌, arith, length-set, get_or-set_other, get_or-set_same, true, false, Some, Option, mul-le-mul_right}
 use mathlib.Core.Option.{some, none}
-use lib.ListN.{get_elem?}
 use Rattle.atomic_table.specs.Table.{Me, step, gives, Allows}
 use Rattle.atomic_table.proofs.Lists.{set_here}
 use Rattle.omega_lock.specs.declared.view.View.{View}
@@ -10,7 +10,8 @@ use Rattle.omega_lock.specs.Lists.{same}
 use Rattle.omega_lock.specs.Views.{answers, holding, telling, ticket_is, ticketed}
 use Rattle.omega_lock.specs.Rule.{Fits, LockRule, first_list}
 use Rattle.omega_lock.specs.Steps.{Passes}
-use Rattle.omega_lock.proofs.Sums.{same-same, below_more, below_is, total_set, term_le, terms_le, each_set}
+use Rattle.omega_lock.proofs.Holders.{one_holder, telling_le}
+use Rattle.omega_lock.proofs.Sums.{same-same, below_more, below_is, total_set, term_le, each_set}
 
 module _ {T E : Type 0} (entries : T → List E) (number : E → Option ℕ) where
   pub pass_keeps : (k : Terms T) (n id : ℕ) (me : Me (Option T) (View E)) (y : T)
@@ -24,23 +25,25 @@ module _ {T E : Type 0} (entries : T → List E) (number : E → Option ℕ) whe
       let f = r.fits id v at in
       let turn = f.turn holds in
       let w : View E = record v { has_ticket = false; holds = false; read = false; told = false; held = [] } in
+      -- the word stays below its end
       let most : get_or s.words 0 0 * k.turns ≤ k.callers * k.turns = mul-le-mul_right k.turns r.few in
       let here_ticket : ticket_is x v ≡ 1 = rw (turn.0, turn.1) (same-same x) in
       let least = term_le (ticket_is x) s.views id v at in
       let order : x < get_or s.words 1 0 = below_is x (get_or s.words 1 0) (omega (arith, r.tickets x, here_ticket, least)) in
       let room : x + 1 < 2 ^ 64 = omega (arith, order, r.turns, most, small) in
       let next : (x + 1) % 2 ^ 64 ≡ x + 1 = omega (arith, room) in
+      -- the words after
       let size : 4 ≡ length s.words = sym r.four_words in
       let here : get_or (set s.words 2 (x + 1)) 2 0 ≡ x + 1 = get_or-set_same s.words 2 (x + 1) 0 (omega (arith, size)) in
       let w0 : get_or (set s.words 2 (x + 1)) 0 0 ≡ get_or s.words 0 0 = get_or-set_other s.words 2 0 (x + 1) 0 (λ e. omega arith) in
       let w1 : get_or (set s.words 2 (x + 1)) 1 0 ≡ get_or s.words 1 0 = get_or-set_other s.words 2 1 (x + 1) 0 (λ e. omega arith) in
       let w3 : get_or (set s.words 2 (x + 1)) 3 0 ≡ get_or s.words 3 0 = get_or-set_other s.words 2 3 (x + 1) 0 (λ e. omega arith) in
+      -- the sums after
       let turns = total_set (λ (u : View E). u.turns) s.views id v w at in
       let holders = total_set holding s.views id v w at in
       let told_sum = total_set telling s.views id v w at in
       let one_here : holding v ≡ 1 = rw holds refl in
-      let at_most : telling v ≤ 1 = told_le v v.told refl in
-      let others : (j : ℕ) (u : View E) → j ≢ id → get_elem? s.views j ≡ some u → u.holds ≡ true → j ≡ id = λ j u ne g p. let both = terms_le holding s.views id j v u ne at g in let a : holding u ≡ 1 = rw p refl in let z = r.single in absurd (omega (arith, both, a, one_here, z)) in
+      let at_most : telling v ≤ 1 = telling_le v v.told refl in
       let slots : 1 ≡ length s.homes = sym r.one_slot in
       rw (next, slot) (
         w,
@@ -68,8 +71,8 @@ module _ {T E : Type 0} (entries : T → List E) (number : E → Option ℕ) whe
                 mine = o.mine;
                 listed = o.listed;
                 also_seen = o.also_seen;
-                turn = λ h. absurd (ne (others j u ne g h));
-                read = λ h. absurd (ne (others j u ne g (o.read h).0));
+                turn = λ h. absurd (ne (one_holder s.views j id u v r.single g at h holds));
+                read = λ h. absurd (ne (one_holder s.views j id u v r.single g at (o.read h).0 holds));
                 tells = o.tells;
               })
               record {
@@ -87,7 +90,3 @@ module _ {T E : Type 0} (entries : T → List E) (number : E → Option ℕ) whe
         },
         refl,
       )
-    where
-      told_le : (v : View E) (h : Bool) → v.told ≡ h → telling v ≤ 1
-      told_le v false e = rw e (omega arith)
-      told_le v true e = rw e (omega arith)

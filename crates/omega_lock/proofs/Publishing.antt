@@ -1,28 +1,29 @@
 -- A seat that tells of one more entry keeps the rule: the list, what it has seen and its own list get that entry.
+-- k: the terms of the lock; s: the table before, and r: that it meets the rule; v and w: the seat before and after.
 use Rattle.std.proofs.Common.{◌≡◌, ◌≢◌, ℕ, ◌+◌, ◌*◌, ◌%◌, ◌^◌, ◌<◌, ◌≤◌, List, [], ◌∷◌, ◌++◌, length, drop, set, get_or, sym, refl, ap, ◌∙◌, arith, length-set, length-append, get_or-set_other, get_or-set_same, true, false, Some, None, Option, Bool, mul-le-mul_right}
 use Rattle.std.specs.Prelude.{sum_by}
 use Rattle.std.proofs.lemmas.List.Sums.{sum_by-cons}
 use mathlib.Core.Option.{some, none}
-use mathlib.Core.Logic.{dite}
-use native.Mathlib.Decide.{ℕ_discrete, dec_le}
 use lib.ListN.{get_elem?}
-use Rattle.atomic_table.specs.Table.{Me, State, step, keeps, Allows}
+use Rattle.atomic_table.specs.Table.{Me, step, keeps, Allows}
 use Rattle.omega_lock.specs.declared.view.View.{View}
 use Rattle.omega_lock.specs.declared.rule.Terms.{Terms}
 use Rattle.omega_lock.specs.Lists.{EachHasItsEntries, StartsWith, entries_since, same}
 use Rattle.omega_lock.specs.Views.{answers, holding, lists, telling, ticket_is, ticketed}
 use Rattle.omega_lock.specs.Rule.{Fits, LockRule, first_list}
 use Rattle.omega_lock.specs.Steps.{Publishes}
-use Rattle.omega_lock.proofs.Sums.{same-same, below-past, below-in, below_le, below_is, total_set, term_le, terms_le, sum_le, each_set}
+use Rattle.omega_lock.proofs.Sums.{same-same, below_le, below_is, total_set, term_le, terms_le, sum_le, each_set}
+use Rattle.omega_lock.proofs.Holders.{one_holder}
 use Rattle.omega_lock.proofs.SeatLists.{own_first, own_and_kept}
 use Rattle.omega_lock.proofs.Entries.{starts_self, starts_trans, drop_more, starts_length, since_mine, listed_other, given_both, starts_each_more}
 
--- the value that a seat holds
+-- the value in the slot that a seat has
 abbrev in_hand : {T : Type 0} → List (ℕ × Option T) → T → T
 in_hand [] d = d
 in_hand ((n, None) ∷ xs) d = d
 in_hand ((n, Some y) ∷ xs) d = y
 
+-- the last entry
 abbrev last_of : {E : Type 0} → List E → E → E
 last_of [] d = d
 last_of (x ∷ xs) d = last_of xs x
@@ -46,16 +47,18 @@ module _ {T E : Type 0} (entries : T → List E) (number : E → Option ℕ) whe
       let held : v.held ≡ log = (f.turn holds).2 in
       let new : entries y ≡ log ++ e ∷ [] = more ∙ ap (λ l. l ++ e ∷ []) held in
       let w : View E = record v { told = true; held = log ++ e ∷ []; seen = log ++ e ∷ []; own = v.own ++ e ∷ [] } in
+      -- the word stays below its end
       let most : get_or s.words 0 0 * k.turns ≤ k.callers * k.turns = mul-le-mul_right k.turns r.few in
-      let order : get_or s.words 2 0 ≤ get_or s.words 1 0 = tickets_order s r in
       let few_told : sum_by telling s.views ≤ sum_by holding s.views = sum_le telling holding s.views (λ j u h. tellers u (r.fits j u h) u.told refl) in
-      let room : x + 1 < 2 ^ 64 = omega (arith, r.slow, r.turns, r.single, few_told, order, most, small, short) in
+      let room : x + 1 < 2 ^ 64 = omega (arith, r.slow, r.turns, r.single, few_told, r.queue, most, small, short) in
       let next : (x + 1) % 2 ^ 64 ≡ x + 1 = omega (arith, room) in
+      -- the words after
       let size : 4 ≡ length s.words = sym r.four_words in
       let here : get_or (set s.words 3 (x + 1)) 3 0 ≡ x + 1 = get_or-set_same s.words 3 (x + 1) 0 (omega (arith, size)) in
       let w0 : get_or (set s.words 3 (x + 1)) 0 0 ≡ get_or s.words 0 0 = get_or-set_other s.words 3 0 (x + 1) 0 (λ e. omega arith) in
       let w1 : get_or (set s.words 3 (x + 1)) 1 0 ≡ get_or s.words 1 0 = get_or-set_other s.words 3 1 (x + 1) 0 (λ e. omega arith) in
       let w2 : get_or (set s.words 3 (x + 1)) 2 0 ≡ get_or s.words 2 0 = get_or-set_other s.words 3 2 (x + 1) 0 (λ e. omega arith) in
+      -- the sums after
       let turns = total_set (λ (u : View E). u.turns) s.views id v w at in
       let holders = total_set holding s.views id v w at in
       let told_sum = total_set telling s.views id v w at in
@@ -94,7 +97,7 @@ module _ {T E : Type 0} (entries : T → List E) (number : E → Option ℕ) whe
           given = rw (w0, drop_more b log (e ∷ []) base) (given_both number (get_or s.words 0 0) (drop b log) (e ∷ []) r.given ((v.number, by, given_it), tt));
           fits = rw w2 (each_set (Fits number b (get_or s.words 2 0) (log ++ e ∷ [])) s.views id w
               (λ j u ne g. let o = r.fits j u g in
-              let alone : u.holds ≡ true → v.holds ≡ true → j ≡ id = λ h1 h2. one_holder s r j id u v g at h1 h2 in
+              let alone : u.holds ≡ true → v.holds ≡ true → j ≡ id = λ h1 h2. one_holder s.views j id u v r.single g at h1 h2 in
               record {
                 seen = starts_trans (log ++ e ∷ []) log u.seen grown o.seen;
                 idle = o.idle;
@@ -125,20 +128,12 @@ module _ {T E : Type 0} (entries : T → List E) (number : E → Option ℕ) whe
             rw (← same_list, ← same_entry) (refl, rw (f.based is) own_more),
       )
     where
+      -- only who holds the turn has told
       tellers : {b x : ℕ} {log : List E} (u : View E) → Fits number b x log u → (h : Bool)
           → u.told ≡ h → telling u ≤ holding u
       tellers u g false t = rw t (omega arith)
       tellers u g true t = let h = (g.read (g.tells t)).0 in rw (t, h) (omega arith)
 
-      tickets_order : {k : Terms T} (s : State (Option T) (View E)) (r : LockRule entries number k s)
-          → get_or s.words 2 0 ≤ get_or s.words 1 0
-      tickets_order s r = let a : ℕ = get_or s.words 1 0 in let c : ℕ = get_or s.words 2 0 in let t = r.tickets a in let z = below-past a a (omega arith) in
-          dite (dec_le c a) (λ h. h) (λ h. let i = below-in a c (omega (arith, h)) in absurd (omega (arith, t, z, i)))
-
-      one_holder : {k : Terms T} (s : State (Option T) (View E)) (r : LockRule entries number k s) (i j : ℕ) (u t : View E)
-          → get_elem? s.views i ≡ some u → get_elem? s.views j ≡ some t → u.holds ≡ true
-          → t.holds ≡ true → i ≡ j
-      one_holder s r i j u t g h p q = dite (ℕ_discrete i j) (λ e. e) (λ ne. let both = terms_le holding s.views j i t u ne h g in let a : holding u ≡ 1 = rw p refl in let c : holding t ≡ 1 = rw q refl in let z = r.single in absurd (omega (arith, both, a, c, z)))
-
+      -- it answers for the same numbers
       same_answers : (m : ℕ) (v : View E) (e : E) → v.has_number ≡ true → answers m (record v { own = v.own ++ e ∷ [] }) ≡ answers m v
       same_answers m v e is = rw is refl

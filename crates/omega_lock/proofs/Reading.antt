@@ -1,4 +1,5 @@
 -- A seat that holds the turn and reads the length of the list keeps the rule: it has then seen the whole list.
+-- k: the terms of the lock; s: the table before, and r: that it meets the rule; v and w: the seat before and after.
 use Rattle.std.proofs.Common.{◌≡◌, ℕ, List, length, get_or, sym, refl, ap, ◌∙◌, arith, true, Option}
 use mathlib.Core.Option.{none}
 use Rattle.atomic_table.specs.Table.{Me, step, keeps, Allows}
@@ -22,6 +23,7 @@ module _ {T E : Type 0} (entries : T → List E) (number : E → Option ℕ) whe
       let f = r.fits id v at in
       let held : v.held ≡ r.log = (f.turn holds).2 in
       let w : View E = record v { read = true; seen = v.held } in
+      -- the sums after
       let turns = total_set (λ (u : View E). u.turns) s.views id v w at in
       let holders = total_set holding s.views id v w at in
       let told_sum = total_set telling s.views id v w at in

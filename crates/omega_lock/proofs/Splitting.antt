@@ -1,4 +1,5 @@
 -- A seat that is split off another keeps the rule: it has seen what the other has.
+-- k: the terms of the lock; s: the table before, and r: that it meets the rule; v: the seat before; w: the new seat.
 use Rattle.std.proofs.Common.{◌≡◌, ℕ, List, [], ◌∷◌, ◌++◌, length, get_or, sym, refl, ◌∙◌, subst, arith, Option, ⊎_elim}
 use Rattle.std.specs.Prelude.{sum_by}
 use Rattle.std.proofs.lemmas.List.Sums.{sum_by-cons, sum_by-append}

@@ -45,6 +45,4 @@ mod view;
 
 pub use counted::Counted;
 pub use lock::{Lock, NoMemory};
-pub use rule::{Terms, Turns};
 pub use seat::Seat;
-pub use view::View;
