@@ -56,6 +56,7 @@ abbrev pub first_list : {T E : Type 0} → (T → List E) → Terms T → List E
 first_list entries terms = entries terms.first.value
 
 module _ {T E : Type 0} (entries : T → List E) (number : E → Option ℕ) where
+  -- the rule, for a lock that was made under these terms
   pub record LockRule (terms : Terms T) (s : State (Option T) (View E)) : Type 0 where
     -- there is one list, which goes on from the first
     pub log : List E
@@ -70,6 +71,7 @@ module _ {T E : Type 0} (entries : T → List E) (number : E → Option ℕ) whe
     pub turns : next_ticket s + turns_left s ≡ numbers_given s * terms.turns
     -- each ticket from the one served up to the next to be drawn is with one seat, and no other is with any
     pub tickets : (n : ℕ) → sum_by (ticket_is n) s.views + below n (served s) ≡ below n (next_ticket s)
+    -- so as many seats have a ticket as lie between the two
     pub queue : next_ticket s ≡ served s + sum_by ticketed s.views
     -- at most one seat holds the turn
     pub single : sum_by holding s.views ≤ 1

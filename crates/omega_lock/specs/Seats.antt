@@ -27,9 +27,14 @@ pub record LockState (E : Type 0) : Type 0 where
 
 -- a lock over a table that was made under these terms
 abbrev pub lock_state : {T E : Type 0} → (T → List E) → TableId → Terms T → LockState E
-lock_state entries of terms = record { of = of; callers = terms.callers; turns = terms.turns; first = entries terms.first.value }
+lock_state entries of terms = record {
+  of = of;
+  callers = terms.callers;
+  turns = terms.turns;
+  first = entries terms.first.value;
+}
 
--- what every lock keeps. By the last two no word ever reaches its end
+-- what every lock keeps; by the last two no word ever reaches its end
 pub record IsLock {T E : Type 0} (entries : T → List E) (of : TableId) (terms : Terms T) : Type 0 where
   pub four_words : of.words ≡ 4
   pub one_slot : of.slots ≡ 1
@@ -37,9 +42,17 @@ pub record IsLock {T E : Type 0} (entries : T → List E) (of : TableId) (terms 
   pub few_turns : terms.callers * terms.turns < 2 ^ 62
   pub short : length (entries terms.first.value) < 2 ^ 63
 
--- a seat of the table
+-- a seat at the table `of`, by what it knows
 abbrev pub seat_state : {E : Type 0} → TableId → View E → SeatState E
-seat_state of v = record { of = of; number = v.number; first_length = v.first_length; holds = v.holds; turns = v.turns; seen = v.seen; own = v.own }
+seat_state of v = record {
+  of = of;
+  number = v.number;
+  first_length = v.first_length;
+  holds = v.holds;
+  turns = v.turns;
+  seen = v.seen;
+  own = v.own;
+}
 
 -- the seat is the same one: its lock, its number and the first length stay
 pub record IsSameSeat {E : Type 0} (old new : SeatState E) : Type 0 where
@@ -57,7 +70,15 @@ AddsAtMostOne {E} number n old new = (new ≡ old) ⊎ ((e : E) × (new ≡ old 
 
 -- the seat of this number of a new lock
 abbrev pub new_seat : {E : Type 0} → TableId → ℕ → List E → ℕ → SeatState E
-new_seat of turns es n = record { of = of; number = n; first_length = length es; holds = false; turns = turns; seen = es; own = [] }
+new_seat of turns es n = record {
+  of = of;
+  number = n;
+  first_length = length es;
+  holds = false;
+  turns = turns;
+  seen = es;
+  own = [];
+}
 
 -- the seats of a new lock, by number
 abbrev pub new_seats : {E : Type 0} → TableId → ℕ → List E → ℕ → List (SeatState E)

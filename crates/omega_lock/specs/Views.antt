@@ -34,23 +34,45 @@ module _ {E : Type 0} where
 
   -- the first seat of a lock, which gets no number: it has seen the first list
   abbrev pub first_view : ℕ → List E → View E
-  first_view turns es = record { has_number = false; number = 0; first_length = length es; allotted = turns; turns = 0; has_ticket = false; ticket = 0; holds = false; read = false; told = false; held = []; seen = es; own = []; kept = []; also_seen = [] }
+  first_view turns es = record {
+    has_number = false;
+    number = 0;
+    first_length = length es;
+    allotted = turns;
+    turns = 0;
+    has_ticket = false;
+    ticket = 0;
+    holds = false;
+    read = false;
+    told = false;
+    held = [];
+    seen = es;
+    own = [];
+    kept = [];
+    also_seen = [];
+  }
 
   -- a seat that is split off has seen what the other has, and has neither number nor ticket
   abbrev pub split_off : View E → View E
-  split_off v = record v { has_number = false; number = 0; turns = 0; has_ticket = false; ticket = 0; holds = false; read = false; told = false; held = []; own = []; kept = []; also_seen = [] }
+  split_off v = record (first_view v.allotted v.seen) { first_length = v.first_length }
 
   -- what a seat is left with when it is joined to another: nothing
   abbrev pub spent : View E
   spent = first_view 0 []
 
+  -- the longer of two lists
   abbrev pub longer : List E → List E → List E
   longer xs ys = if leb (length ys) (length xs) then xs else ys
 
   -- a seat that another is joined to has the longer of what the two had seen, keeps both, and answers
   -- for the numbers of both
   abbrev pub joined : View E → View E → View E
-  joined v w = record v { turns = v.turns + w.turns; seen = longer v.seen w.seen; kept = v.kept ++ lists w; also_seen = (v.seen ∷ w.seen ∷ v.also_seen) ++ w.also_seen }
+  joined v w = record v {
+    turns = v.turns + w.turns;
+    seen = longer v.seen w.seen;
+    kept = v.kept ++ lists w;
+    also_seen = (v.seen ∷ w.seen ∷ v.also_seen) ++ w.also_seen;
+  }
 
   -- a seat that has no ticket and no turn
   abbrev pub Rests : View E → Type 0
