@@ -1,0 +1,5 @@
+pub mod Middles
+pub mod Trees
+pub mod Puts
+pub mod Searches
+pub mod Firsts
