@@ -3,3 +3,5 @@ pub mod Trees
 pub mod Puts
 pub mod Searches
 pub mod Firsts
+pub mod Found
+pub mod Later

@@ -5,6 +5,7 @@
 //! reaches a power of two, and then the new place is the root of all: so one more place is told to
 //! the nodes above it alone.
 ghost use Rattle.std.specs.Prelude.{◌≡◌, ◌<◌, ◌≤◌, ◌-◌, ◌++◌, ◌∷◌, length, set, take};
+ghost use Rattle.omega_fit.specs.Needs.{greater};
 ghost use Rattle.omega_fit.specs.Tree.{frees, middle, root, Tree};
 
 use crate::needs::greater;
@@ -41,6 +42,13 @@ pub(crate) fn root_of(slots: &[Slot]) -> Option<Need>
     }
 }
 
+/// The greatest of a tree by its left part, what is free at its root, and its right part.
+fn most_of(left: &[Slot], free: Option<Need>, right: &[Slot]) -> Option<Need>
+    ensures { result ≡ greater (root left.now) (greater free (root right.now)) }
+{
+    greater(root_of(left), greater(free, root_of(right)))
+}
+
 /// A tree's left part, its root and its right part.
 pub(crate) fn parted(slots: &[Slot]) -> (&[Slot], &Slot, &[Slot])
     requires tree { Tree slots.now }
@@ -75,7 +83,7 @@ pub(crate) fn put_in(slots: &mut [Slot], position: usize, free: Option<Need>)
         } else {
             put_in(right, position - half - 1, free);
         }
-        slot.most = greater(root_of(left), greater(slot.free, root_of(right)));
+        slot.most = most_of(left, slot.free, right);
     }
 }
 
@@ -93,7 +101,7 @@ pub(crate) fn settle(slots: &mut [Slot])
     if let Some((slot, right)) = rest.split_first_mut() {
         settle(left);
         settle(right);
-        slot.most = greater(root_of(left), greater(slot.free, root_of(right)));
+        slot.most = most_of(left, slot.free, right);
     }
 }
 
@@ -111,6 +119,6 @@ pub(crate) fn settle_last(slots: &mut [Slot])
     let (left, rest) = slots.split_at_mut(half);
     if let Some((slot, right)) = rest.split_first_mut() {
         settle_last(right);
-        slot.most = greater(root_of(left), greater(slot.free, root_of(right)));
+        slot.most = most_of(left, slot.free, right);
     }
 }
