@@ -1,6 +1,6 @@
 -- The first of a list, put together from the first of its parts.
-use Rattle.std.proofs.Common.{◌≡◌, ◌∙◌, ◌+◌, ◌-◌, ◌<◌, ◌≤◌, ◌++◌, ◌∷◌, ℕ, zero, suc, Bool, true, false, List, [], Option, Some, None, drop, take, ap, sym, subst, refl, arith}
-use Rattle.std.specs.List.{All, range_with_len}
+use Rattle.std.proofs.Common.{◌≡◌, ◌∙◌, ◌+◌, ◌-◌, ◌≤◌, ◌++◌, ◌∷◌, ℕ, zero, suc, Bool, false, List, [], Option, Some, None, drop, take, ap, sym, subst, refl, arith}
+use Rattle.std.specs.List.{range_with_len}
 use Rattle.std.proofs.lemmas.List.{append_assoc}
 use Rattle.std.proofs.lemmas.List.Elements.{All-nil, All-cons, All-append}
 use Rattle.omega_fit.specs.Round.{positions_from, IsFirst, FirstBetween}
@@ -16,23 +16,23 @@ first_of_range answers (suc n) from None f =
     (first_of_range answers n (from + 1) None (λ j a b. f j (omega arith) (omega arith)))
 first_of_range answers (suc n) from (Some i) f = below_or_not from i
     (λ lt.
-        let later = first_of_range answers n (from + 1) (Some i) (omega arith, omega (arith, f.1), f.2, λ j a b. f.3 j (omega arith) b) in
-        record {
-          before = from ∷ later.before;
-          after = later.after;
-          split = ap (λ z. from ∷ z) later.split;
-          passed_over = All-cons (λ other. answers other false) from later.before (f.3 from (omega arith) lt) later.passed_over;
-          taken = later.taken;
-        })
+    let later = first_of_range answers n (from + 1) (Some i) (omega arith, omega (arith, f.1), f.2, λ j a b. f.3 j (omega arith) b) in
+    record {
+      before = from ∷ later.before;
+      after = later.after;
+      split = ap (λ z. from ∷ z) later.split;
+      passed_over = All-cons (λ other. answers other false) from later.before (f.3 from (omega arith) lt) later.passed_over;
+      taken = later.taken;
+    })
     (λ ge.
-        let here : from ≡ i = omega (arith, f.0) in
-        record {
-          before = [];
-          after = range_with_len (from + 1) n;
-          split = ap (λ z. z ∷ range_with_len (from + 1) n) here;
-          passed_over = All-nil (λ other. answers other false);
-          taken = f.2;
-        })
+    let here : from ≡ i = omega (arith, f.0) in
+    record {
+      before = [];
+      after = range_with_len (from + 1) n;
+      split = ap (λ z. z ∷ range_with_len (from + 1) n) here;
+      passed_over = All-nil (λ other. answers other false);
+      taken = f.2;
+    })
 
 -- what is found in the first part
 pub found_in_first : {X : Type 0} (answers : X → Bool → Type 0) (xs ys : List X) (x : X)

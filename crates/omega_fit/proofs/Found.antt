@@ -1,5 +1,5 @@
 -- What the first of a round says as `find`: for a caller whose test has one answer at each position.
-use Rattle.std.proofs.Common.{◌≡◌, ◌∙◌, ◌+◌, ◌≤◌, ◌<◌, ◌++◌, ◌∷◌, ℕ, zero, suc, Bool, true, false, List, [], Option, Some, None, length, drop, take, ap, sym, subst, refl, arith}
+use Rattle.std.proofs.Common.{◌≡◌, ◌∙◌, ◌+◌, ◌++◌, ◌∷◌, ℕ, zero, suc, Bool, true, false, List, [], Option, Some, None, length, drop, take, ap, sym, subst, refl, arith}
 use Rattle.std.specs.Prelude.{get_or}
 use Rattle.std.specs.List.{All, AllZip, find, range_with_len, slice_get}
 use Rattle.std.proofs.lemmas.List.Elements.{All-head, All-tail, All-weaker}
@@ -97,7 +97,7 @@ zip_range at a (x ∷ xs) same =
 zip_round : {X : Type 0} (xs : List X) (start : ℕ) → AllZip (λ i x. slice_get xs i ≡ Some x) (positions_from start (length xs)) (round_from start xs)
 zip_round xs start =
     let all : AllZip (λ i x. slice_get xs i ≡ Some x) (range_with_len 0 (length xs)) xs =
-          zip_range (slice_get xs) 0 xs (λ i. let e : 0 + i ≡ i = omega arith in ap (slice_get xs) e) in
+    zip_range (slice_get xs) 0 xs (λ i. let e : 0 + i ≡ i = omega arith in ap (slice_get xs) e) in
     zip_append (λ i x. slice_get xs i ≡ Some x) _ _ _ _
     (zip_drop (λ i x. slice_get xs i ≡ Some x) start _ xs all) (zip_take (λ i x. slice_get xs i ≡ Some x) start _ xs all)
 

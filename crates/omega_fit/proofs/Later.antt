@@ -1,7 +1,7 @@
 -- A search that goes on where an earlier one ended.
-use Rattle.std.proofs.Common.{◌≡◌, ◌∙◌, ◌+◌, ◌-◌, ◌≤◌, ◌<◌, ◌++◌, ◌∷◌, ℕ, zero, suc, Bool, true, false, List, [], Option, Some, None, length, ap, sym, subst, refl, arith}
+use Rattle.std.proofs.Common.{◌≡◌, ◌∙◌, ◌+◌, ◌-◌, ◌≤◌, ◌<◌, ◌++◌, ◌∷◌, ℕ, zero, suc, Bool, false, List, [], Option, Some, None, ap, sym, subst, refl, arith}
 use Rattle.std.specs.List.{All, range_with_len}
-use Rattle.std.proofs.lemmas.List.{append_assoc, append-nil}
+use Rattle.std.proofs.lemmas.List.{append_assoc}
 use Rattle.std.proofs.lemmas.List.Elements.{All-append, All-head, All-tail, All-cons, All-nil, All-weaker, All-get_or}
 use Rattle.std.proofs.lemmas.List.FromFn.{length-range_with_len, get_or-range_with_len}
 use Rattle.omega_fit.specs.Round.{positions_from, IsFirst}
@@ -51,10 +51,10 @@ split_range (suc n) a x (b ∷ before) after is then =
     let here : a ≡ b = head_same a b (range_with_len (a + 1) n) (before ++ x ∷ after) is in
     split_range n (a + 1) x before after (tail_same a b (range_with_len (a + 1) n) (before ++ x ∷ after) is)
     (λ low high one other.
-        let count : x - a ≡ suc (x - (a + 1)) = omega (arith, low) in
-        then (omega (arith, low)) (omega (arith, high))
-        (subst (λ z. b ∷ before ≡ range_with_len a z) (sym count) (cons_same b a before (range_with_len (a + 1) (x - (a + 1))) (sym here) one))
-        (other ∙ same_range (x + 1) (x + 1) (a + 1 + n - (x + 1)) (a + suc n - (x + 1)) refl (omega arith)))
+    let count : x - a ≡ suc (x - (a + 1)) = omega (arith, low) in
+    then (omega (arith, low)) (omega (arith, high))
+    (subst (λ z. b ∷ before ≡ range_with_len a z) (sym count) (cons_same b a before (range_with_len (a + 1) (x - (a + 1))) (sym here) one))
+    (other ∙ same_range (x + 1) (x + 1) (a + 1 + n - (x + 1)) (a + suc n - (x + 1)) refl (omega arith)))
 
 -- two ranges that meet are one
 joined : (n m a b c : ℕ) → b ≡ a + n → c ≡ n + m → range_with_len a n ++ range_with_len b m ≡ range_with_len a c
@@ -97,9 +97,9 @@ from_second : (start place len : ℕ) (before middle after : List ℕ) → start
 from_second start place len before middle after le low high b a other =
     let count : len - place ≡ suc (start + (len - start) - (place + 1)) = omega arith in
     let first : range_with_len place (len - place) ≡ place ∷ middle =
-          same_range place place (len - place) (suc (start + (len - start) - (place + 1))) refl count ∙ ap (λ z. place ∷ z) (sym a) in
+    same_range place place (len - place) (suc (start + (len - start) - (place + 1))) refl count ∙ ap (λ z. place ∷ z) (sym a) in
     let second : range_with_len 0 place ≡ range_with_len 0 start ++ before =
-          sym (joined start (place - start) 0 start place (omega arith) (omega arith)) ∙ ap (λ z. range_with_len 0 start ++ z) (sym b) in
+    sym (joined start (place - start) 0 start place (omega arith) (omega arith)) ∙ ap (λ z. range_with_len 0 start ++ z) (sym b) in
     two_parts place len (omega arith)
     ∙ ap (λ z. z ++ range_with_len 0 place) first
     ∙ ap (λ z. (place ∷ middle) ++ z) second
@@ -113,10 +113,10 @@ from_first : (start place len : ℕ) (before middle after : List ℕ) → start 
 from_first start place len before middle after le high b a one =
     let count : start - place ≡ suc (0 + start - (place + 1)) = omega arith in
     let part : range_with_len place (start - place) ≡ place ∷ after =
-          same_range place place (start - place) (suc (0 + start - (place + 1))) refl count ∙ ap (λ z. place ∷ z) (sym a) in
+    same_range place place (start - place) (suc (0 + start - (place + 1))) refl count ∙ ap (λ z. place ∷ z) (sym a) in
     let first : range_with_len place (len - place) ≡ (place ∷ after) ++ range_with_len start (len - start) =
-          sym (joined (start - place) (len - start) place start (len - place) (omega arith) (omega arith))
-          ∙ ap (λ z. z ++ range_with_len start (len - start)) part in
+    sym (joined (start - place) (len - start) place start (len - place) (omega arith) (omega arith))
+    ∙ ap (λ z. z ++ range_with_len start (len - start)) part in
     let second : range_with_len 0 place ≡ middle = same_range 0 0 place (place - 0) refl (omega arith) ∙ sym b in
     two_parts place len (omega arith)
     ∙ ap (λ z. z ++ range_with_len 0 place) first
@@ -159,6 +159,6 @@ none_later earlier now start other len le within still none =
     let high = all_left (λ i. earlier i false) (range_with_len start (len - start)) (range_with_len 0 start) parts in
     let low = all_right (λ i. earlier i false) (range_with_len start (len - start)) (range_with_len 0 start) parts in
     let all : (i : ℕ) → i < len → now i false = (λ i lt. still i (below_or_not i start
-          (λ p. subst (λ z. earlier z false) (omega arith) (all_of_range (λ j. earlier j false) 0 start i low p))
-          (λ p. subst (λ z. earlier z false) (omega arith) (all_of_range (λ j. earlier j false) start (len - start) (i - start) high (omega arith))))) in
+    (λ p. subst (λ z. earlier z false) (omega arith) (all_of_range (λ j. earlier j false) 0 start i low p))
+    (λ p. subst (λ z. earlier z false) (omega arith) (all_of_range (λ j. earlier j false) start (len - start) (i - start) high (omega arith))))) in
     none_from_start now other len None within (λ i a b. all i b) (λ i a b. all i (omega arith))

@@ -1,6 +1,6 @@
 -- Where the root of a tree stands.
-use Rattle.std.proofs.Common.{◌≡◌, ◌+◌, ◌*◌, ◌-◌, ◌^◌, ◌<◌, ◌≤◌, ℕ, zero, suc, true, false, sym, ◌∙◌, subst, refl, arith, rules}
-use Rattle.std.specs.Prelude.{nat_lt, if◌then◌else◌}
+use Rattle.std.proofs.Common.{◌≡◌, ◌+◌, ◌*◌, ◌^◌, ◌<◌, ◌≤◌, ℕ, zero, suc, true, false, sym, ◌∙◌, subst, refl, arith, rules}
+use Rattle.std.specs.Prelude.{nat_lt}
 use Rattle.std.proofs.Math.Nat.{pow-suc}
 use Rattle.std.proofs.lemmas.Nat.{pow_pos}
 use Rattle.omega_fit.specs.Tree.{middle}
@@ -71,6 +71,6 @@ middle_of_power zero power below above = absurd (omega (arith, pow_pos power))
 middle_of_power (suc n) power below above = below_or_not n (2 ^ power)
     (λ lt. power_step power n (middle_of_power n) lt below)
     (λ le.
-        let m : suc (middle n) ≡ 2 ^ power = middle_of_power n power le (omega arith) in
-        let stays : middle (suc n) ≡ middle n = middle_stays n (omega (arith, m)) in
-        omega (arith, m, stays))
+    let m : suc (middle n) ≡ 2 ^ power = middle_of_power n power le (omega arith) in
+    let stays : middle (suc n) ≡ middle n = middle_stays n (omega (arith, m)) in
+    omega (arith, m, stays))

@@ -1,5 +1,5 @@
 -- What a search in the parts of a tree says of the whole tree.
-use Rattle.std.proofs.Common.{◌≡◌, ℕ, zero, suc, List, [], ◌∷◌, ◌++◌, ◌+◌, ◌-◌, ◌<◌, ◌≤◌, length, take, drop, map, Option, Some, None, Bool, true, false, subst, sym, ap, refl, arith, rules}
+use Rattle.std.proofs.Common.{◌≡◌, ℕ, zero, suc, List, [], ◌∷◌, ◌++◌, ◌+◌, ◌-◌, ◌<◌, ◌≤◌, length, take, drop, Option, Some, None, Bool, true, false, subst, sym, ap, refl, arith}
 use Rattle.std.specs.Prelude.{get_or, max}
 use Rattle.std.proofs.Math.Nat.{le-max_left, le-max_right}
 use Rattle.std.proofs.lemmas.List.{length-take-le, length-drop, take-append-drop, length-map}
@@ -192,7 +192,6 @@ in_none post need slots left slot right base from to part is within l m r =
     subst (λ z. FirstWithin post need z base from to None) (sym is)
     (none_fork post need left slot right base from to part within l m
     (subst (λ n. FirstWithin post need right (base + n) (from - n) (to - n) None) e r))
-
 
 -- a search in the whole tree
 whole : (answers : ℕ → Bool → Type 0) (need : Need) (slots : List Slot) (from to : ℕ) (found : Option ℕ)

@@ -1,11 +1,10 @@
 -- Trees, put together and taken apart.
-use Rattle.std.proofs.Common.{◌≡◌, ℕ, zero, suc, List, [], ◌∷◌, ◌++◌, ◌+◌, ◌-◌, ◌<◌, ◌≤◌, length, take, drop, map, set, Option, Some, None, subst, sym, ap, ◌∙◌, refl, arith, rules}
+use Rattle.std.proofs.Common.{◌≡◌, ℕ, zero, suc, List, [], ◌∷◌, ◌++◌, ◌+◌, ◌-◌, ◌<◌, ◌≤◌, length, take, drop, subst, sym, ap, ◌∙◌, refl, arith}
 use Rattle.std.proofs.lemmas.List.{length-take-le, length-drop, take_at, drop_at}
 use Rattle.std.proofs.lemmas.Grind.{common_steps}
-use Rattle.omega_model.specs.declared.cells.Need.{Need}
 use Rattle.omega_fit.specs.declared.nodes.Slot.{Slot}
 use Rattle.omega_fit.specs.Needs.{greater}
-use Rattle.omega_fit.specs.Tree.{frees, middle, most_of, root, Forks, Tidy, Tree}
+use Rattle.omega_fit.specs.Tree.{middle, root, Forks, Tidy, Tree}
 use Rattle.omega_fit.proofs.Middles.{middle_within, below_last}
 
 forks_less : (P Q : List Slot → Type 0) (m : ℕ) (left rest : List Slot) → ((xs : List Slot) → length xs ≤ m → P xs → Q xs)
@@ -105,10 +104,10 @@ grown : (left : List Slot) (slot : Slot) (right slots : List Slot) → slots ≡
 grown left slot right slots whole half some =
     let n : length slots ≡ suc (length left + length right) = ap length whole ∙ grind (arith, common_steps) in
     let before : middle (length slots - 1) ≡ length left = below_last (length slots - 1) (length left)
-          (subst (λ z. length left ≡ middle z) (omega (arith, n)) half) (omega (arith, n)) in
+    (subst (λ z. length left ≡ middle z) (omega (arith, n)) half) (omega (arith, n)) in
     let t : take (length slots - 1) slots ≡ left ++ slot ∷ take (length right - 1) right =
-          subst (λ z. take (length slots - 1) z ≡ left ++ slot ∷ take (length right - 1) right) (sym whole)
-          (take_past left (slot ∷ right) (length slots - 1) (suc (length right - 1)) (omega (arith, n))) in
+    subst (λ z. take (length slots - 1) z ≡ left ++ slot ∷ take (length right - 1) right) (sym whole)
+    (take_past left (slot ∷ right) (length slots - 1) (suc (length right - 1)) (omega (arith, n))) in
     (t, sym (subst (λ z. middle z ≡ length left) (sym (length-take-le (length slots - 1) slots (omega arith))) before))
 
 none_right : (left : List Slot) (slot : Slot) (slots : List Slot) → slots ≡ left ++ slot ∷ [] → take (length slots - 1) slots ≡ left

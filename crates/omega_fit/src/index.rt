@@ -4,7 +4,7 @@ ghost use Rattle.omega_fit.specs.Needs.{WithRoom};
 ghost use Rattle.omega_fit.specs.Round.{IsFirst, positions_from};
 ghost use Rattle.omega_fit.specs.Tree.{frees};
 
-use crate::nodes::{put_in, settle, settle_last, Slot};
+use crate::nodes::{Slot, put_in, settle, settle_last};
 use crate::searching::search_round;
 use omega_model::{Need, NoMemory};
 use std::alloc::Global;

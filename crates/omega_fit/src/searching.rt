@@ -5,7 +5,7 @@ ghost use Rattle.omega_fit.specs.Round.{IsFirst, positions_from};
 ghost use Rattle.omega_fit.specs.Tree.{frees, FirstWithin, Tree};
 
 use crate::needs::holds;
-use crate::nodes::{parted, root_of, Slot};
+use crate::nodes::{Slot, parted, root_of};
 use omega_model::Need;
 
 /// The first position with room that passes the test, round from a start.

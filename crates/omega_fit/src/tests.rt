@@ -1,4 +1,4 @@
-use crate::{first_fit, FitIndex};
+use crate::{FitIndex, first_fit};
 use omega_model::{Need, NoMemory};
 use rand_core::utils::NextWord;
 use rand_pcg::Pcg32;
@@ -11,7 +11,11 @@ fn need(cpu: u64, mem: u64, disk: u64) -> Need {
 // A number below `bound`, or 0.
 fn draw(words: &mut Pcg32, bound: u64) -> u64 {
     let word: u32 = words.next_word();
-    if bound == 0 { 0 } else { u64::from(word) % bound }
+    if bound == 0 {
+        0
+    } else {
+        u64::from(word) % bound
+    }
 }
 
 // Amounts are small, so that some needs are met exactly and some nowhere.

@@ -1,5 +1,4 @@
-use Rattle.std.proofs.Common.{rules, ◌≡◌, length}
-use Rattle.omega_fit.specs.Tree.{frees, Tree}
+use Rattle.std.proofs.Common.{rules}
 use Rattle.omega_fit.proofs.Puts.{put_left, put_here, put_right}
 use Rattle.omega_fit.proofs.nodes.+put_in.Goals as goal
 use Rattle.omega_fit.proofs.nodes.+put_in.Goals.{then-position-half, else-position-half+then-position-half-2, else-position-half+else-position-half-2}
