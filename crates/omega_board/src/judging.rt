@@ -66,7 +66,7 @@ impl Board {
     }
 
     fn no_machine(&self, claim: &Claim) -> Option<Verdict>
-        ensures part { result ≡ no_machine (cell_of self.now) claim.now }
+        ensures { result ≡ no_machine (cell_of self.now) claim.now }
     {
         match self.table.free(claim.machine) {
             Some(_) => None,

@@ -8,6 +8,7 @@ ghost use Rattle.omega_model.specs.Judge.{judge_fine};
 ghost use Rattle.omega_model.specs.Machines.{is_listed};
 ghost use Rattle.omega_model.specs.Reply.{tasks_placed};
 ghost use Rattle.omega_model.specs.Touches.{places_on};
+ghost use Rattle.omega_model.specs.declared.claims.Verdict.TheVariants.{Placed};
 ghost use Rattle.omega_board.specs.Board.{cell_of, table_with};
 ghost use Rattle.omega_board.specs.Undo.{IsUndoOf, at_reserve, before_change, MayTakeBack};
 
@@ -38,7 +39,7 @@ impl Board {
     /// its victims, which is used up, and it still takes the board back to its reserve. Costs the
     /// tasks that stop. Takes no memory.
     pub fn apply_placed(&mut self, claim: &Claim, evicted: &[TaskKey], undo: &mut Undo)
-        requires placed { judge_fine (cell_of self.old) claim.now ≡ record { verdict = Verdict.Placed; evicted = evicted.now } }
+        requires placed { judge_fine (cell_of self.old) claim.now ≡ record { verdict = Placed; evicted = evicted.now } }
         requires undo { IsUndoOf self.old undo.old }
         requires claims { 0 < undo.old.claims }
         requires victims { length claim.now.victims ≤ undo.old.victims }
