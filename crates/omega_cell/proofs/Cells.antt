@@ -18,7 +18,7 @@ use Rattle.omega_machines.specs.declared.MachineState.{MachineState}
 use Rattle.omega_machines.specs.Table.{machines_of, seq_at}
 use Rattle.omega_board.specs.Board.{BoardState, cell_of}
 use Rattle.omega_board.proofs.Histories.{seq_push}
-use Rattle.omega_cell.specs.Cells.{IsBoardOf, IsCell, is_commit}
+use Rattle.omega_cell.specs.Cells.{IsCell, is_commit}
 
 -- a cell with one more entry that may follow, on whose board it was applied
 pub cell_push : (board after : BoardState) (history : List Entry) (entry : Entry) → IsCell board history → Follows history entry → MayApply (state history) (seq history) entry
@@ -43,16 +43,6 @@ cell_same board after history kept table tasks = record {
   };
   legal = kept.legal;
   applied = kept.applied;
-}
-
--- what may be applied to the state of a history may be applied to its board
-pub may_on : (board : BoardState) (history : List Entry) (entry : Entry) → IsBoardOf board history → MayApply (state history) (seq history) entry → MayApply (cell_of board) (seq_at board.table) entry
-may_on board history entry is may = record {
-  capacity = may.capacity;
-  machines = subst (λ (cell : Cell). IfSome (machine_in entry) (ListsOrHasRoom cell.machines)) (sym is.current) may.machines;
-  numbers = λ id touched. subst (λ (n : ℕ). n < 2 ^ 64 - 1) (sym (is.numbered id)) (may.numbers id touched);
-  ends = subst (λ (cell : Cell). EndsRunning cell.tasks entry) (sym is.current) may.ends;
-  places = subst (λ (cell : Cell). PlacesInOrder cell entry) (sym is.current) may.places;
 }
 
 -- sequence numbers are at most the number of entries

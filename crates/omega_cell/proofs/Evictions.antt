@@ -3,11 +3,11 @@ use Rattle.std.proofs.Common.{◌≡◌, ℕ, zero, suc, ◌<◌, Bool, true, fa
 use Rattle.std.specs.Prelude.{slice_get, IsSomeAnd}
 use Rattle.std.specs.List.{filter, find, fold, list_any, zip}
 use Rattle.std.specs.Option.{option_map, option_map_or, unwrap_or}
-use Rattle.std.proofs.lemmas.Bool.{both_ways, and_from, leb-false}
+use Rattle.std.proofs.lemmas.Bool.{both_ways, and_parts, leb-false, or_left, or_right}
 use Rattle.std.proofs.lemmas.List.{length-take, take-take}
 use Rattle.std.proofs.lemmas.Option.{none-some, same_Some, slice_get_within}
-use Rattle.omega_model.specs.Cell.{Cell, task_at, with_task, without, keys_of}
-use Rattle.omega_model.specs.Judge.{refusal_if, changed, runs_on, standing_victims, withstands, victim_rank, stays_of_job, free_without, verdict_given, makes_room, evicted_for, judged_given, judge, would_be_placed}
+use Rattle.omega_model.specs.Cell.{Cell, machine_at, task_at, with_task, without, keys_of}
+use Rattle.omega_model.specs.Judge.{is_up, no_machine, already_running, changed, runs_on, standing_victims, withstands, victim_rank, judge_fine, verdict_given, makes_room, evicted_for, judged_given, judge, would_be_placed}
 use Rattle.omega_model.specs.Keys.{key_lt, same_key, is_among, first_mentions, beginnings}
 use Rattle.omega_model.specs.Legal.{Legal, Follows}
 use Rattle.omega_model.specs.Need.{fits}
@@ -24,18 +24,19 @@ use Rattle.omega_model.specs.declared.claims.Rule.{Rule}
 use Rattle.omega_model.specs.declared.claims.Rule.TheVariants.{Fine, Coarse}
 use Rattle.omega_model.specs.declared.claims.Txn.{Txn}
 use Rattle.omega_model.specs.declared.claims.Verdict.{Verdict}
-use Rattle.omega_model.specs.declared.claims.Verdict.TheVariants.{Changed, VictimRank, SameJob, Full}
+use Rattle.omega_model.specs.declared.claims.Verdict.TheVariants.{Changed, NoMachine, VictimRank}
 use Rattle.omega_model.specs.declared.entries.Entry.{Entry}
 use Rattle.omega_model.specs.declared.entries.Entry.TheVariants.{Round, MachineAdd, MachineUpdate, MachineRemove, AttrSet, AttrDelete, End, Commit}
 use Rattle.omega_machines.proofs.Places.{by_answer}
 use Rattle.omega_running.specs.declared.orders.Order.TheVariants.{ByKey}
 use Rattle.omega_running.specs.Order.{Each, IsInOrder, precedes}
 use Rattle.omega_running.proofs.Kept.{rises_filter}
-use Rattle.omega_running.proofs.Lists.{any_none, filter_every}
-use Rattle.omega_board.proofs.Parts.{Refuses, refuses_if, admitted, found_on, withstands_is}
-use Rattle.omega_board.proofs.Tasks.{each_absent, each_passes, each_filter, filter_and, filter_alike, found_still, gone_absent, key_differs, key_differs_back, stays_other, with_ordered, without_ordered}
+use Rattle.omega_running.proofs.Lists.{each_map, filter_every, find_none}
+use Rattle.omega_board.proofs.Parts.{found_on, withstands_is}
+use Rattle.omega_board.proofs.Placed.{Refuses, refuses_if, refuses_running, passes, is_placed-Placed, placeable_fine}
+use Rattle.omega_board.proofs.Standing.{Once, among_filter, among_first, are_standing, first_standing, stand}
+use Rattle.omega_board.proofs.Tasks.{each_absent, key_itself, filter_and, filter_alike, found_still, gone_absent, key_differs, key_differs_back, stays_other, with_ordered, without_ordered}
 use Rattle.omega_cell.specs.Laws.{RunsBelow, EachHasToGo, EvictInOrder, EvictsWhatHasToGo, EvictionsGoDown}
-use Rattle.omega_cell.proofs.Mentions.{Differ, differ_some, differ_take, each_at, each_take, mentioned, mentions_differ, not_before}
 use Rattle.omega_cell.proofs.Shortest.{IsShortest, shortest}
 
 -- a new task stands in its place, whatever had its name
@@ -84,35 +85,23 @@ ordered_from cell (entry ∷ history) order = ordered_from (step cell entry) his
 pub state_ordered : (history : List Entry) → IsInOrder ByKey (state history).tasks
 state_ordered history = ordered_from (state []) history tt
 
-none_mapped : {X Y : Type 0} (f : X → Y) (o : Option X) → option_map f o ≡ None → o ≡ None
-none_mapped f None e = refl
-none_mapped f (Some x) e = absurd (none-some (f x) (sym e))
-
--- where none of the parts refuses a claim, what its standing victims leave is enough
-fits_left : (b : Bool) (verdict : Verdict) → refusal_if (not b) verdict ≡ None → b ≡ true
-fits_left true verdict e = refl
-fits_left false verdict e = absurd (none-some verdict (sym e))
-
-no_rival : (b : Bool) (p : Task → Bool) (tasks : List Task) → (if b then option_map (λ task. SameJob task.key) (find p tasks) else None) ≡ None → (b && list_any p tasks) ≡ false
-no_rival false p tasks none = refl
-no_rival true p tasks none = any_none p tasks (each_absent p tasks (none_mapped (λ task. SameJob task.key) (find p tasks) none))
-
-room_made : (cell : Cell) (claim : Claim) → would_be_placed cell claim ≡ true → makes_room cell claim (standing_victims cell.tasks claim) ≡ true
-unfolding Refuses
-room_made cell claim placed =
-    let standing = standing_victims cell.tasks claim in
-    let known = admitted None cell claim tt placed in
-    and_from _ _
-    (fits_left (fits claim.spec.need (free_without cell claim standing)) (Full (free_without cell claim standing)) known.room)
-    (ap not (no_rival claim.spec.differ (stays_of_job claim.key.job claim.machine standing) cell.tasks known.alone))
+-- names that are all of different tasks are first mentions
+mentions_once : (keys : List TaskKey) → Once keys → first_mentions keys ≡ keys
+mentions_once [] once = refl
+mentions_once (key ∷ keys) once =
+    ap (λ ks. key ∷ ks)
+    (ap (filter (λ other. not (same_key other key))) (mentions_once keys once.1)
+    ∙ filter_every (λ other. not (same_key other key)) keys (each_map (λ other. same_key other key ≡ false) (λ other. not (same_key other key) ≡ true) (λ other f. ap not f) keys once.0))
 
 -- the first of the standing victims all stand where no others are named
 stand_alone : (tasks : List Task) (claim : Claim) (turn : ℕ) → filter (runs_on tasks claim.machine) (first_mentions (take turn (standing_victims tasks claim))) ≡ take turn (standing_victims tasks claim)
 stand_alone tasks claim turn =
-    let runs = runs_on tasks claim.machine in
-    let standing = standing_victims tasks claim in
-    ap (filter runs) (mentions_differ (take turn standing) (differ_take turn standing (differ_some runs claim.victims)))
-    ∙ filter_every runs (take turn standing) (each_take (λ key. runs key ≡ true) turn standing (each_passes runs (first_mentions claim.victims)))
+    let gone = take turn (standing_victims tasks claim) in
+    let known = first_standing tasks claim.machine turn (standing_victims tasks claim) (are_standing tasks claim) in
+    ap (filter (runs_on tasks claim.machine)) (mentions_once gone known.once) ∙ filter_every (runs_on tasks claim.machine) gone known.runs
+
+room_made : (cell : Cell) (claim : Claim) → would_be_placed cell claim ≡ true → makes_room cell claim (standing_victims cell.tasks claim) ≡ true
+room_made cell claim placed = (placeable_fine cell claim (is_placed-Placed (judge_fine cell claim).verdict placed)).room
 
 -- where they don't make room, the claim would not be placed with them alone
 not_enough : (cell : Cell) (claim : Claim) (turn : ℕ) → makes_room cell claim (take turn (standing_victims cell.tasks claim)) ≡ false
@@ -124,6 +113,47 @@ not_enough cell claim turn lacks =
     (λ t. absurd (both_ways _ lacks (ap (makes_room cell claim) (sym (stand_alone cell.tasks claim turn)) ∙ room_made cell alone t)))
     (λ f. f)
 
+-- an element among the first ones stands in the list
+at_front : {X : Type 0} (xs : List X) (n place : ℕ) (x : X) → slice_get (take n xs) place ≡ Some x → slice_get xs place ≡ Some x
+at_front xs zero place x is = absurd (none-some x is)
+at_front [] (suc n) place x is = is
+at_front (y ∷ xs) (suc n) zero x is = is
+at_front (y ∷ xs) (suc n) (suc place) x is = at_front xs n place x is
+
+-- a name at a place is among the names
+among_at : (keys : List TaskKey) (place : ℕ) (key : TaskKey) → slice_get keys place ≡ Some key → is_among key keys ≡ true
+among_at [] place key is = absurd (none-some key is)
+among_at (k ∷ keys) zero key is = or_left (same_key key k) (is_among key keys) (subst (λ x. same_key x k ≡ true) (same_Some k key is) (key_itself k))
+among_at (k ∷ keys) (suc place) key is = or_right (same_key key k) (is_among key keys) (among_at keys place key is)
+
+-- none passes a test that finds nothing
+none_passes : (p : TaskKey → Bool) (keys : List TaskKey) → find p keys ≡ None → (place : ℕ) (key : TaskKey) → slice_get keys place ≡ Some key → p key ≡ false
+none_passes p [] none place key is = absurd (none-some key is)
+none_passes p (k ∷ keys) none place key is = let absent = each_absent p (k ∷ keys) none in at place is absent.0 (none_passes p keys (find_none p keys absent.1))
+  where
+    at : (j : ℕ) → slice_get (k ∷ keys) j ≡ Some key → p k ≡ false → ((i : ℕ) (x : TaskKey) → slice_get keys i ≡ Some x → p x ≡ false) → p key ≡ false
+    at zero here f rest = subst (λ x. p x ≡ false) (same_Some k key here) f
+    at (suc j) here f rest = rest j key here
+
+-- where a claim is placed, each victim that stands yields
+refuses_rank : (o : Option TaskKey) → Refuses (option_map VictimRank o)
+unfolding Refuses
+refuses_rank None = tt
+refuses_rank (Some key) = refl
+
+all_yield : (change : Option Verdict) (cell : Cell) (claim : Claim) → Refuses change → is_placed (verdict_given change cell claim) ≡ true
+    → find (withstands cell.tasks claim.spec.prec) (standing_victims cell.tasks claim) ≡ None
+all_yield change cell claim refuses placed =
+    let up = passes (no_machine cell claim) _ (refuses_if (not (is_up (machine_at cell.machines claim.machine))) NoMachine refl) (is_placed-Placed _ placed) in
+    let new = passes (already_running cell claim) _ (refuses_running (task_at cell.tasks claim.key)) up.1 in
+    let same = passes change _ refuses new.1 in
+    let found = find (withstands cell.tasks claim.spec.prec) (standing_victims cell.tasks claim) in
+    none_mapped found (passes (victim_rank cell claim) _ (refuses_rank found) same.1).0
+  where
+    none_mapped : (o : Option TaskKey) → option_map VictimRank o ≡ None → o ≡ None
+    none_mapped None e = refl
+    none_mapped (Some key) e = absurd (none-some (VictimRank key) (sym e))
+
 -- a victim that runs on the machine and yields runs below the claim, once others are gone
 runs_below : (tasks : List Task) (id prec : ℕ) (gone : List TaskKey) (key : TaskKey) → IsInOrder ByKey tasks → runs_on tasks id key ≡ true → withstands tasks prec key ≡ false → is_among key gone ≡ false
     → RunsBelow (without gone tasks) id prec key
@@ -134,27 +164,28 @@ runs_below tasks id prec gone key order runs yields stays =
     sym (withstands_is tasks prec key order ∙ ap (λ o. option_map_or (λ (t : Task). nat_le prec t.spec.prec) o false) task.1) ∙ yields in
     subst (λ o. IsSomeAnd o (λ (t : Task). (t.machine ≡ id) × (t.spec.prec < prec))) (sym still) (task.2, leb-false prec task.0.spec.prec lower)
 
-module _ (cell : Cell) (claim : Claim) (order : IsInOrder ByKey cell.tasks) (yield : victim_rank cell claim ≡ None) where
+module _ (cell : Cell) (claim : Claim) (order : IsInOrder ByKey cell.tasks) (yield : find (withstands cell.tasks claim.spec.prec) (standing_victims cell.tasks claim) ≡ None) where
   abbrev standing : List TaskKey
   standing = standing_victims cell.tasks claim
 
   -- what is found among the beginnings of the standing victims has to go
   begins_go : (evicted : List TaskKey) → IsShortest (makes_room cell claim) standing evicted → EachHasToGo cell claim evicted
   begins_go evicted begins turn key is =
-      let some : (P : TaskKey → Type 0) → Each P standing → P key =
-      λ P each. each_at P evicted turn key (subst (Each P) (sym begins.is) (each_take P begins.count standing each)) is in
-      let runs = some (λ k. runs_on cell.tasks claim.machine k ≡ true) (each_passes (runs_on cell.tasks claim.machine) (first_mentions claim.victims)) in
-      let named = some (λ k. is_among k claim.victims ≡ true) (each_filter (λ k. is_among k claim.victims ≡ true) (runs_on cell.tasks claim.machine) (first_mentions claim.victims) (mentioned claim.victims)) in
-      let yields = some (λ k. withstands cell.tasks claim.spec.prec k ≡ false) (each_absent (withstands cell.tasks claim.spec.prec) standing (none_mapped VictimRank (find (withstands cell.tasks claim.spec.prec) standing) yield)) in
-      let once = not_before evicted turn key (subst Differ (sym begins.is) (differ_take begins.count standing (differ_some (runs_on cell.tasks claim.machine) claim.victims))) is in
-      let below : turn < length evicted = slice_get_within evicted turn key is in
-      let long : length evicted ≡ length (take begins.count standing) = ap length begins.is in
+      let stands = stand cell.tasks claim.machine (take begins.count standing) (first_standing cell.tasks claim.machine begins.count standing (are_standing cell.tasks claim)) in
+      let here : slice_get (take begins.count standing) turn ≡ Some key = sym (ap (λ keys. slice_get keys turn) begins.is) ∙ is in
+      let there : slice_get standing turn ≡ Some key = at_front standing begins.count turn key here in
+      let runs = stands turn key here in
+      let among : (runs_on cell.tasks claim.machine key && is_among key claim.victims) ≡ true =
+      sym (among_filter (runs_on cell.tasks claim.machine) key (first_mentions claim.victims) ∙ ap (λ b. runs_on cell.tasks claim.machine key && b) (among_first key claim.victims))
+      ∙ among_at standing turn key there in
+      let once : is_among key (take turn evicted) ≡ false = ap (λ keys. is_among key (take turn keys)) begins.is ∙ runs.1 in
+      let below : turn < length (take begins.count standing) = slice_get_within (take begins.count standing) turn key here in
       let most = length-take begins.count standing in
-      let before : turn < begins.count = omega (arith, below, long, most) in
+      let before : turn < begins.count = omega (arith, below, most) in
       let front : take turn evicted ≡ take turn standing = ap (take turn) begins.is ∙ take-take turn begins.count standing (omega (arith, before)) in
       record {
-        below = runs_below cell.tasks claim.machine claim.spec.prec (take turn evicted) key order runs yields once;
-        named = named;
+        below = runs_below cell.tasks claim.machine claim.spec.prec (take turn evicted) key order runs.0 (none_passes (withstands cell.tasks claim.spec.prec) standing yield turn key there) once;
+        named = (and_parts _ _ among).1;
         needed = subst (λ (gone : List TaskKey). would_be_placed cell (record claim { victims = gone }) ≡ false) (sym front) (not_enough cell claim turn (begins.least turn before));
       }
 
@@ -174,13 +205,13 @@ none_goes cell claim evicted none turn key is = absurd (none-some key (sym (ap (
 judged_go : (change : Option Verdict) (cell : Cell) (claim : Claim) → Refuses change → IsInOrder ByKey cell.tasks → EachHasToGo cell claim (judged_given change cell claim).evicted
 judged_go change cell claim refuses order =
     by_answer (is_placed (verdict_given change cell claim))
-    (λ t. rw t (evicted_go cell claim order (admitted change cell claim refuses t).rank))
+    (λ t. rw t (evicted_go cell claim order (all_yield change cell claim refuses t)))
     (λ f. rw f (none_goes cell claim [] refl))
 
-refuses_change : (history : List Entry) (seen : ℕ) (rule : Rule) (claim : Claim) → Refuses (changed history seen rule claim)
+refuses_rule : (history : List Entry) (seen : ℕ) (rule : Rule) (claim : Claim) → Refuses (changed history seen rule claim)
 unfolding Refuses
-refuses_change history seen Fine claim = tt
-refuses_change history seen Coarse claim = refuses_if (list_any (touches claim.machine) (drop seen history)) (Changed (seq history claim.machine) (seq (take seen history) claim.machine)) refl
+refuses_rule history seen Fine claim = tt
+refuses_rule history seen Coarse claim = refuses_if (list_any (touches claim.machine) (drop seen history)) (Changed (seq history claim.machine) (seq (take seen history) claim.machine)) refl
 
 -- what is evicted for claims that are judged in order
 judgements_go : (history : List Entry) (seen : ℕ) (cell : Cell) (rule : Rule) (claims : List Claim) → IsInOrder ByKey cell.tasks
@@ -188,7 +219,7 @@ judgements_go : (history : List Entry) (seen : ℕ) (cell : Cell) (rule : Rule) 
 judgements_go history seen cell rule [] order place claim judgement is = absurd (none-some _ is)
 judgements_go history seen cell rule (first ∷ claims) order zero claim judgement is =
     let here : (first, judge history seen cell rule first) ≡ (claim, judgement) = same_Some _ _ is in
-    subst (λ (d : Claim × Judgement). EachHasToGo cell d.0 d.1.evicted) here (judged_go (changed history seen rule first) cell first (refuses_change history seen rule first) order)
+    subst (λ (d : Claim × Judgement). EachHasToGo cell d.0 d.1.evicted) here (judged_go (changed history seen rule first) cell first (refuses_rule history seen rule first) order)
 judgements_go history seen cell rule (first ∷ claims) order (suc place) claim judgement is =
     let decided : Claim × Judgement = (first, judge history seen cell rule first) in
     judgements_go history seen (after_claim cell decided) rule claims (ordered_claim cell.tasks decided order) place claim judgement is

@@ -17,7 +17,8 @@ use Rattle.omega_machines.proofs.Places.{by_answer}
 use Rattle.omega_machines.specs.Table.{machines_of, seq_at}
 use Rattle.omega_board.specs.Board.{BoardState, cell_of}
 use Rattle.omega_board.specs.Undo.{UndoState, IsUndoOf, at_reserve}
-use Rattle.omega_cell.specs.Claiming.{AreNumbered, victims_in}
+use Rattle.omega_board.proofs.Commits.{victims_in}
+use Rattle.omega_cell.specs.Claiming.{AreNumbered}
 use Rattle.omega_cell.specs.Rooms.{victim_counts}
 
 -- the claims before a place are judged

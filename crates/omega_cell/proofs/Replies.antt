@@ -18,8 +18,8 @@ use Rattle.omega_model.specs.declared.claims.Txn.{Txn}
 use Rattle.omega_model.specs.declared.claims.Verdict.{Verdict}
 use Rattle.omega_model.specs.declared.entries.Entry.{Entry}
 use Rattle.omega_machines.proofs.Places.{by_answer}
+use Rattle.omega_board.proofs.Standing.{standing_fewer}
 use Rattle.omega_cell.specs.Rooms.{EvictWithin}
-use Rattle.omega_cell.proofs.Mentions.{length-filter-le, length-first_mentions}
 use Rattle.omega_cell.proofs.Shortest.{shortest}
 
 -- each claim is answered
@@ -45,9 +45,8 @@ evicted_within cell claim = by (find (makes_room cell claim) (beginnings standin
         let begins = shortest (makes_room cell claim) standing keys is in
         let long : length keys ≡ length (take begins.count standing) = ap length begins.is in
         let some = length-take begins.count standing in
-        let stand = length-filter-le (runs_on cell.tasks claim.machine) (first_mentions claim.victims) in
-        let named = length-first_mentions claim.victims in
-        omega (arith, long, some, stand, named)
+        let fewer = standing_fewer cell.tasks claim in
+        omega (arith, long, some, fewer)
 
 judged_within : (cell : Cell) (claim : Claim) (verdict : Verdict) → length (with_evicted cell claim verdict).evicted ≤ length claim.victims
 judged_within cell claim verdict = by_answer (is_placed verdict) (λ t. rw t (evicted_within cell claim)) (λ f. rw f (omega arith))

@@ -1,5 +1,6 @@
 -- The cell that all schedulers share: a history, and the board after it.
 use Rattle.std.specs.Prelude.{◌≡◌, ℕ, ◌≤◌, ◌<◌, ◌^◌, Bool, true, false, List, [], length}
+use Rattle.std.specs.List.{sum_by}
 use Rattle.omega_model.specs.Applying.{EachMayApply}
 use Rattle.omega_model.specs.Legal.{Legal}
 use Rattle.omega_model.specs.State.{state}
@@ -10,7 +11,6 @@ use Rattle.omega_model.specs.declared.entries.Entry.TheVariants.{Commit}
 use Rattle.omega_machines.specs.Table.{seq_at}
 use Rattle.omega_board.specs.Board.{BoardState, cell_of}
 use Rattle.omega_board.specs.Undo.{UndoState}
-use Rattle.omega_cell.specs.Claiming.{victims_in}
 use Rattle.omega_cell.specs.Rooms.{victim_counts}
 
 -- a cell as callers see it: its history, and for how many more tasks and entries it has room
@@ -49,7 +49,7 @@ pub record IsPrepared (txn : Txn) (undo : UndoState) (entry answer : List ℕ) :
   pub few : length txn.claims < 2 ^ 32
   pub log : undo.log ≡ []
   pub claims : undo.claims ≡ length txn.claims
-  pub victims : undo.victims ≡ victims_in txn.claims
+  pub victims : undo.victims ≡ sum_by (λ claim. length claim.victims) txn.claims
   pub entry_room : entry ≡ victim_counts txn.claims
   pub answer_room : answer ≡ victim_counts txn.claims
 

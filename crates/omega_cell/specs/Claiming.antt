@@ -18,11 +18,7 @@ pub record AreNumbered (board : BoardState) (seqs : List ℕ) (claims : List Cla
   pub now : (id : ℕ) → seq_at board.table id ≡ seq history id
   pub copy : seqs ≡ copied_seqs history seen claims
 
--- how many victims some claims have
-abbrev pub victims_in : List Claim → ℕ
-victims_in claims = sum_by (λ claim. length claim.victims) claims
-
 -- an undo has room for these claims and their victims
 pub record CanUndo (undo : UndoState) (told : List Claim) : Type 0 where
   pub claims : length told ≤ undo.claims
-  pub victims : victims_in told ≤ undo.victims
+  pub victims : sum_by (λ claim. length claim.victims) told ≤ undo.victims

@@ -1,9 +1,8 @@
-use Rattle.std.proofs.Common.{ℕ, ◌≡◌, ◌++◌, ◌∷◌, [], ◌<◌, ◌+◌, ◌∙◌, List, Option, length, drop, sym, ap, subst, arith, get_or}
+use Rattle.std.proofs.Common.{ℕ, ◌++◌, ◌∷◌, [], ◌<◌, ◌+◌, ◌∙◌, List, Option, length, sym, ap, subst, arith, get_or}
 use Rattle.std.proofs.lemmas.List.{get_or_default}
 use Rattle.std.specs.Vec.Iter.{into_iter_items}
 use Rattle.std.specs.Option.{option_to_list}
 use Rattle.omega_model.specs.declared.claims.Judgement.{Judgement}
-use Rattle.omega_cell.specs.Rooms.{victim_counts}
 use Rattle.omega_cell.proofs.Judging.{IsJudging, judge_next, rooms_left}
 use Rattle.omega_cell.proofs.deciding.judge_all.Goals as goal
 
