@@ -3,39 +3,58 @@ ghost use Rattle.std.specs.Prelude.{◌≡◌, ◌++◌, List, IfOk};
 ghost use Rattle.std.specs.Option.{option_to_list};
 ghost use Rattle.omega_model.specs.Wanted.{WantedTask, machine_entry, attr_entry, row_entries, task_entries};
 ghost use Rattle.omega_model.specs.declared.cells.Machine.{Machine};
+ghost use Rattle.omega_model.specs.declared.rows.TraceTables.{TraceTables};
 
-use omega_model::{AttrRow, Copied, Entries, Entry, MachineRow, NoMemory, Row, TaskRow};
+use crate::disks::MachineDisks;
+use omega_model::{AttrRow, Copied, Entries, Entry, MachineRow, Need, NoMemory, Row, TaskRow};
 use omega_running::Running;
 use std::alloc::Global;
 
 /// The entries of a row, where these tasks run. Costs the logarithm of their number.
-pub fn entries_of(alloc: Global, row: &Row, running: &Running) -> Result<Entries, NoMemory>
-    ensures { IfOk result (λ entries. (machines : List Machine) (left : List WantedTask) → entries ≡ row_entries (record { machines = machines; tasks = running.now.tasks }) left row.now) }
+pub fn entries_of(
+    alloc: Global,
+    row: &Row,
+    disks: &MachineDisks,
+    running: &Running,
+) -> Result<Entries, NoMemory>
+    ensures { IfOk result (λ entries. (trace : TraceTables) (machines : List Machine) (left : List WantedTask)
+        → disks.now ≡ trace.disks
+        → entries ≡ row_entries trace (record { machines = machines; tasks = running.now.tasks }) left row.now) }
 {
     let mut entries = Entries::new(alloc);
-    if let Some(entry) = entry_of(alloc, row, running)? {
+    if let Some(entry) = entry_of(alloc, row, disks, running)? {
         entries.push(entry)?;
     }
     Ok(entries)
 }
 
 /// The entry of a row: each gives one at most.
-fn entry_of(alloc: Global, row: &Row, running: &Running) -> Result<Option<Entry>, NoMemory>
-    ensures { IfOk result (λ entry. (machines : List Machine) (left : List WantedTask) → option_to_list entry ≡ row_entries (record { machines = machines; tasks = running.now.tasks }) left row.now) }
+fn entry_of(
+    alloc: Global,
+    row: &Row,
+    disks: &MachineDisks,
+    running: &Running,
+) -> Result<Option<Entry>, NoMemory>
+    ensures { IfOk result (λ entry. (trace : TraceTables) (machines : List Machine) (left : List WantedTask)
+        → disks.now ≡ trace.disks
+        → option_to_list entry ≡ row_entries trace (record { machines = machines; tasks = running.now.tasks }) left row.now) }
 {
     match row {
-        Row::Machine(row) => Ok(Some(machine_entry(row))),
+        Row::Machine(row) => Ok(Some(machine_entry(row, disks))),
         Row::Attr(row) => Ok(Some(attr_entry(alloc, row)?)),
         Row::Task(row) => Ok(end_entry(row, running)),
     }
 }
 
-/// The entry of a machine row, by its code.
-fn machine_entry(row: &MachineRow) -> Entry
-    ensures { result ≡ machine_entry row.now }
+/// The entry of a machine row, by its code, with the disk of its machine.
+fn machine_entry(row: &MachineRow, disks: &MachineDisks) -> Entry
+    ensures { result ≡ machine_entry disks.now row.now }
 {
     let machine = row.machine;
-    let cap = row.cap;
+    let cap = Need {
+        disk: disks.of(machine),
+        ..row.cap
+    };
     match row.code {
         0 => Entry::MachineAdd { machine, cap },
         1 => Entry::MachineRemove { machine },
