@@ -8,6 +8,7 @@ mod cells;
 mod claims;
 mod delta;
 mod entries;
+mod limits;
 mod list;
 mod results;
 mod rows;
@@ -22,6 +23,7 @@ pub use claims::{
 };
 pub use delta::{Delta, Part, Parts};
 pub use entries::{Entries, Entry};
+pub use limits::{GREATEST_QUANTITY, LONGEST_TABLE, MOST_MACHINES, MOST_ROWS};
 pub use list::{Bytes, Copied, NoMemory, Seq};
 pub use results::{Cause, Done, Kind, Status};
 pub use rows::{
