@@ -24,6 +24,10 @@ capacity_in (MachineAdd machine cap) = Some cap
 capacity_in (MachineUpdate machine cap) = Some cap
 capacity_in _ = None
 
+-- the capacity that an entry gives a machine, if it gives one, is at most the greatest quantity
+abbrev pub CapacityIsInRange : Entry → Type 0
+CapacityIsInRange entry = IfSome (capacity_in entry) (λ cap. Fits cap greatest)
+
 -- the machine that an entry puts into the list where it isn't there
 abbrev pub machine_in : Entry → Option ℕ
 machine_in (MachineAdd machine cap) = Some machine
@@ -60,7 +64,7 @@ PlacesInOrder cell _ = Unit {0}
 -- machine, the sequence numbers that rise can rise, an end names a running task on its machine, and the
 -- placed claims of a commit can be placed in order
 pub record MayApply (cell : Cell) (seqs : ℕ → ℕ) (entry : Entry) : Type 0 where
-  pub capacity : IfSome (capacity_in entry) (λ cap. Fits cap greatest)
+  pub capacity : CapacityIsInRange entry
   pub machines : IfSome (machine_in entry) (ListsOrHasRoom cell.machines)
   pub numbers : (id : ℕ) → IsTrue (touches id entry) → seqs id < 2 ^ 64 - 1
   pub ends : EndsRunning cell.tasks entry

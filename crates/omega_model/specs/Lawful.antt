@@ -25,7 +25,7 @@ pub record Applied : Type 0 where
 abbrev pub with_row : TraceTables → Applied → Row → Applied
 with_row trace applied row = record {
   rows = applied.rows ++ row ∷ [];
-  history = applied.history ++ row_entries trace (state applied.history) (wanted (applied.rows ++ row ∷ [])) row;
+  history = applied.history ++ row_entries trace.disks (state applied.history) (wanted (applied.rows ++ row ∷ [])) row;
 }
 
 -- a round's entry and those of its rows in order, after these rows and this history

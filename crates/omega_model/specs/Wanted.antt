@@ -12,7 +12,6 @@ use Rattle.omega_model.specs.declared.entries.Entry.{Entry}
 use Rattle.omega_model.specs.declared.entries.Entry.TheVariants.{MachineAdd, MachineUpdate, MachineRemove, AttrSet, AttrDelete, End}
 use Rattle.omega_model.specs.declared.rows.Row.{Row}
 use Rattle.omega_model.specs.declared.rows.Row.TheVariants.{Machine, Attr as AttrEvent, Task as TaskEvent}
-use Rattle.omega_model.specs.declared.rows.TraceTables.{TraceTables}
 
 -- a task that is to run, and how
 pub record WantedTask : Type 0 where
@@ -90,8 +89,8 @@ abbrev pub task_entries : Cell → List WantedTask → TaskFields → List Entry
 task_entries cell left row =
     if ends row.code then end_of (task_at cell.tasks row.key) ++ extra_ends cell left row.key.job else []
 
--- the entries of a row on a cell, where the row leaves these tasks wanted
-abbrev pub row_entries : TraceTables → Cell → List WantedTask → Row → List Entry
-row_entries trace cell left (Machine row) = machine_entry trace.disks row ∷ []
-row_entries trace cell left (AttrEvent row) = attr_entry row ∷ []
-row_entries trace cell left (TaskEvent row) = task_entries cell left row
+-- the entries of a row on a cell, where machines have these disks and the row leaves these tasks wanted
+abbrev pub row_entries : List DiskFields → Cell → List WantedTask → Row → List Entry
+row_entries disks cell left (Machine row) = machine_entry disks row ∷ []
+row_entries disks cell left (AttrEvent row) = attr_entry row ∷ []
+row_entries disks cell left (TaskEvent row) = task_entries cell left row
