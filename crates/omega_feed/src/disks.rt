@@ -1,5 +1,6 @@
 //! The disks of machines.
-ghost use Rattle.std.specs.Prelude.{◌≡◌, IfOk};
+ghost use Rattle.std.specs.Prelude.{◌≡◌, ◌≤◌, IfOk};
+ghost use Rattle.omega_model.specs.Fields.{greatest_quantity};
 ghost use Rattle.omega_model.specs.Wanted.{disk_of};
 ghost use Rattle.omega_feed.specs.Last.{AreLast};
 
@@ -43,7 +44,8 @@ impl MachineDisks {
     /// row for it, and the greatest quantity where it has none. Costs the logarithm of the number of
     /// machines that have one. Takes no memory.
     pub fn of(&self, machine: u64) -> u64
-        ensures { result ≡ disk_of self.now machine }
+        ensures disk { result ≡ disk_of self.now machine }
+        ensures range { result ≤ greatest_quantity }
     {
         match self.last.get(&machine) {
             Some(disk) => *disk,

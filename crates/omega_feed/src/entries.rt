@@ -1,9 +1,9 @@
 //! What a row does to the cell.
-ghost use Rattle.std.specs.Prelude.{◌≡◌, ◌++◌, List, IfOk};
+ghost use Rattle.std.specs.Prelude.{◌≡◌, ◌++◌, All, List, IfOk, IfSome};
 ghost use Rattle.std.specs.Option.{option_to_list};
+ghost use Rattle.omega_model.specs.Applying.{CapacityIsInRange};
 ghost use Rattle.omega_model.specs.Wanted.{WantedTask, machine_entry, attr_entry, row_entries, task_entries};
 ghost use Rattle.omega_model.specs.declared.cells.Machine.{Machine};
-ghost use Rattle.omega_model.specs.declared.rows.TraceTables.{TraceTables};
 
 use crate::disks::MachineDisks;
 use omega_model::{AttrRow, Copied, Entries, Entry, MachineRow, Need, NoMemory, Row, TaskRow};
@@ -17,9 +17,9 @@ pub fn entries_of(
     disks: &MachineDisks,
     running: &Running,
 ) -> Result<Entries, NoMemory>
-    ensures { IfOk result (λ entries. (trace : TraceTables) (machines : List Machine) (left : List WantedTask)
-        → disks.now ≡ trace.disks
-        → entries ≡ row_entries trace (record { machines = machines; tasks = running.now.tasks }) left row.now) }
+    ensures entries { IfOk result (λ entries. (machines : List Machine) (left : List WantedTask)
+        → entries ≡ row_entries disks.now (record { machines = machines; tasks = running.now.tasks }) left row.now) }
+    ensures range { IfOk result (λ entries. All CapacityIsInRange entries) }
 {
     let mut entries = Entries::new(alloc);
     if let Some(entry) = entry_of(alloc, row, disks, running)? {
@@ -35,9 +35,9 @@ fn entry_of(
     disks: &MachineDisks,
     running: &Running,
 ) -> Result<Option<Entry>, NoMemory>
-    ensures { IfOk result (λ entry. (trace : TraceTables) (machines : List Machine) (left : List WantedTask)
-        → disks.now ≡ trace.disks
-        → option_to_list entry ≡ row_entries trace (record { machines = machines; tasks = running.now.tasks }) left row.now) }
+    ensures entry { IfOk result (λ entry. (machines : List Machine) (left : List WantedTask)
+        → option_to_list entry ≡ row_entries disks.now (record { machines = machines; tasks = running.now.tasks }) left row.now) }
+    ensures range { IfOk result (λ entry. IfSome entry CapacityIsInRange) }
 {
     match row {
         Row::Machine(row) => Ok(Some(machine_entry(row, disks))),
@@ -48,7 +48,8 @@ fn entry_of(
 
 /// The entry of a machine row, by its code, with the disk of its machine.
 fn machine_entry(row: &MachineRow, disks: &MachineDisks) -> Entry
-    ensures { result ≡ machine_entry disks.now row.now }
+    ensures entry { result ≡ machine_entry disks.now row.now }
+    ensures range { CapacityIsInRange result }
 {
     let machine = row.machine;
     let cap = Need {
@@ -64,7 +65,8 @@ fn machine_entry(row: &MachineRow, disks: &MachineDisks) -> Entry
 
 /// The entry of an attribute row: the attribute is set, or deleted.
 fn attr_entry(alloc: Global, row: &AttrRow) -> Result<Entry, NoMemory>
-    ensures { IfOk result (λ entry. entry ≡ attr_entry row.now) }
+    ensures entry { IfOk result (λ entry. entry ≡ attr_entry row.now) }
+    ensures range { IfOk result CapacityIsInRange }
 {
     let machine = row.machine;
     let name = row.name.copy(alloc)?;
@@ -81,7 +83,8 @@ fn attr_entry(alloc: Global, row: &AttrRow) -> Result<Entry, NoMemory>
 
 /// The end of the task of a row, if the row ends it and it runs.
 fn end_entry(row: &TaskRow, running: &Running) -> Option<Entry>
-    ensures { (machines : List Machine) (left : List WantedTask) → option_to_list result ≡ task_entries (record { machines = machines; tasks = running.now.tasks }) left row.now }
+    ensures range { IfSome result CapacityIsInRange }
+    ensures entry { (machines : List Machine) (left : List WantedTask) → option_to_list result ≡ task_entries (record { machines = machines; tasks = running.now.tasks }) left row.now }
 {
     if !matches!(row.code, 3..=6) {
         return None;

@@ -1,9 +1,10 @@
 //! What a trace asks for, row by row.
-ghost use Rattle.std.specs.Prelude.{◌≡◌, ◌++◌, ◌∷◌, [], List, map, not, IfOk, OnOk, OnErr};
+ghost use Rattle.std.specs.Prelude.{◌≡◌, ◌++◌, ◌∷◌, [], All, List, map, not, IfOk, OnOk, OnErr};
 ghost use Rattle.std.specs.List.{filter};
+ghost use Rattle.omega_model.specs.Applying.{CapacityIsInRange};
 ghost use Rattle.omega_model.specs.OpenRequests.{open_requests};
 ghost use Rattle.omega_model.specs.Requests.{is_waiting};
-ghost use Rattle.omega_model.specs.Wanted.{wanted, wanted_after, wanted_after_task, with_wanted, is_named, row_entries};
+ghost use Rattle.omega_model.specs.Wanted.{wanted_after, wanted_after_task, with_wanted, is_named, row_entries};
 ghost use Rattle.omega_model.specs.declared.cells.Machine.{Machine};
 ghost use Rattle.omega_model.specs.declared.rows.Row.{Row};
 ghost use Rattle.omega_model.specs.declared.rows.TraceTables.{TraceTables};
@@ -122,9 +123,8 @@ impl Wanted {
     /// The entries of the row that was taken last, on the cell of a board. Costs the logarithm of the
     /// number of running tasks.
     pub fn entries(&self, alloc: Global, row: &Row, board: &Board) -> Result<Entries, NoMemory>
-        ensures { IfOk result (λ entries. (settings : Settings) (trace : TraceTables) (rows : List Row)
-            → self.now ≡ asked_after settings trace rows
-            → entries ≡ row_entries trace (cell_of board.now) (wanted rows) row.now) }
+        ensures entries { IfOk result (λ entries. entries ≡ row_entries self.now.disks (cell_of board.now) self.now.tasks row.now) }
+        ensures range { IfOk result (λ entries. All CapacityIsInRange entries) }
     {
         entries_of(alloc, row, &self.disks, board.running())
     }
