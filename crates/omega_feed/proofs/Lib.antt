@@ -5,4 +5,5 @@ pub mod TaskMap
 pub mod AskedAfter
 pub mod Places
 pub mod Listing
+pub mod Lasting
 pub mod Picked

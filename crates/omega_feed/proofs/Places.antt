@@ -36,10 +36,10 @@ had_task job key spec tasks ne e =
       ]
     ]
 
-at_place : (p q : ℕ) → p ≡ q → is_at (nat_cmp p) q ≡ true
+pub at_place : (p q : ℕ) → p ≡ q → is_at (nat_cmp p) q ≡ true
 at_place p q e = rw (le-ltb p q (omega arith), eq-eqb p q e) refl
 
-off_place : (p q : ℕ) → (p ≡ q → ⊥) → is_at (nat_cmp p) q ≡ false
+pub off_place : (p q : ℕ) → (p ≡ q → ⊥) → is_at (nat_cmp p) q ≡ false
 off_place p q ne =
     elim (cases_order p q) [
       | inl e ↦ absurd (ne e)

@@ -3,7 +3,7 @@ use Rattle.std.specs.Prelude.{ℕ, Bool, List, [], ◌∷◌, ◌++◌, Option, 
 use Rattle.std.specs.List.{filter, filter_map, list_any}
 use Rattle.omega_model.specs.Cell.{Cell}
 use Rattle.omega_model.specs.Feed.{feed}
-use Rattle.omega_model.specs.Fields.{ConstraintFields}
+use Rattle.omega_model.specs.Fields.{ConstraintFields, DiskFields}
 use Rattle.omega_model.specs.Keys.{same_key}
 use Rattle.omega_model.specs.Requests.{jobs_in_order, scheduler_of, request_of, is_waiting}
 use Rattle.omega_model.specs.Wanted.{WantedTask, wanted}
@@ -16,11 +16,12 @@ use Rattle.omega_model.specs.declared.wishes.Request.{Request}
 use Rattle.omega_model.specs.declared.wishes.Wish.{Wish}
 use Rattle.omega_feed.specs.declared.jobs.RoutedJob.{RoutedJob}
 
--- the jobs of a trace in order of their first task row, the constraints of all its tasks, and the
--- tasks that are wanted now, in order of key
+-- the jobs of a trace in order of their first task row, the constraints of all its tasks, the disks of
+-- its machines, and the tasks that are wanted now, in order of key
 pub record Asked : Type 0 where
   pub jobs : List RoutedJob
   pub constraints : List ConstraintFields
+  pub disks : List DiskFields
   pub tasks : List WantedTask
 
 -- a job with its scheduler
@@ -32,6 +33,7 @@ abbrev pub asked_after : Settings → TraceTables → List Row → Asked
 asked_after settings trace rows = record {
   jobs = map (routed settings trace) (jobs_in_order (feed trace));
   constraints = trace.constraints;
+  disks = trace.disks;
   tasks = wanted rows;
 }
 

@@ -6,6 +6,7 @@
 #![tactic(auto)]
 
 mod constraints;
+mod disks;
 mod entries;
 mod jobs;
 mod ordered;

@@ -1,14 +1,20 @@
 //! What a trace asks for, row by row.
-ghost use Rattle.std.specs.Prelude.{◌≡◌, [], List, map, not, IfOk, OnOk, OnErr};
+ghost use Rattle.std.specs.Prelude.{◌≡◌, ◌++◌, ◌∷◌, [], All, List, map, not, IfOk, OnOk, OnErr};
 ghost use Rattle.std.specs.List.{filter};
+ghost use Rattle.omega_model.specs.Applying.{CapacityIsInRange};
+ghost use Rattle.omega_model.specs.OpenRequests.{open_requests};
 ghost use Rattle.omega_model.specs.Requests.{is_waiting};
 ghost use Rattle.omega_model.specs.Wanted.{wanted_after, wanted_after_task, with_wanted, is_named, row_entries};
 ghost use Rattle.omega_model.specs.declared.cells.Machine.{Machine};
+ghost use Rattle.omega_model.specs.declared.rows.Row.{Row};
+ghost use Rattle.omega_model.specs.declared.rows.TraceTables.{TraceTables};
+ghost use Rattle.omega_model.specs.declared.settings.Settings.{Settings};
 ghost use Rattle.omega_board.specs.Board.{cell_of};
 ghost use Rattle.omega_feed.specs.Asked.{asked_after, asked_requests, asked_wish};
 ghost use Rattle.omega_feed.specs.Index.{place_request};
 
 use crate::constraints::TaskConstraints;
+use crate::disks::MachineDisks;
 use crate::entries::entries_of;
 use crate::jobs::{Jobs, RoutedJob};
 use crate::tasks::WantedTasks;
@@ -28,6 +34,7 @@ use std::marker::Model;
 pub struct Wanted {
     jobs: Jobs,
     constraints: TaskConstraints,
+    disks: MachineDisks,
     tasks: WantedTasks,
     active: BTreeSet<usize>,
 }
@@ -39,7 +46,7 @@ impl Model for Wanted {
 
     ghost use Rattle.omega_feed.specs.Index.{AreActive};
 
-    ghost view = { λ wanted. record { jobs = wanted.jobs; constraints = wanted.constraints; tasks = wanted.tasks } };
+    ghost view = { λ wanted. record { jobs = wanted.jobs; constraints = wanted.constraints; disks = wanted.disks; tasks = wanted.tasks } };
 
     ghost invariant = { λ wanted. AreActive wanted.active wanted.jobs wanted.tasks };
 }
@@ -53,6 +60,7 @@ impl Wanted {
         Ok(Wanted {
             jobs: Jobs::of(alloc, tables, settings)?,
             constraints: TaskConstraints::new(alloc, &tables.constraints)?,
+            disks: MachineDisks::new(alloc, &tables.disks)?,
             tasks: WantedTasks::new(alloc),
             active: BTreeSet::new(alloc),
         })
@@ -64,6 +72,9 @@ impl Wanted {
     pub fn take(&mut self, row: &Row) -> Result<(), NoMemory>
         ensures ok { OnOk result (self.new ≡ record self.old { tasks = wanted_after self.old.tasks row.now }) }
         ensures err { OnErr result (self.new ≡ self.old) }
+        ensures asked { (settings : Settings) (trace : TraceTables) (rows : List Row)
+            → self.old ≡ asked_after settings trace rows
+            → OnOk result (self.new ≡ asked_after settings trace (rows ++ row.now ∷ [])) }
     {
         match row {
             Row::Task(row) => self.take_task(row),
@@ -112,9 +123,10 @@ impl Wanted {
     /// The entries of the row that was taken last, on the cell of a board. Costs the logarithm of the
     /// number of running tasks.
     pub fn entries(&self, alloc: Global, row: &Row, board: &Board) -> Result<Entries, NoMemory>
-        ensures { IfOk result (λ entries. entries ≡ row_entries (cell_of board.now) self.now.tasks row.now) }
+        ensures entries { IfOk result (λ entries. entries ≡ row_entries self.now.disks (cell_of board.now) self.now.tasks row.now) }
+        ensures range { IfOk result (λ entries. All CapacityIsInRange entries) }
     {
-        entries_of(alloc, row, board.running())
+        entries_of(alloc, row, &self.disks, board.running())
     }
 
     /// What a scheduler is asked to place on the cell of a board: its jobs in order of their first
@@ -127,7 +139,9 @@ impl Wanted {
         scheduler: u32,
         board: &Board,
     ) -> Result<Requests, NoMemory>
-        ensures { IfOk result (λ requests. requests ≡ asked_requests self.now (cell_of board.now) scheduler) }
+        ensures { IfOk result (λ requests. (settings : Settings) (trace : TraceTables) (rows : List Row)
+            → self.now ≡ asked_after settings trace rows
+            → requests ≡ open_requests settings trace rows (cell_of board.now) scheduler) }
     {
         self.requests_beside(alloc, scheduler, board.running())
     }

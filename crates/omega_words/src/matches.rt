@@ -1,11 +1,10 @@
 //! Settings and folder of what `clap` found.
 ghost use Rattle.std.specs.Prelude.{◌≡◌, ◌<◌, ◌≤◌, ◌^◌, false, true, codes, map, option_map};
 ghost use Rattle.std.specs.Option.{option_map_or};
-ghost use Rattle.clap.specs.Words.{found_of, rows_of};
 ghost use Rattle.omega_model.specs.Options.{is_among, is_value};
 ghost use Rattle.omega_model.specs.WordSettings.{command_of, extra_of, folder_by, format_of, is_text, mode_of, preempt_of, rule_of, settings_by};
 ghost use Rattle.omega_words.specs.Built.{built_commands};
-ghost use Rattle.omega_words.specs.Entries.{choice_of, number_or, texts_of, where_it};
+ghost use Rattle.omega_words.specs.Entries.{choice_of, number_or, texts_in, where_it};
 ghost use Rattle.omega_words.specs.Taken.{are_values};
 
 use crate::entries::{self, Entry, Span};
@@ -14,14 +13,14 @@ use omega_model::{Command, Extra, Format, Mode, Preempt, Rule, Settings};
 
 /// The text of a name.
 fn text_of<'a>(matches: &ArgMatches<'a>, name: &str) -> Option<&'a str>
-    ensures { option_map (λ text. text.now) result ≡ texts_of (rows_of (found_of matches.now)) name.now }
+    ensures { option_map (λ text. text.now) result ≡ texts_in matches.now name.now }
 {
     matches.get_str(name)
 }
 
 /// Whether the option isn't given, or its text is a value.
 fn entry_passes<'a>(matches: &ArgMatches<'a>, entry: Entry<'a>) -> bool
-    ensures { let option = choice_of entry.entry in let texts = texts_of (rows_of (found_of matches.now)) in
+    ensures { let option = choice_of entry.entry in let texts = texts_in matches.now in
         result ≡ option_map_or (is_value option.values) (texts option.name) true }
 {
     match text_of(matches, entry.name) {
@@ -32,7 +31,7 @@ fn entry_passes<'a>(matches: &ArgMatches<'a>, entry: Entry<'a>) -> bool
 
 /// Whether each option isn't given, or its text is a value.
 pub fn entries_pass<'a>(matches: &ArgMatches<'a>, entries: &[Entry<'a>]) -> bool
-    ensures { result ≡ are_values (map choice_of entries.now) (texts_of (rows_of (found_of matches.now))) }
+    ensures { result ≡ are_values (map choice_of entries.now) (texts_in matches.now) }
 {
     for entry in entries {
         if !entry_passes(matches, *entry) {
@@ -45,7 +44,7 @@ pub fn entries_pass<'a>(matches: &ArgMatches<'a>, entries: &[Entry<'a>]) -> bool
 /// The number of an option, `default` where none of the span is given.
 fn number_of<'a>(matches: &ArgMatches<'a>, name: &str, span: Span, default: u64) -> u64
     requires { default ≤ span.high }
-    ensures value { result ≡ number_or span.low span.high default (texts_of (rows_of (found_of matches.now)) name.now) }
+    ensures value { result ≡ number_or span.low span.high default (texts_in matches.now name.now) }
     ensures within { result ≤ span.high }
 {
     let Some(text) = text_of(matches, name) else {
@@ -61,14 +60,14 @@ fn number_of<'a>(matches: &ArgMatches<'a>, name: &str, span: Span, default: u64)
 fn small_number_of<'a>(matches: &ArgMatches<'a>, name: &str, span: Span, default: u32) -> u32
     requires high { span.high < 2 ^ 32 }
     requires default { default ≤ span.high }
-    ensures { result ≡ number_or span.low span.high default (texts_of (rows_of (found_of matches.now)) name.now) }
+    ensures { result ≡ number_or span.low span.high default (texts_in matches.now name.now) }
 {
     number_of(matches, name, span, u64::from(default)) as u32
 }
 
 /// Whether the text of a name is this one.
 fn is_text<'a>(matches: &ArgMatches<'a>, name: &str, text: &str) -> bool
-    ensures { result ≡ is_text text.now (texts_of (rows_of (found_of matches.now)) name.now) }
+    ensures { result ≡ is_text text.now (texts_in matches.now name.now) }
 {
     match text_of(matches, name) {
         None => false,
@@ -77,7 +76,7 @@ fn is_text<'a>(matches: &ArgMatches<'a>, name: &str, text: &str) -> bool
 }
 
 fn rule_of<'a>(matches: &ArgMatches<'a>) -> Rule
-    ensures { result ≡ rule_of (texts_of (rows_of (found_of matches.now)) (codes "rule")) }
+    ensures { result ≡ rule_of (texts_in matches.now (codes "rule")) }
 {
     if is_text(matches, "rule", "coarse") {
         Rule::Coarse
@@ -87,7 +86,7 @@ fn rule_of<'a>(matches: &ArgMatches<'a>) -> Rule
 }
 
 fn mode_of<'a>(matches: &ArgMatches<'a>) -> Mode
-    ensures { result ≡ mode_of (texts_of (rows_of (found_of matches.now)) (codes "mode")) }
+    ensures { result ≡ mode_of (texts_in matches.now (codes "mode")) }
 {
     if is_text(matches, "mode", "gang") {
         Mode::Gang
@@ -97,7 +96,7 @@ fn mode_of<'a>(matches: &ArgMatches<'a>) -> Mode
 }
 
 fn preempt_of<'a>(matches: &ArgMatches<'a>) -> Preempt
-    ensures { result ≡ preempt_of (texts_of (rows_of (found_of matches.now)) (codes "preempt")) }
+    ensures { result ≡ preempt_of (texts_in matches.now (codes "preempt")) }
 {
     if is_text(matches, "preempt", "service") {
         Preempt::Service
@@ -109,7 +108,7 @@ fn preempt_of<'a>(matches: &ArgMatches<'a>) -> Preempt
 }
 
 fn extra_of<'a>(matches: &ArgMatches<'a>) -> Extra
-    ensures { let texts = texts_of (rows_of (found_of matches.now)) in
+    ensures { let texts = texts_in matches.now in
         result ≡ extra_of (number_or 0 100 60 (texts (codes "cap"))) (texts (codes "extra")) }
 {
     let percent = small_number_of(matches, "cap", entries::CAPS, 60);
@@ -123,7 +122,7 @@ fn extra_of<'a>(matches: &ArgMatches<'a>) -> Extra
 }
 
 fn format_of<'a>(matches: &ArgMatches<'a>) -> Format
-    ensures { result ≡ format_of (texts_of (rows_of (found_of matches.now)) (codes "format")) }
+    ensures { result ≡ format_of (texts_in matches.now (codes "format")) }
 {
     if is_text(matches, "format", "json") {
         Format::Json
@@ -134,7 +133,7 @@ fn format_of<'a>(matches: &ArgMatches<'a>) -> Format
 
 /// The command, where it is built.
 pub fn command_of<'a>(matches: &ArgMatches<'a>) -> Option<Command>
-    ensures { let text = texts_of (rows_of (found_of matches.now)) (codes "command") in
+    ensures { let text = texts_in matches.now (codes "command") in
         result ≡ where_it (option_map_or (is_among built_commands) text false) (command_of text) }
 {
     match text_of(matches, "command") {
@@ -145,7 +144,7 @@ pub fn command_of<'a>(matches: &ArgMatches<'a>) -> Option<Command>
 
 /// The settings with this command. An option that isn't built has its default.
 pub fn settings_of<'a>(matches: &ArgMatches<'a>, command: Command) -> Settings
-    ensures { result ≡ (record (settings_by (texts_of (rows_of (found_of matches.now)))) { command = command }) }
+    ensures { result ≡ (record (settings_by (texts_in matches.now)) { command = command }) }
 {
     let default = Settings::default();
     Settings {
@@ -167,7 +166,7 @@ pub fn settings_of<'a>(matches: &ArgMatches<'a>, command: Command) -> Settings
 
 /// The folder of the tables, the present one where none is given.
 pub fn folder_of<'a>(matches: &ArgMatches<'a>) -> &'a str
-    ensures { result.now ≡ folder_by (texts_of (rows_of (found_of matches.now))) }
+    ensures { result.now ≡ folder_by (texts_in matches.now) }
 {
     match text_of(matches, "tables") {
         None => ".",
