@@ -16,7 +16,7 @@ WithRoom free need answers position true = Holds need (get_or free position None
 WithRoom free need answers position false = Holds need (get_or free position None) → answers position false
 
 -- the first position round from a start with room, for which the answer is true
-abbrev pub IsFirstWithRoom : List (Option Need) → Need → (ℕ → Bool → Type 0) → ℕ → Option ℕ → Type 0
+unfoldable pub IsFirstWithRoom : List (Option Need) → Need → (ℕ → Bool → Type 0) → ℕ → Option ℕ → Type 0
 IsFirstWithRoom free need answers start found =
     IsFirst (WithRoom free need answers) (positions_from start (length free)) found
 
