@@ -9,6 +9,7 @@ use Rattle.omega_fit.proofs.Middles.{below_or_not}
 -- the first of the numbers from one up to another
 pub first_of_range : (answers : ℕ → Bool → Type 0) (n from : ℕ) (found : Option ℕ)
     → FirstBetween answers from (from + n) found → IsFirst answers (range_with_len from n) found
+unfolding IsFirst
 first_of_range answers zero from None f = All-nil (λ other. answers other false)
 first_of_range answers zero from (Some i) f = absurd (omega (arith, f.0, f.1))
 first_of_range answers (suc n) from None f =
@@ -37,6 +38,7 @@ first_of_range answers (suc n) from (Some i) f = below_or_not from i
 -- what is found in the first part
 pub found_in_first : {X : Type 0} (answers : X → Bool → Type 0) (xs ys : List X) (x : X)
     → IsFirst answers xs (Some x) → IsFirst answers (xs ++ ys) (Some x)
+unfolding IsFirst
 found_in_first answers xs ys x f = record {
   before = f.before;
   after = f.after ++ ys;
@@ -48,6 +50,7 @@ found_in_first answers xs ys x f = record {
 -- what is found in the second part, where the first has none
 pub none_in_first : {X : Type 0} (answers : X → Bool → Type 0) (xs ys : List X) (found : Option X)
     → IsFirst answers xs None → IsFirst answers ys found → IsFirst answers (xs ++ ys) found
+unfolding IsFirst
 none_in_first answers xs ys None none f = All-append (λ other. answers other false) xs ys none f
 none_in_first answers xs ys (Some x) none f = record {
   before = xs ++ f.before;

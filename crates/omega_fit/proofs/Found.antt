@@ -5,16 +5,17 @@ use Rattle.std.specs.List.{All, AllZip, find, range_with_len, slice_get}
 use Rattle.std.proofs.lemmas.List.Elements.{All-head, All-tail, All-weaker}
 use Rattle.omega_model.specs.declared.cells.Need.{Need}
 use Rattle.omega_model.specs.Plan.{round_from}
-use Rattle.omega_fit.specs.Needs.{Holds, WithRoom}
+use Rattle.omega_fit.specs.Needs.{Holds, IsFirstWithRoom, WithRoom}
 use Rattle.omega_fit.specs.Round.{positions_from, IsFirst}
 use Rattle.omega_fit.proofs.Middles.{below_or_not}
 
 -- the same item for answers that follow
 pub first_follows : {X : Type 0} (answers others : X → Bool → Type 0) (items : List X) (found : Option X)
-    → ((x : X) (b : Bool) → answers x b → others x b) → IsFirst answers items found → IsFirst others items found
-first_follows answers others items None follows f =
+    → IsFirst answers items found → ((x : X) (b : Bool) → answers x b → others x b) → IsFirst others items found
+unfolding IsFirst
+first_follows answers others items None f follows =
     All-weaker (λ x. answers x false) (λ x. others x false) (λ x. follows x false) items f
-first_follows answers others items (Some x) follows f = record {
+first_follows answers others items (Some x) f follows = record {
   before = f.before;
   after = f.after;
   split = f.split;
@@ -105,9 +106,21 @@ zip_round xs start =
 abbrev pub OfItem : {X : Type 0} → (X → Bool) → List X → ℕ → Bool → Type 0
 OfItem {X} p items i b = (x : X) → slice_get items i ≡ Some x → p x ≡ b
 
+-- a search with room, said of the items that stand at the positions
+pub of_items : {X : Type 0} (p : X → Bool) (items : List X) (free : List (Option Need)) (need : Need) (answers : ℕ → Bool → Type 0) (start : ℕ)
+    (found : Option ℕ) → IsFirstWithRoom free need answers start found → length items ≡ length free
+    → ((i : ℕ) (b : Bool) → answers i b → OfItem p items i b) → ((i : ℕ) → (Holds need (get_or free i None) → ⊥) → OfItem p items i false)
+    → IsFirst (OfItem p items) (positions_from start (length items)) found
+unfolding IsFirstWithRoom
+of_items p items free need answers start found f same follows none =
+    subst (λ n. IsFirst (OfItem p items) (positions_from start n) found) (sym same)
+    (first_follows (WithRoom free need answers) (OfItem p items) (positions_from start (length free)) found f
+    (room_is_tested answers (OfItem p items) free need follows none))
+
 -- the first position round from a start has the first item of the round
 pub find_in_round : {X : Type 0} (p : X → Bool) (items : List X) (start i : ℕ) (x : X) → slice_get items i ≡ Some x
     → IsFirst (OfItem p items) (positions_from start (length items)) (Some i) → find p (round_from start items) ≡ Some x
+unfolding IsFirst
 find_in_round p items start i x is f =
     find_some p (slice_get items) f.before f.after i x (round_from start items)
     (subst (λ z. AllZip (λ j y. slice_get items j ≡ Some y) z (round_from start items)) f.split (zip_round items start))
@@ -115,5 +128,6 @@ find_in_round p items start i x is f =
 
 pub none_in_round : {X : Type 0} (p : X → Bool) (items : List X) (start : ℕ)
     → IsFirst (OfItem p items) (positions_from start (length items)) None → find p (round_from start items) ≡ None
+unfolding IsFirst
 none_in_round p items start f =
     find_none p (slice_get items) (positions_from start (length items)) (round_from start items) (zip_round items start) f

@@ -1,9 +1,11 @@
 -- A search that goes on where an earlier one ended.
-use Rattle.std.proofs.Common.{◌≡◌, ◌∙◌, ◌+◌, ◌-◌, ◌≤◌, ◌<◌, ◌++◌, ◌∷◌, ℕ, zero, suc, Bool, false, List, [], Option, Some, None, ap, sym, subst, refl, arith}
+use Rattle.std.proofs.Common.{◌≡◌, ◌∙◌, ◌+◌, ◌-◌, ◌≤◌, ◌<◌, ◌++◌, ◌∷◌, ℕ, zero, suc, Bool, false, List, [], Option, Some, None, length, ap, sym, subst, refl, arith}
 use Rattle.std.specs.List.{All, range_with_len}
 use Rattle.std.proofs.lemmas.List.{append_assoc}
 use Rattle.std.proofs.lemmas.List.Elements.{All-append, All-head, All-tail, All-cons, All-nil, All-weaker, All-get_or}
 use Rattle.std.proofs.lemmas.List.FromFn.{length-range_with_len, get_or-range_with_len}
+use Rattle.omega_model.specs.declared.cells.Need.{Need}
+use Rattle.omega_fit.specs.Needs.{IsFirstWithRoom, WithRoom}
 use Rattle.omega_fit.specs.Round.{positions_from, IsFirst}
 use Rattle.omega_fit.proofs.Middles.{below_or_not}
 use Rattle.omega_fit.proofs.Firsts.{two_parts, none_from_start}
@@ -73,6 +75,7 @@ all_right P (x ∷ xs) ys all = all_right P xs ys (All-tail P x (xs ++ ys) all)
 -- the first of two lists, where the second has none, is the first of both in the other order
 turned : {X : Type 0} (answers : X → Bool → Type 0) (xs ys : List X) (found : Option X)
     → All (λ y. answers y false) ys → IsFirst answers (xs ++ ys) found → IsFirst answers (ys ++ xs) found
+unfolding IsFirst
 turned answers xs ys None none f = All-append (λ y. answers y false) ys xs none (all_left (λ y. answers y false) xs ys f)
 turned answers xs ys (Some x) none f = split_append f.before f.after xs ys x f.split
     (λ middle one other. record {
@@ -139,6 +142,7 @@ turn_place start place len before after le is =
 pub later : (earlier now : ℕ → Bool → Type 0) (start place len : ℕ) (found : Option ℕ) → start ≤ len
     → ((i : ℕ) → earlier i false → now i false) → IsFirst earlier (positions_from start len) (Some place)
     → IsFirst now (positions_from place len) found → IsFirst now (positions_from start len) found
+unfolding IsFirst
 later earlier now start place len found le still one two =
     subst (λ z. IsFirst now z found) (sym one.split)
     (turned now (place ∷ one.after) one.before found
@@ -154,6 +158,7 @@ all_of_range P a n i all lt =
 pub none_later : (earlier now : ℕ → Bool → Type 0) (start other len : ℕ) → start ≤ len → other ≤ len
     → ((i : ℕ) → earlier i false → now i false) → IsFirst earlier (positions_from start len) None
     → IsFirst now (positions_from other len) None
+unfolding IsFirst
 none_later earlier now start other len le within still none =
     let parts = subst (λ z. All (λ i. earlier i false) z) (two_parts start len le) none in
     let high = all_left (λ i. earlier i false) (range_with_len start (len - start)) (range_with_len 0 start) parts in
@@ -162,3 +167,24 @@ none_later earlier now start other len le within still none =
     (λ p. subst (λ z. earlier z false) (omega arith) (all_of_range (λ j. earlier j false) 0 start i low p))
     (λ p. subst (λ z. earlier z false) (omega arith) (all_of_range (λ j. earlier j false) start (len - start) (i - start) high (omega arith))))) in
     none_from_start now other len None within (λ i a b. all i b) (λ i a b. all i (omega arith))
+
+-- The same with room: for an equal need, where what had no room or failed before still does.
+pub later_with_room : (need : Need) (before after : List (Option Need)) (earlier now : ℕ → Bool → Type 0) (start place : ℕ) (found : Option ℕ)
+    → start ≤ length before → length before ≡ length after
+    → ((i : ℕ) → WithRoom before need earlier i false → WithRoom after need now i false)
+    → IsFirstWithRoom before need earlier start (Some place) → IsFirstWithRoom after need now place found
+    → IsFirstWithRoom after need now start found
+unfolding IsFirstWithRoom
+later_with_room need before after earlier now start place found le same still one two =
+    subst (λ n. IsFirst (WithRoom after need now) (positions_from start n) found) same
+    (later (WithRoom before need earlier) (WithRoom after need now) start place (length before) found le still one
+    (subst (λ n. IsFirst (WithRoom after need now) (positions_from place n) found) (sym same) two))
+
+pub none_later_with_room : (need : Need) (before after : List (Option Need)) (earlier now : ℕ → Bool → Type 0) (start other : ℕ)
+    → start ≤ length before → other ≤ length before → length before ≡ length after
+    → ((i : ℕ) → WithRoom before need earlier i false → WithRoom after need now i false)
+    → IsFirstWithRoom before need earlier start None → IsFirstWithRoom after need now other None
+unfolding IsFirstWithRoom
+none_later_with_room need before after earlier now start other le within same still none =
+    subst (λ n. IsFirst (WithRoom after need now) (positions_from other n) None) same
+    (none_later (WithRoom before need earlier) (WithRoom after need now) start other (length before) le within still none)

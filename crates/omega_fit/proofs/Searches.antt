@@ -5,7 +5,7 @@ use Rattle.std.proofs.Math.Nat.{le-max_left, le-max_right}
 use Rattle.std.proofs.lemmas.List.{length-take-le, length-drop, take-append-drop, length-map}
 use Rattle.omega_model.specs.declared.cells.Need.{Need}
 use Rattle.omega_fit.specs.declared.nodes.Slot.{Slot}
-use Rattle.omega_fit.specs.Needs.{greater, Holds, WithRoom}
+use Rattle.omega_fit.specs.Needs.{greater, Holds, IsFirstWithRoom, WithRoom}
 use Rattle.omega_fit.specs.Round.{positions_from, IsFirst, FirstBetween}
 use Rattle.omega_fit.specs.Tree.{frees, middle, most_of, root, Tree, FirstWithin}
 use Rattle.omega_fit.proofs.Firsts.{found_from_start, none_from_start}
@@ -209,7 +209,8 @@ whole answers need slots from to (Some i) f =
 -- what a search from the start on finds, and one before the start where that one finds nothing
 pub found_round : (answers : ℕ → Bool → Type 0) (need : Need) (slots : List Slot) (start i : ℕ) → start ≤ length slots
     → FirstWithin answers need slots 0 start (length slots) (Some i)
-    → IsFirst (WithRoom (frees slots) need answers) (positions_from start (length (frees slots))) (Some i)
+    → IsFirstWithRoom (frees slots) need answers start (Some i)
+unfolding IsFirstWithRoom
 found_round answers need slots start i le f =
     let e : length (frees slots) ≡ length slots = rw length-map refl in
     subst (λ n. IsFirst (WithRoom (frees slots) need answers) (positions_from start n) (Some i)) (sym e)
@@ -218,7 +219,8 @@ found_round answers need slots start i le f =
 
 pub none_round : (answers : ℕ → Bool → Type 0) (need : Need) (slots : List Slot) (start : ℕ) (found : Option ℕ) → start ≤ length slots
     → FirstWithin answers need slots 0 start (length slots) None → FirstWithin answers need slots 0 0 start found
-    → IsFirst (WithRoom (frees slots) need answers) (positions_from start (length (frees slots))) found
+    → IsFirstWithRoom (frees slots) need answers start found
+unfolding IsFirstWithRoom
 none_round answers need slots start found le none f =
     let e : length (frees slots) ≡ length slots = rw length-map refl in
     subst (λ n. IsFirst (WithRoom (frees slots) need answers) (positions_from start n) found) (sym e)

@@ -1,7 +1,8 @@
 -- Amounts that hold a need.
-use Rattle.std.specs.Prelude.{ℕ, Bool, true, false, List, Option, Some, None, get_or, max}
+use Rattle.std.specs.Prelude.{ℕ, Bool, true, false, List, Option, Some, None, get_or, length, max}
 use Rattle.omega_model.specs.Need.{Fits}
 use Rattle.omega_model.specs.declared.cells.Need.{Need}
+use Rattle.omega_fit.specs.Round.{positions_from, IsFirst}
 
 -- there is an amount, and the need fits it
 abbrev pub Holds : Need → Option Need → Type 0
@@ -13,6 +14,11 @@ Holds need (Some free) = Fits need free
 abbrev pub WithRoom : List (Option Need) → Need → (ℕ → Bool → Type 0) → ℕ → Bool → Type 0
 WithRoom free need answers position true = Holds need (get_or free position None) × answers position true
 WithRoom free need answers position false = Holds need (get_or free position None) → answers position false
+
+-- the first position round from a start with room, for which the answer is true
+unfoldable pub IsFirstWithRoom : List (Option Need) → Need → (ℕ → Bool → Type 0) → ℕ → Option ℕ → Type 0
+IsFirstWithRoom free need answers start found =
+    IsFirst (WithRoom free need answers) (positions_from start (length free)) found
 
 -- the greater of two amounts, component by component; nothing is less than any amount
 abbrev pub greater : Option Need → Option Need → Option Need

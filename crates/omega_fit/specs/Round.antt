@@ -16,7 +16,7 @@ pub record IsFirstItem {X : Type 0} (answers : X → Bool → Type 0) (items : L
   pub taken : answers item true
 
 -- the first item for which the answer is true; none where it is false for all
-abbrev pub IsFirst : {X : Type 0} → (X → Bool → Type 0) → List X → Option X → Type 0
+unfoldable pub IsFirst : {X : Type 0} → (X → Bool → Type 0) → List X → Option X → Type 0
 IsFirst answers items None = All (λ item. answers item false) items
 IsFirst answers items (Some item) = IsFirstItem answers items item
 

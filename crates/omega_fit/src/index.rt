@@ -1,7 +1,6 @@
 //! First fit by a tree.
 ghost use Rattle.std.specs.Prelude.{◌≡◌, ◌+◌, ◌++◌, ◌∷◌, ◌<◌, ◌≤◌, ℕ, [], length, map, set, IfOk, IfSome, IsOk, OnOk, vec_capacity, vec_len};
-ghost use Rattle.omega_fit.specs.Needs.{WithRoom};
-ghost use Rattle.omega_fit.specs.Round.{IsFirst, positions_from};
+ghost use Rattle.omega_fit.specs.Needs.{IsFirstWithRoom};
 ghost use Rattle.omega_fit.specs.Tree.{frees};
 
 use crate::nodes::{Slot, put_in, settle, settle_last};
@@ -94,11 +93,12 @@ impl FitIndex {
     /// The first position whose amount holds `need` and that passes the test, from `start` up to the
     /// length and then from 0 up to `start`; `None` exactly where there is none. Takes no memory.
     /// Asks the test only where there is room, at each position once at most and at none behind the
-    /// answer. Costs the top of the tree where no amount is as great as `need` in all components.
+    /// answer. Looks at the root alone where in one component all amounts are less than `need`. Else
+    /// it goes down where the greatest of each component is enough, which is linear at worst.
     pub fn first<F: Fn(usize) -> bool>(&self, start: usize, need: Need, test: F) -> Option<usize>
         requires callable { F.IsAlwaysCallable test }
         requires start { start ≤ length self.now.free }
-        ensures first { IsFirst (WithRoom self.now.free need (F.post test)) (positions_from start (length self.now.free)) result }
+        ensures first { IsFirstWithRoom self.now.free need (F.post test) start result }
         ensures below { IfSome result (λ position. position < length self.now.free) }
     {
         search_round(&self.slots, start, need, &test)

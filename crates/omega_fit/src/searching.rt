@@ -1,7 +1,6 @@
 //! The search in the tree.
 ghost use Rattle.std.specs.Prelude.{◌≡◌, ◌+◌, ◌<◌, ◌≤◌, ◌^◌, ℕ, IsTrue, IfSome, length, false, true};
-ghost use Rattle.omega_fit.specs.Needs.{Holds, WithRoom};
-ghost use Rattle.omega_fit.specs.Round.{IsFirst, positions_from};
+ghost use Rattle.omega_fit.specs.Needs.{Holds, IsFirstWithRoom};
 ghost use Rattle.omega_fit.specs.Tree.{frees, FirstWithin, Tree};
 
 use crate::needs::holds;
@@ -18,7 +17,7 @@ pub(crate) fn search_round<F: Fn(usize) -> bool>(
     requires callable { F.IsAlwaysCallable test.now }
     requires tree { Tree slots.now }
     requires start { start ≤ length slots.now }
-    ensures first { IsFirst (WithRoom (frees slots.now) need (F.post test.now)) (positions_from start (length (frees slots.now))) result }
+    ensures first { IsFirstWithRoom (frees slots.now) need (F.post test.now) start result }
     ensures below { IfSome result (λ position. position < length (frees slots.now)) }
 {
     match search_in(slots, 0, start, slots.len(), need, test) {
