@@ -3,10 +3,13 @@ use crate::{
     Failed, FolderTables, Gate, MemorySink, MemoryTables, PassGate, Point, Sink, StdoutSink,
     SteadySink, SteadyTables, Tables, write_all,
 };
-use omega_model::{Bytes, Seq, Table};
+use omega_model::{Bytes, NoMemory, Seq, Table};
 use std::alloc::{AllocError, Global};
 use std::fs;
 use std::test::Fail;
+
+// What is written in these tests.
+const TEXT: &[u8] = b"report";
 
 // The bytes of a text.
 fn bytes(alloc: Global, text: &[u8]) -> Result<Bytes, AllocError> {
@@ -17,130 +20,157 @@ fn bytes(alloc: Global, text: &[u8]) -> Result<Bytes, AllocError> {
 fn six(alloc: Global) -> Result<[Bytes; 6], AllocError> {
     Ok([
         bytes(alloc, b"abc")?,
-        bytes(alloc, b"")?,
+        Seq::new(alloc),
         bytes(alloc, b"de")?,
-        bytes(alloc, b"")?,
+        Seq::new(alloc),
         bytes(alloc, b"f")?,
         bytes(alloc, b"gh")?,
     ])
 }
 
+// What a read of a table in a piece of four bytes answers, and the piece after it.
+fn read_piece<T: Tables>(tables: &mut T, table: Table) -> (Result<usize, Failed>, [u8; 4]) {
+    let mut piece = [0; 4];
+    let answer = tables.read(table, &mut piece);
+    (answer, piece)
+}
+
 #[test]
 fn tables_in_memory(rt: HostRuntime) -> Result<(), Fail> {
-    let mut piece = [0u8; 4];
-    let mut tables = MemoryTables::new(rt.alloc(), six(rt.alloc())?)
+    let held = six(rt.alloc())?;
+    let mut tables = MemoryTables::new(rt.alloc(), held)
         .fail_at(3)
         .cut(2)
         .fail_at(1);
     tables.enter("folder")?;
-    assert_eq!(rt; tables.read(Table::MachineEvents, &mut piece), Ok(2));
-    assert_eq!(rt; piece.as_slice(), b"ab\0\0".as_slice());
-    assert_eq!(rt; tables.read(Table::MachineEvents, &mut piece), Err(Failed));
-    let calls = [
-        (Table::MachineEvents, Ok(1), b'c'),
-        (Table::MachineEvents, Ok(0), b'c'),
-        (Table::MachineAttributes, Ok(0), b'c'),
-        (Table::TaskEvents, Ok(2), b'd'),
-        (Table::TaskEvents, Ok(0), b'd'),
-        (Table::TaskConstraints, Ok(0), b'd'),
-        (Table::MapreduceJobs, Ok(1), b'f'),
-        (Table::MapreduceJobs, Ok(0), b'f'),
-        (Table::MachineDisk, Ok(2), b'g'),
-        (Table::MachineDisk, Ok(0), b'g'),
-    ];
-    for (table, answer, first) in calls {
-        assert_eq!(rt; tables.read(table, &mut piece), answer);
-        assert_eq!(rt; piece[0], first);
+    for (table, answer, piece) in [
+        (Table::MachineEvents, Ok(2), *b"ab\0\0"),
+        (Table::MachineEvents, Err(Failed), [0; 4]),
+        (Table::MachineEvents, Ok(1), *b"c\0\0\0"),
+        (Table::MachineEvents, Ok(0), [0; 4]),
+        (Table::MachineAttributes, Ok(0), [0; 4]),
+        (Table::TaskEvents, Ok(2), *b"de\0\0"),
+        (Table::TaskEvents, Ok(0), [0; 4]),
+        (Table::TaskConstraints, Ok(0), [0; 4]),
+        (Table::MapreduceJobs, Ok(1), *b"f\0\0\0"),
+        (Table::MapreduceJobs, Ok(0), [0; 4]),
+        (Table::MachineDisk, Ok(2), *b"gh\0\0"),
+        (Table::MachineDisk, Ok(0), [0; 4]),
+    ] {
+        assert_eq!(rt; read_piece(&mut tables, table), (answer, piece));
     }
-    assert_eq!(rt; tables.faults(Table::MachineEvents), 1);
-    assert_eq!(rt; tables.faults(Table::TaskEvents), 0);
+    assert_eq!(rt; faults_of(&tables), [1, 0, 0, 0, 0, 0]);
     Ok(())
 }
 
-#[test]
-fn sinks(rt: HostRuntime) -> Result<(), Fail> {
-    let text = b"report".as_slice();
-    for most in 0..8 {
-        let mut sink = MemorySink::new(rt.alloc(), most)?.cut(4);
-        let fits = most >= 6;
-        assert_eq!(rt; write_all(&mut sink, text).is_ok(), fits);
-        assert_eq!(rt; sink.faults(), if fits { 0 } else { 1 });
-        assert_eq!(rt; sink.into_bytes().as_slice(), &text[..most.min(6) as usize]);
+// How many reads of each table have failed.
+fn faults_of<T: Tables>(tables: &T) -> [u64; 6] {
+    [
+        tables.faults(Table::MachineEvents),
+        tables.faults(Table::MachineAttributes),
+        tables.faults(Table::TaskEvents),
+        tables.faults(Table::TaskConstraints),
+        tables.faults(Table::MapreduceJobs),
+        tables.faults(Table::MachineDisk),
+    ]
+}
+
+// Whether all of the text is written, how many writes failed, and how many bytes of it, from the
+// front on, were written.
+fn write_text(sink: MemorySink) -> (bool, u64, Option<usize>) {
+    let mut sink = sink;
+    let whole = write_all(&mut sink, TEXT).is_ok();
+    let faults = sink.faults();
+    let written = sink.into_bytes();
+    let is_front = TEXT.starts_with(written.as_slice());
+    (whole, faults, is_front.then_some(written.len()))
+}
+
+// What `write_text` answers where so many bytes can be written before a write fails.
+fn written(bytes: u64) -> (bool, u64, Option<usize>) {
+    if bytes < 6 {
+        (false, 1, Some(bytes as usize))
+    } else {
+        (true, 0, Some(6))
     }
-    for call in 0..8 {
-        let mut sink = MemorySink::new(rt.alloc(), 6)?
+}
+
+#[test]
+fn sinks_in_memory(rt: HostRuntime) -> Result<(), Fail> {
+    for bytes in 0..8 {
+        let small = MemorySink::new(rt.alloc(), bytes)?.cut(4);
+        assert_eq!(rt; write_text(small), written(bytes), "room for {bytes}");
+        let failing = MemorySink::new(rt.alloc(), 6)?
             .fail_at(0)
             .cut(1)
-            .fail_at(call);
-        assert_eq!(rt; write_all(&mut sink, text).is_ok(), call >= 6);
-        assert_eq!(rt; sink.into_bytes().as_slice(), &text[..call.min(6) as usize]);
+            .fail_at(bytes);
+        assert_eq!(rt; write_text(failing), written(bytes), "call {bytes} fails");
     }
-    let mut steady = SteadySink::new();
-    assert_eq!(rt; steady.write(text), Ok(6));
-    assert_eq!(rt; steady.faults(), 0);
-    let mut output = StdoutSink::new(&rt);
-    assert_eq!(rt; write_all(&mut output, text), Ok(()));
-    assert_eq!(rt; output.faults(), 0);
     Ok(())
 }
 
+// What the real sink and the steady one answer to a whole text, and their faults.
+fn write_outside(rt: &HostRuntime) -> [(Result<(), Failed>, u64); 2] {
+    let mut output = StdoutSink::new(rt);
+    let mut steady = SteadySink::new();
+    let first = write_all(&mut output, TEXT);
+    let second = write_all(&mut steady, TEXT);
+    [(first, output.faults()), (second, steady.faults())]
+}
+
 #[test]
-fn steady_tables_and_gate(rt: HostRuntime) -> Result<(), Fail> {
-    let mut piece = [0u8; 2];
+fn other_objects(rt: HostRuntime) -> Result<(), Fail> {
     let mut tables = SteadyTables::new(rt.alloc(), six(rt.alloc())?);
     tables.enter("folder")?;
-    for (table, answer) in [
-        (Table::MachineEvents, Ok(2)),
-        (Table::MachineEvents, Ok(1)),
-        (Table::MachineEvents, Ok(0)),
-        (Table::TaskEvents, Ok(2)),
-        (Table::MapreduceJobs, Ok(1)),
-        (Table::MachineDisk, Ok(2)),
+    for (table, answer, piece) in [
+        (Table::MachineEvents, Ok(3), *b"abc\0"),
+        (Table::MachineEvents, Ok(0), [0; 4]),
+        (Table::TaskEvents, Ok(2), *b"de\0\0"),
+        (Table::MapreduceJobs, Ok(1), *b"f\0\0\0"),
+        (Table::MachineDisk, Ok(2), *b"gh\0\0"),
     ] {
-        assert_eq!(rt; tables.read(table, &mut piece), answer);
-        assert_eq!(rt; tables.faults(table), 0);
+        assert_eq!(rt; read_piece(&mut tables, table), (answer, piece));
     }
+    assert_eq!(rt; faults_of(&tables), [0; 6]);
+    assert_eq!(rt; write_outside(&rt), [(Ok(()), 0); 2]);
     PassGate.at(1, Point::Planned);
     Ok(())
+}
+
+// What the first read of each table in a folder answers.
+fn first_reads(
+    tables: &mut FolderTables,
+    folder: &str,
+) -> Result<[Result<usize, Failed>; 6], NoMemory> {
+    tables.enter(folder)?;
+    Ok([
+        read_piece(tables, Table::MachineEvents).0,
+        read_piece(tables, Table::MachineAttributes).0,
+        read_piece(tables, Table::TaskEvents).0,
+        read_piece(tables, Table::TaskConstraints).0,
+        read_piece(tables, Table::MapreduceJobs).0,
+        read_piece(tables, Table::MachineDisk).0,
+    ])
 }
 
 #[test]
 fn tables_of_a_folder(rt: HostRuntime) -> Result<(), Fail> {
     fs::create_dir(&rt, "trace")?;
     fs::write(&rt, "trace/machine_events.csv", "ab")?;
-    let mut piece = [0u8; 4];
     let mut tables = FolderTables::new(&rt);
-    assert_eq!(rt;
-        tables.read(Table::TaskConstraints, &mut piece),
-        Err(Failed)
-    );
-    tables.enter("trace")?;
-    for (table, answer) in [
-        (Table::MachineEvents, Ok(2)),
-        (Table::MachineEvents, Ok(0)),
-        (Table::MachineAttributes, Ok(0)),
-        (Table::TaskEvents, Err(Failed)),
-        (Table::TaskConstraints, Ok(0)),
-        (Table::MapreduceJobs, Ok(0)),
-        (Table::MachineDisk, Ok(0)),
+    let unread = read_piece(&mut tables, Table::TaskConstraints);
+    assert_eq!(rt; unread, (Err(Failed), [0; 4]));
+    for (folder, first) in [
+        ("trace", Ok(2)),
+        ("nowhere", Err(Failed)),
+        ("trace/", Ok(2)),
     ] {
-        assert_eq!(rt; tables.read(table, &mut piece), answer);
+        let answers = first_reads(&mut tables, folder)?;
+        assert_eq!(rt; answers, [first, Ok(0), Err(Failed), Ok(0), Ok(0), Ok(0)]);
     }
-    assert_eq!(rt; piece.as_slice(), b"ab\0\0".as_slice());
-    tables.enter("trace/")?;
-    assert_eq!(rt; tables.read(Table::MachineEvents, &mut piece), Ok(2));
-    tables.enter("nowhere")?;
-    assert_eq!(rt; tables.read(Table::MachineEvents, &mut piece), Err(Failed));
-    assert_eq!(rt; tables.read(Table::MachineAttributes, &mut piece), Ok(0));
-    for (table, faults) in [
-        (Table::MachineEvents, 1),
-        (Table::MachineAttributes, 0),
-        (Table::TaskEvents, 1),
-        (Table::TaskConstraints, 1),
-        (Table::MapreduceJobs, 0),
-        (Table::MachineDisk, 0),
-    ] {
-        assert_eq!(rt; tables.faults(table), faults);
-    }
+    let last = read_piece(&mut tables, Table::MachineEvents);
+    assert_eq!(rt; last, (Ok(0), [0; 4]));
+    assert_eq!(rt; faults_of(&tables), [1, 0, 3, 1, 0, 0]);
+    fs::remove_dir_all(&rt, "trace")?;
     Ok(())
 }
