@@ -77,7 +77,11 @@ fn add(cell: &mut Cell, alloc: Global) -> Result<(), NoMemory>
     if !has_room(cell) {
         return Err(NoMemory);
     }
-    let cap = need(10, 10);
+    let cap = Need {
+        cpu: 10,
+        mem: 10,
+        disk: 10,
+    };
     let Ok(()) = cell.feed(alloc, Entry::MachineAdd { machine: 1, cap }) else {
         return Err(NoMemory);
     };
