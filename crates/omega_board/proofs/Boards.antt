@@ -21,7 +21,8 @@ use Rattle.omega_machines.proofs.Laws.{machine_of_state, listed_state, machines_
 use Rattle.omega_running.specs.Order.{Each}
 use Rattle.omega_running.proofs.Lists.{each_map, each_both, each_append, each_of, find_first, filter_none}
 use Rattle.omega_board.specs.Board.{BoardState, IsBoard, IsCounted, is_on_up, recounted, table_with}
-use Rattle.omega_board.proofs.Tasks.{each_filter, each_found, each_with, found_name, without_ordered, with_ordered}
+use Rattle.omega_running.proofs.Kept.{found_key}
+use Rattle.omega_board.proofs.Tasks.{each_filter, each_found, each_with, without_ordered, with_ordered}
 use Rattle.omega_board.proofs.Uses.{plus-assoc, plus-nothing, share, total-with, total-without}
 
 -- a machine that is counted has as much free as the count says
@@ -121,7 +122,7 @@ module _ (table : List MachineState) (tasks : List Task) (board : IsBoard table 
   module _ (key : TaskKey) (t : Task) (runs : Some t ≡ task_at tasks key) where
     -- a running task is found under its own name
     pub own_name : t.key ≡ key
-    own_name = found_name tasks key t (sym runs)
+    own_name = found_key key tasks t (sym runs)
 
     pub found_own : task_at tasks t.key ≡ Some t
     found_own = ap (task_at tasks) own_name ∙ sym runs

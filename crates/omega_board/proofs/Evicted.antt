@@ -1,12 +1,12 @@
 -- The shortest beginning of the victims that stand which makes room.
-use Rattle.std.proofs.Common.{◌≡◌, ℕ, zero, suc, ◌+◌, ◌-◌, ◌<◌, ◌≤◌, Bool, true, false, not, ◌&&◌, ◌||◌, List, [], ◌∷◌, ◌++◌, length, map, take, drop, Option, Some, None, refl, sym, ap, ◌∙◌, subst, arith, ◌==◌, if◌then◌else◌, inl, inr}
+use Rattle.std.proofs.Common.{◌≡◌, ℕ, zero, suc, ◌+◌, ◌-◌, ◌≤◌, Bool, true, false, not, ◌&&◌, ◌||◌, List, [], ◌∷◌, length, map, take, drop, Option, Some, refl, sym, ap, ◌∙◌, arith, ◌==◌, if◌then◌else◌, inl, inr}
 use Rattle.std.specs.List.{find, list_any, range_with_len}
 use Rattle.std.specs.Option.{unwrap_or}
-use Rattle.std.proofs.lemmas.Bool.{both_ways, eqb-true, eq-eqb, and_parts, and_from, or_left, or_right, or_cases, or_parts, not-true, not_from_false}
+use Rattle.std.proofs.lemmas.Bool.{both_ways, and_parts, and_from, or_left, or_right, or_cases, or_parts, not-true, not_from_false}
 use Rattle.std.proofs.lemmas.List.{take_all, take-append-drop}
 use Rattle.std.proofs.lemmas.List.Folds.{list_any-append}
 use Rattle.omega_model.specs.Keys.{same_key, is_among, beginnings}
-use Rattle.omega_model.specs.Cell.{Cell, stays_on}
+use Rattle.omega_model.specs.Cell.{Cell}
 use Rattle.omega_model.specs.Judge.{runs_on, standing_victims, stays_of_job, has_rival, makes_room, evicted_for, free_without}
 use Rattle.omega_model.specs.Need.{fits}
 use Rattle.omega_model.specs.declared.cells.TaskKey.{TaskKey}

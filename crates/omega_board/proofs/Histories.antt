@@ -1,5 +1,5 @@
 -- What may be applied to the state of a history may be applied to the cell and numbers after it.
-use Rattle.std.proofs.Common.{◌≡◌, ℕ, ◌+◌, ◌-◌, ◌<◌, ◌^◌, inl, inr, List, [], ◌∷◌, ◌++◌, length, sym, ap, subst, arith, if◌then◌else◌, ◌⊎◌, IsTrue}
+use Rattle.std.proofs.Common.{◌≡◌, ℕ, ◌+◌, ◌-◌, ◌<◌, ◌^◌, inl, inr, List, [], ◌∷◌, ◌++◌, length, sym, subst, arith, if◌then◌else◌, ◌⊎◌, IsTrue}
 use Rattle.std.proofs.lemmas.List.{length-map}
 use Rattle.std.proofs.lemmas.List.Sums.{fold-append}
 use Rattle.omega_model.specs.Applying.{ListsOrHasRoom, MayApply}

@@ -1,5 +1,5 @@
 -- What the parts of a verdict come to on a board.
-use Rattle.std.proofs.Common.{◌≡◌, ℕ, ◌+◌, ◌<◌, Bool, true, false, not, ◌&&◌, nat_le, List, [], ◌∷◌, ◌++◌, length, get_or, take, position, slice_get, ap₂, Option, Some, None, is_some, IsTrue, refl, sym, ap, ◌∙◌, subst, arith, ◌==◌}
+use Rattle.std.proofs.Common.{◌≡◌, ℕ, ◌+◌, ◌<◌, Bool, true, false, not, ◌&&◌, nat_le, List, [], ◌∷◌, ◌++◌, length, get_or, take, position, slice_get, ap₂, Option, Some, None, is_some, IsTrue, refl, sym, ap, ◌∙◌, arith, ◌==◌}
 use Rattle.std.specs.Option.{option_map, option_map_or}
 use Rattle.std.proofs.Math.Bool.{and_comm}
 use Rattle.std.proofs.lemmas.Bool.{both_ways, eqb-true, eq-eqb}
@@ -20,13 +20,13 @@ use Rattle.omega_model.specs.declared.claims.Verdict.TheVariants.{NoMachine}
 use Rattle.omega_machines.specs.declared.MachineState.{MachineState}
 use Rattle.omega_machines.specs.Table.{machines_of, state_at, free_at}
 use Rattle.omega_machines.proofs.Bounds.{same_need}
-use Rattle.omega_machines.proofs.Places.{by_answer}
 use Rattle.omega_machines.proofs.Laws.{machine_of_state, listed_state, found_bounded}
 use Rattle.omega_running.specs.declared.orders.Order.TheVariants.{ByKey}
 use Rattle.omega_running.specs.Order.{IsInOrder}
 use Rattle.omega_running.proofs.Lists.{each_of, filter_every}
 use Rattle.omega_board.specs.Board.{BoardState, IsBoard, Stand}
-use Rattle.omega_board.proofs.Tasks.{any_at, found_name, found_still, without_more, without_ordered}
+use Rattle.omega_running.proofs.Kept.{found_key}
+use Rattle.omega_board.proofs.Tasks.{any_at, found_still, without_more, without_ordered}
 use Rattle.omega_board.proofs.Uses.{plus-assoc, rest_is, total-without}
 use Rattle.omega_board.proofs.Boards.{free_where_up, state_free, state_up, in_use, unused}
 
@@ -68,7 +68,7 @@ found_on tasks id key order runs = by (task_at tasks key) refl (sym (runs_on_is 
 pub rest_more : (tasks : List Task) (id : ℕ) (gone : List TaskKey) (key : TaskKey) (t : Task) → IsInOrder ByKey tasks → task_at tasks key ≡ Some t → t.machine ≡ id → is_among key gone ≡ false
     → rest_on tasks id gone ≡ plus t.spec.need (rest_on tasks id (gone ++ key ∷ []))
 rest_more tasks id gone key t order found on stay =
-    let name : t.key ≡ key = found_name tasks key t found in
+    let name : t.key ≡ key = found_key key tasks t found in
     let still : task_at (without gone tasks) t.key ≡ Some t = ap (task_at (without gone tasks)) name ∙ found_still gone tasks key stay ∙ found in
     let split = total-without (is_on id) t (without gone tasks) still (without_ordered gone tasks order) in
     let here : is_on id t ≡ true = eq-eqb _ _ on in

@@ -17,7 +17,7 @@ use Rattle.omega_model.specs.declared.cells.Task.{Task}
 use Rattle.omega_machines.specs.declared.MachineState.{MachineState}
 use Rattle.omega_machines.specs.Table.{machines_of, state_at, free_if_up, free_at, seq_at}
 use Rattle.omega_machines.proofs.Places.{by_answer}
-use Rattle.omega_running.specs.Order.{Each}
+use Rattle.omega_running.proofs.Lists.{each_of_all}
 use Rattle.omega_board.specs.Board.{BoardState, IsBoard, cell_of, recounted, table_with}
 use Rattle.omega_board.specs.Undo.{UndoState, before_change, before_all, MayTakeAllBack, at_reserve, IsUndoOf}
 use Rattle.omega_board.specs.declared.undo.Change.TheVariants.{Stopped, Started}
@@ -123,10 +123,6 @@ sound_room board t kept absent sound =
       (omega (arith, within.1.0, ap (λ (n : Need). n.mem) use_then, ap (λ (n : Need). n.mem) use_now), omega (arith, within.1.1, ap (λ (n : Need). n.disk) use_then, ap (λ (n : Need). n.disk) use_now)),
     )
   where
-    each_of_all : (P : Task → Type 0) (xs : List Task) → All P xs → Each P xs
-    each_of_all P [] all = tt
-    each_of_all P (x ∷ xs) all = (All-head P x xs all, each_of_all P xs (All-tail P x xs all))
-
     cap_within : (table : List MachineState) (id : ℕ) (s : MachineState) → state_at table id ≡ Some s → All (λ m. Fits (use_on (with_task t board.tasks) m.id) m.cap) (machines_of table)
         → Fits (use_on (with_task t board.tasks) id) s.machine.cap
     cap_within [] id s found all = absurd (none-some s found)

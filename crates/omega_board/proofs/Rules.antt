@@ -1,9 +1,9 @@
 -- What is answered on a board is what the rule answers on the history, and replies as what a board may apply.
-use Rattle.std.proofs.Common.{◌≡◌, ℕ, zero, suc, ◌+◌, Bool, true, false, cond, not, ◌||◌, List, [], ◌∷◌, length, map, take, drop, Option, Some, None, IsTrue, refl, sym, ap, ap₂, ◌∙◌, arith, ◌==◌}
+use Rattle.std.proofs.Common.{◌≡◌, ℕ, zero, suc, ◌+◌, Bool, true, false, cond, not, ◌||◌, List, [], ◌∷◌, length, map, take, drop, Option, IsTrue, refl, sym, ap, ap₂, ◌∙◌, arith, ◌==◌}
 use Rattle.std.specs.List.{list_any, count_by, zip}
 use Rattle.std.proofs.lemmas.Bool.{both_ways, eq-eqb, eqb-true, ne_eqb}
 use Rattle.std.proofs.lemmas.List.Sums.{sum_by-cons}
-use Rattle.omega_model.specs.Applying.{MayPlace, MayPlaceAll}
+use Rattle.omega_model.specs.Applying.{MayPlaceAll}
 use Rattle.omega_model.specs.Cell.{Cell}
 use Rattle.omega_model.specs.Judge.{refusal_if, changed, changed_on, known_of, judged_given, verdict_given, with_evicted, judge, judge_on, judge_fine}
 use Rattle.omega_model.specs.Reply.{admits, after_claim, judgements, withdrawn_for, first_refused, by_mode, reply_on}

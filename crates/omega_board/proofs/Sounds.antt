@@ -14,12 +14,9 @@ use Rattle.omega_machines.specs.declared.MachineState.{MachineState}
 use Rattle.omega_machines.specs.Table.{machines_of}
 use Rattle.omega_running.specs.declared.orders.Order.TheVariants.{ByKey}
 use Rattle.omega_running.specs.Order.{Each, IsInOrder}
+use Rattle.omega_running.proofs.Lists.{all_of_each}
 use Rattle.omega_board.specs.Board.{IsBoard, IsCounted}
 use Rattle.omega_board.proofs.Tasks.{key_differs}
-
-all_of_each : {X : Type 0} (P : X → Type 0) (xs : List X) → Each P xs → All P xs
-all_of_each P [] each = All-nil P
-all_of_each P (x ∷ xs) each = All-cons P x xs each.0 (all_of_each P xs each.1)
 
 -- tasks in order have distinct names
 pub names_distinct : (tasks : List Task) → IsInOrder ByKey tasks → IsDistinct same_key (keys_of tasks)

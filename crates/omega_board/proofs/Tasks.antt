@@ -17,7 +17,7 @@ use Rattle.omega_running.specs.Order.{Each, IsInOrder, precedes}
 use Rattle.omega_running.proofs.Lists.{each_map, each_append, each_of, filter_every, filter_none, find_none, find_right, any_none}
 use Rattle.omega_running.proofs.Strict.{trans}
 use Rattle.omega_running.proofs.InOrder.{key_apart, key_asym, key_strict}
-use Rattle.omega_running.proofs.Kept.{put_is, put_rises, rises_filter}
+use Rattle.omega_running.proofs.Kept.{put_is, put_rises, rises_filter, without_absent}
 
 module _ {X : Type 0} where
   -- what holds of each element holds of each that a filter leaves
@@ -83,10 +83,6 @@ key_same a b e =
 pub key_itself : (key : TaskKey) → same_key key key ≡ true
 key_itself key = and_from _ _ (eq-eqb key.job key.job refl) (eq-eqb key.index key.index refl)
 
--- a task that is found has the name
-pub found_name : (tasks : List Task) (key : TaskKey) (t : Task) → task_at tasks key ≡ Some t → t.key ≡ key
-found_name tasks key t found = key_same t.key key (found_passes (λ y. same_key y.key key) tasks t found)
-
 -- names in order are of two tasks
 pub key_differs : (a b : TaskKey) → key_lt a b ≡ true → same_key a b ≡ false
 key_differs a b less = not-true (same_key a b) (sym (key_apart a b) ∙ or_left _ _ less)
@@ -106,11 +102,6 @@ stays_not key task same = rw same refl
 
 pub other_stays : (key : TaskKey) (task : Task) → stays key task ≡ true → same_key task.key key ≡ false
 other_stays key task stay = by_answer (same_key task.key key) (λ t. absurd (both_ways false refl (rw t at stay))) (λ f. f)
-
--- without a task that doesn't run, the tasks are the same
-pub without_absent : (key : TaskKey) (tasks : List Task) → task_at tasks key ≡ None → without (key ∷ []) tasks ≡ tasks
-without_absent key tasks none =
-    filter_every (stays key) tasks (each_map (λ y. same_key y.key key ≡ false) (λ y. stays key y ≡ true) (stays_other key) tasks (each_absent (λ y. same_key y.key key) tasks none))
 
 -- a task that went isn't there
 pub gone_absent : (key : TaskKey) (tasks : List Task) → task_at (without (key ∷ []) tasks) key ≡ None

@@ -1,20 +1,17 @@
-ghost use Rattle.std.specs.Prelude.{◌≡◌, ◌+◌, ◌-◌, ◌<◌, ◌≤◌, ◌^◌, ℕ, ◌↔◌, true, length, IsTrue};
-ghost use Rattle.omega_machines.specs.Table.{machines_of, seq_at};
+ghost use Rattle.std.specs.Prelude.{◌≡◌, ◌∷◌, [], ◌↔◌, IsTrue, IfOk};
 ghost use Rattle.omega_model.specs.Fields.{greatest};
-ghost use Rattle.omega_model.specs.Machines.{is_listed};
 ghost use Rattle.omega_model.specs.Need.{Fits};
-ghost use Rattle.omega_model.specs.Touches.{is_placed};
-ghost use Rattle.omega_board.specs.Undo.{IsUndoOf};
 
-use crate::{Board, Undo};
+use crate::Board;
 use omega_model::{
-    Bytes, Claim, Claims, Entry, Keys, Mode, Need, NoMemory, Rule, Seq, Spec, TaskKey, Txn,
-    Verdict, Verdicts,
+    Bytes, Claim, Claims, Copied, Entry, Judgement, Keys, Mode, Need, NoMemory, Rule, Seq, Spec,
+    TaskKey, Txn, Verdict,
 };
 use std::alloc::Global;
 
+// An amount without disk.
 fn need(cpu: u64, mem: u64) -> Need {
-    Need { cpu, mem }
+    Need { cpu, mem, disk: 0 }
 }
 
 fn key(job: u64, index: u32) -> TaskKey {
@@ -30,9 +27,12 @@ fn claim(
     key: TaskKey,
     machine: u64,
     spec: Spec,
-    victims: &[TaskKey],
+    listed: [Option<TaskKey>; 2],
 ) -> Result<Claim, NoMemory> {
-    let victims = Seq::of(Vec::from_slice(alloc, victims)?);
+    let mut victims = Keys::new(alloc);
+    for key in listed.into_iter().flatten() {
+        victims.push(key)?;
+    }
     Ok(Claim {
         key,
         machine,
@@ -41,19 +41,10 @@ fn claim(
     })
 }
 
-fn list(alloc: Global, first: Claim, second: Option<Claim>) -> Result<Claims, NoMemory> {
-    let mut claims = Claims::new(alloc);
-    claims.push(first)?;
-    if let Some(second) = second {
-        claims.push(second)?;
-    }
-    Ok(claims)
-}
-
 fn is_small(cap: Need) -> bool
     ensures { IsTrue result ↔ Fits cap greatest }
 {
-    cap.cpu <= 1000000000000 && cap.mem <= 1000000000000
+    cap.cpu <= 1000000000000 && cap.mem <= 1000000000000 && cap.disk <= 1000000000000
 }
 
 fn add(board: &mut Board, alloc: Global, machine: u64, cap: Need) -> Result<Keys, NoMemory> {
@@ -122,12 +113,24 @@ fn end(board: &mut Board, alloc: Global, key: TaskKey) -> Result<Keys, NoMemory>
     }
 }
 
+// The list of one claim.
+fn alone(alloc: Global, claim: &Claim) -> Result<Claims, NoMemory>
+    ensures { IfOk result (λ claims. claims ≡ claim.now ∷ []) }
+{
+    let mut claims = Claims::new(alloc);
+    claims.push(claim.copy(alloc)?)?;
+    Ok(claims)
+}
+
 // An entry of a commit that places this claim.
-fn apply_commit(board: &mut Board, alloc: Global, claim: Claim) -> Result<Keys, NoMemory> {
-    let verdict = board.judge(&claim, None);
+fn commit(board: &mut Board, alloc: Global, claim: Claim) -> Result<Keys, NoMemory> {
+    let mut evicted = Vec::with_capacity(alloc, claim.victims.len())?;
+    let verdict = board.judge(&claim, None, &mut evicted);
     if verdict != Verdict::Placed || board.machines().seq(claim.machine) == u64::MAX {
         return Err(NoMemory);
     }
+    let evicted = Seq::of(evicted);
+    let reply = Seq::of(vec![in alloc; Judgement { verdict, evicted }]?);
     let txn = Txn {
         job: claim.key.job,
         rule: Rule::Fine,
@@ -138,9 +141,30 @@ fn apply_commit(board: &mut Board, alloc: Global, claim: Claim) -> Result<Keys, 
         scheduler: 1,
         seen: 0,
         txn,
-        reply: Seq::of(vec![in alloc; Verdict::Placed]?),
+        reply,
     };
     board.apply_entry(alloc, &entry)
+}
+
+// How many tasks run and what is free on machine 1, once a claim was placed and after it was taken
+// back.
+fn taken_back(
+    board: &mut Board,
+    alloc: Global,
+    claim: &Claim,
+) -> Result<[(usize, Option<Need>); 2], NoMemory> {
+    let claims = alone(alloc, claim)?;
+    let mut undo = board.reserve(alloc, &claims)?;
+    let mut evicted = Vec::with_capacity(alloc, claim.victims.len())?;
+    let verdict = board.judge(claim, None, &mut evicted);
+    if verdict != Verdict::Placed {
+        return Err(NoMemory);
+    }
+    board.apply_placed(claim, evicted.as_slice(), &mut undo);
+    let placed = (board.running().count(), board.machines().free(1));
+    board.undo(&mut undo);
+    let back = (board.running().count(), board.machines().free(1));
+    Ok([placed, back])
 }
 
 // The sequence number, the number of running tasks, and what is free on machine 1.
@@ -152,192 +176,93 @@ fn seen(board: &Board) -> (u64, usize, Option<Need>) {
     )
 }
 
-// Places a claim where it is judged so.
-fn place(board: &mut Board, claim: &Claim, copy_seq: Option<u64>, undo: &mut Undo) -> Verdict
-    requires undo { IsUndoOf board.old undo.old }
-    requires claims { 0 < undo.old.claims }
-    requires victims { length claim.now.victims ≤ undo.old.victims }
-    ensures listed { is_placed result ≡ true → IsTrue (is_listed claim.now.machine (machines_of board.new.table)) }
-    ensures countable { is_placed result ≡ true → seq_at board.new.table claim.now.machine < 2 ^ 64 - 1 }
-    ensures machines { machines_of board.new.table ≡ machines_of board.old.table }
-    ensures seqs { (id : ℕ) → seq_at board.new.table id ≡ seq_at board.old.table id }
-    ensures undo { IsUndoOf board.new undo.new }
-    ensures claims { undo.old.claims ≤ undo.new.claims + 1 }
-    ensures victims { undo.old.victims ≤ undo.new.victims + length claim.now.victims }
-{
-    if board.machines().seq(claim.machine) == u64::MAX {
-        return Verdict::Withdrawn(0);
-    }
-    let verdict = board.judge(claim, copy_seq);
-    if let Verdict::Placed = verdict {
-        board.apply_placed(claim, undo);
-    }
-    verdict
-}
-
-// Judges claims in order. Keeps what is placed, but for a gang with a refusal.
-fn commit(
-    board: &mut Board,
-    alloc: Global,
-    claims: &Claims,
-    copy_seq: Option<u64>,
-    gang: bool,
-) -> Result<Verdicts, NoMemory> {
-    let mut undo = board.reserve(alloc, claims)?;
-    let mut reply = Verdicts::new(alloc);
-    let mut refused = false;
-    for claim in claims.as_slice() {
-        let verdict = place(board, claim, copy_seq, &mut undo);
-        refused = refused || verdict != Verdict::Placed;
-        reply.push(verdict)?;
-    }
-    if gang && refused {
-        board.undo(&mut undo);
-    } else {
-        board.touch_placed(claims, &reply);
-    }
-    Ok(reply)
-}
-
-// One claim on machine 1.
-fn commit_one(
-    board: &mut Board,
-    alloc: Global,
-    key: TaskKey,
-    spec: Spec,
-) -> Result<Verdicts, NoMemory> {
-    let claim = claim(alloc, key, 1, spec, &[])?;
-    let claims = list(alloc, claim, None)?;
-    commit(board, alloc, &claims, None, false)
-}
-
-// Two claims of job 1 on machine 1.
-fn commit_two(
-    board: &mut Board,
-    alloc: Global,
-    needs: (Need, Need),
-    copy_seq: Option<u64>,
-    gang: bool,
-) -> Result<Verdicts, NoMemory> {
-    let first = claim(alloc, key(1, 0), 1, spec(needs.0, 0, false), &[])?;
-    let second = claim(alloc, key(1, 1), 1, spec(needs.1, 0, false), &[])?;
-    let claims = list(alloc, first, Some(second))?;
-    commit(board, alloc, &claims, copy_seq, gang)
-}
-
-// Machine 1 of (10, 10), on which the task (1, 0) of (8, 8) and precedence 3 runs.
+// Machine 1 of 10 of each kind, on which the tasks (1, 0) and (1, 1) of (4, 4) and precedence 3 run.
 fn occupied(alloc: Global) -> Result<Board, NoMemory> {
     let mut board = Board::new(alloc);
-    add(&mut board, alloc, 1, need(10, 10))?;
-    commit_one(&mut board, alloc, key(1, 0), spec(need(8, 8), 3, false))?;
+    let cap = Need {
+        cpu: 10,
+        mem: 10,
+        disk: 10,
+    };
+    add(&mut board, alloc, 1, cap)?;
+    for index in 0..2 {
+        let spec = spec(need(4, 4), 3, false);
+        let claim = claim(alloc, key(1, index), 1, spec, [None, None])?;
+        commit(&mut board, alloc, claim)?;
+    }
     Ok(board)
 }
 
-// The verdict on such a claim, on the occupied machine.
-fn verdict_on(
+// What is answered to a claim on the occupied machine: the verdict and what is evicted.
+fn answer(
     alloc: Global,
-    key: TaskKey,
-    machine: u64,
-    spec: Spec,
-    victims: &[TaskKey],
+    claim: &Claim,
     copy_seq: Option<u64>,
-) -> Result<Verdict, NoMemory> {
+) -> Result<(Verdict, [Option<TaskKey>; 2]), NoMemory> {
     let board = occupied(alloc)?;
-    let claim = claim(alloc, key, machine, spec, victims)?;
-    Ok(board.judge(&claim, copy_seq))
+    let mut evicted = Vec::with_capacity(alloc, claim.victims.len())?;
+    let verdict = board.judge(claim, copy_seq, &mut evicted);
+    Ok((verdict, [evicted.first().copied(), evicted.get(1).copied()]))
 }
 
 #[test]
-fn claims_with_victims(rt: HostRuntime) -> Result<(), NoMemory> {
+fn no_more_is_evicted_than_makes_room(rt: HostRuntime) -> Result<(), NoMemory> {
     let alloc = rt.alloc();
-    let once = [key(1, 0)];
-    let twice = [key(1, 0), key(1, 0)];
-    let high = spec(need(5, 5), 5, false);
-    let low = spec(need(5, 5), 3, false);
-    let verdict = verdict_on(alloc, key(2, 0), 1, high, &twice, None)?;
-    assert_eq!(rt; verdict, Verdict::VictimGone(key(1, 0)));
-    let verdict = verdict_on(alloc, key(2, 0), 1, low, &once, None)?;
-    assert_eq!(rt; verdict, Verdict::VictimRank(key(1, 0)));
-    let verdict = verdict_on(alloc, key(2, 0), 1, high, &once, None)?;
-    assert_eq!(rt; verdict, Verdict::Placed);
-    Ok(())
-}
-
-#[test]
-fn claims_without_victims(rt: HostRuntime) -> Result<(), NoMemory> {
-    let alloc = rt.alloc();
-    let low = spec(need(5, 5), 3, false);
-    let alone = spec(need(1, 1), 3, true);
-    for (key, machine, spec, copy_seq, verdict) in [
-        (key(2, 0), 1, low, None, Verdict::Full(need(2, 2))),
-        (key(1, 0), 1, low, None, Verdict::AlreadyRunning(1)),
-        (key(2, 0), 9, low, None, Verdict::NoMachine),
-        (key(2, 0), 1, alone, Some(2), Verdict::Placed),
-        (key(1, 1), 1, alone, None, Verdict::SameJob(key(1, 0))),
+    let (first, second, gone) = (Some(key(1, 0)), Some(key(1, 1)), Some(key(7, 0)));
+    let full = |cpu, mem| { Verdict::Full(Need { cpu, mem, disk: 10 }) };
+    for (amount, prec, listed, verdict, evicted) in [
+        (5, 5, [gone, first], Verdict::Placed, [first, None]),
+        (5, 5, [gone, None], full(2, 2), [None, None]),
+        (5, 5, [first, first], Verdict::Placed, [first, None]),
+        (7, 5, [first, first], full(6, 6), [None, None]),
+        (5, 5, [first, second], Verdict::Placed, [first, None]),
+        (5, 5, [second, first], Verdict::Placed, [second, None]),
+        (7, 5, [second, first], Verdict::Placed, [second, first]),
+        (2, 5, [first, second], Verdict::Placed, [None, None]),
         (
-            key(2, 0),
-            1,
-            alone,
-            Some(1),
-            Verdict::Changed { now: 2, copy: 1 },
+            5,
+            3,
+            [gone, second],
+            Verdict::VictimRank(key(1, 1)),
+            [None, None],
         ),
     ] {
-        assert_eq!(rt;
-            verdict_on(alloc, key, machine, spec, &[], copy_seq)?,
-            verdict
-        );
+        let spec = spec(need(amount, amount), prec, false);
+        let claim = claim(alloc, key(2, 0), 1, spec, listed)?;
+        assert_eq!(rt; answer(alloc, &claim, None)?, (verdict, evicted));
     }
     Ok(())
 }
 
 #[test]
-fn a_gang_is_taken_back(rt: HostRuntime) -> Result<(), NoMemory> {
+fn the_flag_evicts_what_shares_the_machine(rt: HostRuntime) -> Result<(), NoMemory> {
     let alloc = rt.alloc();
-    let mut board = Board::new(alloc);
-    add(&mut board, alloc, 1, need(10, 10))?;
-    let needs = (need(5, 5), need(8, 8));
-    let told = [Verdict::Placed, Verdict::Full(need(5, 5))];
-    let reply = commit_two(&mut board, alloc, needs, None, true)?;
-    assert_eq!(rt; reply.as_slice(), told.as_slice());
-    assert_eq!(rt; seen(&board), (1, 0, Some(need(10, 10))));
-    let reply = commit_two(&mut board, alloc, needs, None, false)?;
-    assert_eq!(rt; reply.as_slice(), told.as_slice());
-    assert_eq!(rt; seen(&board), (2, 1, Some(need(5, 5))));
-    Ok(())
-}
-
-#[test]
-fn a_commit_counts_once(rt: HostRuntime) -> Result<(), NoMemory> {
-    let alloc = rt.alloc();
-    let mut empty = Board::new(alloc);
-    add(&mut empty, alloc, 1, need(10, 10))?;
-    let mut board = empty.copy(alloc)?;
-    let reply = commit_two(&mut board, alloc, (need(5, 5), need(5, 4)), Some(1), false)?;
-    let placed = [Verdict::Placed, Verdict::Placed];
-    assert_eq!(rt; reply.as_slice(), placed.as_slice());
-    assert_eq!(rt; seen(&board), (2, 2, Some(need(0, 1))));
-    assert_eq!(rt; seen(&empty), (1, 0, Some(need(10, 10))));
-    Ok(())
-}
-
-#[test]
-fn a_smaller_machine_displaces_by_rank(rt: HostRuntime) -> Result<(), NoMemory> {
-    let alloc = rt.alloc();
-    let mut board = Board::new(alloc);
-    add(&mut board, alloc, 1, need(1000000000, 1000000000))?;
-    for (index, prec) in [(0, 2), (1, 1), (2, 1)] {
-        let spec = spec(need(300000000, 300000000), prec, false);
-        commit_one(&mut board, alloc, key(10, index), spec)?;
+    let (first, second) = (Some(key(1, 0)), Some(key(1, 1)));
+    for (job, listed, verdict, evicted) in [
+        (1, [first, second], Verdict::Placed, [first, second]),
+        (1, [first, None], Verdict::SameJob(key(1, 1)), [None, None]),
+        (2, [first, second], Verdict::Placed, [None, None]),
+    ] {
+        let spec = spec(need(1, 1), 5, true);
+        let claim = claim(alloc, key(job, 2), 1, spec, listed)?;
+        assert_eq!(rt; answer(alloc, &claim, None)?, (verdict, evicted));
     }
-    assert_eq!(rt; seen(&board), (4, 3, Some(need(100000000, 100000000))));
-    let gone = update(&mut board, alloc, 1, need(500000000, 500000000))?;
-    let order = [key(10, 1), key(10, 2)];
-    assert_eq!(rt; gone.as_slice(), order.as_slice());
-    assert_eq!(rt; seen(&board), (5, 1, Some(need(200000000, 200000000))));
-    let gone = remove(&mut board, alloc, 1)?;
-    let order = [key(10, 0)];
-    assert_eq!(rt; gone.as_slice(), order.as_slice());
-    assert_eq!(rt; seen(&board), (6, 0, None));
+    Ok(())
+}
+
+#[test]
+fn claims_are_refused(rt: HostRuntime) -> Result<(), NoMemory> {
+    let alloc = rt.alloc();
+    for (key, machine, copy_seq, verdict) in [
+        (key(2, 0), 9, None, Verdict::NoMachine),
+        (key(1, 0), 1, None, Verdict::AlreadyRunning(1)),
+        (key(2, 0), 1, Some(3), Verdict::Placed),
+        (key(2, 0), 1, Some(1), Verdict::Changed { now: 3, copy: 1 }),
+    ] {
+        let spec = spec(need(1, 1), 3, false);
+        let claim = claim(alloc, key, machine, spec, [None, None])?;
+        assert_eq!(rt; answer(alloc, &claim, copy_seq)?.0, verdict);
+    }
     Ok(())
 }
 
@@ -345,17 +270,36 @@ fn a_smaller_machine_displaces_by_rank(rt: HostRuntime) -> Result<(), NoMemory> 
 fn victims_stop_and_come_back(rt: HostRuntime) -> Result<(), NoMemory> {
     let alloc = rt.alloc();
     let mut board = occupied(alloc)?;
-    let high = spec(need(5, 5), 5, false);
-    let taking = claim(alloc, key(2, 0), 1, high, &[key(1, 0)])?;
-    let lost = claim(alloc, key(2, 1), 9, high, &[])?;
-    let claims = list(alloc, taking, Some(lost))?;
-    let told = [Verdict::Placed, Verdict::NoMachine];
-    let reply = commit(&mut board, alloc, &claims, None, true)?;
-    assert_eq!(rt; reply.as_slice(), told.as_slice());
-    assert_eq!(rt; seen(&board), (2, 1, Some(need(2, 2))));
-    let reply = commit(&mut board, alloc, &claims, None, false)?;
-    assert_eq!(rt; reply.as_slice(), told.as_slice());
-    assert_eq!(rt; seen(&board), (3, 1, Some(need(5, 5))));
+    let free = board.machines().free(1);
+    let spec = spec(need(8, 9), 5, false);
+    let listed = [Some(key(1, 0)), Some(key(1, 1))];
+    let claim = claim(alloc, key(2, 0), 1, spec, listed)?;
+    let left = Need {
+        cpu: 2,
+        mem: 1,
+        disk: 10,
+    };
+    let told = taken_back(&mut board, alloc, &claim)?;
+    assert_eq!(rt; told, [(1, Some(left)), (2, free)]);
+    commit(&mut board, alloc, claim)?;
+    assert_eq!(rt; seen(&board), (4, 1, Some(left)));
+    Ok(())
+}
+
+#[test]
+fn a_smaller_machine_displaces_by_rank(rt: HostRuntime) -> Result<(), NoMemory> {
+    let alloc = rt.alloc();
+    let mut board = occupied(alloc)?;
+    let spec = spec(need(1, 1), 1, false);
+    let claim = claim(alloc, key(2, 0), 1, spec, [None, None])?;
+    commit(&mut board, alloc, claim)?;
+    let gone = update(&mut board, alloc, 1, need(5, 5))?;
+    let order = [key(2, 0), key(1, 0)];
+    assert_eq!(rt; gone.as_slice(), order.as_slice());
+    assert_eq!(rt; seen(&board), (5, 1, Some(need(1, 1))));
+    let gone = remove(&mut board, alloc, 1)?;
+    assert_eq!(rt; gone.as_slice(), [key(1, 1)].as_slice());
+    assert_eq!(rt; seen(&board), (6, 0, None));
     Ok(())
 }
 
@@ -377,15 +321,17 @@ fn attributes_list_their_machine(rt: HostRuntime) -> Result<(), NoMemory> {
 }
 
 #[test]
-fn tasks_come_and_go_by_entries(rt: HostRuntime) -> Result<(), NoMemory> {
+fn tasks_end(rt: HostRuntime) -> Result<(), NoMemory> {
     let alloc = rt.alloc();
     let mut board = occupied(alloc)?;
-    let claim = claim(alloc, key(2, 0), 1, spec(need(2, 1), 0, false), &[])?;
-    apply_commit(&mut board, alloc, claim)?;
-    assert_eq!(rt; seen(&board), (3, 2, Some(need(0, 1))));
     end(&mut board, alloc, key(1, 0))?;
-    assert_eq!(rt; seen(&board), (4, 1, Some(need(8, 9))));
+    let free = Need {
+        cpu: 6,
+        mem: 6,
+        disk: 10,
+    };
+    assert_eq!(rt; seen(&board), (4, 1, Some(free)));
     board.apply_entry(alloc, &Entry::Round { number: 7 })?;
-    assert_eq!(rt; seen(&board), (4, 1, Some(need(8, 9))));
+    assert_eq!(rt; seen(&board), (4, 1, Some(free)));
     Ok(())
 }

@@ -262,8 +262,8 @@ other_same by_key by_machine same job machine gone =
     ap (option_map (λ (task : Task). task.key)) (sym (find_in_filter test (is_on machine) by_machine on) ∙ ap (find test) (same machine) ∙ find_in_filter test (is_on machine) by_key on)
 
 -- a key that is absent, and one that is there
-pub without_none : (key : TaskKey) (tasks : List Task) → task_at tasks key ≡ None → without (key ∷ []) tasks ≡ tasks
-without_none key tasks e =
+pub without_absent : (key : TaskKey) (tasks : List Task) → task_at tasks key ≡ None → without (key ∷ []) tasks ≡ tasks
+without_absent key tasks e =
     filter_every (λ y. not (is_among y.key (key ∷ []))) tasks
     (each_map (λ y. same_key y.key key ≡ false) (λ y. not (is_among y.key (key ∷ [])) ≡ true) (λ y h. not_from_false _ (or_from _ _ h refl)) tasks (absent_each (λ y. same_key y.key key) tasks e))
 

@@ -1,6 +1,7 @@
 -- Lists of which each element has a property, and what a filter or a search makes of them.
 use Rattle.std.proofs.Common.{◌≡◌, Bool, true, false, cond, List, [], ◌∷◌, ◌++◌, Some, None, refl, ap}
-use Rattle.std.specs.List.{filter, find, list_any}
+use Rattle.std.specs.List.{All, filter, find, list_any}
+use Rattle.std.proofs.lemmas.List.Elements.{All-head, All-tail, All-cons, All-nil}
 use Rattle.omega_running.specs.Order.{Each}
 
 pub each_front : {X : Type 0} (P : X → Type 0) (xs ys : List X) → Each P (xs ++ ys) → Each P xs
@@ -22,6 +23,14 @@ each_map P Q f (x ∷ xs) e = (f x e.0, each_map P Q f xs e.1)
 pub each_both : {X : Type 0} (P Q R : X → Type 0) → ((x : X) → P x → Q x → R x) → (xs : List X) → Each P xs → Each Q xs → Each R xs
 each_both P Q R f [] e g = tt
 each_both P Q R f (x ∷ xs) e g = (f x e.0 g.0, each_both P Q R f xs e.1 g.1)
+
+pub each_of_all : {X : Type 0} (P : X → Type 0) (xs : List X) → All P xs → Each P xs
+each_of_all P [] all = tt
+each_of_all P (x ∷ xs) all = (All-head P x xs all, each_of_all P xs (All-tail P x xs all))
+
+pub all_of_each : {X : Type 0} (P : X → Type 0) (xs : List X) → Each P xs → All P xs
+all_of_each P [] each = All-nil P
+all_of_each P (x ∷ xs) each = All-cons P x xs each.0 (all_of_each P xs each.1)
 
 pub each_of : {X : Type 0} (P : X → Type 0) → ((x : X) → P x) → (xs : List X) → Each P xs
 each_of P f [] = tt

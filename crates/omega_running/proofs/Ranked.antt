@@ -1,12 +1,11 @@
 -- A list of tasks that is sorted by rank is the list of its tasks in order of eviction.
 use Rattle.std.proofs.Common.{◌≡◌, ℕ, ◌+◌, suc, Bool, true, false, ◌||◌, ◌&&◌, not, cond, eqb, ltb, List, [], ◌∷◌, get_or, refl, ap₂, sym, subst, ◌∙◌, ◌⊎◌, inl, inr, arith}
-use Rattle.std.specs.List.{All, AllByRecursion, IsDistinct}
+use Rattle.std.specs.List.{AllByRecursion, IsDistinct}
 use Rattle.std.specs.List.Sorted.{IsPermutation, IsSortedBy}
 use Rattle.std.specs.Ordering.{is_lt, ordering_then, nat_cmp}
 use Rattle.std.specs.declared.cmp.Ordering.TheVariants.{Less, Equal, Greater}
 use Rattle.std.specs.Cmp.{IsStrictWeakOrder}
 use Rattle.std.proofs.lemmas.Bool.{both_ways, or_cases, or_left, not_from_false, not-true, false_from_ne_true, and_right, cases_eq, eq-eqb, ne_eqb}
-use Rattle.std.proofs.lemmas.List.Elements.{All-head, All-tail, All-cons, All-nil}
 use Rattle.std.proofs.lemmas.List.Sorted.{All-permutation, IsPermutation-sym, sorted_far}
 use Rattle.std.proofs.lemmas.Map.Keys.{IsDistinct-cons, IsDistinct-head, IsDistinct-tail, IsDistinct-IsPermutation}
 use Rattle.omega_model.specs.Keys.{key_lt, same_key}
@@ -14,7 +13,7 @@ use Rattle.omega_model.specs.Cell.{goes_before, put_by_rank, by_rank}
 use Rattle.omega_model.specs.declared.cells.Task.{Task}
 use Rattle.omega_running.specs.declared.orders.Order.TheVariants.{ByKey}
 use Rattle.omega_running.specs.Order.{Each, Rises, IsInOrder}
-use Rattle.omega_running.proofs.Lists.{each_map, each_both}
+use Rattle.omega_running.proofs.Lists.{each_map, each_both, each_of_all, all_of_each}
 use Rattle.omega_running.proofs.Strict.{IsStrict, trans, apart}
 use Rattle.omega_running.proofs.Lex.{lex_apart}
 use Rattle.omega_running.proofs.InOrder.{rank_strict, key_apart}
@@ -33,16 +32,8 @@ each_itself : {X : Type 0} (xs : List X) → Each (λ z. In z xs) xs
 each_itself [] = tt
 each_itself (x ∷ xs) = (inl refl, each_map (λ z. In z xs) (λ z. In z (x ∷ xs)) (λ z i. inr i) xs (each_itself xs))
 
-each_from_all : {X : Type 0} (P : X → Type 0) (xs : List X) → All P xs → Each P xs
-each_from_all P [] a = tt
-each_from_all P (x ∷ xs) a = (All-head P x xs a, each_from_all P xs (All-tail P x xs a))
-
-all_from_each : {X : Type 0} (P : X → Type 0) (xs : List X) → Each P xs → All P xs
-all_from_each P [] e = All-nil P
-all_from_each P (x ∷ xs) e = All-cons P x xs e.0 (all_from_each P xs e.1)
-
 each_moved : {X : Type 0} (P : X → Type 0) (xs ys : List X) → IsPermutation xs ys → Each P xs → Each P ys
-each_moved P xs ys h e = each_from_all P ys (All-permutation P xs ys h (all_from_each P xs e))
+each_moved P xs ys h e = each_of_all P ys (All-permutation P xs ys h (all_of_each P xs e))
 
 -- two lists that rise and have the same elements are one
 only_one : {X : Type 0} (lt : X → X → Bool) → IsStrict lt → (xs ys : List X) → Rises lt xs → Rises lt ys → Each (λ z. In z ys) xs → Each (λ z. In z xs) ys → xs ≡ ys
@@ -118,7 +109,7 @@ weak lt s = record {
 rises_from_sorted : {X : Type 0} (lt : X → X → Bool) → IsStrict lt → (xs : List X) → IsSortedBy lt xs → Rises (λ x y. not (lt y x)) xs
 rises_from_sorted lt s [] up = tt
 rises_from_sorted lt s (x ∷ xs) up = (
-  each_from_all (λ y. not (lt y x) ≡ true) xs (λ k d h. not_from_false _ (sorted_far lt (weak lt s) (x ∷ xs) up 0 (suc k) d (omega arith) (omega arith))),
+  each_of_all (λ y. not (lt y x) ≡ true) xs (λ k d h. not_from_false _ (sorted_far lt (weak lt s) (x ∷ xs) up 0 (suc k) d (omega arith) (omega arith))),
   rises_from_sorted lt s xs (λ k d l h. subst (λ (n : ℕ). lt (get_or (x ∷ xs) n d) (get_or xs k d) ≡ false) (next k) (up (suc k) d (omega arith) (omega arith))),
 )
   where

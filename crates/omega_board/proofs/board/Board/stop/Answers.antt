@@ -1,6 +1,6 @@
 use Rattle.std.proofs.Common.{sym, subst, ap, ◌∙◌}
 use Rattle.omega_board.specs.Board.{BoardState, IsBoard, table_with}
-use Rattle.omega_board.proofs.Tasks.{without_absent}
+use Rattle.omega_running.proofs.Kept.{without_absent}
 use Rattle.omega_board.proofs.Boards.{on_listed, need_in_use, stopped, table_with-same}
 use Rattle.omega_board.proofs.board.Board.stop.Goals as goal
 

@@ -2,13 +2,13 @@ use Rattle.std.proofs.Common.{◌≡◌, Some, None, sym, subst}
 use Rattle.omega_model.specs.Cell.{task_at}
 use Rattle.omega_model.specs.declared.cells.TaskKey.{TaskKey}
 use Rattle.omega_running.specs.Tree.{tasks_of}
-use Rattle.omega_running.proofs.Kept.{without_none, found_key}
+use Rattle.omega_running.proofs.Kept.{without_absent, found_key}
 use Rattle.omega_running.proofs.table.Running.remove.Goals as goal
 
 pub returns-in_default-clause-tasks : goal.returns-in_default-clause-tasks
 returns-in_default-clause-tasks c =
     let none : task_at (tasks_of c.self.inside.by_key) c.args.key ≡ None = sym c.in_default.ensures in
-    rw (← c.self.view_is) (sym (without_none c.args.key (tasks_of c.self.inside.by_key) none))
+    rw (← c.self.view_is) (sym (without_absent c.args.key (tasks_of c.self.inside.by_key) none))
 
 pub take_out-requires : goal.take_out-requires
 take_out-requires c =
