@@ -7,7 +7,7 @@ use Rattle.omega_model.specs.Cell.{Cell}
 use Rattle.omega_model.specs.Machines.{is_listed}
 use Rattle.omega_model.specs.Reply.{tasks_after_claim, reply_on}
 use Rattle.omega_model.specs.State.{step, reply_of}
-use Rattle.omega_model.specs.Touches.{seq, places_on}
+use Rattle.omega_model.specs.Touches.{places_on}
 use Rattle.omega_model.specs.declared.claims.Txn.{Txn}
 use Rattle.omega_model.specs.declared.claims.Judgement.{Judgement}
 use Rattle.omega_model.specs.declared.entries.Entry.{Entry}

@@ -1,5 +1,5 @@
 -- What is evicted for a claim has to go.
-use Rattle.std.proofs.Common.{◌≡◌, ℕ, zero, suc, ◌<◌, Bool, true, false, not, ◌&&◌, nat_le, List, [], ◌∷◌, ◌++◌, length, map, take, drop, Option, Some, None, refl, sym, ap, ap₂, ◌∙◌, subst, arith, ◌==◌, if◌then◌else◌}
+use Rattle.std.proofs.Common.{◌≡◌, ℕ, zero, suc, ◌<◌, Bool, true, false, not, ◌&&◌, nat_le, List, [], ◌∷◌, ◌++◌, length, map, take, drop, Option, Some, None, refl, sym, ap, ap₂, ◌∙◌, subst, arith, ◌==◌}
 use Rattle.std.specs.Prelude.{slice_get, IsSomeAnd}
 use Rattle.std.specs.List.{filter, find, fold, list_any, zip}
 use Rattle.std.specs.Option.{option_map, option_map_or, unwrap_or}
@@ -10,7 +10,6 @@ use Rattle.omega_model.specs.Cell.{Cell, machine_at, task_at, with_task, without
 use Rattle.omega_model.specs.Judge.{is_up, no_machine, already_running, changed, runs_on, standing_victims, withstands, victim_rank, judge_fine, verdict_given, makes_room, evicted_for, judged_given, judge, would_be_placed}
 use Rattle.omega_model.specs.Keys.{key_lt, same_key, is_among, first_mentions, beginnings}
 use Rattle.omega_model.specs.Legal.{Legal, Follows}
-use Rattle.omega_model.specs.Need.{fits}
 use Rattle.omega_model.specs.Reply.{admits, task_of, tasks_after_claim, after_claim, judgements, withdrawn_for, first_refused, by_mode, reply_on}
 use Rattle.omega_model.specs.State.{state, step, tasks_after, displaced, goes_on}
 use Rattle.omega_model.specs.Touches.{is_placed, touches, seq}

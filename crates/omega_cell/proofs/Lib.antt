@@ -5,3 +5,4 @@ pub mod Judging
 pub mod Committing
 pub mod Gangs
 pub mod Evictions
+mod Examples

@@ -4,8 +4,8 @@ use Rattle.std.specs.List.{find}
 use Rattle.std.specs.Option.{unwrap_or}
 use Rattle.std.proofs.lemmas.List.{length-map, length-take}
 use Rattle.omega_model.specs.Cell.{Cell}
-use Rattle.omega_model.specs.Judge.{judge, evicted_for, with_evicted, makes_room, runs_on, standing_victims}
-use Rattle.omega_model.specs.Keys.{beginnings, first_mentions}
+use Rattle.omega_model.specs.Judge.{judge, evicted_for, with_evicted, makes_room, standing_victims}
+use Rattle.omega_model.specs.Keys.{beginnings}
 use Rattle.omega_model.specs.Reply.{admits, after_claim, judgements, withdrawn_for, first_refused, all_or_nothing, by_mode, reply_on}
 use Rattle.omega_model.specs.Touches.{is_placed}
 use Rattle.omega_model.specs.declared.cells.TaskKey.{TaskKey}

@@ -77,7 +77,11 @@ fn add(cell: &mut Cell, alloc: Global) -> Result<(), NoMemory>
     if !has_room(cell) {
         return Err(NoMemory);
     }
-    let cap = need(10, 10);
+    let cap = Need {
+        cpu: 10,
+        mem: 10,
+        disk: 10,
+    };
     let Ok(()) = cell.feed(alloc, Entry::MachineAdd { machine: 1, cap }) else {
         return Err(NoMemory);
     };
@@ -161,7 +165,11 @@ fn told(reply: &Reply, place: usize) -> Option<Told> {
 // The place of the commit, the sequence number of machine 1, and how many tasks run.
 fn counts(cell: &Cell, reply: &Reply) -> (u64, u64, usize) {
     let board = cell.board();
-    (reply.place, board.machines().seq(1), board.running().count())
+    (
+        reply.place,
+        board.machines().seq(1),
+        board.running().count(),
+    )
 }
 
 fn refused(verdict: Verdict) -> Option<Told> {
@@ -224,7 +232,13 @@ fn claims_on_a_busy_machine(rt: HostRuntime) -> Result<(), NoMemory> {
     let none: &[TaskKey] = &[];
     for (key, machine, prec, victims, answer) in [
         (NEW, 1, 5, [RUNS, RUNS].as_slice(), evicts),
-        (NEW, 1, 3, [RUNS].as_slice(), refused(Verdict::VictimRank(RUNS))),
+        (
+            NEW,
+            1,
+            3,
+            [RUNS].as_slice(),
+            refused(Verdict::VictimRank(RUNS)),
+        ),
         (NEW, 1, 5, none, full),
         (RUNS, 1, 5, none, refused(Verdict::AlreadyRunning(1))),
         (NEW, 9, 5, none, refused(Verdict::NoMachine)),
