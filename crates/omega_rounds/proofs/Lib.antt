@@ -14,4 +14,8 @@ pub mod Worlds
 pub mod TwoPasses
 pub mod Suited
 pub mod MachinesStay
+pub mod OtherJobs
+pub mod OneJob
+pub mod RoundFronts
+pub mod WholeGangs
 mod Examples

@@ -19,12 +19,12 @@ use Rattle.omega_model.proofs.Lists.{by_answer, each_append, each_both, each_fil
 use Rattle.omega_rounds.specs.Constraints.{SuitsItsWish}
 
 -- what holds of a value, if there is one
-abbrev OfValue : {X : Type 0} → (X → Type 0) → Option X → Type 0
+abbrev pub OfValue : {X : Type 0} → (X → Type 0) → Option X → Type 0
 OfValue P None = Unit {0}
 OfValue P (Some x) = P x
 
 module _ {X : Type 0} (P : X → Type 0) where
-  each_take : (n : ℕ) (xs : List X) → Each P xs → Each P (take n xs)
+  pub each_take : (n : ℕ) (xs : List X) → Each P xs → Each P (take n xs)
   each_take zero xs each = tt
   each_take (suc n) [] each = tt
   each_take (suc n) (x ∷ xs) each = (each.0, each_take n xs each.1)
@@ -37,31 +37,31 @@ module _ {X : Type 0} (P : X → Type 0) where
   each_round_from : (n : ℕ) (xs : List X) → Each P xs → Each P (round_from n xs)
   each_round_from n xs each = each_append P (drop n xs) (take n xs) (each_drop n xs each) (each_take n xs each)
 
-  found : (test : X → Bool) (xs : List X) → Each P xs → OfValue P (find test xs)
+  pub found : (test : X → Bool) (xs : List X) → Each P xs → OfValue P (find test xs)
   found test [] each = tt
   found test (x ∷ xs) each = by_answer (test x) (λ t. rw t each.0) (λ f. rw f (found test xs each.1))
 
-  first_of : (xs : List X) → Each P xs → OfValue P (first_item xs)
+  pub first_of : (xs : List X) → Each P xs → OfValue P (first_item xs)
   first_of [] each = tt
   first_of (x ∷ xs) each = each.0
 
 module _ {X Y : Type 0} (P : X → Type 0) (Q : Y → Type 0) where
-  of_map : (f : X → Y) → ((x : X) → P x → Q (f x)) → (o : Option X) → OfValue P o → OfValue Q (option_map f o)
+  pub of_map : (f : X → Y) → ((x : X) → P x → Q (f x)) → (o : Option X) → OfValue P o → OfValue Q (option_map f o)
   of_map f gives None is = tt
   of_map f gives (Some x) is = gives x is
 
-  each_mapped : (f : X → Option Y) → ((x : X) → P x → OfValue Q (f x)) → (xs : List X) → Each P xs → Each Q (filter_map f xs)
+  pub each_mapped : (f : X → Option Y) → ((x : X) → P x → OfValue Q (f x)) → (xs : List X) → Each P xs → Each Q (filter_map f xs)
   each_mapped f gives [] each = tt
   each_mapped f gives (x ∷ xs) each = by_value (f x) (gives x each.0) (each_mapped f gives xs each.1) where
     by_value : (o : Option Y) → OfValue Q o → Each Q (filter_map f xs) → Each Q (cons_option o (filter_map f xs))
     by_value None is rest = rest
     by_value (Some y) is rest = (is, rest)
 
-or_both : (Q : Claim → Type 0) (one other : Option Claim) → OfValue Q one → OfValue Q other → OfValue Q (or_else one other)
+pub or_both : (Q : Claim → Type 0) (one other : Option Claim) → OfValue Q one → OfValue Q other → OfValue Q (or_else one other)
 or_both Q None other is_one is_other = is_other
 or_both Q (Some claim) other is_one is_other = is_one
 
-and_each : (Q : Claim → Type 0) (one : Option Claim) (claims : List Claim) → OfValue Q one → Each Q claims → Each Q (and_claims one claims)
+pub and_each : (Q : Claim → Type 0) (one : Option Claim) (claims : List Claim) → OfValue Q one → Each Q claims → Each Q (and_claims one claims)
 and_each Q None claims is each = each
 and_each Q (Some claim) claims is each = (is, each)
 

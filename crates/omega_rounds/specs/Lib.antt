@@ -6,3 +6,4 @@ pub mod Passes
 pub mod AttemptsLeft
 pub mod InRound
 pub mod Constraints
+pub mod Gangs

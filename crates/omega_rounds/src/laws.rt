@@ -16,6 +16,7 @@ ghost use Rattle.omega_model.specs.declared.rows.TraceTables.{TraceTables};
 ghost use Rattle.omega_model.specs.declared.settings.Settings.{Settings};
 ghost use Rattle.omega_model.specs.declared.wishes.Wish.{Wish};
 ghost use Rattle.omega_rounds.specs.Constraints.{SuitsItsWish};
+ghost use Rattle.omega_rounds.specs.Gangs.{GangsAreWhole};
 ghost use Rattle.omega_rounds.specs.NextCommit.{ComesNext};
 ghost use Rattle.omega_rounds.specs.Orders.{EachComesNext, Rule, RuleBefore, RuleOrders, RuleOrdersRound, RuledRound, RuledRounds};
 ghost use Rattle.omega_rounds.specs.TurnOrder.{GoesEarlier, sees_in_turn, turn_of};
@@ -90,4 +91,14 @@ pub fn claims_meet_constraints()
         → (wishes : List Wish) (first : ℕ) (policy : Policy)
         → txn.claims ≡ plan_for (state (take seen (take place history))) wishes first policy
         → All (SuitsItsWish (state (take place history)).machines wishes) txn.claims }
+{}
+
+/// In a lawful history each commit is its scheduler's attempt on the first request that it has left
+/// in the round that is under way. In gang mode it claims the tasks of all wishes of that request,
+/// in order, or nothing. Each claim is for a task of the transaction's job and each victim is of
+/// another job, so that no transaction evicts a task that it claims. Does nothing: the contract is
+/// the law.
+pub fn gangs_of_lawful_histories()
+    ensures { (settings : Settings) (trace : TraceTables) (history : List Entry)
+        → Lawful settings trace history → GangsAreWhole settings trace history }
 {}

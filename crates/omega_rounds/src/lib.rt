@@ -7,5 +7,6 @@
 mod laws;
 
 pub use laws::{
-    claims_meet_constraints, lawful_histories_in_turns, next_commits_in_turns, rounds_in_any_order,
+    claims_meet_constraints, gangs_of_lawful_histories, lawful_histories_in_turns,
+    next_commits_in_turns, rounds_in_any_order,
 };

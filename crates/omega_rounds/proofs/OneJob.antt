@@ -1,0 +1,109 @@
+-- The wishes of a request are for tasks of its job, at each moment of a round.
+use Rattle.std.proofs.Common.{◌≡◌, ℕ, Bool, true, false, not, ◌&&◌, List, [], ◌∷◌, ◌++◌, drop, take, map, Option, Some, None, ◌==◌, ◌+◌, if◌then◌else◌}
+use Rattle.std.specs.List.{filter, fold, AllByRecursion as Each}
+use Rattle.std.proofs.lemmas.Bool.{eqb-true}
+use Rattle.omega_model.specs.Cell.{Cell, task_at}
+use Rattle.omega_model.specs.Feed.{feed}
+use Rattle.omega_model.specs.Requests.{extra_wishes, failed, is_running, is_waiting, jobs_in_order, request_of, requests, wish_of, wishes_of, works_on}
+use Rattle.omega_model.specs.State.{state}
+use Rattle.omega_model.specs.Wanted.{WantedTask, wanted}
+use Rattle.omega_model.specs.Work.{Standing, after_entry, after_outcomes, ends_request, failing_after, failing_with, fresh, moved_on, outcomes_of, places_wish, rest_of, standing_of}
+use Rattle.omega_model.specs.declared.claims.Judgement.{Judgement}
+use Rattle.omega_model.specs.declared.claims.Outcome.{Outcome}
+use Rattle.omega_model.specs.declared.claims.Txn.{Txn}
+use Rattle.omega_model.specs.declared.entries.Entry.{Entry}
+use Rattle.omega_model.specs.declared.entries.Entry.TheVariants.{Round, MachineAdd, MachineUpdate, MachineRemove, AttrSet, AttrDelete, End, Commit}
+use Rattle.omega_model.specs.declared.rows.Row.{Row}
+use Rattle.omega_model.specs.declared.rows.TraceTables.{TraceTables}
+use Rattle.omega_model.specs.declared.settings.Settings.{Settings}
+use Rattle.omega_model.specs.declared.wishes.Request.{Request}
+use Rattle.omega_model.specs.declared.wishes.Wish.{Wish}
+use Rattle.omega_model.proofs.Lists.{by_answer, each_append, each_filter, each_map, each_of, each_passes}
+use Rattle.omega_rounds.proofs.OtherJobs.{each_image}
+use Rattle.omega_rounds.proofs.Suited.{OfValue, each_mapped}
+
+-- a wish is for a task of this job
+abbrev pub IsOfJob : ℕ → Wish → Type 0
+IsOfJob job wish = wish.key.job ≡ job
+
+-- each wish of a request is
+abbrev pub AsksForItsJob : Request → Type 0
+AsksForItsJob request = Each (IsOfJob request.job) request.wishes
+
+waiting_of_job : (cell : Cell) (job : ℕ) (task : WantedTask) → is_waiting cell job task ≡ true → task.key.job ≡ job
+waiting_of_job cell job task waits =
+    by_answer (task.key.job == job)
+    (λ t. eqb-true task.key.job job t)
+    (λ f. let none : false ≡ true = rw f at waits in absurd (cc))
+
+module _ (settings : Settings) (trace : TraceTables) where
+  extras_of_job : (cell : Cell) (asked : List WantedTask) (job : ℕ) → Each (IsOfJob job) (extra_wishes settings trace cell asked job)
+  extras_of_job cell asked job = tt
+
+  wishes_of_job : (cell : Cell) (asked : List WantedTask) (job : ℕ) → Each (IsOfJob job) (wishes_of settings trace cell asked job)
+  wishes_of_job cell asked job =
+      let waiting : List WantedTask = filter (is_waiting cell job) asked in
+      each_append (IsOfJob job) (map (wish_of trace) waiting) (extra_wishes settings trace cell asked job)
+      (each_image (IsOfJob job) (wish_of trace) waiting
+      (each_map (λ task. is_waiting cell job task ≡ true) (λ task. IsOfJob job (wish_of trace task)) (waiting_of_job cell job) waiting
+      (each_passes (is_waiting cell job) asked)))
+      (extras_of_job cell asked job)
+
+  request_asks : (job : ℕ) (wishes : List Wish) → Each (IsOfJob job) wishes → OfValue AsksForItsJob (request_of job wishes)
+  request_asks job [] each = tt
+  request_asks job (wish ∷ wishes) each = each
+
+  requests_ask : (rows : List Row) (history : List Entry) (scheduler : ℕ) → Each AsksForItsJob (requests settings trace rows history scheduler)
+  requests_ask rows history scheduler =
+      let some : List ℕ = filter (works_on settings trace history scheduler) (jobs_in_order (feed trace)) in
+      let any : ℕ → Type 0 = λ job. Unit {0} in
+      each_mapped any AsksForItsJob (λ job. request_of job (wishes_of settings trace (state history) (wanted rows) job))
+      (λ job is. request_asks job _ (wishes_of_job (state history) (wanted rows) job)) some (each_of any (λ job. tt) some)
+
+-- each request that remains asks for its job
+abbrev pub AllAsk : Standing → Type 0
+AllAsk standing = Each AsksForItsJob standing.requests
+
+module _ (settings : Settings) where
+  rest_asks : (request : Request) (outcomes : List Outcome) → AsksForItsJob request → AsksForItsJob (rest_of request outcomes)
+  rest_asks request outcomes asks = each_filter (IsOfJob request.job) (λ (wish : Wish). not (places_wish outcomes wish)) request.wishes asks
+
+  moved_asks : (standing : Standing) (request : Request) (rest : List Request) (outcomes : List Outcome)
+      → AsksForItsJob request → Each AsksForItsJob rest → AllAsk (moved_on settings standing request rest outcomes)
+  moved_asks standing request rest outcomes asks others =
+      by_answer (ends_request settings (standing.taken + 1) (failing_after (standing.failing request.job) outcomes) request outcomes)
+      (λ t. rw t others)
+      (λ f. rw f (rest_asks request outcomes asks, others))
+
+  outcomes_ask : (standing : Standing) (left : List Request) (outcomes : List Outcome) → Each AsksForItsJob left
+      → OfValue AllAsk (after_outcomes settings standing left outcomes)
+  outcomes_ask standing [] outcomes all = tt
+  outcomes_ask standing (request ∷ rest) outcomes all = moved_asks standing request rest outcomes all.0 all.1
+
+  entry_asks : (scheduler : ℕ) (standing : Option Standing) (entry : Entry) → OfValue AllAsk standing
+      → OfValue AllAsk (after_entry settings scheduler standing entry)
+  entry_asks scheduler None entry all = tt
+  entry_asks scheduler (Some standing) (Round number) all = all
+  entry_asks scheduler (Some standing) (MachineAdd machine cap) all = all
+  entry_asks scheduler (Some standing) (MachineUpdate machine cap) all = all
+  entry_asks scheduler (Some standing) (MachineRemove machine) all = all
+  entry_asks scheduler (Some standing) (AttrSet machine name value) all = all
+  entry_asks scheduler (Some standing) (AttrDelete machine name) all = all
+  entry_asks scheduler (Some standing) (End key machine) all = all
+  entry_asks scheduler (Some standing) (Commit by seen txn reply) all =
+      by_answer (by == scheduler)
+      (λ t. rw t (outcomes_ask standing standing.requests (outcomes_of txn.claims reply) all))
+      (λ f. rw f all)
+
+  entries_ask : (scheduler : ℕ) (standing : Option Standing) (entries : List Entry) → OfValue AllAsk standing
+      → OfValue AllAsk (fold (after_entry settings scheduler) standing entries)
+  entries_ask scheduler standing [] all = all
+  entries_ask scheduler standing (entry ∷ entries) all =
+      entries_ask scheduler (after_entry settings scheduler standing entry) entries (entry_asks scheduler standing entry all)
+
+-- each request that a scheduler has left in a round asks for its job
+pub standing_asks : (settings : Settings) (trace : TraceTables) (rows : List Row) (opened_at scheduler : ℕ) (history : List Entry)
+    → OfValue AllAsk (standing_of settings trace rows opened_at scheduler history)
+standing_asks settings trace rows opened_at scheduler history =
+    entries_ask settings scheduler (Some (fresh (failed (take opened_at history)) (requests settings trace rows (take opened_at history) scheduler)))
+    (drop opened_at history) (requests_ask settings trace rows (take opened_at history) scheduler)

@@ -1,0 +1,63 @@
+-- Commits that claim all of a request or, where they are gangs, nothing, and that spare the tasks of their job.
+use Rattle.std.specs.Prelude.{◌≡◌, ◌≢◌, ℕ, List, [], Some, ◌⊎◌, All, IsFalse, map, take, slice_get}
+use Rattle.omega_model.specs.Keys.{is_among}
+use Rattle.omega_model.specs.Lawful.{Underway}
+use Rattle.omega_model.specs.Stepping.{rows_end}
+use Rattle.omega_model.specs.Work.{Agrees}
+use Rattle.omega_model.specs.declared.cells.TaskKey.{TaskKey}
+use Rattle.omega_model.specs.declared.claims.Claim.{Claim}
+use Rattle.omega_model.specs.declared.claims.Mode.TheVariants.{Gang}
+use Rattle.omega_model.specs.declared.claims.Txn.{Txn}
+use Rattle.omega_model.specs.declared.entries.Entry.{Entry}
+use Rattle.omega_model.specs.declared.entries.Entry.TheVariants.{Commit}
+use Rattle.omega_model.specs.declared.rows.TraceTables.{TraceTables}
+use Rattle.omega_model.specs.declared.settings.Settings.{Settings}
+use Rattle.omega_model.specs.declared.wishes.Request.{Request}
+use Rattle.omega_model.specs.declared.wishes.Wish.{Wish}
+use Rattle.omega_rounds.specs.InRound.{rows_now}
+use Rattle.omega_rounds.specs.NextCommit.{WorksOn}
+
+-- the tasks of some wishes
+abbrev pub wished : List Wish → List TaskKey
+wished wishes = map (λ wish. wish.key) wishes
+
+-- the tasks of some claims
+abbrev pub claimed : List Claim → List TaskKey
+claimed claims = map (λ claim. claim.key) claims
+
+-- each wish of a request is for a task of the request's job
+abbrev pub IsOfOneJob : Request → Type 0
+IsOfOneJob request = All (λ (wish : Wish). wish.key.job ≡ request.job) request.wishes
+
+-- a transaction claims the tasks of all wishes of a request in order, or nothing
+abbrev pub ClaimsAllOrNothing : Request → Txn → Type 0
+ClaimsAllOrNothing request txn = (claimed txn.claims ≡ wished request.wishes) ⊎ (txn.claims ≡ [])
+
+-- a claim of a transaction is for a task of the transaction's job, its victims are of other jobs, and so
+-- none of them is a task that the transaction claims
+pub record SparesItsJob (txn : Txn) (claim : Claim) : Type 0 where
+  pub own : claim.key.job ≡ txn.job
+  pub others : All (λ (victim : TaskKey). victim.job ≢ claim.key.job) claim.victims
+  pub unclaimed : All (λ (victim : TaskKey). IsFalse (is_among victim (claimed txn.claims))) claim.victims
+
+-- a transaction, with so many entries seen, is the attempt of a scheduler on the first request that it has
+-- left in the round that is under way after these entries; a gang claims all of this request or nothing, and
+-- each claim spares the tasks of its job
+pub record IsWholeAttempt (settings : Settings) (trace : TraceTables) (before : List Entry) (scheduler seen : ℕ) (txn : Txn) : Type 0 where
+  pub underway : Underway settings trace before
+  pub request : Request
+  pub first : WorksOn settings trace (rows_now settings trace before underway) (rows_end settings trace before underway) before scheduler request
+  pub planned : Agrees settings scheduler before seen txn request
+  pub one_job : IsOfOneJob request
+  pub whole : txn.mode ≡ Gang → ClaimsAllOrNothing request txn
+  pub spares : All (SparesItsJob txn) txn.claims
+
+-- an entry after these, if it is a commit, is such an attempt
+abbrev pub CommitsWhole : Settings → TraceTables → List Entry → Entry → Type 0
+CommitsWhole settings trace before (Commit scheduler seen txn reply) = IsWholeAttempt settings trace before scheduler seen txn
+CommitsWhole settings trace before _ = Unit {0}
+
+-- so is each commit of a history
+abbrev pub GangsAreWhole : Settings → TraceTables → List Entry → Type 0
+GangsAreWhole settings trace history =
+    (place : ℕ) (entry : Entry) → slice_get history place ≡ Some entry → CommitsWhole settings trace (take place history) entry
