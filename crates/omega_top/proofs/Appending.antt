@@ -1,14 +1,15 @@
 -- Which entries may be appended to a history.
 use Rattle.std.proofs.Common.{◌≡◌, ◌⊎◌, inl, inr, ℕ, Bool, true, false, List, [], ◌∷◌, ◌++◌, Option, Some, None, length, refl, ap, ap₂, subst, sym, arith, ◌∙◌}
-use Rattle.std.specs.Prelude.{◌==◌, ◌&&◌, if◌then◌else◌, IsSomeAnd}
+use Rattle.std.specs.Prelude.{◌==◌, ◌&&◌, if◌then◌else◌, All, IsSomeAnd}
 use Rattle.std.specs.List.{find}
 use Rattle.std.proofs.lemmas.Bool.{eqb-true}
+use Rattle.std.proofs.lemmas.List.Elements.{All-head}
+use Rattle.omega_model.specs.Applying.{CapacityIsInRange}
 use Rattle.omega_model.specs.Cell.{task_at}
-use Rattle.omega_model.specs.Fields.{greatest, MachineFields, AttrFields}
+use Rattle.omega_model.specs.Fields.{MachineFields, AttrFields, DiskFields}
 use Rattle.omega_model.specs.Keys.{same_key}
-use Rattle.omega_model.specs.Need.{Fits}
 use Rattle.omega_model.specs.State.{reply_of, state}
-use Rattle.omega_model.specs.Wanted.{WantedTask, attr_entry, end_of, ends, machine_entry, row_entries}
+use Rattle.omega_model.specs.Wanted.{WantedTask, attr_entry, capacity_from, end_of, ends, machine_entry, row_entries}
 use Rattle.omega_model.specs.declared.cells.Task.{Task}
 use Rattle.omega_model.specs.declared.cells.TaskKey.{TaskKey}
 use Rattle.omega_model.specs.declared.claims.Rule.TheVariants.{Fine}
@@ -17,7 +18,7 @@ use Rattle.omega_model.specs.declared.entries.Entry.{Entry}
 use Rattle.omega_model.specs.declared.entries.Entry.TheVariants.{Round, MachineAdd, MachineUpdate, MachineRemove, AttrSet, AttrDelete, End, Commit}
 use Rattle.omega_model.specs.declared.rows.Row.{Row}
 use Rattle.omega_model.specs.declared.rows.Row.TheVariants.{Machine, Attr, Task as TaskEvent}
-use Rattle.omega_top.specs.Replays.{IsInRange, MayAppend, MayAppendAll}
+use Rattle.omega_top.specs.Replays.{MayAppend, MayAppendAll}
 use Rattle.omega_top.proofs.Placing.{reply_places}
 
 -- a round may begin at any time
@@ -86,18 +87,23 @@ pub ends_may : (history : List Entry) (key : TaskKey) (found : Option Task) → 
 ends_may history key None is = tt
 ends_may history key (Some task) is = (end_may history key task is, tt)
 
--- the entry of a machine row may be appended
-pub machine_may : (history : List Entry) (row : MachineFields) → Fits row.cap greatest → MayAppend history (machine_entry row)
-machine_may history row fits =
-    elim (row.code == 0) as (λ adds. MayAppend history (if adds then MachineAdd row.machine row.cap
-    else (if row.code == 1 then MachineRemove row.machine else MachineUpdate row.machine row.cap))) [
-      | true ↦ record { follows = tt; capacity = fits; ends = tt; places = tt }
+-- the entry of a machine row whose capacity is in its range may be appended
+pub machine_may : (history : List Entry) (disks : List DiskFields) (row : MachineFields) → CapacityIsInRange (machine_entry disks row)
+    → MayAppend history (machine_entry disks row)
+machine_may history disks row =
+    elim (row.code == 0) as (λ adds. CapacityIsInRange (entry adds) → MayAppend history (entry adds)) [
+      | true ↦ λ fits. record { follows = tt; capacity = fits; ends = tt; places = tt }
       | false ↦
-          elim (row.code == 1) as (λ removes. MayAppend history (if removes then MachineRemove row.machine else MachineUpdate row.machine row.cap)) [
-            | true ↦ record { follows = tt; capacity = tt; ends = tt; places = tt }
-            | false ↦ record { follows = tt; capacity = fits; ends = tt; places = tt }
+          elim (row.code == 1) as (λ removes. CapacityIsInRange (entry_of removes) → MayAppend history (entry_of removes)) [
+            | true ↦ λ fits. record { follows = tt; capacity = tt; ends = tt; places = tt }
+            | false ↦ λ fits. record { follows = tt; capacity = fits; ends = tt; places = tt }
           ]
-    ]
+    ] where
+  entry_of : Bool → Entry
+  entry_of removes = if removes then MachineRemove row.machine else MachineUpdate row.machine (capacity_from disks row)
+
+  entry : Bool → Entry
+  entry adds = if adds then MachineAdd row.machine (capacity_from disks row) else entry_of (row.code == 1)
 
 -- the entry of an attribute row may be appended
 pub attr_may : (history : List Entry) (row : AttrFields) → MayAppend history (attr_entry row)
@@ -108,10 +114,11 @@ attr_may history row =
     ]
 
 -- the entries of a row may be appended to the history on whose state they are made
-pub row_may : (history : List Entry) (left : List WantedTask) (row : Row) → IsInRange row
-    → MayAppendAll history (row_entries (state history) left row)
-row_may history left (Machine row) range = (machine_may history row range, tt)
-row_may history left (Attr row) range = (attr_may history row, tt)
-row_may history left (TaskEvent row) range =
+pub row_may : (history : List Entry) (disks : List DiskFields) (left : List WantedTask) (row : Row)
+    → All CapacityIsInRange (row_entries disks (state history) left row)
+    → MayAppendAll history (row_entries disks (state history) left row)
+row_may history disks left (Machine row) range = (machine_may history disks row (All-head CapacityIsInRange (machine_entry disks row) [] range), tt)
+row_may history disks left (Attr row) range = (attr_may history row, tt)
+row_may history disks left (TaskEvent row) range =
     elim (ends row.code) as (λ test. MayAppendAll history (if test then end_of (task_at (state history).tasks row.key) ++ [] else []))
     [ true ↦ ends_may history row.key (task_at (state history).tasks row.key) refl | false ↦ tt ]

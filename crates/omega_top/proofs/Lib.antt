@@ -1,4 +1,5 @@
 pub mod Appending
+pub mod Attempts
 pub mod Attempting
 pub mod Completing
 pub mod Fitting
