@@ -1,11 +1,12 @@
--- A claim that would be placed can be placed, once its victims have stopped.
+-- A claim that would be placed can be placed, once what it evicts has stopped.
 use Rattle.std.proofs.Common.{◌≡◌, ℕ, ◌<◌, true, false, not, List, [], length, get_or, take, Some, None, is_some, IsTrue, IsSomeAnd, refl, sym, ap, ap₂, ◌∙◌, subst, nat_eq}
 use Rattle.std.specs.Option.{option_map, option_and_then}
 use Rattle.std.proofs.lemmas.Bool.{eqb-true}
+use Rattle.std.proofs.lemmas.Option.{slice_get-get_or}
 use Rattle.omega_model.specs.Need.{Fits, minus}
 use Rattle.omega_model.specs.Keys.{same_key, is_among}
 use Rattle.omega_model.specs.Cell.{machine_at, task_at, without, use_on, rest_on}
-use Rattle.omega_model.specs.Judge.{is_up, runs_on, capacity_of, free_after}
+use Rattle.omega_model.specs.Judge.{is_up, capacity_of, free_without}
 use Rattle.omega_model.specs.declared.cells.TaskKey.{TaskKey}
 use Rattle.omega_model.specs.declared.cells.Task.{Task}
 use Rattle.omega_model.specs.declared.claims.Claim.{Claim}
@@ -17,7 +18,8 @@ use Rattle.omega_board.specs.Board.{BoardState, IsBoard, cell_of, recounted, tab
 use Rattle.omega_board.proofs.Tasks.{each_filter, each_absent, found_passes, found_still}
 use Rattle.omega_board.proofs.Uses.{rest_is}
 use Rattle.omega_board.proofs.Boards.{free_where_up, state_up}
-use Rattle.omega_board.proofs.Parts.{IsPlaceable, some_free, gone_none, found_on}
+use Rattle.omega_board.proofs.Parts.{some_free, found_on}
+use Rattle.omega_board.proofs.Placed.{IsPlaced}
 use Rattle.omega_board.proofs.Ranks.{fits_means}
 use Rattle.omega_board.proofs.Rewinds.{state_with}
 
@@ -31,17 +33,16 @@ absent_still keys tasks key none =
     find_none (λ y. same_key y.key key) (without keys tasks)
     (each_filter (λ y. same_key y.key key ≡ false) (λ y. not (is_among y.key keys)) tasks (each_absent (λ y. same_key y.key key) tasks none))
 
-module _ (board : BoardState) (kept : IsBoard board.table board.tasks) (claim : Claim) (known : IsPlaceable (cell_of board) claim) where
-  -- each victim runs until it is its turn
-  pub victim_runs : (i : ℕ) (key : TaskKey) → i < length claim.victims → get_or claim.victims i key ≡ key → IsTrue (is_some (task_at (without (take i claim.victims) board.tasks) key))
-  victim_runs i key below is =
-      let there = gone_none board.tasks claim.machine [] claim.victims known.there i key below in
-      let runs = found_on board.tasks claim.machine key kept.ordered (subst (λ k. runs_on board.tasks claim.machine k ≡ true) is there.0) in
-      let once : is_among key (take i claim.victims) ≡ false = subst (λ k. is_among k (take i claim.victims) ≡ false) is there.1 in
-      ap is_some (found_still (take i claim.victims) board.tasks key once ∙ runs.1)
+module _ (board : BoardState) (kept : IsBoard board.table board.tasks) (claim : Claim) (evicted : List TaskKey) (known : IsPlaced (cell_of board) claim evicted) where
+  -- each task that is evicted runs until it is its turn
+  pub evicted_runs : (i : ℕ) (key : TaskKey) → i < length evicted → get_or evicted i key ≡ key → IsTrue (is_some (task_at (without (take i evicted) board.tasks) key))
+  evicted_runs i key below is =
+      let there = known.stand i key (slice_get-get_or evicted i key below ∙ ap Some is) in
+      let runs = found_on board.tasks claim.machine key kept.ordered there.0 in
+      ap is_some (found_still (take i evicted) board.tasks key there.1 ∙ runs.1)
 
   -- then there is room for the task
-  pub claim_fits : (tasks : List Task) (table : List MachineState) → tasks ≡ without claim.victims board.tasks → table ≡ table_with tasks board.table
+  pub claim_fits : (tasks : List Task) (table : List MachineState) → tasks ≡ without evicted board.tasks → table ≡ table_with tasks board.table
       → IsSomeAnd (free_at table claim.machine) (λ free. Fits claim.spec.need free)
   claim_fits tasks table left counted =
       let up : is_up (machine_at (machines_of board.table) claim.machine) ≡ true = free_where_up board.table claim.machine ∙ some_free board.table claim.machine known.up in
@@ -52,7 +53,7 @@ module _ (board : BoardState) (kept : IsBoard board.table board.tasks) (claim : 
       let free : free_at table claim.machine ≡ Some (minus state.0.machine.cap (use_on tasks state.0.machine.id)) = ap (option_and_then free_if_up) then ∙ rw state.2 refl in
       let cap : capacity_of (machine_at (machines_of board.table) claim.machine) ≡ state.0.machine.cap =
       ap capacity_of (machine_of_state board.table claim.machine ∙ ap (option_map (λ (s : MachineState). s.machine)) state.1) in
-      let amount : use_on tasks state.0.machine.id ≡ rest_on board.tasks claim.machine claim.victims =
-      ap (use_on tasks) own ∙ ap (λ ts. use_on ts claim.machine) left ∙ sym (rest_is board.tasks claim.machine claim.victims) in
-      let same : free_after (cell_of board) claim ≡ minus state.0.machine.cap (use_on tasks state.0.machine.id) = ap₂ minus cap (sym amount) in
+      let amount : use_on tasks state.0.machine.id ≡ rest_on board.tasks claim.machine evicted =
+      ap (use_on tasks) own ∙ ap (λ ts. use_on ts claim.machine) left ∙ sym (rest_is board.tasks claim.machine evicted) in
+      let same : free_without (cell_of board) claim evicted ≡ minus state.0.machine.cap (use_on tasks state.0.machine.id) = ap₂ minus cap (sym amount) in
       subst (λ o. IsSomeAnd o (λ f. Fits claim.spec.need f)) (sym free) (subst (Fits claim.spec.need) same (fits_means _ _ known.fits))

@@ -9,7 +9,7 @@ use Rattle.std.proofs.lemmas.List.Folds.{list_any-append}
 use Rattle.omega_model.specs.Machines.{is_listed}
 use Rattle.omega_model.specs.Touches.{is_placed, places_on}
 use Rattle.omega_model.specs.declared.claims.Claim.{Claim}
-use Rattle.omega_model.specs.declared.claims.Verdict.{Verdict}
+use Rattle.omega_model.specs.declared.claims.Judgement.{Judgement}
 use Rattle.omega_machines.specs.declared.MachineState.{MachineState}
 use Rattle.omega_machines.specs.Table.{machines_of, state_at, seq_at, change_state, touched}
 use Rattle.omega_machines.proofs.Places.{by_answer}
@@ -68,7 +68,7 @@ zip_all (x ∷ xs) (y ∷ ys) zero past = absurd (omega arith)
 zip_all (x ∷ xs) (y ∷ ys) (suc i) past = ap (λ ps. (x, y) ∷ ps) (zip_all xs ys i (omega arith))
 
 -- the machine of a placed claim is among those with a placed claim
-pub placed_there : (claims : List Claim) (reply : List Verdict) (i : ℕ) (d : Claim) (e : Verdict) → i < length claims → i < length reply → is_placed (get_or reply i e) ≡ true
+pub placed_there : (claims : List Claim) (reply : List Judgement) (i : ℕ) (d : Claim) (e : Judgement) → i < length claims → i < length reply → is_placed (get_or reply i e).verdict ≡ true
     → IsTrue (list_any (places_on (get_or claims i d).machine) (zip claims reply))
 placed_there [] reply i d e below_claims below_reply placed = absurd (omega arith)
 placed_there (c ∷ claims) [] i d e below_claims below_reply placed = absurd (omega arith)
@@ -77,20 +77,20 @@ placed_there (c ∷ claims) (v ∷ reply) (suc i) d e below_claims below_reply p
     or_right _ _ (placed_there claims reply i d e (omega arith) (omega arith) placed)
 
 -- one more claim is counted, on a machine on which none was placed before
-pub any_more : (id : ℕ) (claims : List Claim) (reply : List Verdict) (i : ℕ) (d : Claim) (e : Verdict) → i < length claims → i < length reply
-    → list_any (places_on id) (zip (take (i + 1) claims) (take (i + 1) reply)) ≡ (list_any (places_on id) (zip (take i claims) (take i reply)) || (is_placed (get_or reply i e) && (get_or claims i d).machine == id))
+pub any_more : (id : ℕ) (claims : List Claim) (reply : List Judgement) (i : ℕ) (d : Claim) (e : Judgement) → i < length claims → i < length reply
+    → list_any (places_on id) (zip (take (i + 1) claims) (take (i + 1) reply)) ≡ (list_any (places_on id) (zip (take i claims) (take i reply)) || (is_placed (get_or reply i e).verdict && (get_or claims i d).machine == id))
 any_more id claims reply i d e below_claims below_reply =
     ap (list_any (places_on id)) (zip_take claims reply i d e below_claims below_reply)
     ∙ list_any-append (places_on id) (zip (take i claims) (take i reply)) ((get_or claims i d, get_or reply i e) ∷ [])
     ∙ ap (λ b. list_any (places_on id) (zip (take i claims) (take i reply)) || b) (or-false _)
 
 -- the count of a commit so far
-abbrev pub CountedSo : (start : ℕ → ℕ) → List Claim → List Verdict → ℕ → (ℕ → ℕ) → Type 0
+abbrev pub CountedSo : (start : ℕ → ℕ) → List Claim → List Judgement → ℕ → (ℕ → ℕ) → Type 0
 CountedSo start claims reply i now = (id : ℕ) → now id ≡ start id + (if list_any (places_on id) (zip (take i claims) (take i reply)) then 1 else 0)
 
 -- a claim that is not placed, or not the first on its machine, changes no count
-pub counted_same : (start now : ℕ → ℕ) (claims : List Claim) (reply : List Verdict) (i : ℕ) (d : Claim) (e : Verdict) → i < length claims → i < length reply
-    → is_placed (get_or reply i e) ≡ false ⊎ (list_any (places_on (get_or claims i d).machine) (zip (take i claims) (take i reply)) ≡ true) → CountedSo start claims reply i now → CountedSo start claims reply (i + 1) now
+pub counted_same : (start now : ℕ → ℕ) (claims : List Claim) (reply : List Judgement) (i : ℕ) (d : Claim) (e : Judgement) → i < length claims → i < length reply
+    → is_placed (get_or reply i e).verdict ≡ false ⊎ (list_any (places_on (get_or claims i d).machine) (zip (take i claims) (take i reply)) ≡ true) → CountedSo start claims reply i now → CountedSo start claims reply (i + 1) now
 counted_same start now claims reply i d e below_claims below_reply why so = λ id.
     so id ∙ ap (λ b. start id + (if b then 1 else 0)) (sym (any_more id claims reply i d e below_claims below_reply ∙ same id why))
   where
@@ -100,12 +100,12 @@ counted_same start now claims reply i d e below_claims below_reply why so = λ i
     before : ℕ → Bool
     before id = list_any (places_on id) (zip (take i claims) (take i reply))
 
-    same : (id : ℕ) → is_placed (get_or reply i e) ≡ false ⊎ (before m ≡ true) → (before id || (is_placed (get_or reply i e) && m == id)) ≡ before id
+    same : (id : ℕ) → is_placed (get_or reply i e).verdict ≡ false ⊎ (before m ≡ true) → (before id || (is_placed (get_or reply i e).verdict && m == id)) ≡ before id
     same id (inl f) = rw f (or-false (before id))
     same id (inr t) =
         by_answer (m == id)
         (λ own. let here : before id ≡ true = subst (λ n. before n ≡ true) (eqb-true _ _ own) t in rw here refl)
-        (λ other. rw other (or_and (before id) (is_placed (get_or reply i e))))
+        (λ other. rw other (or_and (before id) (is_placed (get_or reply i e).verdict)))
       where
         or_and : (a b : Bool) → (a || (b && false)) ≡ a
         or_and true b = refl
@@ -113,8 +113,8 @@ counted_same start now claims reply i d e below_claims below_reply why so = λ i
         or_and false false = refl
 
 -- the first on its machine changes the machine's count
-pub counted_more : (start now next : ℕ → ℕ) (claims : List Claim) (reply : List Verdict) (i : ℕ) (d : Claim) (e : Verdict) → i < length claims → i < length reply
-    → is_placed (get_or reply i e) ≡ true → list_any (places_on (get_or claims i d).machine) (zip (take i claims) (take i reply)) ≡ false
+pub counted_more : (start now next : ℕ → ℕ) (claims : List Claim) (reply : List Judgement) (i : ℕ) (d : Claim) (e : Judgement) → i < length claims → i < length reply
+    → is_placed (get_or reply i e).verdict ≡ true → list_any (places_on (get_or claims i d).machine) (zip (take i claims) (take i reply)) ≡ false
     → ((id : ℕ) → next id ≡ now id + (if (get_or claims i d).machine == id then 1 else 0)) → CountedSo start claims reply i now → CountedSo start claims reply (i + 1) next
 counted_more start now next claims reply i d e below_claims below_reply placed first touch so = λ id.
     touch id ∙ by_answer (m == id)
@@ -134,10 +134,11 @@ counted_more start now next claims reply i d e below_claims below_reply placed f
     before id = list_any (places_on id) (zip (take i claims) (take i reply))
 
 -- the last of the first so many claims
-pub any_last : (id : ℕ) (claims : List Claim) (reply : List Verdict) (i : ℕ) (claim : Claim) (e : Verdict) → 0 < i → i ≤ length claims → i ≤ length reply → claim ≡ get_or claims (i - 1) claim
-    → list_any (places_on id) (zip (take i claims) (take i reply)) ≡ (list_any (places_on id) (zip (take (i - 1) claims) (take (i - 1) reply)) || places_on id (claim, get_or reply (i - 1) e))
-any_last id claims reply i claim e some in_claims in_reply is =
+pub any_last : (id : ℕ) (claims : List Claim) (reply : List Judgement) (i : ℕ) (claim : Claim) (judgement : Judgement) → 0 < i → i ≤ length claims → i ≤ length reply
+    → claim ≡ get_or claims (i - 1) claim → judgement ≡ get_or reply (i - 1) judgement
+    → list_any (places_on id) (zip (take i claims) (take i reply)) ≡ (list_any (places_on id) (zip (take (i - 1) claims) (take (i - 1) reply)) || places_on id (claim, judgement))
+any_last id claims reply i claim judgement some in_claims in_reply is told =
     let next : i ≡ i - 1 + 1 = omega arith in
     ap (λ n. list_any (places_on id) (zip (take n claims) (take n reply))) next
-    ∙ any_more id claims reply (i - 1) claim e (omega arith) (omega arith)
-    ∙ ap (λ (c : Claim). list_any (places_on id) (zip (take (i - 1) claims) (take (i - 1) reply)) || places_on id (c, get_or reply (i - 1) e)) (sym is)
+    ∙ any_more id claims reply (i - 1) claim judgement (omega arith) (omega arith)
+    ∙ ap₂ (λ (c : Claim) (j : Judgement). list_any (places_on id) (zip (take (i - 1) claims) (take (i - 1) reply)) || places_on id (c, j)) (sym is) (sym told)

@@ -5,6 +5,10 @@ pub mod Sounds
 pub mod Parts
 pub mod Ranks
 pub mod Rewinds
+pub mod Standing
+pub mod Evicted
+pub mod Placed
+pub mod Needing
 pub mod Claims
 pub mod Counts
 pub mod Entering

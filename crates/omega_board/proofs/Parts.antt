@@ -1,37 +1,33 @@
 -- What the parts of a verdict come to on a board.
-use Rattle.std.proofs.Common.{◌≡◌, ℕ, zero, suc, ◌+◌, ◌<◌, Bool, true, false, not, ◌&&◌, nat_le, List, [], ◌∷◌, ◌++◌, length, get_or, take, position, slice_get, ap₂, Option, Some, None, is_some, IsTrue, refl, sym, ap, ◌∙◌, subst, arith, append_assoc, append-nil, ◌==◌, if◌then◌else◌}
-use Rattle.std.specs.List.{find}
+use Rattle.std.proofs.Common.{◌≡◌, ℕ, ◌+◌, ◌<◌, Bool, true, false, not, ◌&&◌, nat_le, List, [], ◌∷◌, ◌++◌, length, get_or, take, position, slice_get, ap₂, Option, Some, None, is_some, IsTrue, refl, sym, ap, ◌∙◌, subst, arith, ◌==◌}
 use Rattle.std.specs.Option.{option_map, option_map_or}
 use Rattle.std.proofs.Math.Bool.{and_comm}
-use Rattle.std.proofs.lemmas.Bool.{both_ways, eqb-true, eq-eqb, and_parts, not-true}
+use Rattle.std.proofs.lemmas.Bool.{both_ways, eqb-true, eq-eqb}
 use Rattle.std.proofs.lemmas.List.{take_more}
 use Rattle.std.proofs.lemmas.List.Folds.{find_at}
-use Rattle.std.proofs.lemmas.Option.{none-some, same_Some, cond_some}
+use Rattle.std.proofs.lemmas.Option.{none-some, same_Some, cond_some, slice_get-get_or}
 use Rattle.omega_model.specs.Fields.{greatest}
-use Rattle.omega_model.specs.Need.{Fits, fits, nothing, plus, minus}
+use Rattle.omega_model.specs.Need.{Fits, nothing, plus, minus}
 use Rattle.omega_model.specs.Keys.{same_key, is_among}
-use Rattle.omega_model.specs.Cell.{Cell, machine_at, task_at, without, is_on, use_on, rest_on}
-use Rattle.omega_model.specs.Judge.{is_up, capacity_of, refusal_if, first_of, no_machine, already_running, runs_on, gone_from, victim_gone, withstands, victim_rank, stays_of_job, same_job, free_after, full}
-use Rattle.omega_model.specs.JudgeOn.{judge_on}
-use Rattle.omega_model.specs.Touches.{is_placed}
+use Rattle.omega_model.specs.Cell.{machine_at, task_at, without, is_on, use_on, rest_on}
+use Rattle.omega_model.specs.Judge.{is_up, capacity_of, refusal_if, runs_on, withstands}
 use Rattle.omega_model.specs.Machines.{is_listed}
 use Rattle.omega_model.specs.declared.cells.Machine.{Machine}
 use Rattle.omega_model.specs.declared.cells.Need.{Need}
 use Rattle.omega_model.specs.declared.cells.TaskKey.{TaskKey}
 use Rattle.omega_model.specs.declared.cells.Task.{Task}
-use Rattle.omega_model.specs.declared.claims.Claim.{Claim}
-use Rattle.omega_model.specs.declared.claims.Verdict.{Verdict}
-use Rattle.omega_model.specs.declared.claims.Verdict.TheVariants.{Placed, NoMachine, AlreadyRunning, VictimGone, VictimRank, SameJob, Full}
+use Rattle.omega_model.specs.declared.claims.Verdict.TheVariants.{NoMachine}
 use Rattle.omega_machines.specs.declared.MachineState.{MachineState}
 use Rattle.omega_machines.specs.Table.{machines_of, state_at, free_at}
+use Rattle.omega_machines.proofs.Bounds.{same_need}
 use Rattle.omega_machines.proofs.Places.{by_answer}
 use Rattle.omega_machines.proofs.Laws.{machine_of_state, listed_state, found_bounded}
 use Rattle.omega_running.specs.declared.orders.Order.TheVariants.{ByKey}
 use Rattle.omega_running.specs.Order.{IsInOrder}
 use Rattle.omega_running.proofs.Lists.{each_of, filter_every}
-use Rattle.omega_board.specs.Board.{BoardState, IsBoard}
+use Rattle.omega_board.specs.Board.{BoardState, IsBoard, Stand}
 use Rattle.omega_board.proofs.Tasks.{any_at, found_name, found_still, without_more, without_ordered}
-use Rattle.omega_board.proofs.Uses.{need_is, plus-assoc, rest_is, total-without}
+use Rattle.omega_board.proofs.Uses.{plus-assoc, rest_is, total-without}
 use Rattle.omega_board.proofs.Boards.{free_where_up, state_free, state_up, in_use, unused}
 
 -- the first part, where something is free on the machine and where nothing is
@@ -68,24 +64,6 @@ found_on tasks id key order runs = by (task_at tasks key) refl (sym (runs_on_is 
     by None is e = absurd (both_ways false refl e)
     by (Some t) is e = (t, is, eqb-true _ _ e)
 
--- where no victim is gone, each runs on the machine and is mentioned once
-pub gone_none : (tasks : List Task) (id : ℕ) (before keys : List TaskKey) → gone_from tasks id before keys ≡ None
-    → (i : ℕ) (d : TaskKey) → i < length keys → (runs_on tasks id (get_or keys i d) ≡ true) × (is_among (get_or keys i d) (before ++ take i keys) ≡ false)
-gone_none tasks id before [] none i d below = absurd (omega arith)
-gone_none tasks id before (key ∷ keys) none i d below =
-    by_answer (runs_on tasks id key && not (is_among key before))
-    (λ t. at i below (gone_none tasks id (before ++ key ∷ []) keys (rw t at none)) (and_parts _ _ t))
-    (λ f. absurd (none-some (VictimGone key) (sym (rw f at none))))
-  where
-    at : (j : ℕ) → j < length (key ∷ keys)
-        → ((k : ℕ) (e : TaskKey) → k < length keys → (runs_on tasks id (get_or keys k e) ≡ true) × (is_among (get_or keys k e) ((before ++ key ∷ []) ++ take k keys) ≡ false))
-        → (runs_on tasks id key ≡ true) × (not (is_among key before) ≡ true)
-        → (runs_on tasks id (get_or (key ∷ keys) j d) ≡ true) × (is_among (get_or (key ∷ keys) j d) (before ++ take j (key ∷ keys)) ≡ false)
-    at zero inside rest here = (here.0, rw append-nil (not-true _ here.1))
-    at (suc j) inside rest here =
-        let later = rest j d (omega arith) in
-        (later.0, subst (λ front. is_among (get_or keys j d) front ≡ false) (append_assoc before (key ∷ []) (take j keys)) later.1)
-
 -- what is used on a machine with one more victim off it
 pub rest_more : (tasks : List Task) (id : ℕ) (gone : List TaskKey) (key : TaskKey) (t : Task) → IsInOrder ByKey tasks → task_at tasks key ≡ Some t → t.machine ≡ id → is_among key gone ≡ false
     → rest_on tasks id gone ≡ plus t.spec.need (rest_on tasks id (gone ++ key ∷ []))
@@ -98,75 +76,6 @@ rest_more tasks id gone key t order found on stay =
     rest_is tasks id gone ∙ amount
     ∙ ap (λ ts. plus t.spec.need (use_on ts id)) (ap (λ k. without (k ∷ []) (without gone tasks)) name ∙ sym (without_more gone key tasks))
     ∙ ap (plus t.spec.need) (sym (rest_is tasks id (gone ++ key ∷ [])))
-
--- a part that doesn't place a claim
-unfoldable pub Refuses : Option Verdict → Type 0
-Refuses None = Unit {0}
-Refuses (Some verdict) = is_placed verdict ≡ false
-
-pub refuses_if : (b : Bool) (verdict : Verdict) → is_placed verdict ≡ false → Refuses (refusal_if b verdict)
-unfolding Refuses
-refuses_if true verdict e = e
-refuses_if false verdict e = tt
-
-pub refuses_running : (o : Option Task) → Refuses (option_map (λ task. AlreadyRunning task.machine) o)
-unfolding Refuses
-refuses_running None = tt
-refuses_running (Some t) = refl
-
-refuses_rank : (o : Option TaskKey) → Refuses (option_map VictimRank o)
-unfolding Refuses
-refuses_rank None = tt
-refuses_rank (Some t) = refl
-
-refuses_gone : (tasks : List Task) (id : ℕ) (before keys : List TaskKey) → Refuses (gone_from tasks id before keys)
-unfolding Refuses
-refuses_gone tasks id before [] = tt
-refuses_gone tasks id before (key ∷ keys) =
-    by_answer (runs_on tasks id key && not (is_among key before))
-    (λ t. rw t (refuses_gone tasks id (before ++ key ∷ []) keys))
-    (λ f. rw f refl)
-
-refuses_job : (b : Bool) (o : Option Task) → Refuses (if b then option_map (λ task. SameJob task.key) o else None)
-unfolding Refuses
-refuses_job true None = tt
-refuses_job true (Some t) = refl
-refuses_job false o = tt
-
-pub passes : (o : Option Verdict) (rest : List (Option Verdict)) → Refuses o → first_of (o ∷ rest) ≡ Placed → (o ≡ None) × (first_of rest ≡ Placed)
-unfolding Refuses
-passes None rest refuses placed = (refl, placed)
-passes (Some verdict) rest refuses placed = absurd (both_ways _ refuses (ap is_placed placed))
-
--- what is known of a claim that would be placed
-pub record IsPlaceable (cell : Cell) (claim : Claim) : Type 0 where
-  pub up : no_machine cell claim ≡ None
-  pub absent : task_at cell.tasks claim.key ≡ None
-  pub there : victim_gone cell claim ≡ None
-  pub fits : fits claim.spec.need (free_after cell claim) ≡ true
-
-pub placeable : (cell : Cell) (claim : Claim) → judge_on cell 0 None claim ≡ Placed → IsPlaceable cell claim
-placeable cell claim placed =
-    let up = passes (no_machine cell claim) _ (refuses_if (not (is_up (machine_at cell.machines claim.machine))) NoMachine refl) placed in
-    let new = passes (already_running cell claim) _ (refuses_running (task_at cell.tasks claim.key)) up.1 in
-    let there = passes (victim_gone cell claim) _ (refuses_gone cell.tasks claim.machine [] claim.victims) new.1 in
-    let rank = passes (victim_rank cell claim) _ (refuses_rank (find (withstands cell.tasks claim.spec.prec) claim.victims)) there.1 in
-    let alone = passes (same_job cell claim) _ (refuses_job claim.spec.differ (find (stays_of_job claim.key.job claim.machine claim.victims) cell.tasks)) rank.1 in
-    let room = passes (full cell claim) _ (refuses_if (not (fits claim.spec.need (free_after cell claim))) (Full (free_after cell claim)) refl) alone.1 in
-    record {
-      up = up.0;
-      absent = no_task (task_at cell.tasks claim.key) new.0;
-      there = there.0;
-      fits = fitting (fits claim.spec.need (free_after cell claim)) (Full (free_after cell claim)) room.0;
-    }
-  where
-    no_task : (o : Option Task) → option_map (λ task. AlreadyRunning task.machine) o ≡ None → o ≡ None
-    no_task None e = refl
-    no_task (Some t) e = absurd (none-some (AlreadyRunning t.machine) (sym e))
-
-    fitting : (b : Bool) (verdict : Verdict) → refusal_if (not b) verdict ≡ None → b ≡ true
-    fitting true verdict e = refl
-    fitting false verdict e = absurd (none-some verdict (sym e))
 
 -- so much is free on a machine once some of its tasks are off it
 abbrev pub IsFreed : BoardState → ℕ → List TaskKey → Need → Type 0
@@ -185,17 +94,15 @@ module _ (board : BoardState) (kept : IsBoard board.table board.tasks) (id : ℕ
       ∙ ap (λ n. plus n (use_on board.tasks id)) (sym known.3) ∙ counted ∙ sym (state_cap known.0 known.1)
 
   -- with one more victim off the machine, as much more as it needs
-  pub freed_more : (victims : List TaskKey) → gone_from board.tasks id [] victims ≡ None → (i : ℕ) (key : TaskKey) → i < length victims → get_or victims i key ≡ key
-      → (free need : Need) → Some need ≡ option_map (λ t. t.spec.need) (task_at board.tasks key) → IsFreed board id (take i victims) free → IsFreed board id (take (i + 1) victims) (plus free need)
-  freed_more victims there i key below is free need needs freed =
-      let known = gone_none board.tasks id [] victims there i key below in
-      let runs : runs_on board.tasks id key ≡ true = subst (λ k. runs_on board.tasks id k ≡ true) is known.0 in
-      let once : is_among key (take i victims) ≡ false = subst (λ k. is_among k (take i victims) ≡ false) is known.1 in
-      let task = found_on board.tasks id key kept.ordered runs in
+  pub freed_more : (gone : List TaskKey) → Stand board.tasks id gone → (i : ℕ) (key : TaskKey) → i < length gone → get_or gone i key ≡ key
+      → (free need : Need) → Some need ≡ option_map (λ t. t.spec.need) (task_at board.tasks key) → IsFreed board id (take i gone) free → IsFreed board id (take (i + 1) gone) (plus free need)
+  freed_more gone there i key below is free need needs freed =
+      let known = there i key (slice_get-get_or gone i key below ∙ ap Some is) in
+      let task = found_on board.tasks id key kept.ordered known.0 in
       let amount : need ≡ task.0.spec.need = same_Some _ _ (needs ∙ ap (option_map (λ (t : Task). t.spec.need)) task.1) in
-      let split = rest_more board.tasks id (take i victims) key task.0 kept.ordered task.1 task.2 once in
-      let front : take (i + 1) victims ≡ take i victims ++ key ∷ [] = take_more victims i key below ∙ ap (λ k. take i victims ++ k ∷ []) is in
-      plus-assoc free need (rest_on board.tasks id (take (i + 1) victims))
+      let split = rest_more board.tasks id (take i gone) key task.0 kept.ordered task.1 task.2 known.1 in
+      let front : take (i + 1) gone ≡ take i gone ++ key ∷ [] = take_more gone i key below ∙ ap (λ k. take i gone ++ k ∷ []) is in
+      plus-assoc free need (rest_on board.tasks id (take (i + 1) gone))
       ∙ ap (plus free) (ap₂ plus amount (ap (rest_on board.tasks id) front) ∙ sym split)
       ∙ freed
 
@@ -205,18 +112,16 @@ module _ (board : BoardState) (kept : IsBoard board.table board.tasks) (id : ℕ
       let known = state_up board.table id (free_where_up board.table id ∙ up) in
       let cap = (found_bounded board.table id known.0 kept.bounded.bounded known.1).cap in
       let sum : plus free (rest_on board.tasks id gone) ≡ known.0.machine.cap = freed ∙ state_cap known.0 known.1 in
-      (omega (arith, cap.0, ap (λ (n : Need). n.cpu) sum), omega (arith, cap.1, ap (λ (n : Need). n.mem) sum))
+      (omega (arith, cap.0, ap (λ (n : Need). n.cpu) sum), (omega (arith, cap.1.0, ap (λ (n : Need). n.mem) sum), omega (arith, cap.1.1, ap (λ (n : Need). n.disk) sum)))
 
   -- and is the capacity less what the others use
   pub freed_all : (gone : List TaskKey) (free : Need) → IsFreed board id gone free → free ≡ minus (capacity_of (machine_at (machines_of board.table) id)) (rest_on board.tasks id gone)
-  freed_all gone free freed = need_is _ _ (omega (arith, ap (λ (n : Need). n.cpu) freed)) (omega (arith, ap (λ (n : Need). n.mem) freed))
+  freed_all gone free freed = same_need _ _ (omega (arith, ap (λ (n : Need). n.cpu) freed)) (omega (arith, ap (λ (n : Need). n.mem) freed)) (omega (arith, ap (λ (n : Need). n.disk) freed))
 
-  -- a victim that isn't gone runs
-  pub victim_there : (victims : List TaskKey) → gone_from board.tasks id [] victims ≡ None → (i : ℕ) (key : TaskKey) → i < length victims → get_or victims i key ≡ key → IsTrue (is_some (task_at board.tasks key))
-  victim_there victims there i key below is =
-      let known = gone_none board.tasks id [] victims there i key below in
-      let runs : runs_on board.tasks id key ≡ true = subst (λ k. runs_on board.tasks id k ≡ true) is known.0 in
-      ap is_some (found_on board.tasks id key kept.ordered runs).1
+  -- a task that stands runs
+  pub stands_there : (gone : List TaskKey) → Stand board.tasks id gone → (i : ℕ) (key : TaskKey) → i < length gone → get_or gone i key ≡ key → IsTrue (is_some (task_at board.tasks key))
+  stands_there gone there i key below is =
+      ap is_some (found_on board.tasks id key kept.ordered (there i key (slice_get-get_or gone i key below ∙ ap Some is)).0).1
 
 -- a machine on which nothing is free uses nothing
 pub unused_down : (board : BoardState) → IsBoard board.table board.tasks → (id : ℕ) → free_at board.table id ≡ None → nothing ≡ use_on board.tasks id
@@ -239,7 +144,7 @@ used_found board kept id place free machine is placed here =
     find_at test (machines_of board.table) ∙ ap (slice_get (machines_of board.table)) (cond_some _ _ _ (sym placed)).1 ∙ sym here in
     let same : machine ≡ known.0.machine = same_Some _ _ (sym at ∙ machine_of_state board.table id ∙ ap (option_map (λ (s : MachineState). s.machine)) known.1) in
     ap₂ (λ (m : Machine) f. minus m.cap f) same (sym known.3)
-    ∙ need_is _ _ (omega (arith, ap (λ (n : Need). n.cpu) counted)) (omega (arith, ap (λ (n : Need). n.mem) counted))
+    ∙ same_need _ _ (omega (arith, ap (λ (n : Need). n.cpu) counted)) (omega (arith, ap (λ (n : Need). n.mem) counted)) (omega (arith, ap (λ (n : Need). n.disk) counted))
 
 -- a machine on which something is free stands at its position
 pub found_there : (table : List MachineState) (id place : ℕ) (free : Need) → Some free ≡ free_at table id

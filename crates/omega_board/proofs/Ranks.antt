@@ -12,19 +12,23 @@ use Rattle.omega_model.specs.State.{excess, ranked_on, goes_on}
 use Rattle.omega_model.specs.declared.cells.Need.{Need}
 use Rattle.omega_model.specs.declared.cells.TaskKey.{TaskKey}
 use Rattle.omega_model.specs.declared.cells.Task.{Task}
+use Rattle.omega_machines.proofs.Bounds.{same_need}
 use Rattle.omega_machines.proofs.Places.{by_answer}
 use Rattle.omega_running.specs.declared.orders.Order.TheVariants.{ByKey}
 use Rattle.omega_running.specs.Order.{Each, IsInOrder}
 use Rattle.omega_running.proofs.Lists.{each_map, each_both, each_of, each_back, filter_every, filter_none, filter_where}
 use Rattle.omega_board.proofs.Tasks.{stays, each_filter, filter_and, filter_alike, key_same, key_itself, key_differs}
-use Rattle.omega_board.proofs.Uses.{need_is, plus-swap, share, total-cons}
+use Rattle.omega_board.proofs.Uses.{plus-swap, share, total-cons}
 
 -- the test of an amount says what it says
 pub fits_true : (a b : Need) → Fits a b → fits a b ≡ true
-fits_true a b h = and_from _ _ (le-leb _ _ h.0) (le-leb _ _ h.1)
+fits_true a b h = and_from _ _ (le-leb _ _ h.0) (and_from _ _ (le-leb _ _ h.1.0) (le-leb _ _ h.1.1))
 
 pub fits_means : (a b : Need) → fits a b ≡ true → Fits a b
-fits_means a b h = let parts = and_parts _ _ h in (leb-true _ _ parts.0, leb-true _ _ parts.1)
+fits_means a b h =
+    let parts = and_parts _ _ h in
+    let rest = and_parts _ _ parts.1 in
+    (leb-true _ _ parts.0, (leb-true _ _ rest.0, leb-true _ _ rest.1))
 
 pub each_at : {X : Type 0} (P : X → Type 0) (xs : List X) (i : ℕ) (d : X) → Each P xs → i < length xs → P (get_or xs i d)
 each_at P [] i d each below = absurd (omega arith)
@@ -156,7 +160,7 @@ pub record IsExcess (cap : Need) (tasks : List Task) : Type 0 where
   pub fit : Fits (total others) cap
 
 pub excess_first : (cap : Need) (tasks : List Task) → IsExcess cap tasks
-excess_first cap [] = record { others = []; parts = refl; fit = (omega arith, omega arith) }
+excess_first cap [] = record { others = []; parts = refl; fit = (omega arith, (omega arith, omega arith)) }
 excess_first cap (t ∷ tasks) =
     by_answer (fits (total (t ∷ tasks)) cap)
     (λ h. record { others = t ∷ tasks; parts = rw h refl; fit = fits_means _ _ h })
@@ -191,7 +195,7 @@ walked_more cap ranked i t left below is walked large =
     by_answer (fits (total (t ∷ drop (i + 1) ranked)) cap) (λ h. absurd (large (subst (λ n. Fits n cap) (sym sum) (fits_means _ _ h)))) (λ h. h) in
     let one_more : excess cap (t ∷ drop (i + 1) ranked) ≡ t ∷ excess cap (drop (i + 1) ranked) = rw too_much refl in
     let count : length (excess cap (drop i ranked)) ≡ suc (length (excess cap (drop (i + 1) ranked))) = ap length (ap (excess cap) next ∙ one_more) in
-    (omega (arith, count, walked.0), need_is _ _ (omega (arith, ap (λ (n : Need). n.cpu) sum)) (omega (arith, ap (λ (n : Need). n.mem) sum)))
+    (omega (arith, count, walked.0), same_need _ _ (omega (arith, ap (λ (n : Need). n.cpu) sum)) (omega (arith, ap (λ (n : Need). n.mem) sum)) (omega (arith, ap (λ (n : Need). n.disk) sum)))
 
 -- the task at a place in order of eviction
 pub record IsRankedAt (tasks : List Task) (id i : ℕ) (d : TaskKey) : Type 0 where

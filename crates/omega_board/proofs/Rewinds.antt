@@ -1,5 +1,5 @@
 -- A change of the running tasks that is noted can be taken back, and then the board is as before.
-use Rattle.std.proofs.Common.{◌≡◌, ℕ, ◌+◌, true, nat_eq, List, [], ◌∷◌, Some, None, is_some, IsTrue, IsSomeAnd, refl, sym, ap, ◌∙◌, subst, arith}
+use Rattle.std.proofs.Common.{◌≡◌, ℕ, ◌+◌, ◌≤◌, true, nat_eq, List, [], ◌∷◌, Some, None, is_some, IsTrue, IsSomeAnd, refl, sym, ap, ◌∙◌, subst, arith}
 use Rattle.std.specs.List.{All}
 use Rattle.std.proofs.lemmas.Option.{none-some, same_Some}
 use Rattle.std.specs.Option.{option_map, option_and_then}
@@ -86,6 +86,7 @@ module _ (board next : BoardState) (kept : IsBoard board.table board.tasks) wher
         record {
           changes = subst (λ l. MayTakeAllBack l next) (sym log) ((gone, omega arith, subst (λ b. Sound (cell_of b)) (sym back) (sound_board board.table board.tasks kept)), subst (MayTakeAllBack undo.log) (sym back) of_board.changes);
           room = omega (arith, of_board.room);
+          back = subst (λ n. n ≤ (at_reserve noted next).spare) (sym claims) (subst (λ (b : BoardState). undo.claims ≤ b.spare) (sym (stop_content key t runs tasks table spare log)) of_board.back);
         }
 
     -- and a noted start
@@ -101,6 +102,7 @@ module _ (board next : BoardState) (kept : IsBoard board.table board.tasks) wher
         record {
           changes = subst (λ l. MayTakeAllBack l next) (sym log) (runs, subst (MayTakeAllBack undo.log) (sym back) of_board.changes);
           room = omega (arith, of_board.room);
+          back = let same = ap (λ (b : BoardState). b.spare) (start_content t absent tasks table spare log) in omega (arith, of_board.back, same, claims);
         }
 
 -- a task with which the cell is sound fits its machine
@@ -118,7 +120,7 @@ sound_room board t kept absent sound =
     let free : free_at board.table t.machine ≡ Some known.0.free = ap (option_and_then free_if_up) known.1 ∙ rw known.2 refl in
     subst (λ o. IsSomeAnd o (λ free. Fits t.spec.need free)) (sym free) (
       omega (arith, within.0, ap (λ (n : Need). n.cpu) use_then, ap (λ (n : Need). n.cpu) use_now),
-      omega (arith, within.1, ap (λ (n : Need). n.mem) use_then, ap (λ (n : Need). n.mem) use_now),
+      (omega (arith, within.1.0, ap (λ (n : Need). n.mem) use_then, ap (λ (n : Need). n.mem) use_now), omega (arith, within.1.1, ap (λ (n : Need). n.disk) use_then, ap (λ (n : Need). n.disk) use_now)),
     )
   where
     each_of_all : (P : Task → Type 0) (xs : List Task) → All P xs → Each P xs

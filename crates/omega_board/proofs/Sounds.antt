@@ -37,7 +37,7 @@ all_within tasks [] counted = All-nil _
 all_within tasks (s ∷ ss) counted =
     let P : Machine → Type 0 = λ machine. Fits (use_on tasks machine.id) machine.cap in
     All-cons P s.machine (machines_of ss)
-    (omega (arith, ap (λ (n : Need). n.cpu) counted.0), omega (arith, ap (λ (n : Need). n.mem) counted.0))
+    (omega (arith, ap (λ (n : Need). n.cpu) counted.0), (omega (arith, ap (λ (n : Need). n.mem) counted.0), omega (arith, ap (λ (n : Need). n.disk) counted.0)))
     (all_within tasks ss counted.1)
 
 pub sound_board : (table : List MachineState) (tasks : List Task) → IsBoard table tasks → Sound (record { machines = machines_of table; tasks = tasks })

@@ -8,24 +8,21 @@ use Rattle.omega_model.specs.Cell.{task_at, with_task, without, total, is_on, us
 use Rattle.omega_model.specs.declared.cells.Need.{Need}
 use Rattle.omega_model.specs.declared.cells.TaskKey.{TaskKey}
 use Rattle.omega_model.specs.declared.cells.Task.{Task}
+use Rattle.omega_machines.proofs.Bounds.{same_need}
 use Rattle.omega_machines.proofs.Places.{by_answer}
 use Rattle.omega_running.specs.declared.orders.Order.TheVariants.{ByKey}
 use Rattle.omega_running.specs.Order.{IsInOrder}
 use Rattle.omega_board.proofs.Tasks.{parted, back_again, gone_absent, filter_and, without_ordered}
 
--- amounts with equal parts are equal
-pub need_is : (a b : Need) → a.cpu ≡ b.cpu → a.mem ≡ b.mem → a ≡ b
-need_is a b cpu mem = λ i. record { cpu = cpu i; mem = mem i }
-
 -- a sum with its first two terms exchanged
 pub plus-swap : (a b c : Need) → plus a (plus b c) ≡ plus b (plus a c)
-plus-swap a b c = need_is _ _ (omega arith) (omega arith)
+plus-swap a b c = same_need _ _ (omega arith) (omega arith) (omega arith)
 
 pub plus-assoc : (a b c : Need) → plus (plus a b) c ≡ plus a (plus b c)
-plus-assoc a b c = need_is _ _ (omega arith) (omega arith)
+plus-assoc a b c = same_need _ _ (omega arith) (omega arith) (omega arith)
 
 pub plus-nothing : (a : Need) → plus nothing a ≡ a
-plus-nothing a = need_is _ _ (omega arith) (omega arith)
+plus-nothing a = same_need _ _ (omega arith) (omega arith) (omega arith)
 
 pub total-append : (xs ys : List Task) → total (xs ++ ys) ≡ plus (total xs) (total ys)
 total-append [] ys = sym (plus-nothing (total ys))

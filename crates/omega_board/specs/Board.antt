@@ -1,11 +1,13 @@
 -- The board: the machines of a cell, each with what is free on it and how often it was touched, and
 -- the running tasks.
-use Rattle.std.specs.Prelude.{◌≡◌, ℕ, ◌+◌, Bool, List, map, IsTrue, ◌==◌, if◌then◌else◌}
+use Rattle.std.specs.Prelude.{◌≡◌, ℕ, ◌+◌, Bool, true, false, List, Some, map, take, slice_get, IsTrue, ◌==◌, if◌then◌else◌}
 use Rattle.omega_model.specs.Need.{plus, minus}
 use Rattle.omega_model.specs.Cell.{Cell, machine_at, use_on}
-use Rattle.omega_model.specs.Judge.{is_up}
+use Rattle.omega_model.specs.Judge.{is_up, runs_on}
+use Rattle.omega_model.specs.Keys.{is_among}
 use Rattle.omega_model.specs.declared.cells.Machine.{Machine}
 use Rattle.omega_model.specs.declared.cells.Task.{Task}
+use Rattle.omega_model.specs.declared.cells.TaskKey.{TaskKey}
 use Rattle.omega_machines.specs.declared.MachineState.{MachineState}
 use Rattle.omega_machines.specs.Table.{machines_of, seq_at, IsTable}
 use Rattle.omega_running.specs.Kept.{KeysRise}
@@ -44,6 +46,11 @@ recounted tasks state = record state { free = minus state.machine.cap (use_on ta
 -- the machines as they are while these tasks run
 abbrev pub table_with : List Task → List MachineState → List MachineState
 table_with tasks table = map (recounted tasks) table
+
+-- each of these tasks runs on the machine, and none is named twice
+abbrev pub Stand : List Task → ℕ → List TaskKey → Type 0
+Stand tasks machine keys = (place : ℕ) (key : TaskKey) → slice_get keys place ≡ Some key
+    → (runs_on tasks machine key ≡ true) × (is_among key (take place keys) ≡ false)
 
 -- one more entry is counted on this machine, and on no other
 abbrev pub CountsOn : ℕ → List MachineState → List MachineState → Type 0

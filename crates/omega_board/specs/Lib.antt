@@ -1,4 +1,2 @@
 pub mod Board
 pub mod Undo
-pub mod Entries
-pub mod Histories

@@ -44,7 +44,8 @@ abbrev pub at_reserve : UndoState → BoardState → BoardState
 at_reserve undo board = before_all undo.log board
 
 -- an undo is of a board where its changes lead to the board, so that they can be taken back, the latest
--- first, and where the board has room for as many claims as the undo has
+-- first, and where the board has room for as many claims as the undo has, now and once they are taken back
 pub record IsUndoOf (board : BoardState) (undo : UndoState) : Type 0 where
   pub changes : MayTakeAllBack undo.log board
   pub room : undo.claims ≤ board.spare
+  pub back : undo.claims ≤ (at_reserve undo board).spare

@@ -2,12 +2,12 @@
 ghost use Rattle.std.specs.Prelude.{◌≡◌, ◌-◌, ◌<◌, ◌^◌, ℕ, [], OnOk, OnErr, IsTrue};
 ghost use Rattle.std.specs.List.{filter};
 ghost use Rattle.omega_machines.specs.Table.{machines_of, ensured_states, seq_at};
+ghost use Rattle.omega_model.specs.Applying.{ListsOrHasRoom};
 ghost use Rattle.omega_model.specs.Cell.{is_on, use_on, without};
 ghost use Rattle.omega_model.specs.Fields.{greatest};
 ghost use Rattle.omega_model.specs.Machines.{is_listed, change, ensured, added, updated, removed, attr_set, attr_deleted};
 ghost use Rattle.omega_model.specs.Need.{Fits};
 ghost use Rattle.omega_board.specs.Board.{table_with, CountsOn};
-ghost use Rattle.omega_board.specs.Entries.{HasRoomFor};
 
 use crate::Board;
 use omega_model::{Bytes, Need, NoMemory, TaskKey};
@@ -15,7 +15,7 @@ use omega_model::{Bytes, Need, NoMemory, TaskKey};
 impl Board {
     // The machine is in the list, and these tasks stop.
     pub(crate) fn displace(&mut self, machine: u64, gone: &[TaskKey]) -> Result<(), NoMemory>
-        requires { HasRoomFor self.old.table machine }
+        requires { ListsOrHasRoom (machines_of self.old.table) machine }
         ensures machines { OnOk result (machines_of self.new.table ≡ ensured machine (machines_of self.old.table)) }
         ensures tasks { OnOk result (self.new.tasks ≡ without gone.now self.old.tasks) }
         ensures seqs { OnOk result ((id : ℕ) → seq_at self.new.table id ≡ seq_at self.old.table id) }
@@ -28,7 +28,7 @@ impl Board {
 
     // The machine is in the list, at its end where it wasn't there.
     fn list(&mut self, id: u64) -> Result<(), NoMemory>
-        requires { HasRoomFor self.old.table id }
+        requires { ListsOrHasRoom (machines_of self.old.table) id }
         ensures ok { OnOk result (self.new ≡ record self.old { table = ensured_states id self.old.table }) }
         ensures err { OnErr result (self.new ≡ self.old) }
     {
@@ -89,7 +89,7 @@ impl Board {
 
     // The machine is in the list, with this value for the attribute.
     pub(crate) fn put_attr(&mut self, id: u64, name: &Bytes, value: &Bytes) -> Result<(), NoMemory>
-        requires room { HasRoomFor self.old.table id }
+        requires room { ListsOrHasRoom (machines_of self.old.table) id }
         requires seq { seq_at self.old.table id < 2 ^ 64 - 1 }
         ensures machines { OnOk result (machines_of self.new.table ≡ change id (attr_set name.now value.now) (ensured id (machines_of self.old.table))) }
         ensures seqs { OnOk result (CountsOn id self.old.table self.new.table) }

@@ -2,43 +2,40 @@
 ghost use Rattle.std.specs.Prelude.{◌≡◌, ◌≤◌, [], sum_by, ◌+◌, ◌-◌, ◌<◌, ◌^◌, ℕ, length, OnOk, OnErr, IfOk, IsTrue, if◌then◌else◌};
 ghost use Rattle.std.specs.List.{zip, fold, list_any};
 ghost use Rattle.omega_machines.specs.Table.{machines_of, seq_at};
+ghost use Rattle.omega_model.specs.Applying.{MayApply, MayPlaceAll};
 ghost use Rattle.omega_model.specs.Cell.{keys_of, use_on};
-ghost use Rattle.omega_model.specs.Need.{minus};
 ghost use Rattle.omega_model.specs.Reply.{tasks_after_claim};
 ghost use Rattle.omega_model.specs.State.{step, displaced, excess, ranked_on};
 ghost use Rattle.omega_model.specs.Touches.{touches, places_on};
 ghost use Rattle.omega_board.specs.Board.{cell_of, CountsOn};
 ghost use Rattle.omega_board.specs.Undo.{IsUndoOf};
-ghost use Rattle.omega_board.specs.Entries.{MayApply, MayPlaceAll};
 
 use crate::Board;
-use crate::placing::is_placed;
 use crate::undo::Undo;
 use omega_model::{
-    Bytes, Claim, Claims, Entry, Keys, Need, NoMemory, Seq, TaskKey, Verdict, Verdicts,
+    Bytes, Claim, Claims, Entry, Judgement, Judgements, Keys, Need, NoMemory, Seq, TaskKey,
 };
 use std::alloc::Global;
-
-const NOTHING: Need = Need { cpu: 0, mem: 0 };
 
 impl Board {
     /// Applies an entry: the cell is one step on, and each machine that the entry touches counts one
     /// more entry. Answers the names of the tasks that a change of their machine stops, in the order
-    /// in which they stop. The machines and tasks stay where memory runs out.
+    /// in which they stop. Where memory runs out, the machines and tasks stay, and no room is lost.
     ///
     /// A capacity is at most 10^12 units of each kind, there are at most 65,536 machines, no number
     /// that rises is 2^64 - 1 already, an end names a task that runs on its machine, and the placed
-    /// claims of a commit can be placed one after the other.
+    /// claims of a commit can be placed one after the other, each with what the reply says it evicts.
     ///
     /// Costs what the entry changes. Where it displaces a task, it costs the tasks on the machine,
     /// which are sorted; a commit costs its claims as `reserve`, `apply_placed` and `touch_placed` do.
     pub fn apply_entry(&mut self, alloc: Global, entry: &Entry) -> Result<Keys, NoMemory>
-        requires { MayApply self.old entry.now }
+        requires { MayApply (cell_of self.old) (seq_at self.old.table) entry.now }
         ensures cell { OnOk result (cell_of self.new ≡ step (cell_of self.old) entry.now) }
         ensures seqs { OnOk result ((id : ℕ) → seq_at self.new.table id ≡ seq_at self.old.table id + (if touches id entry.now then 1 else 0)) }
         ensures displaced { IfOk result (λ keys. keys ≡ keys_of (displaced self.old.tasks entry.now)) }
         ensures table { OnErr result (self.new.table ≡ self.old.table) }
         ensures tasks { OnErr result (self.new.tasks ≡ self.old.tasks) }
+        ensures room { OnErr result (self.old.spare ≤ self.new.spare) }
     {
         match entry {
             Entry::Round { .. } => Ok(Seq::new(alloc)),
@@ -57,12 +54,11 @@ impl Board {
     }
 
     fn add_machine(&mut self, alloc: Global, machine: u64, cap: Need) -> Result<Keys, NoMemory>
-        requires { MayApply self.old (Entry.MachineAdd machine cap) }
+        requires { MayApply (cell_of self.old) (seq_at self.old.table) (Entry.MachineAdd machine cap) }
         ensures cell { OnOk result (cell_of self.new ≡ step (cell_of self.old) (Entry.MachineAdd machine cap)) }
         ensures seqs { OnOk result (CountsOn machine self.old.table self.new.table) }
         ensures displaced { IfOk result (λ keys. keys ≡ keys_of (displaced self.old.tasks (Entry.MachineAdd machine cap))) }
-        ensures table { OnErr result (self.new.table ≡ self.old.table) }
-        ensures tasks { OnErr result (self.new.tasks ≡ self.old.tasks) }
+        ensures err { OnErr result (self.new ≡ self.old) }
     {
         let _ = &self.table;
         let gone = self.excess(alloc, machine, cap)?;
@@ -72,12 +68,11 @@ impl Board {
     }
 
     fn update_machine(&mut self, alloc: Global, machine: u64, cap: Need) -> Result<Keys, NoMemory>
-        requires { MayApply self.old (Entry.MachineUpdate machine cap) }
+        requires { MayApply (cell_of self.old) (seq_at self.old.table) (Entry.MachineUpdate machine cap) }
         ensures cell { OnOk result (cell_of self.new ≡ step (cell_of self.old) (Entry.MachineUpdate machine cap)) }
         ensures seqs { OnOk result (CountsOn machine self.old.table self.new.table) }
         ensures displaced { IfOk result (λ keys. keys ≡ keys_of (displaced self.old.tasks (Entry.MachineUpdate machine cap))) }
-        ensures table { OnErr result (self.new.table ≡ self.old.table) }
-        ensures tasks { OnErr result (self.new.tasks ≡ self.old.tasks) }
+        ensures err { OnErr result (self.new ≡ self.old) }
     {
         let _ = &self.table;
         let gone = self.excess(alloc, machine, cap)?;
@@ -87,12 +82,11 @@ impl Board {
     }
 
     fn remove_machine(&mut self, alloc: Global, machine: u64) -> Result<Keys, NoMemory>
-        requires { MayApply self.old (Entry.MachineRemove machine) }
+        requires { MayApply (cell_of self.old) (seq_at self.old.table) (Entry.MachineRemove machine) }
         ensures cell { OnOk result (cell_of self.new ≡ step (cell_of self.old) (Entry.MachineRemove machine)) }
         ensures seqs { OnOk result (CountsOn machine self.old.table self.new.table) }
         ensures displaced { IfOk result (λ keys. keys ≡ keys_of (displaced self.old.tasks (Entry.MachineRemove machine))) }
-        ensures table { OnErr result (self.new.table ≡ self.old.table) }
-        ensures tasks { OnErr result (self.new.tasks ≡ self.old.tasks) }
+        ensures err { OnErr result (self.new ≡ self.old) }
     {
         let gone = self.running.on_machine(alloc, machine)?;
         self.displace(machine, gone.as_slice())?;
@@ -107,24 +101,22 @@ impl Board {
         name: &Bytes,
         value: &Bytes,
     ) -> Result<Keys, NoMemory>
-        requires { MayApply self.old (Entry.AttrSet machine name.now value.now) }
+        requires { MayApply (cell_of self.old) (seq_at self.old.table) (Entry.AttrSet machine name.now value.now) }
         ensures cell { OnOk result (cell_of self.new ≡ step (cell_of self.old) (Entry.AttrSet machine name.now value.now)) }
         ensures seqs { OnOk result (CountsOn machine self.old.table self.new.table) }
         ensures displaced { IfOk result (λ keys. keys ≡ []) }
-        ensures table { OnErr result (self.new.table ≡ self.old.table) }
-        ensures tasks { OnErr result (self.new.tasks ≡ self.old.tasks) }
+        ensures err { OnErr result (self.new ≡ self.old) }
     {
         self.put_attr(machine, name, value)?;
         Ok(Seq::new(alloc))
     }
 
     fn delete_attr(&mut self, alloc: Global, machine: u64, name: &Bytes) -> Result<Keys, NoMemory>
-        requires { MayApply self.old (Entry.AttrDelete machine name.now) }
+        requires { MayApply (cell_of self.old) (seq_at self.old.table) (Entry.AttrDelete machine name.now) }
         ensures cell { OnOk result (cell_of self.new ≡ step (cell_of self.old) (Entry.AttrDelete machine name.now)) }
         ensures seqs { OnOk result (CountsOn machine self.old.table self.new.table) }
         ensures displaced { IfOk result (λ keys. keys ≡ []) }
-        ensures table { OnErr result (self.new.table ≡ self.old.table) }
-        ensures tasks { OnErr result (self.new.tasks ≡ self.old.tasks) }
+        ensures err { OnErr result (self.new ≡ self.old) }
     {
         self.displace(machine, &[])?;
         self.unset_attr(machine, name);
@@ -133,7 +125,7 @@ impl Board {
 
     // The task of this name stops, which runs on this machine.
     fn end(&mut self, alloc: Global, key: TaskKey, machine: u64) -> Keys
-        requires { MayApply self.old (Entry.End key machine) }
+        requires { MayApply (cell_of self.old) (seq_at self.old.table) (Entry.End key machine) }
         ensures cell { cell_of self.new ≡ step (cell_of self.old) (Entry.End key machine) }
         ensures seqs { CountsOn machine self.old.table self.new.table }
         ensures displaced { result ≡ [] }
@@ -145,7 +137,12 @@ impl Board {
     }
 
     // A commit: its placed claims are placed in order.
-    fn commit(&mut self, alloc: Global, claims: &Claims, reply: &Verdicts) -> Result<Keys, NoMemory>
+    fn commit(
+        &mut self,
+        alloc: Global,
+        claims: &Claims,
+        reply: &Judgements,
+    ) -> Result<Keys, NoMemory>
         requires seqs { (id : ℕ) → IsTrue (list_any (places_on id) (zip claims.now reply.now)) → seq_at self.old.table id < 2 ^ 64 - 1 }
         requires places { MayPlaceAll (cell_of self.old) (zip claims.now reply.now) }
         ensures machines { machines_of self.new.table ≡ machines_of self.old.table }
@@ -154,6 +151,7 @@ impl Board {
         ensures displaced { IfOk result (λ keys. keys ≡ []) }
         ensures no_table { OnErr result (self.new.table ≡ self.old.table) }
         ensures no_tasks { OnErr result (self.new.tasks ≡ self.old.tasks) }
+        ensures room { OnErr result (self.old.spare ≤ self.new.spare) }
     {
         let mut undo = self.reserve(alloc, claims)?;
         self.place_all(claims.as_slice(), reply.as_slice(), &mut undo);
@@ -188,7 +186,7 @@ impl Board {
             if left.fits(cap) {
                 return i;
             }
-            left = minus(left, self.need_of(*key));
+            left = left.minus(self.need_of(*key));
         }
         ranked.len()
     }
@@ -199,16 +197,16 @@ impl Board {
     {
         let (Some(free), Some(place)) = (self.table.free(machine), self.table.position(machine))
         else {
-            return NOTHING;
+            return Need::NOTHING;
         };
         match self.table.at(place) {
-            Some(machine) => minus(machine.cap, free),
-            None => NOTHING,
+            Some(machine) => machine.cap.minus(free),
+            None => Need::NOTHING,
         }
     }
 
     // The placed claims, in order.
-    fn place_all(&mut self, claims: &[Claim], reply: &[Verdict], undo: &mut Undo)
+    fn place_all(&mut self, claims: &[Claim], reply: &[Judgement], undo: &mut Undo)
         requires places { MayPlaceAll (cell_of self.old) (zip claims.now reply.now) }
         requires undo { IsUndoOf self.old undo.old }
         requires claims { length claims.now ≤ undo.old.claims }
@@ -219,18 +217,9 @@ impl Board {
     {
         let count = claims.len().min(reply.len());
         for i in 0..count {
-            if is_placed(reply[i]) {
-                self.apply_placed(&claims[i], undo);
+            if reply[i].verdict.is_placed() {
+                self.apply_placed(&claims[i], reply[i].evicted.as_slice(), undo);
             }
         }
-    }
-}
-
-fn minus(a: Need, b: Need) -> Need
-    ensures { result ≡ minus a b }
-{
-    Need {
-        cpu: a.cpu.saturating_sub(b.cpu),
-        mem: a.mem.saturating_sub(b.mem),
     }
 }

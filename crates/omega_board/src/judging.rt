@@ -1,24 +1,47 @@
-//! The verdict on a claim, part by part.
-ghost use Rattle.std.specs.Prelude.{◌≡◌, None, Some, option_map, is_some, IsTrue};
+//! What is answered to a claim, part by part.
+ghost use Rattle.std.specs.Prelude.{◌≡◌, ◌≤◌, ◌&&◌, ◌==◌, ℕ, List, [], None, Some, not, take, length, option_map, is_some, vec_capacity, IsTrue, if◌then◌else◌};
+ghost use Rattle.std.specs.List.{list_any};
 ghost use Rattle.omega_machines.specs.Table.{seq_at};
 ghost use Rattle.omega_model.specs.Cell.{task_at};
-ghost use Rattle.omega_model.specs.Judge.{no_machine, already_running, victim_gone, victim_rank, same_job, full, free_after, runs_on, withstands};
-ghost use Rattle.omega_model.specs.JudgeOn.{changed_on, judge_on};
+ghost use Rattle.omega_model.specs.Judge.{changed_on, known_of, no_machine, already_running, victim_rank, same_job, full, free_without, runs_on, withstands, standing_victims, evicted_for, verdict_given, would_be_placed, judge_on, judge};
 ghost use Rattle.omega_model.specs.Keys.{is_among};
-ghost use Rattle.omega_board.specs.Board.{cell_of};
+ghost use Rattle.omega_model.specs.Need.{fits};
+ghost use Rattle.omega_model.specs.Touches.{is_placed, seq};
+ghost use Rattle.omega_model.specs.declared.entries.Entry.{Entry};
+ghost use Rattle.omega_model.specs.declared.claims.Rule.{Rule};
+ghost use Rattle.omega_board.specs.Board.{cell_of, Stand};
 
 use crate::Board;
 use omega_model::{Claim, Need, TaskKey, Verdict};
 
 impl Board {
-    /// The verdict on a claim, never `Withdrawn`. With `copy_seq`, the sequence number of the
-    /// claim's machine in the copy on which it was planned, it is `Changed` where the machine has
-    /// another one now, and exists and is up, and the task doesn't run.
+    /// The verdict on a claim, never `Withdrawn`, and in `evicted`, which is empty before, the
+    /// victims that the claim evicts, in their order: none where it isn't placed. With `copy_seq`,
+    /// the sequence number of the claim's machine in the copy on which it was planned, it is
+    /// `Changed` where the machine has another one now, and exists and is up, and the task doesn't
+    /// run.
     ///
     /// Costs the claim's victims, each looked up among those before it, and with the
     /// different-machines flag the tasks of the job on the machine. Takes no memory.
-    pub fn judge(&self, claim: &Claim, copy_seq: Option<u64>) -> Verdict
-        ensures { result ≡ judge_on (cell_of self.now) (seq_at self.now.table claim.now.machine) copy_seq claim.now }
+    pub fn judge(&self, claim: &Claim, copy_seq: Option<u64>, evicted: &mut Vec<TaskKey>) -> Verdict
+        requires empty { evicted.old.items ≡ [] }
+        requires room { length claim.now.victims ≤ vec_capacity evicted.old }
+        ensures judged { judge_on (cell_of self.now) (seq_at self.now.table claim.now.machine) copy_seq claim.now ≡ record { verdict = result; evicted = evicted.new.items } }
+        ensures on_history { (history : List Entry) (seen : ℕ) (rule : Rule) → seq_at self.now.table claim.now.machine ≡ seq history claim.now.machine → copy_seq ≡ known_of history seen rule claim.now.machine → judge history seen (cell_of self.now) rule claim.now ≡ record { verdict = result; evicted = evicted.new.items } }
+        ensures capacity { vec_capacity evicted.new ≡ vec_capacity evicted.old }
+    {
+        let verdict = self.verdict(claim, copy_seq, evicted);
+        self.keep_evicted(claim, verdict, evicted);
+        verdict
+    }
+
+    // The verdict, and in `standing`, where the claim is placed, its victims that stand.
+    fn verdict(&self, claim: &Claim, copy_seq: Option<u64>, standing: &mut Vec<TaskKey>) -> Verdict
+        requires empty { standing.old.items ≡ [] }
+        requires room { length claim.now.victims ≤ vec_capacity standing.old }
+        ensures verdict { result ≡ verdict_given (changed_on (seq_at self.now.table claim.now.machine) copy_seq) (cell_of self.now) claim.now }
+        ensures standing { IsTrue (is_placed result) → standing.new.items ≡ standing_victims self.now.tasks claim.now }
+        ensures capacity { vec_capacity standing.new ≡ vec_capacity standing.old }
     {
         if let Some(verdict) = self.no_machine(claim) {
             return verdict;
@@ -29,16 +52,14 @@ impl Board {
         if let Some(verdict) = self.changed(claim.machine, copy_seq) {
             return verdict;
         }
-        if let Some(verdict) = self.victim_gone(claim) {
-            return verdict;
-        }
-        if let Some(verdict) = self.victim_rank(claim) {
+        self.gather_standing(claim, standing);
+        if let Some(verdict) = self.victim_rank(claim, standing.as_slice()) {
             return verdict;
         }
         if let Some(verdict) = self.same_job(claim) {
             return verdict;
         }
-        if let Some(verdict) = self.full(claim) {
+        if let Some(verdict) = self.full(claim, standing.as_slice()) {
             return verdict;
         }
         Verdict::Placed
@@ -73,16 +94,25 @@ impl Board {
         Some(Verdict::Changed { now, copy })
     }
 
-    fn victim_gone(&self, claim: &Claim) -> Option<Verdict>
-        ensures { result ≡ victim_gone (cell_of self.now) claim.now }
+    // Puts the victims that stand behind each other, for which there is room.
+    fn gather_standing(&self, claim: &Claim, standing: &mut Vec<TaskKey>)
+        requires empty { standing.old.items ≡ [] }
+        requires room { length claim.now.victims ≤ vec_capacity standing.old }
+        ensures standing { standing.new.items ≡ standing_victims self.now.tasks claim.now }
+        ensures capacity { vec_capacity standing.new ≡ vec_capacity standing.old }
     {
-        let victims = claim.victims.as_slice();
-        for (i, key) in victims.iter().enumerate() {
-            if !self.runs_on(claim.machine, *key) || is_among(key, &victims[..i]) {
-                return Some(Verdict::VictimGone(*key));
+        for key in claim.victims.as_slice() {
+            if self.stands(claim.machine, key, standing.as_slice()) {
+                standing.push_reserved(*key);
             }
         }
-        None
+    }
+
+    // Whether a victim runs on the machine and isn't among those before it.
+    fn stands(&self, machine: u64, key: &TaskKey, before: &[TaskKey]) -> bool
+        ensures { result ≡ (runs_on self.now.tasks machine key.now && not (is_among key.now before.now)) }
+    {
+        self.runs_on(machine, *key) && !is_among(key, before)
     }
 
     fn runs_on(&self, machine: u64, key: TaskKey) -> bool
@@ -94,12 +124,12 @@ impl Board {
         }
     }
 
-    fn victim_rank(&self, claim: &Claim) -> Option<Verdict>
+    fn victim_rank(&self, claim: &Claim, standing: &[TaskKey]) -> Option<Verdict>
+        requires { standing.now ≡ standing_victims self.now.tasks claim.now }
         ensures { result ≡ victim_rank (cell_of self.now) claim.now }
     {
         let prec = claim.spec.prec;
-        let victims = claim.victims.as_slice();
-        match victims.iter().find(|key| self.withstands(prec, **key)) {
+        match standing.iter().find(|key| self.withstands(prec, **key)) {
             Some(key) => Some(Verdict::VictimRank(*key)),
             None => None,
         }
@@ -114,6 +144,7 @@ impl Board {
         }
     }
 
+    // Of the tasks on the machine, those that the claim lists are its victims that stand.
     fn same_job(&self, claim: &Claim) -> Option<Verdict>
         ensures { result ≡ same_job (cell_of self.now) claim.now }
     {
@@ -129,12 +160,12 @@ impl Board {
         }
     }
 
-    fn full(&self, claim: &Claim) -> Option<Verdict>
+    fn full(&self, claim: &Claim, standing: &[TaskKey]) -> Option<Verdict>
         requires up { no_machine (cell_of self.now) claim.now ≡ None }
-        requires there { victim_gone (cell_of self.now) claim.now ≡ None }
+        requires standing { standing.now ≡ standing_victims self.now.tasks claim.now }
         ensures { result ≡ full (cell_of self.now) claim.now }
     {
-        let free = self.free_after(claim);
+        let free = self.free_without(claim, standing);
         if claim.spec.need.fits(free) {
             None
         } else {
@@ -142,14 +173,14 @@ impl Board {
         }
     }
 
-    // What is free on the machine once the victims are off it.
-    fn free_after(&self, claim: &Claim) -> Need
+    // What is free on the machine once these tasks are off it.
+    fn free_without(&self, claim: &Claim, gone: &[TaskKey]) -> Need
         requires up { no_machine (cell_of self.now) claim.now ≡ None }
-        requires there { victim_gone (cell_of self.now) claim.now ≡ None }
-        ensures { result ≡ free_after (cell_of self.now) claim.now }
+        requires gone { Stand self.now.tasks claim.now.machine gone.now }
+        ensures { result ≡ free_without (cell_of self.now) claim.now gone.now }
     {
         let mut free = self.table.free(claim.machine).unwrap();
-        for key in claim.victims.as_slice() {
+        for key in gone {
             free = free.plus(self.need_of(*key));
         }
         free
@@ -162,6 +193,52 @@ impl Board {
     {
         self.running.get(key).unwrap().spec.need
     }
+
+    // Keeps of the victims that stand those that a claim with this verdict evicts.
+    fn keep_evicted(&self, claim: &Claim, verdict: Verdict, evicted: &mut Vec<TaskKey>)
+        requires placed { IsTrue (is_placed verdict) → IsTrue (would_be_placed (cell_of self.now) claim.now) }
+        requires standing { IsTrue (is_placed verdict) → evicted.old.items ≡ standing_victims self.now.tasks claim.now }
+        ensures evicted { evicted.new.items ≡ (if is_placed verdict then evicted_for (cell_of self.now) claim.now else []) }
+        ensures capacity { vec_capacity evicted.new ≡ vec_capacity evicted.old }
+    {
+        if verdict.is_placed() {
+            let needed = self.needed(claim, evicted.as_slice());
+            evicted.truncate(needed);
+        } else {
+            evicted.clear();
+        }
+    }
+
+    // How many of the victims that stand have to stop, in their order, for a claim that is placed.
+    fn needed(&self, claim: &Claim, standing: &[TaskKey]) -> usize
+        requires placed { IsTrue (would_be_placed (cell_of self.now) claim.now) }
+        requires standing { standing.now ≡ standing_victims self.now.tasks claim.now }
+        ensures { take result standing.now ≡ evicted_for (cell_of self.now) claim.now }
+    {
+        let mut free = self.table.free(claim.machine).unwrap();
+        for (n, key) in standing.iter().enumerate() {
+            if makes_room(claim, free, &standing[n..]) {
+                return n;
+            }
+            free = free.plus(self.need_of(*key));
+        }
+        standing.len()
+    }
+}
+
+// Whether a claim needs no more than this, and none of its job is among those that are spared where
+// it must be alone of its job.
+fn makes_room(claim: &Claim, free: Need, spared: &[TaskKey]) -> bool
+    ensures { result ≡ (fits claim.now.spec.need free && not (claim.now.spec.differ && list_any (λ key. key.job == claim.now.key.job) spared.now)) }
+{
+    let alone = !claim.spec.differ || !has_job(claim.key.job, spared);
+    claim.spec.need.fits(free) && alone
+}
+
+fn has_job(job: u64, keys: &[TaskKey]) -> bool
+    ensures { result ≡ list_any (λ key. key.job == job) keys.now }
+{
+    keys.iter().any(|key| key.job == job)
 }
 
 fn is_among(key: &TaskKey, keys: &[TaskKey]) -> bool

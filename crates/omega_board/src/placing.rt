@@ -4,16 +4,17 @@ ghost use Rattle.std.specs.List.{zip, list_any};
 ghost use Rattle.omega_machines.specs.Table.{machines_of, free_at, seq_at, change_state, touched};
 ghost use Rattle.omega_model.specs.Need.{Fits};
 ghost use Rattle.omega_model.specs.Cell.{task_at, with_task, without};
-ghost use Rattle.omega_model.specs.JudgeOn.{judge_on};
+ghost use Rattle.omega_model.specs.Judge.{judge_fine};
 ghost use Rattle.omega_model.specs.Machines.{is_listed};
 ghost use Rattle.omega_model.specs.Reply.{tasks_placed};
-ghost use Rattle.omega_model.specs.Touches.{is_placed, places_on};
+ghost use Rattle.omega_model.specs.Touches.{places_on};
+ghost use Rattle.omega_model.specs.declared.claims.Verdict.TheVariants.{Placed};
 ghost use Rattle.omega_board.specs.Board.{cell_of, table_with};
 ghost use Rattle.omega_board.specs.Undo.{IsUndoOf, at_reserve, before_change, MayTakeBack};
 
 use crate::Board;
 use crate::undo::{Change, Undo};
-use omega_model::{Claim, Claims, NoMemory, Task, TaskKey, Verdict, Verdicts};
+use omega_model::{Claim, Claims, Judgement, Judgements, NoMemory, Task, TaskKey};
 use std::alloc::Global;
 
 impl Board {
@@ -33,15 +34,16 @@ impl Board {
         Ok(undo)
     }
 
-    /// Places a claim that is judged `Placed` without a number of a copy: its victims stop and its
-    /// task runs. Sequence numbers stay. The undo has room for the claim and its victims, which is
-    /// used up, and it still takes the board back to its reserve. Costs the victims. Takes no memory.
-    pub fn apply_placed(&mut self, claim: &Claim, undo: &mut Undo)
-        requires placed { judge_on (cell_of self.old) 0 None claim.now ≡ Verdict.Placed }
+    /// Places a claim that is judged `Placed` without a number of a copy, and to evict these tasks:
+    /// they stop and its task runs. Sequence numbers stay. The undo has room for the claim and all
+    /// its victims, which is used up, and it still takes the board back to its reserve. Costs the
+    /// tasks that stop. Takes no memory.
+    pub fn apply_placed(&mut self, claim: &Claim, evicted: &[TaskKey], undo: &mut Undo)
+        requires placed { judge_fine (cell_of self.old) claim.now ≡ record { verdict = Placed; evicted = evicted.now } }
         requires undo { IsUndoOf self.old undo.old }
         requires claims { 0 < undo.old.claims }
         requires victims { length claim.now.victims ≤ undo.old.victims }
-        ensures tasks { self.new.tasks ≡ tasks_placed self.old.tasks claim.now }
+        ensures tasks { self.new.tasks ≡ tasks_placed self.old.tasks claim.now evicted.now }
         ensures machines { machines_of self.new.table ≡ machines_of self.old.table }
         ensures seqs { (id : ℕ) → seq_at self.new.table id ≡ seq_at self.old.table id }
         ensures content { at_reserve undo.new self.new ≡ at_reserve undo.old self.old }
@@ -50,9 +52,10 @@ impl Board {
         ensures victims { undo.new.victims + length claim.now.victims ≡ undo.old.victims }
     {
         let _ = &self.table;
-        for key in claim.victims.as_slice() {
+        for key in evicted {
             self.stop_noted(*key, undo);
         }
+        undo.give_up(claim.victims.len() - evicted.len());
         let task = Task {
             key: claim.key,
             machine: claim.machine,
@@ -61,11 +64,13 @@ impl Board {
         self.start_noted(task, undo);
     }
 
-    /// Takes back all that was placed with this undo since the reserve that gave it. The undo's room
-    /// stays as it is. Costs what changes. Takes no memory.
+    /// Takes back all that was placed with this undo since the reserve that gave it. The undo keeps
+    /// the room that is left, with which more can be placed and taken back. Costs what changes. Takes
+    /// no memory.
     pub fn undo(&mut self, undo: &mut Undo)
         requires { IsUndoOf self.old undo.old }
         ensures board { self.new ≡ at_reserve undo.old self.old }
+        ensures undo { IsUndoOf self.new undo.new }
         ensures log { undo.new.log ≡ [] }
         ensures claims { undo.new.claims ≡ undo.old.claims }
         ensures victims { undo.new.victims ≡ undo.old.victims }
@@ -78,7 +83,7 @@ impl Board {
     /// Counts a commit on each machine on which it placed a claim, once. These machines are in the
     /// list, and none of their numbers is 2^64 - 1. Costs the claims; each is compared with those
     /// before it, back to the last one on its machine. Takes no memory.
-    pub fn touch_placed(&mut self, claims: &Claims, reply: &Verdicts)
+    pub fn touch_placed(&mut self, claims: &Claims, reply: &Judgements)
         requires listed { (id : ℕ) → IsTrue (list_any (places_on id) (zip claims.now reply.now)) → IsTrue (is_listed id (machines_of self.old.table)) }
         requires seqs { (id : ℕ) → IsTrue (list_any (places_on id) (zip claims.now reply.now)) → seq_at self.old.table id < 2 ^ 64 - 1 }
         ensures tasks { self.new.tasks ≡ self.old.tasks }
@@ -92,7 +97,7 @@ impl Board {
         for i in 0..count {
             let claim = &claims[i];
             let first = !placed_before(claim.machine, claims, reply, i);
-            if is_placed(reply[i]) && first {
+            if reply[i].verdict.is_placed() && first {
                 self.touch(claim.machine);
             }
         }
@@ -198,27 +203,21 @@ fn count_victims(claims: &[Claim]) -> Result<usize, NoMemory>
 }
 
 // Whether one of the first so many claims was placed on a machine. Looks from the last to the first.
-fn placed_before(id: u64, claims: &[Claim], reply: &[Verdict], count: usize) -> bool
+fn placed_before(id: u64, claims: &[Claim], reply: &[Judgement], count: usize) -> bool
     requires claims { count ≤ length claims.now }
     requires reply { count ≤ length reply.now }
     ensures { result ≡ list_any (places_on id) (zip (take count claims.now) (take count reply.now)) }
 {
     for i in (0..count).rev() {
-        if places_on(id, &claims[i], reply[i]) {
+        if places_on(id, &claims[i], &reply[i]) {
             return true;
         }
     }
     false
 }
 
-fn places_on(id: u64, claim: &Claim, verdict: Verdict) -> bool
-    ensures { result ≡ places_on id (claim.now, verdict) }
+fn places_on(id: u64, claim: &Claim, judgement: &Judgement) -> bool
+    ensures { result ≡ places_on id (claim.now, judgement.now) }
 {
-    is_placed(verdict) && claim.machine == id
-}
-
-pub(crate) fn is_placed(verdict: Verdict) -> bool
-    ensures { result ≡ is_placed verdict }
-{
-    matches!(verdict, Verdict::Placed)
+    judgement.verdict.is_placed() && claim.machine == id
 }

@@ -1,5 +1,5 @@
 //! The log by which placed claims are taken back.
-ghost use Rattle.std.specs.Prelude.{◌≡◌, ◌+◌, ◌<◌, [], ◌∷◌, IfOk, MatchOption};
+ghost use Rattle.std.specs.Prelude.{◌≡◌, ◌+◌, ◌<◌, ◌≤◌, [], ◌∷◌, IfOk, MatchOption};
 ghost use Rattle.omega_board.specs.Undo.{UndoState};
 
 use omega_model::{NoMemory, Task, TaskKey};
@@ -71,6 +71,16 @@ impl Undo {
     {
         self.log.push_reserved(Change::Started(key));
         self.claims -= 1;
+    }
+
+    // Gives up room for so many victims. Takes no memory.
+    pub(crate) fn give_up(&mut self, victims: usize)
+        requires { victims ≤ self.old.victims }
+        ensures log { self.new.log ≡ self.old.log }
+        ensures claims { self.new.claims ≡ self.old.claims }
+        ensures victims { self.new.victims + victims ≡ self.old.victims }
+    {
+        self.victims -= victims;
     }
 
     // Takes the latest change off the log. Gives no room back. Takes no memory.

@@ -1,5 +1,5 @@
 -- The disk of the last row for each machine.
-use Rattle.std.proofs.Common.{◌≡◌, ◌<◌, ◌≤◌, ◌+◌, ◌==◌, ℕ, Bool, true, false, cond, List, [], ◌∷◌, ◌++◌, Option, Some, None, map, length, take, get_or, refl, ap, sym, subst, ◌∙◌, inl, inr}
+use Rattle.std.proofs.Common.{◌≡◌, ◌<◌, ◌≤◌, ◌+◌, ◌==◌, ℕ, Bool, cond, List, [], ◌∷◌, ◌++◌, Option, Some, None, map, length, take, get_or, refl, ap, sym, subst, ◌∙◌, inl, inr}
 use Rattle.std.specs.Prelude.{IfSome}
 use Rattle.std.specs.BTreeMap as tree
 use Rattle.std.specs.BTreeMap.{BTreeMap}
@@ -68,3 +68,13 @@ last_more rows place row disks more within at small updates before = record { fo
         | inl same ↦ subst (λ found. IfSome found (λ disk. disk ≤ greatest_quantity)) (sym (new machine same)) small
         | inr apart ↦ subst (λ found. IfSome found (λ disk. disk ≤ greatest_quantity)) (sym (old machine apart)) (before.bounded machine)
       ]
+
+-- the same by the row's fields
+pub last_named : (rows : List DiskFields) (place : ℕ) (row : DiskFields) (machine disk : ℕ) (disks more : BTreeMap ℕ ℕ)
+    → place < length rows → row ≡ get_or rows place row → machine ≡ row.machine → disk ≡ row.disk → disk ≤ greatest_quantity
+    → tree.Updates nat_cmp disks more machine (Some disk)
+    → AreLast disks (take place rows) → AreLast more (take (place + 1) rows)
+last_named rows place row machine disk disks more within at named holds small updates before =
+    last_more rows place row disks more within at (subst (λ d. d ≤ greatest_quantity) holds small)
+    (subst (λ m. tree.Updates nat_cmp disks more m (Some row.disk)) named
+    (subst (λ d. tree.Updates nat_cmp disks more machine (Some d)) holds updates)) before

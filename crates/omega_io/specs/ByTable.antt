@@ -1,7 +1,7 @@
--- One thing for each of the five tables.
-use Rattle.std.specs.Prelude.{◌≡◌, ℕ, List, [], get_or}
+-- One thing for each of the six tables.
+use Rattle.std.specs.Prelude.{ℕ, List, [], get_or}
 use Rattle.omega_model.specs.declared.rows.Table.{Table}
-use Rattle.omega_model.specs.declared.rows.Table.TheVariants.{MachineEvents, MachineAttributes, TaskEvents, TaskConstraints, MapreduceJobs}
+use Rattle.omega_model.specs.declared.rows.Table.TheVariants.{MachineEvents, MachineAttributes, TaskEvents, TaskConstraints, MapreduceJobs, MachineDisk}
 use Rattle.omega_model.specs.Trace.{place_of}
 use Rattle.omega_io.specs.declared.by_table.ByTable.{ByTable}
 
@@ -12,6 +12,7 @@ at all MachineAttributes = all.machine_attributes
 at all TaskEvents = all.task_events
 at all TaskConstraints = all.task_constraints
 at all MapreduceJobs = all.mapreduce_jobs
+at all MachineDisk = all.machine_disk
 
 -- another one for this table
 abbrev pub put : {A : Type 0} → ByTable A → Table → A → ByTable A
@@ -20,11 +21,8 @@ put all MachineAttributes one = record all { machine_attributes = one }
 put all TaskEvents one = record all { task_events = one }
 put all TaskConstraints one = record all { task_constraints = one }
 put all MapreduceJobs one = record all { mapreduce_jobs = one }
+put all MachineDisk one = record all { machine_disk = one }
 
--- at most the one of this table has changed
-abbrev pub OnlyAt : {A : Type 0} → Table → ByTable A → ByTable A → Type 0
-OnlyAt table before now = now ≡ put before table (at now table)
-
--- the bytes of a table among those of the five in their order
+-- the bytes of a table among those of the six in their order
 abbrev pub bytes_of : List (List ℕ) → Table → List ℕ
-bytes_of five table = get_or five (place_of table) []
+bytes_of six table = get_or six (place_of table) []

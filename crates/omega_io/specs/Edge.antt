@@ -6,6 +6,10 @@ use Rattle.omega_model.specs.declared.rows.Table.{Table}
 abbrev pub Rose : ℕ → ℕ → Type 0
 Rose before now = (before < now) ⊎ (2 ^ 64 - 1 ≤ now)
 
+-- this folder is the one entered last, where the object tells a folder
+abbrev pub Enters : List ℕ → Option (Option (List ℕ)) → Option (Option (List ℕ)) → Type 0
+Enters folder before now = now ≡ option_map (λ last. Some folder) before
+
 -- these bytes stood first in what was left to read, and were taken off it, where it is told
 abbrev pub HandsOver : List ℕ → Option (List ℕ) → Option (List ℕ) → Type 0
 HandsOver bytes before now = before ≡ option_map (λ left. bytes ++ left) now

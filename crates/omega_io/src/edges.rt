@@ -5,24 +5,26 @@ use omega_model::{NoMemory, Table};
 #[derive(Clone, Copy, Debug, PartialEq, Eq)]
 pub struct Failed;
 
-/// Five tables in a folder.
+/// Six tables in a folder.
 ///
 /// A contract knows the rest of each table and the folder entered last, each where the object
-/// tells it, and for each table a count of faults that never falls.
+/// tells it, and for each table a count of faults that never falls. An object that tells a folder
+/// tells it always: `entered` is `None` for one that never does, and `Some None` for one that does
+/// and has entered no folder yet.
 pub trait Tables {
     ghost use Rattle.std.specs.Prelude.{◌≡◌, ◌≢◌, ◌<◌, ◌≤◌, ◌↔◌, ℕ, List, [], length, take, Option, IfOk, OnOk, OnErr, IfSome};
     ghost use Rattle.omega_model.specs.declared.rows.Table.{Table};
-    ghost use Rattle.omega_io.specs.Edge.{Rose, HandsOver};
+    ghost use Rattle.omega_io.specs.Edge.{Enters, HandsOver, Rose};
 
     ghost rest: { Self → Table → Option (List ℕ) };
 
-    ghost entered: { Self → Option (List ℕ) };
+    ghost entered: { Self → Option (Option (List ℕ)) };
 
     ghost faults: { Self → Table → ℕ };
 
     /// Enters a folder. The rests and the counts stay. `NoMemory` changes nothing.
     fn enter(&mut self, folder: &str) -> Result<(), NoMemory>
-        ensures enters { OnOk result (IfSome (entered self.new) (λ path. path ≡ folder.now)) }
+        ensures enters { OnOk result (Enters folder.now (entered self.old) (entered self.new)) }
         ensures stays { OnErr result (entered self.new ≡ entered self.old) }
         ensures rests { (t : Table) → rest self.new t ≡ rest self.old t }
         ensures counts { (t : Table) → faults self.new t ≡ faults self.old t };

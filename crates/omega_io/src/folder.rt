@@ -1,7 +1,5 @@
 //! The tables of a folder on disk.
 ghost use Rattle.std.specs.Prelude.{◌≡◌, ◌≤◌, length, IfOk};
-ghost use Rattle.omega_io.specs.ByTable.{at, OnlyAt};
-ghost use Rattle.omega_io.specs.Edge.{Rose};
 ghost use Rattle.omega_model.specs.declared.rows.Table.{Table};
 
 use crate::by_table::ByTable;
@@ -65,7 +63,7 @@ impl TableFile {
     }
 }
 
-// The files of the five tables in a folder.
+// The files of the six tables in a folder.
 fn files_in(alloc: Global, folder: &str) -> Result<ByTable<TableFile>, NoMemory> {
     Ok(ByTable {
         machine_events: TableFile::new(alloc, folder, "machine_events.csv", true)?,
@@ -73,48 +71,17 @@ fn files_in(alloc: Global, folder: &str) -> Result<ByTable<TableFile>, NoMemory>
         task_events: TableFile::new(alloc, folder, "task_events.csv", true)?,
         task_constraints: TableFile::new(alloc, folder, "task_constraints.csv", false)?,
         mapreduce_jobs: TableFile::new(alloc, folder, "mapreduce_jobs.csv", false)?,
+        machine_disk: TableFile::new(alloc, folder, "machine_disk.csv", false)?,
     })
 }
 
-// Reads on in one of the files.
-fn read_file(
-    rt: &HostRuntime,
-    files: &mut ByTable<TableFile>,
-    table: Table,
-    piece: &mut [u8],
-) -> io::Result<usize>
-    ensures { IfOk result (λ count. count ≤ length piece.new) }
-{
-    match table {
-        Table::MachineEvents => files.machine_events.read(rt, piece),
-        Table::MachineAttributes => files.machine_attributes.read(rt, piece),
-        Table::TaskEvents => files.task_events.read(rt, piece),
-        Table::TaskConstraints => files.task_constraints.read(rt, piece),
-        Table::MapreduceJobs => files.mapreduce_jobs.read(rt, piece),
-    }
-}
-
-// One more fault of a table.
-fn count_fault(faults: &mut ByTable<u64>, table: Table)
-    ensures only { OnlyAt table faults.old faults.new }
-    ensures cause { Rose (at faults.old table) (at faults.new table) }
-    ensures later { at faults.old table ≤ at faults.new table }
-{
-    match table {
-        Table::MachineEvents => count_one(&mut faults.machine_events),
-        Table::MachineAttributes => count_one(&mut faults.machine_attributes),
-        Table::TaskEvents => count_one(&mut faults.task_events),
-        Table::TaskConstraints => count_one(&mut faults.task_constraints),
-        Table::MapreduceJobs => count_one(&mut faults.mapreduce_jobs),
-    }
-}
-
 /// The tables in a folder: `machine_events.csv`, `machine_attributes.csv`, `task_events.csv`,
-/// `task_constraints.csv` and `mapreduce_jobs.csv`. They tell no content.
+/// `task_constraints.csv`, `mapreduce_jobs.csv` and `machine_disk.csv`. They tell neither their
+/// content nor the folder.
 ///
 /// Each file is opened at the first read after `enter` and read on from there. A missing file of
-/// attributes, constraints or jobs is an empty table. A missing file of the other two is a fault,
-/// as is a read before the first `enter`. The counts of faults stop at 2^64 - 1.
+/// attributes, constraints, jobs or disks is an empty table. A missing file of the other two is a
+/// fault, as is a read before the first `enter`. The counts of faults stop at 2^64 - 1.
 #[derive(Drop)]
 pub struct FolderTables<'a> {
     rt: &'a HostRuntime,
@@ -136,6 +103,7 @@ impl<'a> FolderTables<'a> {
                 task_events: 0,
                 task_constraints: 0,
                 mapreduce_jobs: 0,
+                machine_disk: 0,
             },
         }
     }
@@ -158,13 +126,13 @@ impl<'a> Tables for FolderTables<'a> {
 
     fn read(&mut self, table: Table, piece: &mut [u8]) -> Result<usize, Failed> {
         let answer = match &mut self.files {
-            Some(files) => read_file(self.rt, files, table, piece),
+            Some(files) => files.get_mut(table).read(self.rt, piece),
             None => Err(io::Error::from(ErrorKind::NotFound)),
         };
         match answer {
             Ok(count) => Ok(count),
             Err(_) => {
-                count_fault(&mut self.faults, table);
+                count_one(self.faults.get_mut(table));
                 Err(Failed)
             }
         }

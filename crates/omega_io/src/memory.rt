@@ -1,7 +1,6 @@
 //! Tables and a sink in memory, of which a call can be made to fail.
 ghost use Rattle.std.specs.Prelude.{◌≡◌, ◌≢◌, ◌++◌, ◌+◌, ◌<◌, ◌≤◌, ◌↔◌, [], length, take, Some, None, IfOk, IfSome, OnErr, vec_capacity, vec_len};
 ghost use Rattle.omega_io.specs.Edge.{Rose};
-ghost use Rattle.omega_io.specs.ByTable.{at, OnlyAt};
 
 use crate::by_table::ByTable;
 use crate::calls::{Calls, count_one};
@@ -45,7 +44,7 @@ impl Held {
     }
 }
 
-/// Five tables in memory. A contract knows their rests and the folder entered last.
+/// Six tables in memory. A contract knows their rests and the folder entered last.
 #[derive(Drop)]
 pub struct MemoryTables {
     alloc: Global,
@@ -60,12 +59,14 @@ impl MemoryTables {
     ghost use Rattle.omega_model.specs.declared.rows.Table.{Table};
     ghost use Rattle.omega_io.specs.ByTable.{bytes_of};
 
-    /// Tables of these bytes, in the order of `Table`. No read fails. Takes no memory.
-    pub fn new(alloc: Global, tables: [Bytes; 5]) -> MemoryTables
+    /// Tables of these bytes, in the order of `Table`. No folder is entered and no read fails. Takes
+    /// no memory.
+    pub fn new(alloc: Global, tables: [Bytes; 6]) -> MemoryTables
         ensures rests { (t : Table) → ⟦<MemoryTables as Tables>⟧.rest result t ≡ Some (bytes_of tables t) }
         ensures counts { (t : Table) → ⟦<MemoryTables as Tables>⟧.faults result t ≡ 0 }
+        ensures folder { ⟦<MemoryTables as Tables>⟧.entered result ≡ Some None }
     {
-        let [machines, attributes, tasks, constraints, jobs] = tables;
+        let [machines, attributes, tasks, constraints, jobs, disks] = tables;
         MemoryTables {
             alloc,
             folder: None,
@@ -75,6 +76,7 @@ impl MemoryTables {
                 task_events: Held::new(tasks),
                 task_constraints: Held::new(constraints),
                 mapreduce_jobs: Held::new(jobs),
+                machine_disk: Held::new(disks),
             },
             largest: usize::MAX,
             calls: Calls::new(),
@@ -87,6 +89,7 @@ impl MemoryTables {
         ensures largest { result.largest ≡ largest }
         ensures rests { (t : Table) → ⟦<MemoryTables as Tables>⟧.rest result t ≡ ⟦<MemoryTables as Tables>⟧.rest self t }
         ensures counts { (t : Table) → ⟦<MemoryTables as Tables>⟧.faults result t ≡ ⟦<MemoryTables as Tables>⟧.faults self t }
+        ensures folder { ⟦<MemoryTables as Tables>⟧.entered result ≡ ⟦<MemoryTables as Tables>⟧.entered self }
     {
         let mut tables = self;
         tables.largest = largest;
@@ -99,37 +102,11 @@ impl MemoryTables {
         ensures failing { result.calls.failing ≡ Some call }
         ensures rests { (t : Table) → ⟦<MemoryTables as Tables>⟧.rest result t ≡ ⟦<MemoryTables as Tables>⟧.rest self t }
         ensures counts { (t : Table) → ⟦<MemoryTables as Tables>⟧.faults result t ≡ ⟦<MemoryTables as Tables>⟧.faults self t }
+        ensures folder { ⟦<MemoryTables as Tables>⟧.entered result ≡ ⟦<MemoryTables as Tables>⟧.entered self }
     {
         let mut tables = self;
         tables.calls.failing = Some(call);
         tables
-    }
-}
-
-// Reads one of the tables.
-fn read_held(
-    held: &mut ByTable<Held>,
-    table: Table,
-    fails: bool,
-    most: usize,
-    piece: &mut [u8],
-) -> Result<usize, Failed>
-    requires most { 0 < most }
-    requires piece { 0 < length piece.old }
-    ensures only { OnlyAt table held.old held.new }
-    ensures fits { IfOk result (λ count. count ≤ length piece.new) }
-    ensures hands { IfOk result (λ count. (at held.old table).unread ≡ take count piece.new ++ (at held.new table).unread) }
-    ensures ends { IfOk result (λ count. (count ≡ 0) ↔ ((at held.old table).unread ≡ [])) }
-    ensures stays { OnErr result ((at held.new table).unread ≡ (at held.old table).unread) }
-    ensures cause { OnErr result (Rose (at held.old table).faults (at held.new table).faults) }
-    ensures later { (at held.old table).faults ≤ (at held.new table).faults }
-{
-    match table {
-        Table::MachineEvents => held.machine_events.read(fails, most, piece),
-        Table::MachineAttributes => held.machine_attributes.read(fails, most, piece),
-        Table::TaskEvents => held.task_events.read(fails, most, piece),
-        Table::TaskConstraints => held.task_constraints.read(fails, most, piece),
-        Table::MapreduceJobs => held.mapreduce_jobs.read(fails, most, piece),
     }
 }
 
@@ -139,7 +116,7 @@ impl Tables for MemoryTables {
 
     ghost rest = { λ s t. Some (at s.held t).unread };
 
-    ghost entered = { λ s. s.folder };
+    ghost entered = { λ s. Some s.folder };
 
     ghost faults = { λ s t. (at s.held t).faults };
 
@@ -151,7 +128,7 @@ impl Tables for MemoryTables {
 
     fn read(&mut self, table: Table, piece: &mut [u8]) -> Result<usize, Failed> {
         let fails = self.calls.next_fails();
-        read_held(&mut self.held, table, fails, self.largest, piece)
+        self.held.get_mut(table).read(fails, self.largest, piece)
     }
 
     fn faults(&self, table: Table) -> u64 {

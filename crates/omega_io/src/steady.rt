@@ -1,6 +1,6 @@
 //! Tables and a sink that never fail.
-ghost use Rattle.std.specs.Prelude.{◌≡◌, ◌++◌, ◌<◌, ◌≤◌, ◌↔◌, [], length, take, Some};
-ghost use Rattle.omega_io.specs.ByTable.{at, OnlyAt, bytes_of};
+ghost use Rattle.std.specs.Prelude.{◌≡◌, None, Some};
+ghost use Rattle.omega_io.specs.ByTable.{bytes_of};
 ghost use Rattle.omega_model.specs.declared.rows.Table.{Table};
 
 use crate::by_table::ByTable;
@@ -9,7 +9,7 @@ use crate::unread::Unread;
 use omega_model::{Bytes, NoMemory, Table, Text};
 use std::alloc::Global;
 
-/// Five tables in memory, none of whose reads fails: their counts are the constant 0. A contract
+/// Six tables in memory, none of whose reads fails: their counts are the constant 0. A contract
 /// knows their rests and the folder entered last. A read takes no memory.
 #[derive(Drop)]
 pub struct SteadyTables {
@@ -19,11 +19,12 @@ pub struct SteadyTables {
 }
 
 impl SteadyTables {
-    /// Tables of these bytes, in the order of `Table`. Takes no memory.
-    pub fn new(alloc: Global, tables: [Bytes; 5]) -> SteadyTables
-        ensures { (t : Table) → ⟦<SteadyTables as Tables>⟧.rest result t ≡ Some (bytes_of tables t) }
+    /// Tables of these bytes, in the order of `Table`. No folder is entered. Takes no memory.
+    pub fn new(alloc: Global, tables: [Bytes; 6]) -> SteadyTables
+        ensures rests { (t : Table) → ⟦<SteadyTables as Tables>⟧.rest result t ≡ Some (bytes_of tables t) }
+        ensures folder { ⟦<SteadyTables as Tables>⟧.entered result ≡ Some None }
     {
-        let [machines, attributes, tasks, constraints, jobs] = tables;
+        let [machines, attributes, tasks, constraints, jobs, disks] = tables;
         SteadyTables {
             alloc,
             folder: None,
@@ -33,26 +34,9 @@ impl SteadyTables {
                 task_events: Unread::new(tasks),
                 task_constraints: Unread::new(constraints),
                 mapreduce_jobs: Unread::new(jobs),
+                machine_disk: Unread::new(disks),
             },
         }
-    }
-}
-
-// Reads one of the tables.
-fn read_unread(unread: &mut ByTable<Unread>, table: Table, piece: &mut [u8]) -> usize
-    requires { 0 < length piece.old }
-    ensures only { OnlyAt table unread.old unread.new }
-    ensures fits { result ≤ length piece.new }
-    ensures hands { at unread.old table ≡ take result piece.new ++ at unread.new table }
-    ensures ends { (result ≡ 0) ↔ (at unread.old table ≡ []) }
-{
-    let most = piece.len();
-    match table {
-        Table::MachineEvents => unread.machine_events.hand_over(most, piece),
-        Table::MachineAttributes => unread.machine_attributes.hand_over(most, piece),
-        Table::TaskEvents => unread.task_events.hand_over(most, piece),
-        Table::TaskConstraints => unread.task_constraints.hand_over(most, piece),
-        Table::MapreduceJobs => unread.mapreduce_jobs.hand_over(most, piece),
     }
 }
 
@@ -62,7 +46,7 @@ impl Tables for SteadyTables {
 
     ghost rest = { λ s t. Some (at s.unread t) };
 
-    ghost entered = { λ s. s.folder };
+    ghost entered = { λ s. Some s.folder };
 
     ghost faults = { λ _ _. 0 };
 
@@ -73,7 +57,7 @@ impl Tables for SteadyTables {
     }
 
     fn read(&mut self, table: Table, piece: &mut [u8]) -> Result<usize, Failed> {
-        Ok(read_unread(&mut self.unread, table, piece))
+        Ok(self.unread.get_mut(table).hand_over(piece.len(), piece))
     }
 
     fn faults(&self, _table: Table) -> u64 {

@@ -13,21 +13,22 @@ fn bytes(alloc: Global, text: &[u8]) -> Result<Bytes, AllocError> {
     Ok(Seq::of(Vec::from_slice(alloc, text)?))
 }
 
-// Five tables, of which two are empty.
-fn five(alloc: Global) -> Result<[Bytes; 5], AllocError> {
+// Six tables, of which two are empty.
+fn six(alloc: Global) -> Result<[Bytes; 6], AllocError> {
     Ok([
         bytes(alloc, b"abc")?,
         bytes(alloc, b"")?,
         bytes(alloc, b"de")?,
         bytes(alloc, b"")?,
         bytes(alloc, b"f")?,
+        bytes(alloc, b"gh")?,
     ])
 }
 
 #[test]
 fn tables_in_memory(rt: HostRuntime) -> Result<(), Fail> {
     let mut piece = [0u8; 4];
-    let mut tables = MemoryTables::new(rt.alloc(), five(rt.alloc())?)
+    let mut tables = MemoryTables::new(rt.alloc(), six(rt.alloc())?)
         .fail_at(3)
         .cut(2)
         .fail_at(1);
@@ -44,6 +45,8 @@ fn tables_in_memory(rt: HostRuntime) -> Result<(), Fail> {
         (Table::TaskConstraints, Ok(0), b'd'),
         (Table::MapreduceJobs, Ok(1), b'f'),
         (Table::MapreduceJobs, Ok(0), b'f'),
+        (Table::MachineDisk, Ok(2), b'g'),
+        (Table::MachineDisk, Ok(0), b'g'),
     ];
     for (table, answer, first) in calls {
         assert_eq!(rt; tables.read(table, &mut piece), answer);
@@ -84,7 +87,7 @@ fn sinks(rt: HostRuntime) -> Result<(), Fail> {
 #[test]
 fn steady_tables_and_gate(rt: HostRuntime) -> Result<(), Fail> {
     let mut piece = [0u8; 2];
-    let mut tables = SteadyTables::new(rt.alloc(), five(rt.alloc())?);
+    let mut tables = SteadyTables::new(rt.alloc(), six(rt.alloc())?);
     tables.enter("folder")?;
     for (table, answer) in [
         (Table::MachineEvents, Ok(2)),
@@ -92,6 +95,7 @@ fn steady_tables_and_gate(rt: HostRuntime) -> Result<(), Fail> {
         (Table::MachineEvents, Ok(0)),
         (Table::TaskEvents, Ok(2)),
         (Table::MapreduceJobs, Ok(1)),
+        (Table::MachineDisk, Ok(2)),
     ] {
         assert_eq!(rt; tables.read(table, &mut piece), answer);
         assert_eq!(rt; tables.faults(table), 0);
@@ -118,6 +122,7 @@ fn tables_of_a_folder(rt: HostRuntime) -> Result<(), Fail> {
         (Table::TaskEvents, Err(Failed)),
         (Table::TaskConstraints, Ok(0)),
         (Table::MapreduceJobs, Ok(0)),
+        (Table::MachineDisk, Ok(0)),
     ] {
         assert_eq!(rt; tables.read(table, &mut piece), answer);
     }
@@ -133,6 +138,7 @@ fn tables_of_a_folder(rt: HostRuntime) -> Result<(), Fail> {
         (Table::TaskEvents, 1),
         (Table::TaskConstraints, 1),
         (Table::MapreduceJobs, 0),
+        (Table::MachineDisk, 0),
     ] {
         assert_eq!(rt; tables.faults(table), faults);
     }

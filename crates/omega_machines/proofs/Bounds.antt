@@ -7,47 +7,55 @@ use Rattle.omega_model.specs.declared.cells.Need.{Need}
 use Rattle.omega_machines.specs.Table.{MachineState, IsBounded, used, state_added, state_updated, with_machine, charged, released}
 
 -- amounts are equal where their components are
-same_need : (a b : Need) → a.cpu ≡ b.cpu → a.mem ≡ b.mem → a ≡ b
-same_need a b cpu mem i = record { cpu = cpu i; mem = mem i }
+pub same_need : (a b : Need) → a.cpu ≡ b.cpu → a.mem ≡ b.mem → a.disk ≡ b.disk → a ≡ b
+same_need a b cpu mem disk i = record { cpu = cpu i; mem = mem i; disk = disk i }
 
 module _ (state : MachineState) (bounded : IsBounded state) where
   -- what is free and what is given back are a sum within its type
-  pub released_fits : (need : Need) → Fits need (used state) → (state.free.cpu + need.cpu < 2 ^ 64) × (state.free.mem + need.mem < 2 ^ 64)
-  released_fits need h =
-      (omega (arith, bounded.free.0, bounded.cap.0, h.0), omega (arith, bounded.free.1, bounded.cap.1, h.1))
+  pub released_fits : (need : Need) → Fits need (used state) → (state.free.cpu + need.cpu < 2 ^ 64)
+      × ((state.free.mem + need.mem < 2 ^ 64) × (state.free.disk + need.disk < 2 ^ 64))
+  released_fits need h = (
+    omega (arith, bounded.free.0, bounded.cap.0, h.0),
+    (
+      omega (arith, bounded.free.1.0, bounded.cap.1.0, h.1.0),
+      omega (arith, bounded.free.1.1, bounded.cap.1.1, h.1.1),
+    ),
+  )
 
   pub bounded-charged : (need : Need) → (state.machine.up ≡ true) × Fits need state.free → IsBounded (charged need state)
   bounded-charged need h = record {
     cap = bounded.cap;
-    free = (omega (arith, bounded.free.0), omega (arith, bounded.free.1));
+    free = (omega (arith, bounded.free.0), (omega (arith, bounded.free.1.0), omega (arith, bounded.free.1.1)));
     down = λ down. absurd (true≢false (sym h.0 ∙ down));
   }
 
   pub bounded-released : (need : Need) → Fits need (used state) → IsBounded (released need state)
   bounded-released need h = record {
     cap = bounded.cap;
-    free = (omega (arith, bounded.free.0, h.0), omega (arith, bounded.free.1, h.1));
+    free = (omega (arith, bounded.free.0, h.0), (omega (arith, bounded.free.1.0, h.1.0), omega (arith, bounded.free.1.1, h.1.1)));
     down = λ down.
         let all = bounded.down down in
         same_need (plus state.free need) state.machine.cap
-        (omega (arith, ap (λ (n : Need). n.cpu) all, h.0)) (omega (arith, ap (λ (n : Need). n.mem) all, h.1));
+        (omega (arith, ap (λ (n : Need). n.cpu) all, h.0)) (omega (arith, ap (λ (n : Need). n.mem) all, h.1.0))
+        (omega (arith, ap (λ (n : Need). n.disk) all, h.1.1));
   }
 
   pub bounded-added : (cap : Need) → Fits cap greatest → IsBounded (state_added cap state)
   bounded-added cap most = record {
     cap = most;
-    free = (omega arith, omega arith);
+    free = (omega arith, (omega arith, omega arith));
     down = λ down. absurd (true≢false down);
   }
 
   pub bounded-updated : (cap : Need) → Fits cap greatest → IsBounded (state_updated cap state)
   bounded-updated cap most = record {
     cap = most;
-    free = (omega arith, omega arith);
+    free = (omega arith, (omega arith, omega arith));
     down = λ down.
         let all = bounded.down down in
         same_need (minus cap (used state)) cap
-        (omega (arith, ap (λ (n : Need). n.cpu) all)) (omega (arith, ap (λ (n : Need). n.mem) all));
+        (omega (arith, ap (λ (n : Need). n.cpu) all)) (omega (arith, ap (λ (n : Need). n.mem) all))
+        (omega (arith, ap (λ (n : Need). n.disk) all));
   }
 
   pub bounded-removed : used state ≡ nothing → IsBounded (with_machine removed state)
@@ -56,5 +64,6 @@ module _ (state : MachineState) (bounded : IsBounded state) where
     free = bounded.free;
     down = λ _.
         same_need state.free state.machine.cap
-        (omega (arith, bounded.free.0, ap (λ (n : Need). n.cpu) none)) (omega (arith, bounded.free.1, ap (λ (n : Need). n.mem) none));
+        (omega (arith, bounded.free.0, ap (λ (n : Need). n.cpu) none)) (omega (arith, bounded.free.1.0, ap (λ (n : Need). n.mem) none))
+        (omega (arith, bounded.free.1.1, ap (λ (n : Need). n.disk) none));
   }

@@ -1,6 +1,6 @@
 pub mod Places
 mod Rewriting
-mod Bounds
+pub mod Bounds
 mod Growing
 mod Attributes
 pub mod Laws

@@ -3,7 +3,7 @@ ghost use Rattle.std.specs.Prelude.{◌≡◌, ◌-◌, ◌<◌, ◌^◌, ◌⊎
 ghost use Rattle.indexmap.specs.IndexMap.{get, IsUnchanged};
 ghost use Rattle.omega_model.specs.Fields.{greatest};
 ghost use Rattle.omega_model.specs.Machines.{is_listed, removed, attr_set, attr_deleted};
-ghost use Rattle.omega_model.specs.Need.{Fits, nothing, minus};
+ghost use Rattle.omega_model.specs.Need.{Fits, nothing};
 ghost use Rattle.omega_machines.specs.Table.{machines_of, use_at, free_at, seq_at, change_state, ensured_states, state_added, state_updated, with_machine, charged, released, touched, IsTable};
 
 use crate::{MachineState, attrs};
@@ -12,12 +12,10 @@ use omega_model::{Bytes, Copied, Machine, Need, NoMemory, Seq};
 use std::alloc::Global;
 use std::marker::Model;
 
-const NOTHING: Need = Need { cpu: 0, mem: 0 };
-
 /// The machines of a cell in order of first mention, found by number.
 ///
 /// A contract sees the list of their states. There are at most 65,536 of them, with distinct
-/// numbers and capacities of at most 1,000,000,000,000 units, and no more is in use on a machine
+/// numbers and capacities of at most 1,000,000,000,000 units of each kind, and no more is in use on a machine
 /// than its capacity, nothing where it is down.
 ///
 /// A call on a machine costs one or two look-ups of its number, the same for any number of
@@ -40,22 +38,12 @@ impl Model for MachineTable {
     ghost invariant = { λ table. IsKept table.rows.entries };
 }
 
-/// What is left of `a` when `b` is taken off it; a component stops at 0.
-fn minus(a: Need, b: Need) -> Need
-    ensures { result ≡ minus a b }
-{
-    Need {
-        cpu: a.cpu.saturating_sub(b.cpu),
-        mem: a.mem.saturating_sub(b.mem),
-    }
-}
-
 /// Gives a machine a capacity. What is in use on it stays in use.
 fn set_cap(state: &mut MachineState, cap: Need)
     ensures { state.new ≡ state_updated cap state.old }
 {
-    let used = minus(state.machine.cap, state.free);
-    state.free = minus(cap, used);
+    let used = state.machine.cap.minus(state.free);
+    state.free = cap.minus(used);
     state.machine.cap = cap;
 }
 
@@ -121,12 +109,12 @@ impl MachineTable {
         let machine = Machine {
             id,
             up: false,
-            cap: NOTHING,
+            cap: Need::NOTHING,
             attrs: Seq::new(*self.rows.allocator()),
         };
         let state = MachineState {
             machine,
-            free: NOTHING,
+            free: Need::NOTHING,
             seq: 0,
         };
         push(&mut self.rows, id, state)?;
@@ -261,7 +249,7 @@ impl MachineTable {
     {
         let place = self.place_of(id);
         let (_, state) = self.rows.pair_mut(place);
-        state.free = minus(state.free, need);
+        state.free = state.free.minus(need);
     }
 
     /// Gives back an amount of what is in use on a machine.

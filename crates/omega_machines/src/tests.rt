@@ -10,12 +10,18 @@ const MACHINES: u64 = 10_000;
 const GREATEST: Need = Need {
     cpu: 1_000_000_000_000,
     mem: 1_000_000_000_000,
+    disk: 1_000_000_000_000,
 };
 
+/// An amount with as much disk as memory.
 fn need(cpu: u64, mem: u64) -> Need
-    ensures { result ≡ record { cpu = cpu; mem = mem } }
+    ensures { result ≡ record { cpu = cpu; mem = mem; disk = mem } }
 {
-    Need { cpu, mem }
+    Need {
+        cpu,
+        mem,
+        disk: mem,
+    }
 }
 
 fn bytes(alloc: Global, text: &[u8]) -> Result<Bytes, AllocError> {

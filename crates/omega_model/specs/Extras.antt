@@ -15,7 +15,8 @@ target Relative activities asked = min activities (4 * asked)
 abbrev pub keeps_within : ℕ → Need → Need → Need → ℕ → Bool
 keeps_within percent need used capacity count =
     nat_le ((used.cpu + count * need.cpu) * 100) (capacity.cpu * percent)
-    && nat_le ((used.mem + count * need.mem) * 100) (capacity.mem * percent)
+    && (nat_le ((used.mem + count * need.mem) * 100) (capacity.mem * percent)
+    && nat_le ((used.disk + count * need.disk) * 100) (capacity.disk * percent))
 
 -- as many of these as the choice allows
 abbrev pub allowed : Extra → ℕ → Need → Need → Need → ℕ

@@ -53,6 +53,12 @@ abbrev pub changed_on : ℕ → Option ℕ → Option Verdict
 changed_on now None = None
 changed_on now (Some copy) = refusal_if (not (copy == now)) (Changed now copy)
 
+-- what a rule hands in of the scheduler's copy: the machine's sequence number there under the coarse
+-- rule, and nothing under the fine one
+abbrev pub known_of : List Entry → ℕ → Rule → ℕ → Option ℕ
+known_of history seen Fine machine = None
+known_of history seen Coarse machine = Some (seq (take seen history) machine)
+
 -- whether the task of this name runs on this machine
 abbrev pub runs_on : List Task → ℕ → TaskKey → Bool
 runs_on tasks id key = list_any (λ task. task.machine == id && same_key task.key key) tasks

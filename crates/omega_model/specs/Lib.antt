@@ -33,3 +33,16 @@ pub mod Ranges
 pub mod Jobs
 pub mod OpenRequests
 pub mod Applying
+pub mod Options
+pub mod PlainWords
+pub mod WordSettings
+pub mod Draws
+pub mod Planning
+pub mod Routing
+pub mod ExtraTasks
+pub mod Assigned
+pub mod ReportCounts
+pub mod ReportLines
+pub mod ReportForms
+pub mod Generated
+pub mod Stepping

@@ -8,6 +8,7 @@ mod cells;
 mod claims;
 mod delta;
 mod entries;
+mod laws;
 mod limits;
 mod list;
 mod results;
@@ -23,6 +24,7 @@ pub use claims::{
 };
 pub use delta::{Delta, Part, Parts};
 pub use entries::{Entries, Entry};
+pub use laws::{states_of_legal_histories, work_that_is_left};
 pub use limits::{GREATEST_QUANTITY, LONGEST_TABLE, MOST_MACHINES, MOST_ROWS};
 pub use list::{Bytes, Copied, NoMemory, Seq};
 pub use results::{Cause, Done, Kind, Status};

@@ -59,6 +59,31 @@ pub struct Settings {
     pub jobs: u32,
 }
 
+impl Default for Settings {
+    ghost use Rattle.omega_model.specs.WordSettings.{default_settings};
+
+    /// The settings where no option is given.
+    fn default() -> Settings
+        ensures { result ≡ default_settings }
+    {
+        Settings {
+            command: Command::Replay,
+            seed: 0,
+            batch: 1,
+            rule: Rule::Fine,
+            mode: Mode::Incremental,
+            preempt: Preempt::Nobody,
+            extra: Extra::Relative,
+            tries: 5,
+            give_up: 1_000,
+            window: 300_000_000,
+            format: Format::Text,
+            machines: 64,
+            jobs: 500,
+        }
+    }
+}
+
 impl Settings {
     /// How many schedulers there are: one for services, the batch ones, one for MapReduce.
     pub fn schedulers(&self) -> u32

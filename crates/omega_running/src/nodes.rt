@@ -33,12 +33,11 @@ pub struct Node {
 impl Node {
     /// A node that is in no tree. Takes the memory of one node.
     pub fn free(alloc: Global) -> Result<Box<Node>, NoMemory> {
-        let need = Need { cpu: 0, mem: 0 };
         let task = Task {
             key: TaskKey { job: 0, index: 0 },
             machine: 0,
             spec: Spec {
-                need,
+                need: Need::NOTHING,
                 prec: 0,
                 differ: false,
             },

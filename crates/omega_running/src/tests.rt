@@ -11,7 +11,11 @@ fn task(job: u64, index: u32, machine: u64, prec: u8) -> Task {
         key: key(job, index),
         machine,
         spec: Spec {
-            need: Need { cpu: 1, mem: 2 },
+            need: Need {
+                cpu: 1,
+                mem: 2,
+                disk: 3,
+            },
             prec,
             differ: false,
         },

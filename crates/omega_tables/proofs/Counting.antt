@@ -5,6 +5,7 @@ use Rattle.std.specs.BTreeSet.{BTreeSet, btree_set_len, contains, Updates}
 use Rattle.std.specs.BTreeMap.{is_at}
 use Rattle.std.specs.List.{filter, list_any}
 use Rattle.std.specs.Ordering.{nat_cmp}
+use Rattle.std.proofs.Math.Bool.{or-true, or-false}
 use Rattle.std.proofs.lemmas.Bool.{eq-eqb, ne_eqb, le-ltb, lt-ltb, cases_eq, cases_order}
 use Rattle.std.proofs.lemmas.List.{take_more, map-append}
 use Rattle.std.proofs.lemmas.List.Folds.{list_any-append}
@@ -73,21 +74,14 @@ holds_push old new ns n added h is count more = record {
   members = λ id. elim (cases_eq n id) [
     | inl e ↦
         let last : list_any (λ m. m == id) (ns ++ n ∷ []) ≡ true =
-        list_any-append (λ m. m == id) ns (n ∷ []) ∙ rw (eq-eqb n id e) (or_true (list_any (λ m. m == id) ns)) in
+        list_any-append (λ m. m == id) ns (n ∷ []) ∙ rw (eq-eqb n id e) (or-true (list_any (λ m. m == id) ns)) in
         ap (λ z. contains nat_cmp new z) (sym e) ∙ more.1 ∙ sym last
     | inr ne ↦
         let others : list_any (λ m. m == id) (ns ++ n ∷ []) ≡ list_any (λ m. m == id) ns =
-        list_any-append (λ m. m == id) ns (n ∷ []) ∙ rw (ne_eqb n id ne) (or_false (list_any (λ m. m == id) ns)) in
+        list_any-append (λ m. m == id) ns (n ∷ []) ∙ rw (ne_eqb n id ne) (or-false (list_any (λ m. m == id) ns)) in
         more.2 id (apart n id ne) ∙ h.members id ∙ sym others
   ];
-} where
-  or_true : (b : Bool) → (b || true) ≡ true
-  or_true true = refl
-  or_true false = refl
-
-  or_false : (b : Bool) → (b || false) ≡ b
-  or_false true = refl
-  or_false false = refl
+}
 
 -- one more row's number in the set
 pub holds_more : {X : Type 0} (f : X → ℕ) (old new : BTreeSet ℕ) (before : List ℕ) (rows : List X) (i : ℕ) (row : X) (added : Bool)

@@ -9,10 +9,10 @@ use Rattle.omega_model.specs.Trace.{trace_of, tables_in_order, place_of, with_ro
 use Rattle.omega_model.specs.Refusals.{first_refusal, refusal_among, table_refusal, trace_refusal}
 use Rattle.omega_model.proofs.FirstRefusal.{among_push, among_stop, tables_first, rows_last}
 use Rattle.omega_model.specs.declared.rows.Table.{Table}
-use Rattle.omega_model.specs.declared.rows.Table.TheVariants.{MachineEvents, MachineAttributes, TaskEvents, TaskConstraints, MapreduceJobs}
+use Rattle.omega_model.specs.declared.rows.Table.TheVariants.{MachineEvents, MachineAttributes, TaskEvents, TaskConstraints, MapreduceJobs, MachineDisk}
 use Rattle.omega_model.specs.declared.results.Status.{Status}
 use Rattle.omega_model.specs.declared.rows.TraceTables.{TraceTables}
-use Rattle.omega_tables.specs.Reading.{ComesFirst, StopsAt, StopsRows}
+use Rattle.omega_tables.specs.Reading.{CameTo, ComesFirst, Names, StoppedIn, StopsAt, StopsRows}
 use Rattle.omega_tables.specs.declared.refusal.ReadRefusal.{ReadRefusal}
 use Rattle.omega_tables.specs.declared.refusal.ReadRefusal.TheVariants.{Fault, TooLong, BadRow, TooMany, NoMemory}
 
@@ -20,13 +20,14 @@ use Rattle.omega_tables.specs.declared.refusal.ReadRefusal.TheVariants.{Fault, T
 abbrev pub table_at : ℕ → Table
 table_at place = get_or tables_in_order place MachineEvents
 
-place_at : (i : ℕ) → i < 5 → place_of (table_at i) ≡ i
+place_at : (i : ℕ) → i < 6 → place_of (table_at i) ≡ i
 place_at zero h = refl
 place_at (suc zero) h = refl
 place_at (suc (suc zero)) h = refl
 place_at (suc (suc (suc zero))) h = refl
 place_at (suc (suc (suc (suc zero)))) h = refl
-place_at (suc (suc (suc (suc (suc i))))) h = absurd (omega (arith, h))
+place_at (suc (suc (suc (suc (suc zero))))) h = refl
+place_at (suc (suc (suc (suc (suc (suc i)))))) h = absurd (omega (arith, h))
 
 at_place : (t : Table) → table_at (place_of t) ≡ t
 at_place MachineEvents = refl
@@ -34,6 +35,7 @@ at_place MachineAttributes = refl
 at_place TaskEvents = refl
 at_place TaskConstraints = refl
 at_place MapreduceJobs = refl
+at_place MachineDisk = refl
 
 same_or_other : (n m : ℕ) → (n ≡ m) ⊎ (n ≢ m)
 same_or_other zero zero = inl refl
@@ -42,15 +44,15 @@ same_or_other (suc n) zero = inr (λ e. absurd (omega (arith, e)))
 same_or_other (suc n) (suc m) = elim (same_or_other n m) [ inl e ↦ inl (ap suc e) | inr d ↦ inr (λ e. d (omega (arith, e))) ]
 
 -- another place is that of another table
-elsewhere : (t : Table) (i : ℕ) → i < 5 → place_of t ≢ i → t ≢ table_at i
+elsewhere : (t : Table) (i : ℕ) → i < 6 → place_of t ≢ i → t ≢ table_at i
 elsewhere t i h other = λ e. other (ap place_of e ∙ place_at i h)
 
 -- what is told of the table that is read next
-told_here : (first now : Table → Option (List ℕ)) (i : ℕ) (bytes : Table → List ℕ) → i < 5
+told_here : (first now : Table → Option (List ℕ)) (i : ℕ) (bytes : Table → List ℕ) → i < 6
     → ((t : Table) → i ≤ place_of t → now t ≡ first t) → Tells first bytes → now (table_at i) ≡ Some (bytes (table_at i))
 told_here first now i bytes h left told = left (table_at i) (omega (arith, place_at i h)) ∙ told (table_at i)
 
-pub none_more : (first now : Table → Option (List ℕ)) (i : ℕ) (bytes : Table → List ℕ) → i < 5
+pub none_more : (first now : Table → Option (List ℕ)) (i : ℕ) (bytes : Table → List ℕ) → i < 6
     → ((t : Table) → i ≤ place_of t → now t ≡ first t) → Tells first bytes → refusal_among (take i tables_in_order) bytes ≡ None
     → IfSome (now (table_at i)) (λ b. table_refusal (table_at i) b ≡ None) → refusal_among (take (i + 1) tables_in_order) bytes ≡ None
 none_more first now i bytes h left told before this =
@@ -58,7 +60,7 @@ none_more first now i bytes h left told before this =
     ap (λ (ts : List Table). refusal_among ts bytes) (take_more tables_in_order i MachineEvents h)
     ∙ among_push (take i tables_in_order) (table_at i) bytes before (rw here at this)
 
-pub trace_more : (first now : Table → Option (List ℕ)) (i : ℕ) (bytes : Table → List ℕ) (trace more : TraceTables) → i < 5
+pub trace_more : (first now : Table → Option (List ℕ)) (i : ℕ) (bytes : Table → List ℕ) (trace more : TraceTables) → i < 6
     → ((t : Table) → i ≤ place_of t → now t ≡ first t) → Tells first bytes
     → trace ≡ fold (λ rows table. with_rows table (bytes table) rows) no_rows (take i tables_in_order)
     → IfSome (now (table_at i)) (λ b. more ≡ with_rows (table_at i) b trace)
@@ -71,7 +73,7 @@ trace_more first now i bytes trace more h left told before this =
     ∙ sym (fold-append f no_rows (take i tables_in_order) (table_at i ∷ []))
     ∙ sym (ap (fold f no_rows) (take_more tables_in_order i MachineEvents h))
 
-pub done_more : (first now next : Table → Option (List ℕ)) (i : ℕ) → i < 5
+pub done_more : (first now next : Table → Option (List ℕ)) (i : ℕ) → i < 6
     → ((t : Table) → place_of t < i → IfSome (first t) (λ b. now t ≡ Some []))
     → ((t : Table) → i ≤ place_of t → now t ≡ first t)
     → IfSome (now (table_at i)) (λ b. next (table_at i) ≡ Some [])
@@ -85,14 +87,15 @@ done_more first now next i h done left this others t below =
       | inr d ↦ rw (others t (elsewhere t i h d)) (done t (omega arith))
     ]
 
-pub left_more : (first now next : Table → Option (List ℕ)) (i : ℕ) → i < 5
+-- what is as it was from a place on is so from the next place on, where only the table at this place changes
+pub left_more : {A : Type 0} (first now next : Table → A) (i : ℕ) → i < 6
     → ((t : Table) → i ≤ place_of t → now t ≡ first t)
     → ((t : Table) → t ≢ table_at i → next t ≡ now t)
     → (t : Table) → i + 1 ≤ place_of t → next t ≡ first t
 left_more first now next i h left others t above =
     others t (elsewhere t i h (λ e. absurd (omega (arith, e, above)))) ∙ left t (omega (arith, above))
 
-pub later_more : (first now next : Table → ℕ) (i : ℕ) → i < 5
+pub later_more : (first now next : Table → ℕ) (i : ℕ) → i < 6
     → ((t : Table) → first t ≤ now t) → now (table_at i) ≤ next (table_at i)
     → ((t : Table) → t ≢ table_at i → next t ≡ now t) → (t : Table) → first t ≤ next t
 later_more first now next i h before this others t =
@@ -105,18 +108,18 @@ later_more first now next i h before this others t =
     ]
 
 -- the tables before a place, the one there, and those behind
-split_at : (i : ℕ) → i < 5 → tables_in_order ≡ take i tables_in_order ++ table_at i ∷ drop (i + 1) tables_in_order
+split_at : (i : ℕ) → i < 6 → tables_in_order ≡ take i tables_in_order ++ table_at i ∷ drop (i + 1) tables_in_order
 split_at i h =
     sym (take-append-drop i tables_in_order) ∙ ap (λ (ts : List Table). take i tables_in_order ++ ts) (drop_more tables_in_order i MachineEvents h)
 
-whole : (i : ℕ) (bytes : Table → List ℕ) → i < 5 → refusal_among (take i tables_in_order) bytes ≡ None
+whole : (i : ℕ) (bytes : Table → List ℕ) → i < 6 → refusal_among (take i tables_in_order) bytes ≡ None
     → (refusal : Status) → table_refusal (table_at i) (bytes (table_at i)) ≡ Some refusal → first_refusal bytes ≡ Some refusal
 whole i bytes h before refusal stops = tables_first bytes refusal (
     ap (λ (ts : List Table). refusal_among ts bytes) (split_at i h)
     ∙ among_stop (take i tables_in_order) (table_at i) (drop (i + 1) tables_in_order) bytes refusal before stops)
 
 -- the refusal of the table at this place comes first where none of those before it is refused
-comes_first : (i : ℕ) (bytes : Table → List ℕ) → i < 5 → refusal_among (take i tables_in_order) bytes ≡ None
+comes_first : (i : ℕ) (bytes : Table → List ℕ) → i < 6 → refusal_among (take i tables_in_order) bytes ≡ None
     → (refusal : ReadRefusal) → StopsAt (table_at i) (bytes (table_at i)) refusal → ComesFirst bytes refusal
 comes_first i bytes h before (Fault table) stops = rw (stops, place_at i h) before
 comes_first i bytes h before (TooLong table) stops = whole i bytes h before _ stops
@@ -124,7 +127,7 @@ comes_first i bytes h before (BadRow table row column cause) stops = whole i byt
 comes_first i bytes h before (TooMany kind number) stops = whole i bytes h before _ stops
 comes_first i bytes h before NoMemory stops = tt
 
-pub stops_first : (first now : Table → Option (List ℕ)) (i : ℕ) (bytes : Table → List ℕ) (refusal : ReadRefusal) → i < 5
+pub stops_first : (first now : Table → Option (List ℕ)) (i : ℕ) (bytes : Table → List ℕ) (refusal : ReadRefusal) → i < 6
     → ((t : Table) → i ≤ place_of t → now t ≡ first t) → Tells first bytes → refusal_among (take i tables_in_order) bytes ≡ None
     → IfSome (now (table_at i)) (λ b. StopsAt (table_at i) b refusal) → ComesFirst bytes refusal
 stops_first first now i bytes refusal h left told before this =
@@ -139,3 +142,42 @@ stops_last bytes trace (TooLong _) none same stops = elim stops [ ]
 stops_last bytes trace (BadRow _ _ _ _) none same stops = elim stops [ ]
 stops_last bytes trace (TooMany kind number) none same stops = rows_last bytes _ none (ap trace_refusal (sym same) ∙ stops)
 stops_last bytes trace NoMemory none same stops = tt
+
+-- where only the table at a place changes, the reading came to this place
+pub came_to : (first now next : Table → Option (List ℕ)) (count held then : Table → ℕ) (i : ℕ) → i < 6
+    → ((t : Table) → place_of t < i → IfSome (first t) (λ b. now t ≡ Some []))
+    → ((t : Table) → i ≤ place_of t → now t ≡ first t) → ((t : Table) → i ≤ place_of t → held t ≡ count t)
+    → ((t : Table) → t ≢ table_at i → next t ≡ now t) → ((t : Table) → t ≢ table_at i → then t ≡ held t)
+    → CameTo i first next count then
+came_to first now next count held then i h done left same others other_counts = record {
+  before = λ t below. rw (others t (elsewhere t i h (λ e. absurd (omega (arith, e, below))))) (done t below);
+  rests = λ t above. left_more first now next i h left others t (omega (arith, above));
+  counts = λ t above. left_more count held then i h same other_counts t (omega (arith, above));
+}
+
+-- the reading stopped in the table at the place that it came to
+pub stopped_in : (first next : Table → Option (List ℕ)) (count then : Table → ℕ) (i : ℕ) (refusal : ReadRefusal) → i < 6
+    → CameTo i first next count then → Names (table_at i) refusal → StoppedIn first next count then refusal
+stopped_in first next count then i (Fault table) h came is = rw (is, place_at i h) came
+stopped_in first next count then i (TooLong table) h came is = rw (is, place_at i h) came
+stopped_in first next count then i (BadRow table row column cause) h came is = rw (is, place_at i h) came
+stopped_in first next count then i (TooMany kind number) h came is = elim is [ ]
+stopped_in first next count then i NoMemory h came is = (i, came)
+
+-- rows are looked at together once all tables were read
+pub stopped_behind : (first next : Table → Option (List ℕ)) (count then : Table → ℕ) (trace : TraceTables) (refusal : ReadRefusal)
+    → CameTo 6 first next count then → StopsRows trace refusal → StoppedIn first next count then refusal
+stopped_behind first next count then trace (Fault _) came stops = elim stops [ ]
+stopped_behind first next count then trace (TooLong _) came stops = elim stops [ ]
+stopped_behind first next count then trace (BadRow _ _ _ _) came stops = elim stops [ ]
+stopped_behind first next count then trace (TooMany kind number) came stops = came
+stopped_behind first next count then trace NoMemory came stops = (6, came)
+
+-- the place of each table is one of the six
+pub place_below : (t : Table) → place_of t < 6
+place_below MachineEvents = omega arith
+place_below MachineAttributes = omega arith
+place_below TaskEvents = omega arith
+place_below TaskConstraints = omega arith
+place_below MapreduceJobs = omega arith
+place_below MachineDisk = omega arith

@@ -1,17 +1,16 @@
 //! The columns of a record, and the typed row that they make.
-ghost use Rattle.std.specs.Prelude.{◌≡◌, ◌+◌, ◌^◌, ◌<◌, ◌≤◌, IfOk, true, false, Ok, Err};
+ghost use Rattle.std.specs.Prelude.{◌≡◌, ◌^◌, ◌<◌, ◌≤◌, IfOk};
 ghost use Rattle.csv.specs.Records.{fields_of};
-ghost use Rattle.omega_model.specs.Fields.{greatest as most_units};
+ghost use Rattle.omega_model.specs.Fields.{greatest as most_units, greatest_quantity};
 ghost use Rattle.omega_model.specs.Need.{Fits};
 ghost use Rattle.omega_model.specs.Rows.{column};
-ghost use Rattle.omega_model.specs.Columns.{bounded, blank_or_bounded, amount_down, amount_up, in_column, number_in, number_or_blank_in, time_in, id_in, capacity_in, request_in, key_in, spec_of, operator, machine_row, attr_row, task_row, constraint_row, activity_row};
+ghost use Rattle.omega_model.specs.Columns.{bounded, number_in, number_or_blank_in, time_in, id_in, amount_down_in, amount_up_in, capacity_in, request_in, key_in, spec_of, operator, machine_row, attr_row, task_row, constraint_row, activity_row, disk_row};
 ghost use Rattle.omega_tables.specs.Checking.{has_fields, attr_numbers, constraint_numbers};
-ghost use Rattle.omega_units.specs.Units.{units};
 
 use csv::ByteRecord;
 use omega_model::{
-    ActivityRow, AttrRow, Bytes, Cause, Constraint, ConstraintRow, MachineRow, Need, NoMemory, Op,
-    Seq, Spec, TaskKey, TaskRow,
+    ActivityRow, AttrRow, Bytes, Cause, Constraint, ConstraintRow, DiskRow, MachineRow, Need,
+    NoMemory, Op, Seq, Spec, TaskKey, TaskRow,
 };
 use omega_units::{Rounding, read_quantity, read_u64};
 use std::alloc::Global;
@@ -89,11 +88,11 @@ fn id_in(number: u32, fields: &ByteRecord) -> Result<u64, BadColumn>
     number_in(u64::MAX, number, fields)
 }
 
-// The units of a capacity, rounded down.
-fn amount_down(number: u32, fields: &ByteRecord) -> Result<u64, BadColumn>
+// The units of a capacity in a column, rounded down.
+fn amount_down_in(number: u32, fields: &ByteRecord) -> Result<u64, BadColumn>
     requires { 0 < number }
-    ensures value { result ≡ in_column number (amount_down (column (fields_of fields.now) number)) }
-    ensures most { IfOk result (λ units. units ≤ 1000000000000) }
+    ensures value { result ≡ amount_down_in number (fields_of fields.now) }
+    ensures most { IfOk result (λ units. units ≤ greatest_quantity) }
 {
     match read_quantity(column(fields, number), Rounding::Down) {
         Ok(units) => Ok(units),
@@ -101,11 +100,11 @@ fn amount_down(number: u32, fields: &ByteRecord) -> Result<u64, BadColumn>
     }
 }
 
-// The units of a request, rounded up.
-fn amount_up(number: u32, fields: &ByteRecord) -> Result<u64, BadColumn>
+// The units of a request in a column, rounded up.
+fn amount_up_in(number: u32, fields: &ByteRecord) -> Result<u64, BadColumn>
     requires { 0 < number }
-    ensures value { result ≡ in_column number (amount_up (column (fields_of fields.now) number)) }
-    ensures most { IfOk result (λ units. units ≤ 1000000000000) }
+    ensures value { result ≡ amount_up_in number (fields_of fields.now) }
+    ensures most { IfOk result (λ units. units ≤ greatest_quantity) }
 {
     match read_quantity(column(fields, number), Rounding::Up) {
         Ok(units) => Ok(units),
@@ -113,20 +112,22 @@ fn amount_up(number: u32, fields: &ByteRecord) -> Result<u64, BadColumn>
     }
 }
 
-// The capacity of a machine, in a column and the next.
+// The CPU and memory of a machine, in a column and the next. Its table says nothing of disk.
 fn capacity_in(number: u32, fields: &ByteRecord) -> Result<Need, BadColumn>
     requires first { 0 < number }
     requires last { number < 100 }
     ensures value { result ≡ capacity_in number (fields_of fields.now) }
     ensures most { IfOk result (λ need. Fits need most_units) }
+    ensures disk { IfOk result (λ need. need.disk ≡ 0) }
 {
     Ok(Need {
-        cpu: amount_down(number, fields)?,
-        mem: amount_down(number + 1, fields)?,
+        cpu: amount_down_in(number, fields)?,
+        mem: amount_down_in(number + 1, fields)?,
+        disk: 0,
     })
 }
 
-// What a task asks for, in a column and the next.
+// The CPU, memory and disk that a task asks for, in a column and the next two.
 fn request_in(number: u32, fields: &ByteRecord) -> Result<Need, BadColumn>
     requires first { 0 < number }
     requires last { number < 100 }
@@ -134,8 +135,9 @@ fn request_in(number: u32, fields: &ByteRecord) -> Result<Need, BadColumn>
     ensures most { IfOk result (λ need. Fits need most_units) }
 {
     Ok(Need {
-        cpu: amount_up(number, fields)?,
-        mem: amount_up(number + 1, fields)?,
+        cpu: amount_up_in(number, fields)?,
+        mem: amount_up_in(number + 1, fields)?,
+        disk: amount_up_in(number + 2, fields)?,
     })
 }
 
@@ -208,6 +210,17 @@ pub fn activity_row(fields: &ByteRecord) -> Result<ActivityRow, BadColumn>
     Ok(ActivityRow {
         job: id_in(1, fields)?,
         activities: number_in(10_000, 2, fields)? as u32,
+    })
+}
+
+/// The row of a record of `machine_disk`, or its first bad column.
+pub fn disk_row(fields: &ByteRecord) -> Result<DiskRow, BadColumn>
+    ensures { result ≡ disk_row (fields_of fields.now) }
+{
+    has_fields(2, fields)?;
+    Ok(DiskRow {
+        machine: id_in(1, fields)?,
+        disk: amount_down_in(2, fields)?,
     })
 }
 

@@ -1,4 +1,4 @@
-//! The reading of the five tables of a trace.
+//! The reading of the six tables of a trace.
 //!
 //! Each table is read to its end and cut into records, and each record becomes a typed row. The
 //! first bad row is named with its first bad column. Then the limits over all tables are checked.
@@ -10,7 +10,7 @@ mod parsing;
 mod reading;
 mod refusal;
 
-pub use limits::over_limit;
+pub use limits::{LONGEST_TABLE, MOST_MACHINES, MOST_ROWS, over_limit};
 pub use parsing::parse_table;
 pub use reading::{read_bytes, read_tables};
 pub use refusal::ReadRefusal;

@@ -1,6 +1,6 @@
-//! The limits over all five tables.
+//! The limits of a table and of all six.
 ghost use Rattle.std.specs.Prelude.{◌≡◌, ◌↔◌, ◌++◌, ℕ, List, map, None, IfOk, OnOk, IfErr};
-ghost use Rattle.omega_model.specs.Limits.{row_count, machine_count, excess, IsWithinLimits};
+ghost use Rattle.omega_model.specs.Limits.{row_count, machine_count, limit_passed, IsWithinLimits};
 ghost use Rattle.omega_model.specs.Refusals.{trace_refusal};
 ghost use Rattle.omega_tables.specs.Checking.{Holds};
 ghost use Rattle.omega_tables.specs.Reading.{StopsRows};
@@ -10,13 +10,16 @@ use omega_model::{AttrRow, Kind, MachineRow, NoMemory, TraceTables};
 use std::alloc::Global;
 use std::collections::BTreeSet;
 
-// The most rows over all five tables.
-const MOST_ROWS: u64 = 2_000_000;
+/// How many bytes a table may have: 256 MiB.
+pub const LONGEST_TABLE: usize = 268_435_456;
 
-// The most different machines.
-const MOST_MACHINES: u64 = 65_536;
+/// How many rows the six tables may have together.
+pub const MOST_ROWS: u64 = 2_000_000;
 
-// How many rows the five tables have.
+/// How many different machines the rows of machines and of attributes may name.
+pub const MOST_MACHINES: u64 = 65_536;
+
+// How many rows the six tables have.
 fn row_count(tables: &TraceTables) -> u64
     ensures { result ≡ row_count tables.now }
 {
@@ -25,6 +28,7 @@ fn row_count(tables: &TraceTables) -> u64
         + tables.tasks.as_slice().len() as u64
         + tables.constraints.as_slice().len() as u64
         + tables.activities.as_slice().len() as u64
+        + tables.disks.as_slice().len() as u64
 }
 
 // Adds the machines of some rows to those that were named before.
@@ -57,11 +61,12 @@ fn machine_count(alloc: Global, tables: &TraceTables) -> Result<u64, NoMemory>
     Ok(named.len() as u64)
 }
 
-/// The first number that passes its limit: the rows of all five tables above 2,000,000, then the
-/// different machines in the rows of machines and of attributes above 65,536. `None` exactly where
-/// both limits are kept. Costs n log m for n rows of machines and attributes and m machines.
+/// The first number that passes its limit: the rows of all six tables above `MOST_ROWS`, then the
+/// different machines in the rows of machines and of attributes above `MOST_MACHINES`. `None`
+/// exactly where both limits are kept. Costs n log m for n rows of machines and attributes and m
+/// machines.
 pub fn over_limit(alloc: Global, tables: &TraceTables) -> Result<Option<(Kind, u64)>, NoMemory>
-    ensures number { IfOk result (λ number. number ≡ excess tables.now) }
+    ensures number { IfOk result (λ number. number ≡ limit_passed tables.now) }
     ensures within { IfOk result (λ number. (number ≡ None) ↔ IsWithinLimits tables.now) }
 {
     let rows = row_count(tables);

@@ -6,11 +6,14 @@ ghost use Rattle.omega_model.specs.Trace.{with_rows};
 ghost use Rattle.omega_model.specs.Refusals.{bad_row, row_refusal};
 ghost use Rattle.omega_tables.specs.Reading.{Stands};
 
-use crate::columns::{BadColumn, activity_row, attr_row, constraint_row, machine_row, task_row};
+use crate::columns::{
+    BadColumn, activity_row, attr_row, constraint_row, disk_row, machine_row, task_row,
+};
 use crate::refusal::ReadRefusal;
 use csv::{ByteRecord, ReaderBuilder};
 use omega_model::{
-    ActivityRow, AttrRow, ConstraintRow, MachineRow, NoMemory, Seq, Table, TaskRow, TraceTables,
+    ActivityRow, AttrRow, ConstraintRow, DiskRow, MachineRow, NoMemory, Seq, Table, TaskRow,
+    TraceTables,
 };
 use std::alloc::Global;
 use std::mem;
@@ -90,6 +93,19 @@ impl FromRecord for ActivityRow {
         fields: &ByteRecord,
     ) -> Result<Result<ActivityRow, BadColumn>, NoMemory> {
         Ok(activity_row(fields))
+    }
+}
+
+impl FromRecord for DiskRow {
+    ghost use Rattle.omega_model.specs.Columns.{disk_row};
+
+    ghost row_of = { disk_row };
+
+    fn from_record(
+        _alloc: Global,
+        fields: &ByteRecord,
+    ) -> Result<Result<DiskRow, BadColumn>, NoMemory> {
+        Ok(disk_row(fields))
     }
 }
 
@@ -173,5 +189,6 @@ pub fn parse_table(
         Table::TaskEvents => append_rows(alloc, table, text, &mut into.tasks),
         Table::TaskConstraints => append_rows(alloc, table, text, &mut into.constraints),
         Table::MapreduceJobs => append_rows(alloc, table, text, &mut into.activities),
+        Table::MachineDisk => append_rows(alloc, table, text, &mut into.disks),
     }
 }

@@ -3,39 +3,37 @@ ghost use Rattle.std.specs.Prelude.{◌≡◌, ◌≢◌, ◌≤◌, ℕ, List, 
 ghost use Rattle.omega_io.specs.Edge.{Tells};
 ghost use Rattle.omega_model.specs.Trace.{trace_of, with_rows};
 ghost use Rattle.omega_model.specs.Limits.{IsWithinLimits};
-ghost use Rattle.omega_model.specs.Refusals.{first_refusal, table_refusal};
+ghost use Rattle.omega_model.specs.Refusals.{first_refusal, longest_table, table_refusal};
 ghost use Rattle.omega_model.specs.declared.rows.Table.{Table};
-ghost use Rattle.omega_tables.specs.Reading.{StopsReading, StopsAt, ComesFirst, HasCause};
+ghost use Rattle.omega_tables.specs.Reading.{StopsReading, StopsAt, Names, StoppedIn, ComesFirst, HasCause};
 
-use crate::limits::check_rows;
+use crate::limits::{LONGEST_TABLE, check_rows};
 use crate::parsing::parse_table;
 use crate::refusal::ReadRefusal;
 use omega_io::Tables;
 use omega_model::{Bytes, Seq, Table, TraceTables};
 use std::alloc::Global;
 
-// The greatest length of a table in bytes.
-const MOST_BYTES: usize = 268_435_456;
-
 // The order in which the tables are read.
-const IN_ORDER: [Table; 5] = [
+const IN_ORDER: [Table; 6] = [
     Table::MachineEvents,
     Table::MachineAttributes,
     Table::TaskEvents,
     Table::TaskConstraints,
     Table::MapreduceJobs,
+    Table::MachineDisk,
 ];
 
 /// The whole rest of a table. `Fault` comes only where the count of that table rose, or can rise
-/// no further. `TooLong` comes exactly where no fault is answered and the rest has more than
-/// 268,435,456 bytes. After any refusal the bytes taken are gone.
+/// no further. `TooLong` comes exactly where no fault is answered and the rest has more bytes than
+/// `LONGEST_TABLE`. After any refusal the bytes taken are gone. The other tables stay as they are.
 pub fn read_bytes<T: Tables>(
     alloc: Global,
     tables: &mut T,
     table: Table,
 ) -> Result<Bytes, ReadRefusal>
     ensures whole { IfOk result (λ bytes. IfSome (T.rest tables.old table) (λ left. (bytes ≡ left) × (T.rest tables.new table ≡ Some []))) }
-    ensures most { IfOk result (λ bytes. length bytes ≤ 268435456) }
+    ensures most { IfOk result (λ bytes. length bytes ≤ longest_table) }
     ensures refusal { IfErr result (λ refusal. StopsReading table (T.rest tables.old table) (T.faults tables.old table) (T.faults tables.new table) refusal) }
     ensures later { T.faults tables.old table ≤ T.faults tables.new table }
     ensures other_rests { (t : Table) → t ≢ table → T.rest tables.new t ≡ T.rest tables.old t }
@@ -44,7 +42,7 @@ pub fn read_bytes<T: Tables>(
 {
     let mut bytes = Vec::new(alloc);
     let mut piece = [0u8; 8192];
-    while bytes.len() <= MOST_BYTES {
+    while bytes.len() <= LONGEST_TABLE {
         let Ok(count) = tables.read(table, &mut piece) else {
             return Err(ReadRefusal::Fault(table));
         };
@@ -67,6 +65,7 @@ fn read_table<T: Tables>(
     ensures none { OnOk result (IfSome (T.rest tables.old table) (λ bytes. table_refusal table bytes ≡ None)) }
     ensures to_end { OnOk result (IfSome (T.rest tables.old table) (λ bytes. T.rest tables.new table ≡ Some [])) }
     ensures refusal { IfErr result (λ refusal. IfSome (T.rest tables.old table) (λ bytes. StopsAt table bytes refusal)) }
+    ensures names { IfErr result (Names table) }
     ensures cause { IfErr result (λ refusal. HasCause (T.faults tables.old) (T.faults tables.new) refusal) }
     ensures later { T.faults tables.old table ≤ T.faults tables.new table }
     ensures other_rests { (t : Table) → t ≢ table → T.rest tables.new t ≡ T.rest tables.old t }
@@ -77,19 +76,20 @@ fn read_table<T: Tables>(
     parse_table(alloc, table, bytes.as_slice(), into)
 }
 
-/// Reads the five tables, each to its end, in the order of `Table`, and makes their rows.
+/// Reads the six tables, each to its end, in the order of `Table`, and makes their rows.
 ///
 /// A refusal is the first one that stands: for each table in order first a read that fails, then
-/// its length, then its rows; then the number of rows over all tables, that of different machines,
-/// and a row for which no replay is built yet. `Fault` comes only where the count of its table rose, or can rise
-/// no further. After any refusal the bytes taken so far are gone. Holds the text of one table at
-/// a time.
+/// its length, then its rows; then the number of rows over all tables, and that of different
+/// machines. `Fault` comes only where the count of its table rose, or can rise no further. After
+/// any refusal the bytes taken so far are gone: the tables before the one that is refused were read
+/// to their end, and those behind it are as they were. Holds the text of one table at a time.
 pub fn read_tables<T: Tables>(alloc: Global, tables: &mut T) -> Result<TraceTables, ReadRefusal>
     ensures trace { (bytes : Table → List ℕ) → Tells (T.rest tables.old) bytes → IfOk result (λ trace. trace ≡ trace_of bytes) }
     ensures none { (bytes : Table → List ℕ) → Tells (T.rest tables.old) bytes → OnOk result (first_refusal bytes ≡ None) }
     ensures within { IfOk result IsWithinLimits }
     ensures to_end { (bytes : Table → List ℕ) → Tells (T.rest tables.old) bytes → OnOk result (Tells (T.rest tables.new) (λ table. [])) }
     ensures refusal { (bytes : Table → List ℕ) → Tells (T.rest tables.old) bytes → IfErr result (λ refusal. ComesFirst bytes refusal) }
+    ensures stopped { IfErr result (λ refusal. StoppedIn (T.rest tables.old) (T.rest tables.new) (T.faults tables.old) (T.faults tables.new) refusal) }
     ensures cause { IfErr result (λ refusal. HasCause (T.faults tables.old) (T.faults tables.new) refusal) }
     ensures later { (t : Table) → T.faults tables.old t ≤ T.faults tables.new t }
     ensures folder { T.entered tables.new ≡ T.entered tables.old }

@@ -7,7 +7,7 @@ use std::alloc::{AllocError, AllocFailed};
 pub enum ReadRefusal {
     /// A read of the table failed.
     Fault(Table),
-    /// The table has more than 268,435,456 bytes.
+    /// The table has more bytes than `LONGEST_TABLE`.
     TooLong(Table),
     /// Rows count from 1, columns from 1; column 0 stands for the number of fields.
     BadRow {

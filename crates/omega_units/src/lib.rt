@@ -1,8 +1,9 @@
 //! Numbers in text, read exactly: whole numbers and quantities.
 #![tactic(auto)]
 
-ghost use Rattle.std.specs.Prelude.{◌≡◌, ◌≤◌, ◌^◌, IfOk};
+ghost use Rattle.std.specs.Prelude.{◌≡◌, ◌≤◌, IfOk};
 ghost use Rattle.std.specs.Result.{result_ok};
+ghost use Rattle.omega_model.specs.Fields.{greatest_quantity};
 ghost use Rattle.omega_model.specs.Numbers.{whole};
 ghost use Rattle.omega_units.specs.Units.{units};
 
@@ -49,7 +50,7 @@ pub fn read_u64(text: &[u8]) -> Result<u64, BadNumber>
 /// rounding. Looks at each byte at most three times, takes no memory.
 pub fn read_quantity(text: &[u8], rounding: Rounding) -> Result<u64, BadNumber>
     ensures value { result_ok result ≡ units rounding text.now }
-    ensures bound { IfOk result (λ units. units ≤ 10 ^ 12) }
+    ensures bound { IfOk result (λ units. units ≤ greatest_quantity) }
 {
     if text.is_empty() {
         return Ok(0);

@@ -14,6 +14,7 @@ invariant-loop-table g l = record {
       → l.trace ≡ fold (λ trace table. with_rows table (bytes table) trace) no_rows (take l.table-index tables_in_order);
   done : (t : Table) → place_of t < l.table-index → IfSome (g.T.Tables.rest l.fn.tables t) (λ bytes. g.T.Tables.rest l.tables t ≡ Some []);
   left : (t : Table) → l.table-index ≤ place_of t → g.T.Tables.rest l.tables t ≡ g.T.Tables.rest l.fn.tables t;
+  same : (t : Table) → l.table-index ≤ place_of t → g.T.Tables.faults l.tables t ≡ g.T.Tables.faults l.fn.tables t;
   later : (t : Table) → g.T.Tables.faults l.fn.tables t ≤ g.T.Tables.faults l.tables t;
   folder : g.T.Tables.entered l.tables ≡ g.T.Tables.entered l.fn.tables;
 }

@@ -6,8 +6,8 @@ use Rattle.omega_machines.specs.Table.{machines_of, seq_at}
 use Rattle.omega_board.specs.Board.{cell_of, table_with}
 use Rattle.omega_board.proofs.Tasks.{without_more}
 use Rattle.omega_board.proofs.Boards.{at_now, table_with-same}
-use Rattle.omega_board.proofs.Claims.{without_none, absent_still, victim_runs, claim_fits}
-use Rattle.omega_board.proofs.Parts.{placeable}
+use Rattle.omega_board.proofs.Claims.{without_none, absent_still, evicted_runs, claim_fits}
+use Rattle.omega_board.proofs.Placed.{placed_so}
 use Rattle.omega_board.proofs.Rewinds.{table_with-twice, machines_with, seq_with}
 use Rattle.omega_board.proofs.board.Board.apply_placed.Goals as goal
 
@@ -25,25 +25,27 @@ loop-key-init c =
 pub stop_noted-requires-clause-runs : goal.stop_noted-requires-clause-runs
 stop_noted-requires-clause-runs c =
     let i = c.loop-key.key-index in
-    let slice = c.as_slice-key-items.result.now in
+    let evicted = c.args.evicted.now in
     let none : TaskKey = record { job = 0; index = 0 } in
-    let below : i < length c.args.claim.now.victims = subst (λ (keys : List TaskKey). i < length keys) c.as_slice-key-items.ensures c.loop-key-test.true in
-    let known = placeable (cell_of c.args.self.now) c.args.claim.now c.requires.placed in
-    ap (λ tasks. is_some (task_at tasks (get_or slice i none))) c.loop-key.invariant.0
-    ∙ victim_runs c.args.self.now (at_now _ _ c.self.view_is c.self.invariant) c.args.claim.now known i (get_or slice i none) below
-    (ap (λ (keys : List TaskKey). get_or keys i (get_or slice i none)) (sym c.as_slice-key-items.ensures) ∙ get_or_default slice i (get_or slice i none) none c.loop-key-test.true)
+    let known = placed_so (cell_of c.args.self.now) c.args.claim.now evicted c.requires.placed in
+    ap (λ tasks. is_some (task_at tasks (get_or evicted i none))) c.loop-key.invariant.0
+    ∙ evicted_runs c.args.self.now (at_now _ _ c.self.view_is c.self.invariant) c.args.claim.now evicted known i (get_or evicted i none) c.loop-key-test.true
+    (get_or_default evicted i (get_or evicted i none) none c.loop-key-test.true)
+
+pub stop_noted-requires-clause-room : goal.stop_noted-requires-clause-room
+stop_noted-requires-clause-room c =
+    let known = placed_so (cell_of c.args.self.now) c.args.claim.now c.args.evicted.now c.requires.placed in
+    omega (arith, known.few, c.requires.victims, c.loop-key.invariant.5, c.loop-key-test.true)
 
 pub loop-key-preserved : goal.loop-key-preserved
 loop-key-preserved c =
     let i = c.loop-key.key-index in
-    let slice = c.as_slice-key-items.result.now in
+    let evicted = c.args.evicted.now in
     let none : TaskKey = record { job = 0; index = 0 } in
-    let victims = c.args.claim.now.victims in
     let tasks = c.args.self.now.tasks in
-    let front : take (i + 1) victims ≡ take i victims ++ get_or slice i none ∷ [] =
-    ap (take (i + 1)) (sym c.as_slice-key-items.ensures) ∙ take_more slice i none c.loop-key-test.true ∙ ap (λ keys. take i keys ++ get_or slice i none ∷ []) c.as_slice-key-items.ensures in (
-      c.stop_noted.ensures.tasks ∙ ap (without (get_or slice i none ∷ [])) c.loop-key.invariant.0
-          ∙ sym (without_more (take i victims) (get_or slice i none) tasks) ∙ ap (λ keys. without keys tasks) (sym front),
+    let front : take (i + 1) evicted ≡ take i evicted ++ get_or evicted i none ∷ [] = take_more evicted i none c.loop-key-test.true in (
+      c.stop_noted.ensures.tasks ∙ ap (without (get_or evicted i none ∷ [])) c.loop-key.invariant.0
+          ∙ sym (without_more (take i evicted) (get_or evicted i none) tasks) ∙ ap (λ keys. without keys tasks) (sym front),
       c.stop_noted.ensures.table ∙ ap (table_with c.stop_noted.new.self.tasks) c.loop-key.invariant.1
           ∙ table_with-twice c.stop_noted.new.self.tasks c.loop-key.self.tasks c.args.self.now.table,
       c.stop_noted.ensures.content ∙ c.loop-key.invariant.2,
@@ -54,17 +56,16 @@ loop-key-preserved c =
 
 pub start_noted-requires-clause-absent : goal.start_noted-requires-clause-absent
 start_noted-requires-clause-absent c =
-    let known = placeable (cell_of c.args.self.now) c.args.claim.now c.requires.placed in
+    let known = placed_so (cell_of c.args.self.now) c.args.claim.now c.args.evicted.now c.requires.placed in
     ap (λ tasks. task_at tasks c.args.claim.now.key) c.loop-key.invariant.0
-    ∙ absent_still (take c.loop-key.key-index c.args.claim.now.victims) c.args.self.now.tasks c.args.claim.now.key known.absent
+    ∙ absent_still (take c.loop-key.key-index c.args.evicted.now) c.args.self.now.tasks c.args.claim.now.key known.absent
 
 pub start_noted-requires-clause-fits : goal.start_noted-requires-clause-fits
 start_noted-requires-clause-fits c =
-    let known = placeable (cell_of c.args.self.now) c.args.claim.now c.requires.placed in
-    let victims = c.args.claim.now.victims in
-    let past : length victims ≤ c.loop-key.key-index = subst (λ (keys : List TaskKey). length keys ≤ c.loop-key.key-index) c.as_slice-key-items.ensures c.loop-key-test.false in
-    claim_fits c.args.self.now (at_now _ _ c.self.view_is c.self.invariant) c.args.claim.now known c.loop-key.self.tasks c.loop-key.self.table
-    (c.loop-key.invariant.0 ∙ ap (λ keys. without keys c.args.self.now.tasks) (take_all c.loop-key.key-index victims past))
+    let evicted = c.args.evicted.now in
+    let known = placed_so (cell_of c.args.self.now) c.args.claim.now evicted c.requires.placed in
+    claim_fits c.args.self.now (at_now _ _ c.self.view_is c.self.invariant) c.args.claim.now evicted known c.loop-key.self.tasks c.loop-key.self.table
+    (c.loop-key.invariant.0 ∙ ap (λ keys. without keys c.args.self.now.tasks) (take_all c.loop-key.key-index evicted c.loop-key-test.false))
     c.loop-key.invariant.1
 
 pub returns-clause-machines : goal.returns-clause-machines
@@ -76,3 +77,13 @@ pub returns-clause-seqs : goal.returns-clause-seqs
 returns-clause-seqs c = λ id.
     ap (λ table. seq_at table id) c.start_noted.ensures.table ∙ seq_with c.start_noted.new.self.tasks c.loop-key.self.table id
     ∙ ap (λ table. seq_at table id) c.loop-key.invariant.1 ∙ seq_with c.loop-key.self.tasks c.args.self.now.table id
+
+pub overflow_sub-len : goal.overflow_sub-len
+overflow_sub-len c =
+    let known = placed_so (cell_of c.args.self.now) c.args.claim.now c.args.evicted.now c.requires.placed in
+    omega (arith, known.few, c.len.ensures)
+
+pub returns-clause-victims : goal.returns-clause-victims
+returns-clause-victims c =
+    let known = placed_so (cell_of c.args.self.now) c.args.claim.now c.args.evicted.now c.requires.placed in
+    omega (arith, known.few, c.requires.victims, c.loop-key.invariant.5, c.loop-key-test.false, c.loop-key.auto.key-index-end, c.give_up.ensures.victims, c.start_noted.ensures.victims, c.len.ensures)

@@ -6,7 +6,7 @@ use Rattle.omega_board.proofs.board.Board.apply_placed.Given as goal
 
 abbrev pub invariant-loop-key : goal.invariant-loop-key
 invariant-loop-key l =
-    (l.self.tasks ≡ without (take l.key-index l.claim.victims) l.fn.self.tasks)
+    (l.self.tasks ≡ without (take l.key-index l.evicted) l.fn.self.tasks)
     × (l.self.table ≡ table_with l.self.tasks l.fn.self.table)
     × (at_reserve l.undo l.self ≡ at_reserve l.fn.undo l.fn.self)
     × IsUndoOf l.self l.undo

@@ -21,7 +21,7 @@ touch-requires-clause-listed c =
 
 pub touch-requires-clause-seq : goal.touch-requires-clause-seq
 touch-requires-clause-seq c =
-    let few = c.requires.seqs c.args.machine (eq-eqb c.args.machine c.args.machine refl) in
+    let few = c.requires.numbers c.args.machine (eq-eqb c.args.machine c.args.machine refl) in
     let same = ap (λ table. seq_at table c.args.machine) c.stop.ensures.table ∙ seq_with c.stop.new.self.tasks c.args.self.now.table c.args.machine in
     omega (arith, few, same)
 

@@ -1,4 +1,8 @@
-use Rattle.std.proofs.Common.{◌≡◌, ◌<◌, ◌≤◌, ◌+◌, length, min, sym, subst, arith}
+use Rattle.std.proofs.Common.{◌≡◌, ◌<◌, ◌≤◌, ◌+◌, length, min, sym, ap, ◌∙◌, subst, arith}
+use Rattle.std.proofs.lemmas.List.{get_or_default}
+use Rattle.omega_model.specs.Reply.{tasks_placed}
+use Rattle.omega_model.specs.Touches.{is_placed}
+use Rattle.omega_model.specs.declared.claims.Judgement.{Judgement}
 use Rattle.omega_board.specs.Board.{BoardState}
 use Rattle.omega_board.specs.Undo.{UndoState}
 use Rattle.omega_board.proofs.Commits.{IsPlacing, placed_next, passed_next, placed_all, claim_at}
@@ -20,11 +24,11 @@ loop-i-preserved c =
     elim c.if-is_placed.branch [
       | then-is_placed w ↦
           along P c.if-is_placed.self w.apply_placed.new.self c.if-is_placed.undo w.apply_placed.new.undo w.self-is w.undo-is
-          (placed_next c.args.self.now c.loop-i.self w.apply_placed.new.self c.loop-i.undo w.apply_placed.new.undo claims reply i w.index-claims-i.result below_claims below_reply w.index-claims-i.is (sym w.if-is_placed.ensures)
-          w.apply_placed.ensures.tasks w.apply_placed.ensures.machines w.apply_placed.ensures.seqs w.apply_placed.ensures.undo w.apply_placed.ensures.claims w.apply_placed.ensures.victims c.loop-i.invariant)
+          (placed_next c.args.self.now c.loop-i.self w.apply_placed.new.self c.loop-i.undo w.apply_placed.new.undo claims reply i w.index-claims-i.result c.index-reply-i.result below_claims below_reply w.index-claims-i.is c.index-reply-i.is (ap (λ (j : Judgement). is_placed j.verdict) c.index-reply-i.is ∙ sym w.if-is_placed.ensures)
+          (w.apply_placed.ensures.tasks ∙ ap (tasks_placed c.loop-i.self.tasks w.index-claims-i.result) (w.as_slice.ensures ∙ ap (λ (j : Judgement). j.evicted) (get_or_default reply i w.index-reply-i-then-is_placed.result c.index-reply-i.result below_reply ∙ sym c.index-reply-i.is))) w.apply_placed.ensures.machines w.apply_placed.ensures.seqs w.apply_placed.ensures.undo w.apply_placed.ensures.claims w.apply_placed.ensures.victims c.loop-i.invariant)
       | else-is_placed w ↦
           along P c.if-is_placed.self c.loop-i.self c.if-is_placed.undo c.loop-i.undo w.self-is w.undo-is
-          (passed_next c.args.self.now c.loop-i.self c.loop-i.undo claims reply i (claim_at claims i below_claims).0 below_claims below_reply (claim_at claims i below_claims).1 (sym w.if-is_placed.ensures) c.loop-i.invariant)
+          (passed_next c.args.self.now c.loop-i.self c.loop-i.undo claims reply i (claim_at claims i below_claims).0 c.index-reply-i.result below_claims below_reply (claim_at claims i below_claims).1 c.index-reply-i.is (ap (λ (j : Judgement). is_placed j.verdict) c.index-reply-i.is ∙ sym w.if-is_placed.ensures) c.loop-i.invariant)
     ]
 
 pub returns-clause-tasks : goal.returns-clause-tasks

@@ -17,7 +17,13 @@ pub plus-state-requires-clause-mem : goal.plus-state-requires-clause-mem
 plus-state-requires-clause-mem c =
     let here = stands _ _ _ _ _ _ c.self.view_is c.place_of-place.ensures c.pair_mut-state.ensures.value in
     let bounded = bounded_row _ _ _ _ c.self.invariant c.pair_mut-state.ensures.value in
-    (released_fits _ bounded c.args.need (subst (Fits c.args.need) (use_there _ _ _ _ here) c.requires.in_use)).1
+    (released_fits _ bounded c.args.need (subst (Fits c.args.need) (use_there _ _ _ _ here) c.requires.in_use)).1.0
+
+pub plus-state-requires-clause-disk : goal.plus-state-requires-clause-disk
+plus-state-requires-clause-disk c =
+    let here = stands _ _ _ _ _ _ c.self.view_is c.place_of-place.ensures c.pair_mut-state.ensures.value in
+    let bounded = bounded_row _ _ _ _ c.self.invariant c.pair_mut-state.ensures.value in
+    (released_fits _ bounded c.args.need (subst (Fits c.args.need) (use_there _ _ _ _ here) c.requires.in_use)).1.1
 
 pub invariant_of-self : goal.invariant_of-self
 invariant_of-self c =

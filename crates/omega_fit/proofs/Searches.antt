@@ -1,0 +1,226 @@
+-- What a search in the parts of a tree says of the whole tree.
+use Rattle.std.proofs.Common.{◌≡◌, ℕ, zero, suc, List, [], ◌∷◌, ◌++◌, ◌+◌, ◌-◌, ◌<◌, ◌≤◌, length, take, drop, Option, Some, None, Bool, true, false, subst, sym, ap, refl, arith}
+use Rattle.std.specs.Prelude.{get_or, max}
+use Rattle.std.proofs.Math.Nat.{le-max_left, le-max_right}
+use Rattle.std.proofs.lemmas.List.{length-take-le, length-drop, take-append-drop, length-map}
+use Rattle.omega_model.specs.declared.cells.Need.{Need}
+use Rattle.omega_fit.specs.declared.nodes.Slot.{Slot}
+use Rattle.omega_fit.specs.Needs.{greater, Holds, WithRoom}
+use Rattle.omega_fit.specs.Round.{positions_from, IsFirst, FirstBetween}
+use Rattle.omega_fit.specs.Tree.{frees, middle, most_of, root, Tree, FirstWithin}
+use Rattle.omega_fit.proofs.Firsts.{found_from_start, none_from_start}
+use Rattle.omega_fit.proofs.Middles.{middle_within}
+use Rattle.omega_fit.proofs.Trees.{tree_parts}
+
+left_max : (n a b : ℕ) → n ≤ a → n ≤ max a b
+left_max n a b le = omega (arith, le, le-max_left a b)
+
+right_max : (n a b : ℕ) → n ≤ b → n ≤ max a b
+right_max n a b le = omega (arith, le, le-max_right a b)
+
+holds_left : (need : Need) (a b : Option Need) → Holds need a → Holds need (greater a b)
+holds_left need None b h = absurd h
+holds_left need (Some a) None h = h
+holds_left need (Some a) (Some b) h = (left_max _ _ _ h.0, (left_max _ _ _ h.1.0, left_max _ _ _ h.1.1))
+
+holds_right : (need : Need) (a b : Option Need) → Holds need b → Holds need (greater a b)
+holds_right need None b h = h
+holds_right need (Some a) None h = absurd h
+holds_right need (Some a) (Some b) h = (right_max _ _ _ h.0, (right_max _ _ _ h.1.0, right_max _ _ _ h.1.1))
+
+get_left : (left : List Slot) (rest : List Slot) (i : ℕ) → i < length left → get_or (frees (left ++ rest)) i None ≡ get_or (frees left) i None
+get_left [] rest i lt = absurd (omega arith)
+get_left (x ∷ left) rest zero lt = refl
+get_left (x ∷ left) rest (suc i) lt = get_left left rest i (omega arith)
+
+get_here : (left : List Slot) (slot : Slot) (right : List Slot) (i : ℕ) → i ≡ length left → get_or (frees (left ++ slot ∷ right)) i None ≡ slot.free
+get_here [] slot right zero is = refl
+get_here [] slot right (suc i) is = absurd (omega arith)
+get_here (x ∷ left) slot right zero is = absurd (omega arith)
+get_here (x ∷ left) slot right (suc i) is = get_here left slot right i (omega arith)
+
+get_right : (left : List Slot) (slot : Slot) (right : List Slot) (i j : ℕ) → i ≡ suc (length left + j) → get_or (frees (left ++ slot ∷ right)) i None ≡ get_or (frees right) j None
+get_right [] slot right zero j is = absurd (omega arith)
+get_right [] slot right (suc i) j is = let e : i ≡ j = omega arith in rw e refl
+get_right (x ∷ left) slot right zero j is = absurd (omega arith)
+get_right (x ∷ left) slot right (suc i) j is = get_right left slot right i j (omega arith)
+
+-- where what holds somewhere holds: left of the middle, at it or right of it
+at_fork : {R : Type 0} (P : Option Need → Type 0) (left : List Slot) (slot : Slot) (right : List Slot) (i : ℕ) → P (get_or (frees (left ++ slot ∷ right)) i None)
+    → ((j : ℕ) → P (get_or (frees left) j None) → R) → (P slot.free → R) → ((j : ℕ) → P (get_or (frees right) j None) → R) → R
+at_fork P [] slot right zero h l m r = m h
+at_fork P [] slot right (suc i) h l m r = r i h
+at_fork P (x ∷ left) slot right zero h l m r = l 0 h
+at_fork P (x ∷ left) slot right (suc i) h l m r = at_fork P left slot right i h (λ j. l (suc j)) m r
+
+cases_at : {R : Type 0} (i n : ℕ) → (i < n → R) → (i ≡ n → R) → ((j : ℕ) → i ≡ suc (n + j) → R) → R
+cases_at zero zero l m r = m refl
+cases_at zero (suc n) l m r = l (omega arith)
+cases_at (suc i) zero l m r = r i (omega arith)
+cases_at (suc i) (suc n) l m r = cases_at i n (λ p. l (omega arith)) (λ e. m (ap suc e)) (λ j e. r j (omega arith))
+
+-- what fits somewhere fits the greater
+bounds_parts : (need : Need) (slots rest : List Slot) → Tree slots → drop (middle (length slots)) slots ≡ rest
+    → (i : ℕ) → Holds need (get_or (frees (take (middle (length slots)) slots ++ rest)) i None)
+    → length (take (middle (length slots)) slots) < length slots → length rest ≤ length slots → zero < length rest
+    → ((xs : List Slot) → length xs < length slots → Tree xs → (j : ℕ) → Holds need (get_or (frees xs) j None) → Holds need (root xs))
+    → Holds need (most_of rest)
+bounds_parts need slots [] t is i h shorter lr some below = absurd (omega arith)
+bounds_parts need slots (slot ∷ right) t is i h shorter lr some below =
+    let p = tree_parts slots slot right t is in
+    subst (λ z. Holds need z) (sym p.0)
+    (at_fork (λ z. Holds need z) (take (middle (length slots)) slots) slot right i h
+    (λ j g. holds_left need _ _ (below (take (middle (length slots)) slots) shorter p.1 j g))
+    (λ g. holds_right need (root (take (middle (length slots)) slots)) _ (holds_left need _ _ g))
+    (λ j g. holds_right need (root (take (middle (length slots)) slots)) _ (holds_right need slot.free _ (below right (omega arith) p.2 j g))))
+
+bounds : (k : ℕ) (need : Need) (slots : List Slot) → length slots ≤ k → Tree slots → (i : ℕ) → Holds need (get_or (frees slots) i None) → Holds need (root slots)
+bounds k need [] le t i h = absurd h
+bounds zero need (x ∷ xs) le t i h = absurd (omega arith)
+bounds (suc k) need (x ∷ xs) le t i h =
+    let w : middle (length (x ∷ xs)) < length (x ∷ xs) = middle_within (length (x ∷ xs)) (omega arith) in
+    let a : length (take (middle (length (x ∷ xs))) (x ∷ xs)) ≡ middle (length (x ∷ xs)) = length-take-le (middle (length (x ∷ xs))) (x ∷ xs) (omega (arith, w)) in
+    let d : length (drop (middle (length (x ∷ xs))) (x ∷ xs)) ≡ length (x ∷ xs) - middle (length (x ∷ xs)) = length-drop (middle (length (x ∷ xs))) (x ∷ xs) in
+    bounds_parts need (x ∷ xs) (drop (middle (length (x ∷ xs))) (x ∷ xs)) t refl i
+    (subst (λ z. Holds need (get_or (frees z) i None)) (sym (take-append-drop (middle (length (x ∷ xs))) (x ∷ xs))) h)
+    (omega (arith, a, w)) (omega (arith, d)) (omega (arith, d, w))
+    (λ ys lt u j g. bounds k need ys (omega arith) u j g)
+
+-- a tree whose greater has no room has none
+pub pruned : (post : ℕ → Bool → Type 0) (need : Need) (slots : List Slot) (base from to : ℕ) → Tree slots → (Holds need (root slots) → ⊥) → FirstWithin post need slots base from to None
+unfolding FirstWithin
+pruned post need slots base from to t none = λ j a b h. absurd (none (bounds (length slots) need slots (omega arith) t j h))
+
+found_left : (post : ℕ → Bool → Type 0) (need : Need) (left rest : List Slot) (base from to part i : ℕ)
+    → part ≤ to → part ≤ length left → FirstWithin post need left base from part (Some i) → FirstWithin post need (left ++ rest) base from to (Some i)
+unfolding FirstWithin
+found_left post need left rest base from to part i le fits f = (
+  f.0,
+  omega (arith, f.1),
+  (subst (λ z. Holds need z) (sym (get_left left rest i (omega (arith, f.1)))) f.2.0, f.2.1),
+  λ j a b h. f.3 j a b (subst (λ z. Holds need z) (get_left left rest j (omega (arith, f.1))) h),
+)
+
+none_fork : (post : ℕ → Bool → Type 0) (need : Need) (left : List Slot) (slot : Slot) (right : List Slot) (base from to part : ℕ)
+    → ((j : ℕ) → j < to → j < length left → j < part)
+    → FirstWithin post need left base from part None
+    → (from ≤ length left → length left < to → Holds need slot.free → post (base + length left) false)
+    → FirstWithin post need right (base + suc (length left)) (from - suc (length left)) (to - suc (length left)) None
+    → FirstWithin post need (left ++ slot ∷ right) base from to None
+unfolding FirstWithin
+none_fork post need left slot right base from to part within l m r = λ j a b h.
+    cases_at j (length left)
+    (λ lt. l j a (within j b lt) (subst (λ z. Holds need z) (get_left left (slot ∷ right) j lt) h))
+    (λ e. subst (λ z. post (base + z) false) (sym e) (m (omega arith) (omega arith) (subst (λ z. Holds need z) (get_here left slot right j e) h)))
+    (λ k e. let at : base + suc (length left) + k ≡ base + j = omega arith in
+    subst (λ z. post z false) at (r k (omega arith) (omega arith) (subst (λ z. Holds need z) (get_right left slot right j k e) h)))
+
+found_here : (post : ℕ → Bool → Type 0) (need : Need) (left : List Slot) (slot : Slot) (right : List Slot) (base from to part i : ℕ)
+    → ((j : ℕ) → j < to → j < length left → j < part)
+    → FirstWithin post need left base from part None
+    → i ≡ length left → from ≤ i → i < to → Holds need slot.free → post (base + i) true
+    → FirstWithin post need (left ++ slot ∷ right) base from to (Some i)
+unfolding FirstWithin
+found_here post need left slot right base from to part i within l is a b h p = (
+  a,
+  b,
+  (subst (λ z. Holds need z) (sym (get_here left slot right i is)) h, p),
+  λ j c d g. l j c (within j (omega arith) (omega arith)) (subst (λ z. Holds need z) (get_left left (slot ∷ right) j (omega arith)) g),
+)
+
+found_right : (post : ℕ → Bool → Type 0) (need : Need) (left : List Slot) (slot : Slot) (right : List Slot) (base from to part i : ℕ)
+    → ((j : ℕ) → j < to → j < length left → j < part)
+    → FirstWithin post need left base from part None
+    → (from ≤ length left → length left < to → Holds need slot.free → post (base + length left) false)
+    → FirstWithin post need right (base + suc (length left)) (from - suc (length left)) (to - suc (length left)) (Some i)
+    → FirstWithin post need (left ++ slot ∷ right) base from to (Some (suc (length left) + i))
+unfolding FirstWithin
+found_right post need left slot right base from to part i within l m r =
+    let q : base + suc (length left) + i ≡ base + (suc (length left) + i) = omega arith in
+    let at : suc (length left) + i ≡ suc (length left + i) = omega arith in (
+      omega (arith, r.0),
+      omega (arith, r.1),
+      (subst (λ z. Holds need z) (sym (get_right left slot right (suc (length left) + i) i at)) r.2.0, subst (λ z. post z true) q r.2.1),
+      none_fork post need left slot right base from (suc (length left) + i) part
+          (λ j c d. within j (omega (arith, r.1)) d) l
+          (λ c d h. m c (omega (arith, r.1)) h)
+          (λ j c d h. r.3 j c (omega arith) h),
+    )
+
+-- the same, of a list that was split
+pub nothing_asked : (post : ℕ → Bool → Type 0) (need : Need) (slots : List Slot) (base from to : ℕ) → to ≤ from → FirstWithin post need slots base from to None
+unfolding FirstWithin
+nothing_asked post need slots base from to le = λ j a b h. absurd (omega arith)
+
+pub in_left : (post : ℕ → Bool → Type 0) (need : Need) (slots left : List Slot) (slot : Slot) (right : List Slot) (base from to part i : ℕ)
+    → slots ≡ left ++ slot ∷ right → part ≤ to → part ≤ length left → FirstWithin post need left base from part (Some i) → FirstWithin post need slots base from to (Some i)
+in_left post need slots left slot right base from to part i is le fits f =
+    subst (λ z. FirstWithin post need z base from to (Some i)) (sym is) (found_left post need left (slot ∷ right) base from to part i le fits f)
+
+pub in_middle : (post : ℕ → Bool → Type 0) (need : Need) (slots left : List Slot) (slot : Slot) (right : List Slot) (base from to part : ℕ)
+    → slots ≡ left ++ slot ∷ right
+    → ((j : ℕ) → j < to → j < length left → j < part)
+    → FirstWithin post need left base from part None
+    → from ≤ length left → length left < to → Holds need slot.free → post (base + length left) true
+    → FirstWithin post need slots base from to (Some (length left))
+in_middle post need slots left slot right base from to part is within l a b h p =
+    subst (λ z. FirstWithin post need z base from to (Some (length left))) (sym is) (found_here post need left slot right base from to part (length left) within l refl a b h p)
+
+pub in_right : (post : ℕ → Bool → Type 0) (need : Need) (slots left : List Slot) (slot : Slot) (right : List Slot) (base from to part i : ℕ)
+    → slots ≡ left ++ slot ∷ right
+    → ((j : ℕ) → j < to → j < length left → j < part)
+    → FirstWithin post need left base from part None
+    → (from ≤ length left → length left < to → Holds need slot.free → post (base + length left) false)
+    → FirstWithin post need right (base + (length left + 1)) (from - (length left + 1)) (to - (length left + 1)) (Some i)
+    → FirstWithin post need slots base from to (Some (length left + 1 + i))
+in_right post need slots left slot right base from to part i is within l m r =
+    let e : length left + 1 ≡ suc (length left) = omega arith in
+    subst (λ z. FirstWithin post need z base from to (Some (length left + 1 + i))) (sym is)
+    (subst (λ n. FirstWithin post need (left ++ slot ∷ right) base from to (Some (n + i))) (sym e)
+    (found_right post need left slot right base from to part i within l m
+    (subst (λ n. FirstWithin post need right (base + n) (from - n) (to - n) (Some i)) e r)))
+
+pub in_none : (post : ℕ → Bool → Type 0) (need : Need) (slots left : List Slot) (slot : Slot) (right : List Slot) (base from to part : ℕ)
+    → slots ≡ left ++ slot ∷ right
+    → ((j : ℕ) → j < to → j < length left → j < part)
+    → FirstWithin post need left base from part None
+    → (from ≤ length left → length left < to → Holds need slot.free → post (base + length left) false)
+    → FirstWithin post need right (base + (length left + 1)) (from - (length left + 1)) (to - (length left + 1)) None
+    → FirstWithin post need slots base from to None
+in_none post need slots left slot right base from to part is within l m r =
+    let e : length left + 1 ≡ suc (length left) = omega arith in
+    subst (λ z. FirstWithin post need z base from to None) (sym is)
+    (none_fork post need left slot right base from to part within l m
+    (subst (λ n. FirstWithin post need right (base + n) (from - n) (to - n) None) e r))
+
+-- a search in the whole tree
+whole : (answers : ℕ → Bool → Type 0) (need : Need) (slots : List Slot) (from to : ℕ) (found : Option ℕ)
+    → FirstWithin answers need slots 0 from to found → FirstBetween (WithRoom (frees slots) need answers) from to found
+unfolding FirstWithin
+whole answers need slots from to None f = λ n a b h. let e : 0 + n ≡ n = omega arith in subst (λ z. answers z false) e (f n a b h)
+whole answers need slots from to (Some i) f =
+    let e : 0 + i ≡ i = omega arith in (
+      f.0,
+      f.1,
+      (f.2.0, subst (λ z. answers z true) e f.2.1),
+      λ n a b h. let d : 0 + n ≡ n = omega arith in subst (λ z. answers z false) d (f.3 n a b h),
+    )
+
+-- what a search from the start on finds, and one before the start where that one finds nothing
+pub found_round : (answers : ℕ → Bool → Type 0) (need : Need) (slots : List Slot) (start i : ℕ) → start ≤ length slots
+    → FirstWithin answers need slots 0 start (length slots) (Some i)
+    → IsFirst (WithRoom (frees slots) need answers) (positions_from start (length (frees slots))) (Some i)
+found_round answers need slots start i le f =
+    let e : length (frees slots) ≡ length slots = rw length-map refl in
+    subst (λ n. IsFirst (WithRoom (frees slots) need answers) (positions_from start n) (Some i)) (sym e)
+    (found_from_start (WithRoom (frees slots) need answers) start (length slots) i le
+    (whole answers need slots start (length slots) (Some i) f))
+
+pub none_round : (answers : ℕ → Bool → Type 0) (need : Need) (slots : List Slot) (start : ℕ) (found : Option ℕ) → start ≤ length slots
+    → FirstWithin answers need slots 0 start (length slots) None → FirstWithin answers need slots 0 0 start found
+    → IsFirst (WithRoom (frees slots) need answers) (positions_from start (length (frees slots))) found
+none_round answers need slots start found le none f =
+    let e : length (frees slots) ≡ length slots = rw length-map refl in
+    subst (λ n. IsFirst (WithRoom (frees slots) need answers) (positions_from start n) found) (sym e)
+    (none_from_start (WithRoom (frees slots) need answers) start (length slots) found le
+    (whole answers need slots start (length slots) None none) (whole answers need slots 0 start found f))

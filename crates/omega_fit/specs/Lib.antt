@@ -1,0 +1,4 @@
+pub mod Needs
+pub mod Positions
+pub mod Round
+pub mod Tree

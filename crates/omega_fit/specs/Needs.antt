@@ -1,0 +1,22 @@
+-- Amounts that hold a need.
+use Rattle.std.specs.Prelude.{ℕ, Bool, true, false, List, Option, Some, None, get_or, max}
+use Rattle.omega_model.specs.Need.{Fits}
+use Rattle.omega_model.specs.declared.cells.Need.{Need}
+
+-- there is an amount, and the need fits it
+abbrev pub Holds : Need → Option Need → Type 0
+Holds need None = ⊥
+Holds need (Some free) = Fits need free
+
+-- what may be answered at a position where room counts too: true where there is room and the test may
+-- be true, false where there is no room or the test may be false
+abbrev pub WithRoom : List (Option Need) → Need → (ℕ → Bool → Type 0) → ℕ → Bool → Type 0
+WithRoom free need answers position true = Holds need (get_or free position None) × answers position true
+WithRoom free need answers position false = Holds need (get_or free position None) → answers position false
+
+-- the greater of two amounts, component by component; nothing is less than any amount
+abbrev pub greater : Option Need → Option Need → Option Need
+greater None other = other
+greater (Some one) None = Some one
+greater (Some one) (Some other) =
+    Some (record { cpu = max one.cpu other.cpu; mem = max one.mem other.mem; disk = max one.disk other.disk })

@@ -1,0 +1,121 @@
+//! First fit by a tree.
+ghost use Rattle.std.specs.Prelude.{◌≡◌, ◌+◌, ◌++◌, ◌∷◌, ◌<◌, ◌≤◌, ℕ, [], length, map, set, IfOk, IfSome, IsOk, OnOk, vec_capacity, vec_len};
+ghost use Rattle.omega_fit.specs.Needs.{WithRoom};
+ghost use Rattle.omega_fit.specs.Round.{IsFirst, positions_from};
+ghost use Rattle.omega_fit.specs.Tree.{frees};
+
+use crate::nodes::{Slot, put_in, settle, settle_last};
+use crate::searching::search_round;
+use omega_model::{Need, NoMemory};
+use std::alloc::Global;
+use std::marker::Model;
+
+/// What is free at each position, or could be made free there; `None` where no need has room. A
+/// contract sees that list, and `spare`, for how many more positions there is room.
+#[derive(Debug, Drop)]
+pub struct FitIndex {
+    slots: Vec<Slot>,
+}
+
+impl Model for FitIndex {
+    ghost use Rattle.std.specs.Prelude.{◌-◌, vec_len, vec_capacity};
+    ghost use Rattle.omega_fit.specs.Positions.{Positions};
+    ghost use Rattle.omega_fit.specs.Tree.{frees, Tree};
+
+    ghost Value = { Positions };
+
+    ghost view = { λ index. record { free = frees index.slots.items; spare = vec_capacity index.slots - vec_len index.slots } };
+
+    ghost invariant = { λ index. Tree index.slots.items };
+}
+
+impl FitIndex {
+    /// No position, and no room. Takes no memory.
+    #[tactic(auto, using(crate::proofs::Trees::tree_nil))]
+    pub fn new(alloc: Global) -> FitIndex
+        ensures free { result.free ≡ [] }
+        ensures spare { result.spare ≡ 0 }
+    {
+        FitIndex {
+            slots: Vec::new(alloc),
+        }
+    }
+
+    /// The index of a list, with no room for more. Takes its memory, and time linear in its length.
+    pub fn build(alloc: Global, free: &[Option<Need>]) -> Result<FitIndex, NoMemory>
+        ensures free { IfOk result (λ index. index.free ≡ free.now) }
+        ensures spare { IfOk result (λ index. index.spare ≡ 0) }
+    {
+        let mut slots = slots_of(alloc, free)?;
+        settle(&mut slots);
+        Ok(FitIndex { slots })
+    }
+
+    /// How many positions there are. Takes no memory.
+    pub fn len(&self) -> usize
+        ensures { result ≡ length self.now.free }
+    {
+        self.slots.len()
+    }
+
+    /// Makes room for at least `n` more positions. What is free stays as it is, also where memory
+    /// runs out, and no room is lost then. Takes no memory where there is enough room.
+    pub fn reserve(&mut self, n: usize) -> Result<(), NoMemory>
+        ensures free { self.new.free ≡ self.old.free }
+        ensures room { OnOk result (n ≤ self.new.spare) }
+        ensures kept { self.old.spare ≤ self.new.spare }
+        ensures enough { n ≤ self.old.spare → IsOk result }
+    {
+        self.slots.reserve(n)?;
+        Ok(())
+    }
+
+    /// Puts one more position behind the others, for which room was reserved. Takes no memory, and
+    /// time logarithmic in the number of positions.
+    pub fn push_reserved(&mut self, free: Option<Need>)
+        requires { 0 < self.old.spare }
+        ensures free { self.new.free ≡ self.old.free ++ free ∷ [] }
+        ensures spare { self.new.spare + 1 ≡ self.old.spare }
+    {
+        self.slots.push_reserved(Slot { free, most: None });
+        settle_last(&mut self.slots);
+    }
+
+    /// Writes what is free at a position. Takes no memory, and time logarithmic in the number of
+    /// positions.
+    pub fn put(&mut self, position: usize, free: Option<Need>)
+        requires { position < length self.old.free }
+        ensures free { self.new.free ≡ set self.old.free position free }
+        ensures spare { self.new.spare ≡ self.old.spare }
+    {
+        put_in(&mut self.slots, position, free);
+    }
+
+    /// The first position whose amount holds `need` and that passes the test, from `start` up to the
+    /// length and then from 0 up to `start`; `None` exactly where there is none. Takes no memory.
+    /// Asks the test only where there is room, at each position once at most and at none behind the
+    /// answer. Costs the top of the tree where no amount is as great as `need` in all components.
+    pub fn first<F: Fn(usize) -> bool>(&self, start: usize, need: Need, test: F) -> Option<usize>
+        requires callable { F.IsAlwaysCallable test }
+        requires start { start ≤ length self.now.free }
+        ensures first { IsFirst (WithRoom self.now.free need (F.post test)) (positions_from start (length self.now.free)) result }
+        ensures below { IfSome result (λ position. position < length self.now.free) }
+    {
+        search_round(&self.slots, start, need, &test)
+    }
+}
+
+/// The slots of a list, of which no node is told yet.
+fn slots_of(alloc: Global, free: &[Option<Need>]) -> Result<Vec<Slot>, NoMemory>
+    ensures free { IfOk result (λ slots. frees slots.items ≡ free.now) }
+    ensures full { IfOk result (λ slots. vec_capacity slots ≡ vec_len slots) }
+{
+    let mut slots = Vec::with_capacity(alloc, free.len())?;
+    for amount in free {
+        slots.push_reserved(Slot {
+            free: *amount,
+            most: None,
+        });
+    }
+    Ok(slots)
+}

@@ -1,0 +1,18 @@
+//! The first machine that passes a test, round from a start.
+//!
+//! `first_fit` asks at one position after the other. `FitIndex` keeps an amount for each position:
+//! what is free on a machine, or what could be made free on it. It answers the first position whose
+//! amount holds a need and that passes a test, and passes over whole stretches without room. Both
+//! have one contract, and neither takes memory.
+#![tactic(auto)]
+
+mod first;
+mod index;
+mod needs;
+mod nodes;
+mod searching;
+#[cfg(test)]
+mod tests;
+
+pub use first::first_fit;
+pub use index::FitIndex;

@@ -1,0 +1,124 @@
+//! The tree over the positions.
+//!
+//! Its nodes are the positions themselves. The root of a slice stands where `middle` says; what is
+//! left of it and what is right of it are trees in turn. The root moves only when the length
+//! reaches a power of two, and then the new place is the root of all: so one more place is told to
+//! the nodes above it alone.
+ghost use Rattle.std.specs.Prelude.{◌≡◌, ◌<◌, ◌≤◌, ◌-◌, ◌++◌, ◌∷◌, length, set, take};
+ghost use Rattle.omega_fit.specs.Needs.{greater};
+ghost use Rattle.omega_fit.specs.Tree.{frees, middle, root, Tree};
+
+use crate::needs::greater;
+use omega_model::Need;
+
+/// A position: what is free there, and the greatest of the tree below it.
+#[derive(Clone, Copy, Debug, PartialEq, Eq)]
+pub(crate) struct Slot {
+    pub free: Option<Need>,
+    pub most: Option<Need>,
+}
+
+/// Where the root of a tree of `len` positions stands: one below the greatest power of two that is
+/// at most `len`.
+#[tactic(auto, using(crate::proofs::Middles::middle_of_power, crate::proofs::Middles::middle_none, crate::proofs::Middles::middle_below, crate::proofs::Middles::middle_within))]
+pub(crate) fn middle(len: usize) -> usize
+    ensures value { result ≡ middle len }
+    ensures below { result ≤ len }
+    ensures within { 0 < len → result < len }
+{
+    match len.checked_ilog2() {
+        Some(power) => (1 << power) - 1,
+        None => 0,
+    }
+}
+
+/// The greatest of a whole tree.
+pub(crate) fn root_of(slots: &[Slot]) -> Option<Need>
+    ensures { result ≡ root slots.now }
+{
+    match &slots[middle(slots.len())..] {
+        [] => None,
+        [slot, ..] => slot.most,
+    }
+}
+
+/// The greatest of a tree by its left part, what is free at its root, and its right part.
+fn most_of(left: &[Slot], free: Option<Need>, right: &[Slot]) -> Option<Need>
+    ensures { result ≡ greater (root left.now) (greater free (root right.now)) }
+{
+    greater(root_of(left), greater(free, root_of(right)))
+}
+
+/// A tree's left part, its root and its right part.
+pub(crate) fn parted(slots: &[Slot]) -> (&[Slot], &Slot, &[Slot])
+    requires tree { Tree slots.now }
+    requires some { 0 < length slots.now }
+    ensures whole { slots.now ≡ result.0.now ++ result.1.now ∷ result.2.now }
+    ensures middle { length result.0.now ≡ middle (length slots.now) }
+    ensures left { Tree result.0.now }
+    ensures right { Tree result.2.now }
+{
+    let (left, rest) = slots.split_at(middle(slots.len()));
+    let Some((slot, right)) = rest.split_first() else {
+        unreachable!()
+    };
+    (left, slot, right)
+}
+
+/// Writes what is free at a position, and tells the nodes above it.
+#[tactic(auto, using(crate::proofs::Trees::tree_fork, crate::proofs::Trees::tree_parts, crate::proofs::Trees::tree_nil))]
+pub(crate) fn put_in(slots: &mut [Slot], position: usize, free: Option<Need>)
+    requires position { position < length slots.old }
+    requires tree { Tree slots.old }
+    ensures tree { Tree slots.new }
+    ensures value { frees slots.new ≡ set (frees slots.old) position free }
+{
+    let half = middle(slots.len());
+    let (left, rest) = slots.split_at_mut(half);
+    if let Some((slot, right)) = rest.split_first_mut() {
+        if position < half {
+            put_in(left, position, free);
+        } else if position == half {
+            slot.free = free;
+        } else {
+            put_in(right, position - half - 1, free);
+        }
+        slot.most = most_of(left, slot.free, right);
+    }
+}
+
+/// Makes a tree of any slots, in time linear in their number.
+#[tactic(auto, using(crate::proofs::Trees::tree_fork, crate::proofs::Trees::tree_parts, crate::proofs::Trees::tree_nil))]
+pub(crate) fn settle(slots: &mut [Slot])
+    ensures tree { Tree slots.new }
+    ensures value { frees slots.new ≡ frees slots.old }
+{
+    if slots.is_empty() {
+        return;
+    }
+    let half = middle(slots.len());
+    let (left, rest) = slots.split_at_mut(half);
+    if let Some((slot, right)) = rest.split_first_mut() {
+        settle(left);
+        settle(right);
+        slot.most = most_of(left, slot.free, right);
+    }
+}
+
+/// Makes a tree of a tree and one more slot behind it, by telling the nodes above the new one.
+#[tactic(auto, using(crate::proofs::Trees::tree_nil))]
+pub(crate) fn settle_last(slots: &mut [Slot])
+    requires tree { Tree (take (length slots.old - 1) slots.old) }
+    ensures tree { Tree slots.new }
+    ensures value { frees slots.new ≡ frees slots.old }
+{
+    if slots.is_empty() {
+        return;
+    }
+    let half = middle(slots.len());
+    let (left, rest) = slots.split_at_mut(half);
+    if let Some((slot, right)) = rest.split_first_mut() {
+        settle_last(right);
+        slot.most = most_of(left, slot.free, right);
+    }
+}

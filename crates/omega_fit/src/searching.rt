@@ -1,0 +1,105 @@
+//! The search in the tree.
+ghost use Rattle.std.specs.Prelude.{◌≡◌, ◌+◌, ◌<◌, ◌≤◌, ◌^◌, ℕ, IsTrue, IfSome, length, false, true};
+ghost use Rattle.omega_fit.specs.Needs.{Holds, WithRoom};
+ghost use Rattle.omega_fit.specs.Round.{IsFirst, positions_from};
+ghost use Rattle.omega_fit.specs.Tree.{frees, FirstWithin, Tree};
+
+use crate::needs::holds;
+use crate::nodes::{Slot, parted, root_of};
+use omega_model::Need;
+
+/// The first position with room that passes the test, round from a start.
+pub(crate) fn search_round<F: Fn(usize) -> bool>(
+    slots: &[Slot],
+    start: usize,
+    need: Need,
+    test: &F,
+) -> Option<usize>
+    requires callable { F.IsAlwaysCallable test.now }
+    requires tree { Tree slots.now }
+    requires start { start ≤ length slots.now }
+    ensures first { IsFirst (WithRoom (frees slots.now) need (F.post test.now)) (positions_from start (length (frees slots.now))) result }
+    ensures below { IfSome result (λ position. position < length (frees slots.now)) }
+{
+    match search_in(slots, 0, start, slots.len(), need, test) {
+        Some(found) => Some(found),
+        None => search_in(slots, 0, 0, start, need, test),
+    }
+}
+
+/// The first position of `from..to` with room that passes the test, which is asked for the position
+/// and `base`. A tree whose greatest has no room is passed over, and so is a part outside `from..to`.
+#[tactic(auto, using(crate::proofs::Searches::pruned, crate::proofs::Searches::nothing_asked, crate::proofs::Searches::in_left, crate::proofs::Searches::in_middle, crate::proofs::Searches::in_right, crate::proofs::Searches::in_none))]
+fn search_in<F: Fn(usize) -> bool>(
+    slots: &[Slot],
+    base: usize,
+    from: usize,
+    to: usize,
+    need: Need,
+    test: &F,
+) -> Option<usize>
+    requires callable { F.IsAlwaysCallable test.now }
+    requires tree { Tree slots.now }
+    requires base { base + length slots.now < 2 ^ 64 }
+    requires to { to ≤ length slots.now }
+    ensures first { FirstWithin (F.post test.now) need slots.now base from to result }
+    ensures below { IfSome result (λ position. position < to) }
+{
+    if from >= to {
+        return None;
+    }
+    if !holds(need, root_of(slots)) {
+        return None;
+    }
+    let (left, slot, right) = parted(slots);
+    let half = left.len();
+    match search_in(left, base, from, lesser(to, half), need, test) {
+        Some(found) => Some(found),
+        None => {
+            if passes_here(from, half, to, need, slot.free, base + half, test) {
+                return Some(half);
+            }
+            let past = half + 1;
+            match search_in(
+                right,
+                base + past,
+                from.saturating_sub(past),
+                to.saturating_sub(past),
+                need,
+                test,
+            ) {
+                Some(found) => Some(past + found),
+                None => None,
+            }
+        }
+    }
+}
+
+/// Whether the root at `half` is asked for, has room and passes the test.
+fn passes_here<F: Fn(usize) -> bool>(
+    from: usize,
+    half: usize,
+    to: usize,
+    need: Need,
+    free: Option<Need>,
+    position: usize,
+    test: &F,
+) -> bool
+    requires callable { F.IsAlwaysCallable test.now }
+    ensures from { IsTrue result → from ≤ half }
+    ensures to { IsTrue result → half < to }
+    ensures room { IsTrue result → Holds need free }
+    ensures passes { IsTrue result → F.post test.now position true }
+    ensures fails { result ≡ false → from ≤ half → half < to → Holds need free → F.post test.now position false }
+{
+    from <= half && half < to && holds(need, free) && test(position)
+}
+
+/// The lesser of two numbers.
+fn lesser(one: usize, other: usize) -> usize
+    ensures one { result ≤ one }
+    ensures other { result ≤ other }
+    ensures all { (n : ℕ) → n < one → n < other → n < result }
+{
+    if one <= other { one } else { other }
+}

@@ -1,0 +1,16 @@
+pub mod Sums
+pub mod Entries
+pub mod SeatLists
+pub mod Holders
+pub mod Splitting
+pub mod Numbering
+pub mod Drawing
+pub mod Looking
+pub mod Reading
+pub mod Publishing
+pub mod Passing
+pub mod Joining
+pub mod Pigeons
+pub mod Closing
+pub mod NewSeats
+pub mod Releasing

@@ -1,0 +1,79 @@
+-- What seats know, counted over all of them.
+use Rattle.std.specs.Prelude.{◌≡◌, ℕ, ◌+◌, false, List, [], ◌∷◌, ◌++◌, length, leb, if◌then◌else◌, sum_by}
+use Rattle.omega_lock.specs.declared.view.View.{View}
+use Rattle.omega_lock.specs.Lists.{same}
+
+module _ {E : Type 0} where
+  -- a seat's own number with its own list, once it has a number
+  abbrev pub own_list : View E → List (ℕ × List E)
+  own_list v = if v.has_number then (v.number, v.own) ∷ [] else []
+
+  -- the numbers that a seat answers for, each with its list: its own, and those of the seats joined to it
+  abbrev pub lists : View E → List (ℕ × List E)
+  lists v = own_list v ++ v.kept
+
+  -- how often a seat answers for the number n
+  abbrev pub answers : ℕ → View E → ℕ
+  answers n v = sum_by (λ (p : ℕ × List E). same n p.0) (lists v)
+
+  -- 1 where the seat has the ticket n
+  abbrev pub ticket_is : ℕ → View E → ℕ
+  ticket_is n v = if v.has_ticket then same n v.ticket else 0
+
+  -- 1 where it has a ticket
+  abbrev pub ticketed : View E → ℕ
+  ticketed v = if v.has_ticket then 1 else 0
+
+  -- 1 where it holds the turn
+  abbrev pub holding : View E → ℕ
+  holding v = if v.holds then 1 else 0
+
+  -- 1 where it has published an entry in this turn
+  abbrev pub telling : View E → ℕ
+  telling v = if v.told then 1 else 0
+
+  -- the first seat of a lock, which gets no number: it has seen the first list
+  abbrev pub first_view : ℕ → List E → View E
+  first_view turns es = record {
+    has_number = false;
+    number = 0;
+    first_length = length es;
+    allotted = turns;
+    turns = 0;
+    has_ticket = false;
+    ticket = 0;
+    holds = false;
+    read = false;
+    told = false;
+    held = [];
+    seen = es;
+    own = [];
+    kept = [];
+    also_seen = [];
+  }
+
+  -- a seat that is split off has seen what the other has, and has neither number nor ticket
+  abbrev pub split_off : View E → View E
+  split_off v = record (first_view v.allotted v.seen) { first_length = v.first_length }
+
+  -- what a seat is left with when it is joined to another: nothing
+  abbrev pub spent : View E
+  spent = first_view 0 []
+
+  -- the longer of two lists
+  abbrev pub longer : List E → List E → List E
+  longer xs ys = if leb (length ys) (length xs) then xs else ys
+
+  -- a seat that another is joined to has the longer of what the two had seen, keeps both, and answers
+  -- for the numbers of both
+  abbrev pub joined : View E → View E → View E
+  joined v w = record v {
+    turns = v.turns + w.turns;
+    seen = longer v.seen w.seen;
+    kept = v.kept ++ lists w;
+    also_seen = (v.seen ∷ w.seen ∷ v.also_seen) ++ w.also_seen;
+  }
+
+  -- a seat that has no ticket and no turn
+  abbrev pub Rests : View E → Type 0
+  Rests v = (v.has_ticket ≡ false) × (v.holds ≡ false) × (v.read ≡ false) × (v.told ≡ false)

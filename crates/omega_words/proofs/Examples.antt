@@ -1,0 +1,90 @@
+-- Worked words: which are taken, and what is read of them.
+use Rattle.std.proofs.Common.{◌≡◌, [], ◌∷◌, true, false, refl, codes}
+use Rattle.clap.proofs.OnLiterals.{clap_on_literals}
+use Rattle.omega_model.specs.Options.{whole_table}
+use Rattle.omega_model.specs.PlainWords.{is_plain}
+use Rattle.omega_model.specs.WordSettings.{default_settings}
+use Rattle.omega_words.specs.Built.{built_words}
+use Rattle.omega_words.specs.Taken.{folder_in, is_taken, settings_in}
+use Rattle.omega_words.proofs.Sound.{is_sound}
+
+whole_is_sound : is_sound whole_table ≡ true
+whole_is_sound = refl
+
+-- ---- what isn't built yet
+
+run_is_not_built : is_plain built_words (codes "run" ∷ []) ≡ false
+unfolding built_words
+run_is_not_built = refl
+
+machines_are_not_built : is_plain built_words (codes "replay" ∷ codes "--machines" ∷ codes "5" ∷ []) ≡ false
+unfolding built_words
+machines_are_not_built = refl
+
+run_is_refused : is_taken built_words (codes "run" ∷ []) ≡ false
+unfolding built_words clap_on_literals
+run_is_refused = refl
+
+machines_are_refused : is_taken built_words (codes "replay" ∷ codes "--machines" ∷ codes "5" ∷ []) ≡ false
+unfolding built_words clap_on_literals
+machines_are_refused = refl
+
+-- ---- words that are taken, though they aren't plain
+
+joined : is_taken whole_table (codes "run" ∷ codes "--seed=5" ∷ []) ≡ true
+unfolding clap_on_literals
+joined = refl
+
+of_joined : settings_in built_words (codes "replay" ∷ codes "--seed=5" ∷ []) ≡ record default_settings { seed = 5 }
+unfolding built_words clap_on_literals
+of_joined = refl
+
+command_behind : is_taken whole_table (codes "--seed" ∷ codes "5" ∷ codes "replay" ∷ []) ≡ true
+unfolding clap_on_literals
+command_behind = refl
+
+escaped : is_taken whole_table (codes "--" ∷ codes "replay" ∷ []) ≡ true
+unfolding clap_on_literals
+escaped = refl
+
+hyphen : is_taken whole_table (codes "replay" ∷ codes "--tables=-x" ∷ []) ≡ true
+unfolding clap_on_literals
+hyphen = refl
+
+folder_of_hyphen : folder_in whole_table (codes "replay" ∷ codes "--tables=-x" ∷ []) ≡ codes "-x"
+unfolding clap_on_literals
+folder_of_hyphen = refl
+
+no_text : is_taken whole_table (codes "replay" ∷ codes "--tables" ∷ [] ∷ []) ≡ true
+unfolding clap_on_literals
+no_text = refl
+
+-- ---- words that aren't taken
+
+no_words : is_taken whole_table [] ≡ false
+unfolding clap_on_literals
+no_words = refl
+
+two_commands : is_taken whole_table (codes "replay" ∷ codes "run" ∷ []) ≡ false
+unfolding clap_on_literals
+two_commands = refl
+
+twice : is_taken whole_table (codes "replay" ∷ codes "--seed=1" ∷ codes "--seed=1" ∷ []) ≡ false
+unfolding clap_on_literals
+twice = refl
+
+help : is_taken whole_table (codes "replay" ∷ codes "--help" ∷ []) ≡ false
+unfolding clap_on_literals
+help = refl
+
+help_word : is_taken whole_table (codes "help" ∷ []) ≡ false
+unfolding clap_on_literals
+help_word = refl
+
+too_great : is_taken whole_table (codes "replay" ∷ codes "--batch=31" ∷ []) ≡ false
+unfolding clap_on_literals
+too_great = refl
+
+looks_like_an_option : is_taken whole_table (codes "replay" ∷ codes "--tables" ∷ codes "-x" ∷ []) ≡ false
+unfolding clap_on_literals
+looks_like_an_option = refl

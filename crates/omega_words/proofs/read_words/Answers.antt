@@ -1,0 +1,73 @@
+use Rattle.std.proofs.Common.{◌≡◌, subst, ◌∙◌, ◌&&◌, List, ap, sym, map, true, false}
+use Rattle.clap.specs.Words.{fault_of}
+use Rattle.omega_model.specs.Options.{Choice}
+use Rattle.omega_model.specs.WordSettings.{folder_by, settings_by}
+use Rattle.omega_words.specs.Taken.{app_of_choices, are_values}
+use Rattle.clap.specs.Words.{Row, Text, found_of, rows_of}
+use Rattle.omega_words.specs.Entries.{choice_of, texts_of}
+use Rattle.omega_model.specs.declared.settings.Command.{Command}
+use Rattle.omega_words.proofs.Built.{and_false}
+use Rattle.omega_words.proofs.Tables.{not_taken, plain_is_taken, rows_are, takes_are, texts_are, values_hold}
+use Rattle.omega_words.proofs.Where.{failed, passed}
+use Rattle.omega_model.specs.Ranges.{IsInRange}
+use Rattle.omega_model.proofs.WordRanges.{settings_in_range}
+use Rattle.omega_words.proofs.read_words.Goals as goal
+
+pub returns-in-Err-clause-never_on_plain : goal.returns-in-Err-clause-never_on_plain
+returns-in-Err-clause-never_on_plain c =
+    let words : List Text = map (λ s. s.now) c.args.words.now in
+    λ plain. c.in-Err.ensures.usage (takes_are words (map choice_of c.table-entries.result) c.table-entries.ensures (plain_is_taken words plain))
+
+pub returns-then-not-entries_pass-clause-usage : goal.returns-then-not-entries_pass-clause-usage
+returns-then-not-entries_pass-clause-usage c =
+    let words : List Text = map (λ s. s.now) c.args.words.now in
+    let fails : are_values (map choice_of c.table-entries.result) (texts_of (rows_of (found_of c.in-Ok.matches))) ≡ false = sym c.if-not-entries_pass.ensures in
+    λ taken. absurd (not_taken words (map choice_of c.table-entries.result) _ c.table-entries.ensures c.in-Ok.ensures.rows (and_false _ _ fails) taken)
+
+pub returns-then-not-entries_pass-clause-never_on_plain : goal.returns-then-not-entries_pass-clause-never_on_plain
+returns-then-not-entries_pass-clause-never_on_plain c = λ plain. returns-then-not-entries_pass-clause-usage c (plain_is_taken (map (λ s. s.now) c.args.words.now) plain)
+
+pub returns-in_default-clause-usage : goal.returns-in_default-clause-usage
+returns-in_default-clause-usage c =
+    let words : List Text = map (λ s. s.now) c.args.words.now in
+    let unknown = failed _ _ c.in_default.ensures in
+    λ taken. absurd (not_taken words (map choice_of c.table-entries.result) _ c.table-entries.ensures c.in-Ok.ensures.rows
+    (ap (λ b. b && are_values (map choice_of c.table-entries.result) (texts_of (rows_of (found_of c.in-Ok.matches)))) unknown) taken)
+
+pub returns-in_default-clause-never_on_plain : goal.returns-in_default-clause-never_on_plain
+returns-in_default-clause-never_on_plain c = λ plain. returns-in_default-clause-usage c (plain_is_taken (map (λ s. s.now) c.args.words.now) plain)
+
+pub returns-in-Ok-from_str-clause-values : goal.returns-in-Ok-from_str-clause-values
+returns-in-Ok-from_str-clause-values c =
+    let words : List Text = map (λ s. s.now) c.args.words.now in
+    let known = passed _ _ _ c.in-Some.ensures in
+    let pass : are_values (map choice_of c.table-entries.result) (texts_of (rows_of (found_of c.in-Ok.matches))) ≡ true = sym c.if-not-entries_pass.ensures in
+    values_hold words (map choice_of c.table-entries.result) _ c.table-entries.ensures c.in-Ok.ensures.rows known.0 pass
+
+pub returns-in-Ok-from_str-clause-plain : goal.returns-in-Ok-from_str-clause-plain
+returns-in-Ok-from_str-clause-plain c =
+    let words : List Text = map (λ s. s.now) c.args.words.now in
+    let known = passed _ _ _ c.in-Some.ensures in
+    let rows : List Row = rows_of (found_of c.in-Ok.matches) in
+    let are = rows_are words (map choice_of c.table-entries.result) rows c.table-entries.ensures c.in-Ok.ensures.rows in
+    λ plain. c.settings_of-settings.ensures ∙ ap (λ (k : Command). record (settings_by (texts_of rows)) { command = k }) known.1
+    ∙ ap (λ (rs : List Row). settings_by (texts_of rs)) are ∙ ap settings_by (texts_are words plain)
+
+pub returns-in-Ok-from_str-clause-plain_folder : goal.returns-in-Ok-from_str-clause-plain_folder
+returns-in-Ok-from_str-clause-plain_folder c =
+    let words : List Text = map (λ s. s.now) c.args.words.now in
+    let rows : List Row = rows_of (found_of c.in-Ok.matches) in
+    let are = rows_are words (map choice_of c.table-entries.result) rows c.table-entries.ensures c.in-Ok.ensures.rows in
+    λ plain. c.of.ensures ∙ c.in-Ok-from_str.ensures.ok ∙ c.folder_of.ensures ∙ ap (λ (rs : List Row). folder_by (texts_of rs)) are ∙ ap folder_by (texts_are words plain)
+
+pub returns-in-Ok-from_str-clause-accepted : goal.returns-in-Ok-from_str-clause-accepted
+returns-in-Ok-from_str-clause-accepted c =
+    let words : List Text = map (λ s. s.now) c.args.words.now in
+    ap (λ (os : List Choice). fault_of (app_of_choices os) words) (sym c.table-entries.ensures) ∙ c.in-Ok.ensures.accepted
+
+pub returns-in-Ok-from_str-clause-in_range : goal.returns-in-Ok-from_str-clause-in_range
+returns-in-Ok-from_str-clause-in_range c =
+    let known = passed _ _ _ c.in-Some.ensures in
+    let rows : List Row = rows_of (found_of c.in-Ok.matches) in
+    let is = c.settings_of-settings.ensures ∙ ap (λ (k : Command). record (settings_by (texts_of rows)) { command = k }) known.1 in
+    subst IsInRange (sym is) (settings_in_range (texts_of rows))

@@ -1,0 +1,35 @@
+-- The table of options as the code has it, and the texts of matches.
+use Rattle.std.specs.Prelude.{ℕ, Bool, List, map, Option, Some, None, unwrap_or, if◌then◌else◌}
+use Rattle.std.specs.Option.{option_and_then}
+use Rattle.clap.specs.Words.{Row, first_of, found_of, rows_of}
+use Rattle.clap.specs.declared.parser.matches.ArgMatches.{ArgMatches}
+use Rattle.omega_model.specs.Options.{Choice, Values, a_folder, a_number, one_of, number_from}
+use Rattle.omega_words.specs.declared.entries.Entry.{Entry}
+use Rattle.omega_words.specs.declared.entries.Kind.{Kind}
+use Rattle.omega_words.specs.declared.entries.Kind.TheVariants.{Folder, Number, OneOf}
+
+-- the values of a kind
+abbrev pub values_of : Kind → Values
+values_of Folder = a_folder
+values_of (Number span) = a_number span.low span.high
+values_of (OneOf names) = one_of (map (λ name. name.now) names.now)
+
+-- the option of an entry
+abbrev pub choice_of : Entry → Choice
+choice_of entry = record { name = entry.name.now; values = values_of entry.kind }
+
+-- the text that rows of matches have for a name
+abbrev pub texts_of : List Row → List ℕ → Option (List ℕ)
+texts_of rows name = first_of name rows
+
+-- the text that what `clap` found has for a name
+abbrev pub texts_in : ArgMatches → List ℕ → Option (List ℕ)
+texts_in matches = texts_of (rows_of (found_of matches))
+
+-- the number of a text that isn't below the first bound nor above the second, else the default
+abbrev pub number_or : ℕ → ℕ → ℕ → Option (List ℕ) → ℕ
+number_or low high default text = unwrap_or (option_and_then (number_from low high) text) default
+
+-- a value where a test passes
+abbrev pub where_it : {X : Type 0} → Bool → X → Option X
+where_it passes value = if passes then Some value else None

@@ -1,0 +1,83 @@
+//! The words of the command line, which `clap` reads as one command with options.
+//!
+//! Which words there are is data: the table of `omega_model`, and the part of it that is built.
+#![tactic(auto)]
+
+ghost use Rattle.std.specs.Prelude.{◌≡◌, [], IfErr, IfOk, true, map};
+ghost use Rattle.clap.specs.Faults.{fault_of};
+ghost use Rattle.omega_model.specs.PlainWords.{is_plain};
+ghost use Rattle.omega_model.specs.Ranges.{IsInRange};
+ghost use Rattle.omega_model.specs.WordSettings.{folder_of, settings_of};
+ghost use Rattle.omega_words.specs.Built.{built_words};
+ghost use Rattle.omega_words.specs.Taken.{app, are_of_table, folder_in, is_taken, settings_in, text_in};
+
+mod command;
+mod entries;
+mod matches;
+
+use omega_model::{Settings, Text};
+use std::alloc::Global;
+
+/// What the words say: the settings, and the folder of the tables.
+#[derive(Debug, Drop)]
+pub struct Parsed {
+    pub settings: Settings,
+    pub folder: Text,
+}
+
+/// Why words aren't read.
+#[derive(Clone, Copy, Debug, Drop, PartialEq, Eq)]
+pub enum WordsRefusal {
+    /// The words aren't such as the table has them.
+    Usage,
+    NoMemory,
+}
+
+/// Reads words; the first is the first behind the program's name.
+///
+/// A command and options are read as `clap` reads them. `Usage` comes only where `clap` doesn't
+/// take the words or a text isn't among the values of its option, and so never on plain words.
+/// `Ok` comes only where `clap` finds no fault in the words and all texts are values; settings and
+/// folder are those of its matches, and on plain words what the words write.
+pub fn read_words(alloc: Global, words: &[&str]) -> Result<Parsed, WordsRefusal>
+    ensures usage { let given = map (λ word. word.now) words.now in
+        IfErr result (λ e. is_taken built_words given ≡ true → e ≡ WordsRefusal.NoMemory) }
+    ensures never_on_plain { let given = map (λ word. word.now) words.now in
+        IfErr result (λ e. is_plain built_words given ≡ true → e ≡ WordsRefusal.NoMemory) }
+    ensures accepted { let given = map (λ word. word.now) words.now in
+        IfOk result (λ _. fault_of (app built_words) given ≡ []) }
+    ensures values { let given = map (λ word. word.now) words.now in
+        IfOk result (λ _. are_of_table built_words (text_in built_words given) ≡ true) }
+    ensures settings { let given = map (λ word. word.now) words.now in
+        IfOk result (λ r. r.settings ≡ settings_in built_words given) }
+    ensures folder { let given = map (λ word. word.now) words.now in
+        IfOk result (λ r. r.folder ≡ folder_in built_words given) }
+    ensures plain { let given = map (λ word. word.now) words.now in
+        IfOk result (λ r. is_plain built_words given ≡ true → r.settings ≡ settings_of given) }
+    ensures plain_folder { let given = map (λ word. word.now) words.now in
+        IfOk result (λ r. is_plain built_words given ≡ true → r.folder ≡ folder_of given) }
+    ensures in_range { IfOk result (λ r. IsInRange r.settings) }
+{
+    let entries = entries::table();
+    let matches = match command::matches_for(alloc, &entries, words) {
+        Ok(matches) => matches,
+        Err(refusal) => return Err(refusal),
+    };
+    if !matches::entries_pass(&matches, &entries) {
+        return Err(WordsRefusal::Usage);
+    }
+    let Some(command) = matches::command_of(&matches) else {
+        return Err(WordsRefusal::Usage);
+    };
+    let settings = matches::settings_of(&matches, command);
+    match String::from_str(alloc, matches::folder_of(&matches)) {
+        Ok(folder) => Ok(Parsed {
+            settings,
+            folder: Text::of(folder),
+        }),
+        Err(_) => Err(WordsRefusal::NoMemory),
+    }
+}
+
+#[cfg(test)]
+mod tests;

@@ -1,0 +1,175 @@
+//! Settings and folder of what `clap` found.
+ghost use Rattle.std.specs.Prelude.{◌≡◌, ◌<◌, ◌≤◌, ◌^◌, false, true, codes, map, option_map};
+ghost use Rattle.std.specs.Option.{option_map_or};
+ghost use Rattle.omega_model.specs.Options.{is_among, is_value};
+ghost use Rattle.omega_model.specs.WordSettings.{command_of, extra_of, folder_by, format_of, is_text, mode_of, preempt_of, rule_of, settings_by};
+ghost use Rattle.omega_words.specs.Built.{built_commands};
+ghost use Rattle.omega_words.specs.Entries.{choice_of, number_or, texts_in, where_it};
+ghost use Rattle.omega_words.specs.Taken.{are_values};
+
+use crate::entries::{self, Entry, Span};
+use clap::ArgMatches;
+use omega_model::{Command, Extra, Format, Mode, Preempt, Rule, Settings};
+
+/// The text of a name.
+fn text_of<'a>(matches: &ArgMatches<'a>, name: &str) -> Option<&'a str>
+    ensures { option_map (λ text. text.now) result ≡ texts_in matches.now name.now }
+{
+    matches.get_str(name)
+}
+
+/// Whether the option isn't given, or its text is a value.
+fn entry_passes<'a>(matches: &ArgMatches<'a>, entry: Entry<'a>) -> bool
+    ensures { let option = choice_of entry.entry in let texts = texts_in matches.now in
+        result ≡ option_map_or (is_value option.values) (texts option.name) true }
+{
+    match text_of(matches, entry.name) {
+        None => true,
+        Some(text) => entries::is_value(entry.kind, text),
+    }
+}
+
+/// Whether each option isn't given, or its text is a value.
+pub fn entries_pass<'a>(matches: &ArgMatches<'a>, entries: &[Entry<'a>]) -> bool
+    ensures { result ≡ are_values (map choice_of entries.now) (texts_in matches.now) }
+{
+    for entry in entries {
+        if !entry_passes(matches, *entry) {
+            return false;
+        }
+    }
+    true
+}
+
+/// The number of an option, `default` where none of the span is given.
+fn number_of<'a>(matches: &ArgMatches<'a>, name: &str, span: Span, default: u64) -> u64
+    requires { default ≤ span.high }
+    ensures value { result ≡ number_or span.low span.high default (texts_in matches.now name.now) }
+    ensures within { result ≤ span.high }
+{
+    let Some(text) = text_of(matches, name) else {
+        return default;
+    };
+    match entries::number_from(text, span) {
+        Some(number) => number,
+        None => default,
+    }
+}
+
+/// The same for numbers of 32 bits.
+fn small_number_of<'a>(matches: &ArgMatches<'a>, name: &str, span: Span, default: u32) -> u32
+    requires high { span.high < 2 ^ 32 }
+    requires default { default ≤ span.high }
+    ensures { result ≡ number_or span.low span.high default (texts_in matches.now name.now) }
+{
+    number_of(matches, name, span, u64::from(default)) as u32
+}
+
+/// Whether the text of a name is this one.
+fn is_text<'a>(matches: &ArgMatches<'a>, name: &str, text: &str) -> bool
+    ensures { result ≡ is_text text.now (texts_in matches.now name.now) }
+{
+    match text_of(matches, name) {
+        None => false,
+        Some(found) => found == text,
+    }
+}
+
+fn rule_of<'a>(matches: &ArgMatches<'a>) -> Rule
+    ensures { result ≡ rule_of (texts_in matches.now (codes "rule")) }
+{
+    if is_text(matches, "rule", "coarse") {
+        Rule::Coarse
+    } else {
+        Rule::Fine
+    }
+}
+
+fn mode_of<'a>(matches: &ArgMatches<'a>) -> Mode
+    ensures { result ≡ mode_of (texts_in matches.now (codes "mode")) }
+{
+    if is_text(matches, "mode", "gang") {
+        Mode::Gang
+    } else {
+        Mode::Incremental
+    }
+}
+
+fn preempt_of<'a>(matches: &ArgMatches<'a>) -> Preempt
+    ensures { result ≡ preempt_of (texts_in matches.now (codes "preempt")) }
+{
+    if is_text(matches, "preempt", "service") {
+        Preempt::Service
+    } else if is_text(matches, "preempt", "all") {
+        Preempt::All
+    } else {
+        Preempt::Nobody
+    }
+}
+
+fn extra_of<'a>(matches: &ArgMatches<'a>) -> Extra
+    ensures { let texts = texts_in matches.now in
+        result ≡ extra_of (number_or 0 100 60 (texts (codes "cap"))) (texts (codes "extra")) }
+{
+    let percent = small_number_of(matches, "cap", entries::CAPS, 60);
+    if is_text(matches, "extra", "max") {
+        Extra::Max
+    } else if is_text(matches, "extra", "cap") {
+        Extra::Cap(percent)
+    } else {
+        Extra::Relative
+    }
+}
+
+fn format_of<'a>(matches: &ArgMatches<'a>) -> Format
+    ensures { result ≡ format_of (texts_in matches.now (codes "format")) }
+{
+    if is_text(matches, "format", "json") {
+        Format::Json
+    } else {
+        Format::Text
+    }
+}
+
+/// The command, where it is built.
+pub fn command_of<'a>(matches: &ArgMatches<'a>) -> Option<Command>
+    ensures { let text = texts_in matches.now (codes "command") in
+        result ≡ where_it (option_map_or (is_among built_commands) text false) (command_of text) }
+{
+    match text_of(matches, "command") {
+        Some("replay") => Some(Command::Replay),
+        _ => None,
+    }
+}
+
+/// The settings with this command. An option that isn't built has its default.
+pub fn settings_of<'a>(matches: &ArgMatches<'a>, command: Command) -> Settings
+    ensures { result ≡ (record (settings_by (texts_in matches.now)) { command = command }) }
+{
+    let default = Settings::default();
+    Settings {
+        command,
+        seed: number_of(matches, "seed", entries::SEEDS, default.seed),
+        batch: small_number_of(matches, "batch", entries::BATCHES, default.batch),
+        rule: rule_of(matches),
+        mode: mode_of(matches),
+        preempt: preempt_of(matches),
+        extra: extra_of(matches),
+        tries: small_number_of(matches, "tries", entries::TRIES, default.tries),
+        give_up: small_number_of(matches, "give-up", entries::GIVE_UPS, default.give_up),
+        window: number_of(matches, "window", entries::WINDOWS, default.window),
+        format: format_of(matches),
+        machines: small_number_of(matches, "machines", entries::MACHINES, default.machines),
+        jobs: small_number_of(matches, "jobs", entries::JOBS, default.jobs),
+    }
+}
+
+/// The folder of the tables, the present one where none is given.
+pub fn folder_of<'a>(matches: &ArgMatches<'a>) -> &'a str
+    ensures { result.now ≡ folder_by (texts_in matches.now) }
+{
+    match text_of(matches, "tables") {
+        None => ".",
+        Some(text) => text,
+    }
+}
