@@ -1,6 +1,6 @@
 -- The claims that a reply places can be placed one after the other.
 use Rattle.std.proofs.Common.{◌≡◌, ℕ, Bool, true, false, List, [], ◌∷◌, Some, None, map, length, refl, ap, subst, sym, ◌∙◌}
-use Rattle.std.specs.Prelude.{◌==◌, if◌then◌else◌, unwrap_or, IfOk, Result, Ok, Err}
+use Rattle.std.specs.Prelude.{◌==◌, if◌then◌else◌, unwrap_or}
 use Rattle.std.proofs.lemmas.Bool.{both_ways}
 use Rattle.std.specs.List.{zip}
 use Rattle.omega_model.specs.Applying.{MayPlaceAll}
@@ -94,11 +94,6 @@ mode_places cell claims Gang =
       | true ↦ judgements_place cell claims
       | false ↦ withdrawn_place cell (first_refused (judgements [] 0 cell Fine claims)) claims (judgements [] 0 cell Fine claims)
     ]
-
--- what holds of a value holds of it in other words
-pub if_ok_map : {T E : Type 0} {P Q : T → Type 0} (result : Result T E) → ((value : T) → P value → Q value) → IfOk result P → IfOk result Q
-if_ok_map (Ok value) same holds = same value holds
-if_ok_map (Err error) same holds = tt
 
 -- under the fine rule a reply is that of the judgements without a history
 pub reply-fine : (history : List Entry) (cell : Cell) (seen : ℕ) (txn : Txn) → txn.rule ≡ Fine
