@@ -3,6 +3,7 @@ use Rattle.std.proofs.Common.{Vec, Global, ◌≡◌, ℕ, ◌+◌, ◌-◌, ◌
 use Rattle.std.specs.Prelude.{IfSome, IsTrue, vec_len, vec_capacity}
 use Rattle.std.proofs.lemmas.Bool.{both_ways}
 use Rattle.std.proofs.lemmas.List.Sums.{count_by-le-length}
+use Rattle.omega_model.specs.Applying.{capacity_in, machine_in, EndsRunning, ListsOrHasRoom, MayApply, PlacesInOrder}
 use Rattle.omega_model.specs.Cell.{Cell}
 use Rattle.omega_model.specs.Fields.{greatest}
 use Rattle.omega_model.specs.Legal.{Follows}
@@ -16,13 +17,11 @@ use Rattle.omega_model.proofs.Growing.{by_place_push, legal_push, state_push}
 use Rattle.omega_machines.specs.declared.MachineState.{MachineState}
 use Rattle.omega_machines.specs.Table.{machines_of, seq_at}
 use Rattle.omega_board.specs.Board.{BoardState, cell_of}
-use Rattle.omega_board.specs.Entries.{capacity_in, machine_in, EndsRunning, PlacesInOrder}
-use Rattle.omega_board.specs.Histories.{ListsOrHasRoom, MayApplyAfter}
 use Rattle.omega_board.proofs.Histories.{seq_push}
 use Rattle.omega_cell.specs.Cells.{IsCell, is_commit}
 
 -- a cell with one more entry that may follow, on whose board it was applied
-pub cell_push : (board after : BoardState) (history : List Entry) (entry : Entry) → IsCell board history → Follows history entry → MayApplyAfter history entry
+pub cell_push : (board after : BoardState) (history : List Entry) (entry : Entry) → IsCell board history → Follows history entry → MayApply (state history) (seq history) entry
     → cell_of after ≡ step (cell_of board) entry
     → ((id : ℕ) → seq_at after.table id ≡ seq_at board.table id + (if touches id entry then 1 else 0))
     → IsCell after (history ++ entry ∷ [])
@@ -32,7 +31,7 @@ cell_push board after history entry kept follows may stepped numbered = record {
     numbered = λ id. numbered id ∙ ap (λ (n : ℕ). n + (if touches id entry then 1 else 0)) (kept.board_is.numbered id) ∙ sym (seq_push history entry id);
   };
   legal = legal_push history entry kept.legal follows;
-  applied = by_place_push MayApplyAfter history entry kept.applied may;
+  applied = by_place_push (λ (before : List Entry). MayApply (state before) (seq before)) history entry kept.applied may;
 }
 
 -- another board with the same machines and tasks serves as well
@@ -77,11 +76,11 @@ places_nothing cell (Commit scheduler seen txn reply) other = absurd (both_ways 
 -- it may be applied where its capacity, its machine and its task allow it
 pub fed_may : (history : List Entry) (entry : Entry) → is_commit entry ≡ false → IfSome (capacity_in entry) (λ cap. Fits cap greatest)
     → IfSome (machine_in entry) (ListsOrHasRoom (state history).machines) → EndsRunning (state history).tasks entry → length history < 2 ^ 64 - 1
-    → MayApplyAfter history entry
+    → MayApply (state history) (seq history) entry
 fed_may history entry other capacity machines ends few = record {
   capacity = capacity;
   machines = machines;
-  seqs = short history entry few;
+  numbers = short history entry few;
   ends = ends;
   places = places_nothing (state history) entry other;
 }
@@ -89,9 +88,9 @@ fed_may history entry other capacity machines ends few = record {
 -- on the entries that a cell holds, which it shows as its history
 pub fed_may_on : (held shown : List Entry) (entry : Entry) → held ≡ shown → is_commit entry ≡ false → IfSome (capacity_in entry) (λ cap. Fits cap greatest)
     → IfSome (machine_in entry) (ListsOrHasRoom (state shown).machines) → EndsRunning (state shown).tasks entry → length held < 2 ^ 64 - 1
-    → MayApplyAfter held entry
+    → MayApply (state held) (seq held) entry
 fed_may_on held shown entry same other capacity machines ends few =
-    subst (λ (history : List Entry). MayApplyAfter history entry) (sym same)
+    subst (λ (history : List Entry). MayApply (state history) (seq history) entry) (sym same)
     (fed_may shown entry other capacity machines ends (subst (λ (history : List Entry). length history < 2 ^ 64 - 1) same few))
 
 -- no vector has more entries than that
@@ -105,11 +104,11 @@ few_entries entries =
 -- a commit may be applied where its placed claims can be placed in order
 pub commit_may : (history : List Entry) (entry : Entry) → capacity_in entry ≡ capacity_in (Round 0) → machine_in entry ≡ machine_in (Round 0)
     → EndsRunning (state history).tasks entry → PlacesInOrder (state history) entry → length history < 2 ^ 64 - 1
-    → MayApplyAfter history entry
+    → MayApply (state history) (seq history) entry
 commit_may history entry no_capacity no_machine ends places few = record {
   capacity = subst (λ o. IfSome o (λ cap. Fits cap greatest)) (sym no_capacity) tt;
   machines = subst (λ o. IfSome o (ListsOrHasRoom (state history).machines)) (sym no_machine) tt;
-  seqs = short history entry few;
+  numbers = short history entry few;
   ends = ends;
   places = places;
 }

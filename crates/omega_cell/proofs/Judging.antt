@@ -1,32 +1,30 @@
 -- The claims of a transaction, judged and applied one after the other.
-use Rattle.std.proofs.Common.{◌≡◌, ℕ, ◌+◌, ◌<◌, ◌≤◌, Bool, true, not, List, [], ◌∷◌, ◌++◌, length, map, get_or, take, drop, sum_by, refl, sym, ap, ◌∙◌, arith, append_assoc, length-append, if◌then◌else◌, ◌==◌}
+use Rattle.std.proofs.Common.{◌≡◌, ℕ, ◌+◌, ◌<◌, ◌≤◌, Bool, true, not, List, [], ◌∷◌, ◌++◌, length, map, get_or, take, drop, Option, refl, sym, ap, ◌∙◌, arith, append_assoc, length-append, if◌then◌else◌, ◌==◌}
 use Rattle.std.specs.List.{zip, fold, position_or_len}
 use Rattle.std.proofs.lemmas.Bool.{eq-eqb}
 use Rattle.std.proofs.lemmas.List.{drop_more, take_more, take_all, get_or-map, length-take}
 use Rattle.std.proofs.lemmas.List.Sums.{fold-append, sum_by-cons}
 use Rattle.omega_model.specs.Cell.{Cell}
-use Rattle.omega_model.specs.Judge.{judge}
-use Rattle.omega_model.specs.Reply.{after_claim, tasks_after_claim, verdicts, withdrawn_for, first_refusal, all_or_nothing}
-use Rattle.omega_model.specs.Touches.{is_placed, seq}
+use Rattle.omega_model.specs.Judge.{judge, known_of}
+use Rattle.omega_model.specs.Reply.{admits, after_claim, tasks_after_claim, judgements, withdrawn_for, first_refused, all_or_nothing}
+use Rattle.omega_model.specs.Touches.{seq}
 use Rattle.omega_model.specs.declared.cells.Task.{Task}
 use Rattle.omega_model.specs.declared.claims.Claim.{Claim}
+use Rattle.omega_model.specs.declared.claims.Judgement.{Judgement}
 use Rattle.omega_model.specs.declared.claims.Rule.{Rule}
-use Rattle.omega_model.specs.declared.claims.Verdict.{Verdict}
 use Rattle.omega_model.specs.declared.entries.Entry.{Entry}
 use Rattle.omega_machines.proofs.Places.{by_answer}
 use Rattle.omega_machines.specs.Table.{machines_of, seq_at}
 use Rattle.omega_board.specs.Board.{BoardState, cell_of}
 use Rattle.omega_board.specs.Undo.{UndoState, IsUndoOf, at_reserve}
-use Rattle.omega_cell.specs.Claiming.{copied_seqs}
-
--- how many victims some claims have
-abbrev pub victims_in : List Claim → ℕ
-victims_in claims = sum_by (λ claim. length claim.victims) claims
+use Rattle.omega_board.proofs.Commits.{victims_in}
+use Rattle.omega_cell.specs.Claiming.{AreNumbered}
+use Rattle.omega_cell.specs.Rooms.{victim_counts}
 
 -- the claims before a place are judged
-pub record IsJudging (start board : BoardState) (first undo : UndoState) (rule : Rule) (claims : List Claim) (seqs : List ℕ) (told : List Verdict) (i : ℕ) : Type 0 where
-  pub judged : (history : List Entry) (seen : ℕ) → ((id : ℕ) → seq_at start.table id ≡ seq history id) → seqs ≡ copied_seqs history seen claims
-      → told ++ verdicts history seen (cell_of board) rule (drop i claims) ≡ verdicts history seen (cell_of start) rule claims
+pub record IsJudging (start board : BoardState) (first undo : UndoState) (rule : Rule) (claims : List Claim) (seqs : List ℕ) (told : List Judgement) (i : ℕ) : Type 0 where
+  pub judged : (history : List Entry) (seen : ℕ) → AreNumbered start seqs claims history seen
+      → told ++ judgements history seen (cell_of board) rule (drop i claims) ≡ judgements history seen (cell_of start) rule claims
   pub long : length told ≡ i
   pub tasks : board.tasks ≡ fold tasks_after_claim start.tasks (zip (take i claims) told)
   pub machines : machines_of board.table ≡ machines_of start.table
@@ -36,11 +34,11 @@ pub record IsJudging (start board : BoardState) (first undo : UndoState) (rule :
   pub room : length claims ≤ undo.claims + i
   pub victims : victims_in (drop i claims) ≤ undo.victims
 
--- what is known of one claim that is judged
-pub record IsJudged (board next : BoardState) (undo noted : UndoState) (rule : Rule) (claim : Claim) (copy : ℕ) (verdict : Verdict) : Type 0 where
-  pub verdict_is : (history : List Entry) (seen : ℕ) → seq_at board.table claim.machine ≡ seq history claim.machine → copy ≡ seq (take seen history) claim.machine
-      → verdict ≡ judge history seen (cell_of board) rule claim
-  pub cell : cell_of next ≡ after_claim (cell_of board) (claim, verdict)
+-- what is known of one claim that is judged, with a number of the copy or without
+pub record IsJudged (board next : BoardState) (undo noted : UndoState) (claim : Claim) (copy : Option ℕ) (judgement : Judgement) : Type 0 where
+  pub is : (history : List Entry) (seen : ℕ) (rule : Rule) → seq_at board.table claim.machine ≡ seq history claim.machine → copy ≡ known_of history seen rule claim.machine
+      → judgement ≡ judge history seen (cell_of board) rule claim
+  pub cell : cell_of next ≡ after_claim (cell_of board) (claim, judgement)
   pub numbers : (id : ℕ) → seq_at next.table id ≡ seq_at board.table id
   pub undone : IsUndoOf next noted
   pub content : at_reserve noted next ≡ at_reserve undo board
@@ -55,33 +53,35 @@ zip_push (a ∷ xs) [] x y same = absurd (omega (arith, same))
 zip_push (a ∷ xs) (b ∷ ys) x y same = ap (λ pairs. (a, b) ∷ pairs) (zip_push xs ys x y (omega (arith, same)))
 
 -- once the claim at a place is judged, those before the next place are
-pub judge_next : (start board next : BoardState) (first undo noted : UndoState) (rule : Rule) (claims : List Claim) (seqs : List ℕ) (told : List Verdict) (i : ℕ) (claim : Claim) (copy : ℕ) (verdict : Verdict)
-    → i < length claims → length seqs ≡ length claims → claim ≡ get_or claims i claim → copy ≡ get_or seqs i copy
-    → IsJudged board next undo noted rule claim copy verdict
-    → IsJudging start board first undo rule claims seqs told i → IsJudging start next first noted rule claims seqs (told ++ verdict ∷ []) (i + 1)
-judge_next start board next first undo noted rule claims seqs told i claim copy verdict below same here copied known so =
+pub judge_next : (start board next : BoardState) (first undo noted : UndoState) (rule : Rule) (claims : List Claim) (seqs : List ℕ) (told : List Judgement) (i : ℕ) (claim : Claim) (number : ℕ) (copy : Option ℕ) (judgement : Judgement)
+    → i < length claims → claim ≡ get_or claims i claim → number ≡ get_or seqs i number
+    → ((history : List Entry) (seen machine : ℕ) → number ≡ seq (take seen history) machine → copy ≡ known_of history seen rule machine)
+    → IsJudged board next undo noted claim copy judgement
+    → IsJudging start board first undo rule claims seqs told i → IsJudging start next first noted rule claims seqs (told ++ judgement ∷ []) (i + 1)
+judge_next start board next first undo noted rule claims seqs told i claim number copy judgement below here copied copy_is known so =
     let rest = drop (i + 1) claims in
     let split : drop i claims ≡ claim ∷ rest = drop_more claims i claim below ∙ ap (λ (c : Claim). c ∷ rest) (sym here) in
     let front : take (i + 1) claims ≡ take i claims ++ claim ∷ [] = take_more claims i claim below ∙ ap (λ (c : Claim). take i claims ++ c ∷ []) (sym here) in
     let fewer : victims_in (drop i claims) ≡ length claim.victims + victims_in rest = ap victims_in split ∙ sum_by-cons (λ (c : Claim). length c.victims) claim rest in
     let long : length (take i claims) ≡ length told = length-take i claims ∙ omega (arith, so.long, below) in
     record {
-      judged = λ history seen numbered copies.
-          let number : copy ≡ seq (take seen history) claim.machine =
-          copied ∙ ap (λ (ns : List ℕ). get_or ns i copy) copies ∙ get_or-map (λ (c : Claim). seq (take seen history) c.machine) claims i claim copy below
+      judged = λ history seen numbered.
+          let seq_is : number ≡ seq (take seen history) claim.machine =
+          copied ∙ ap (λ (ns : List ℕ). get_or ns i number) numbered.copy ∙ get_or-map (λ (c : Claim). seq (take seen history) c.machine) claims i claim number below
           ∙ ap (λ (c : Claim). seq (take seen history) c.machine) (sym here) in
-          let is : verdict ≡ judge history seen (cell_of board) rule claim = known.verdict_is history seen (so.numbers claim.machine ∙ numbered claim.machine) number in
-          append_assoc told (verdict ∷ []) (verdicts history seen (cell_of next) rule rest)
-          ∙ ap (λ (c : Cell). told ++ verdict ∷ verdicts history seen c rule rest) known.cell
-          ∙ ap (λ (v : Verdict). told ++ v ∷ verdicts history seen (after_claim (cell_of board) (claim, v)) rule rest) is
-          ∙ ap (λ (cs : List Claim). told ++ verdicts history seen (cell_of board) rule cs) (sym split)
-          ∙ so.judged history seen numbered copies;
-      long = length-append told (verdict ∷ []) ∙ omega (arith, so.long);
+          let is : judgement ≡ judge history seen (cell_of board) rule claim =
+          known.is history seen rule (so.numbers claim.machine ∙ numbered.now claim.machine) (copy_is history seen claim.machine seq_is) in
+          append_assoc told (judgement ∷ []) (judgements history seen (cell_of next) rule rest)
+          ∙ ap (λ (c : Cell). told ++ judgement ∷ judgements history seen c rule rest) known.cell
+          ∙ ap (λ (j : Judgement). told ++ j ∷ judgements history seen (after_claim (cell_of board) (claim, j)) rule rest) is
+          ∙ ap (λ (cs : List Claim). told ++ judgements history seen (cell_of board) rule cs) (sym split)
+          ∙ so.judged history seen numbered;
+      long = length-append told (judgement ∷ []) ∙ omega (arith, so.long);
       tasks = ap (λ (c : Cell). c.tasks) known.cell
-          ∙ ap (λ (ts : List Task). tasks_after_claim ts (claim, verdict)) so.tasks
-          ∙ sym (fold-append tasks_after_claim start.tasks (zip (take i claims) told) ((claim, verdict) ∷ []))
-          ∙ ap (fold tasks_after_claim start.tasks) (sym (zip_push (take i claims) told claim verdict long))
-          ∙ ap (λ (cs : List Claim). fold tasks_after_claim start.tasks (zip cs (told ++ verdict ∷ []))) (sym front);
+          ∙ ap (λ (ts : List Task). tasks_after_claim ts (claim, judgement)) so.tasks
+          ∙ sym (fold-append tasks_after_claim start.tasks (zip (take i claims) told) ((claim, judgement) ∷ []))
+          ∙ ap (fold tasks_after_claim start.tasks) (sym (zip_push (take i claims) told claim judgement long))
+          ∙ ap (λ (cs : List Claim). fold tasks_after_claim start.tasks (zip cs (told ++ judgement ∷ []))) (sym front);
       machines = ap (λ (c : Cell). c.machines) known.cell ∙ so.machines;
       numbers = λ id. known.numbers id ∙ so.numbers id;
       undone = known.undone;
@@ -90,8 +90,15 @@ judge_next start board next first undo noted rule claims seqs told i claim copy 
       victims = omega (arith, so.victims, known.victims, fewer);
     }
 
+-- the rooms that are left when the one for the claim at a place was taken
+pub rooms_left : (claims : List Claim) (i : ℕ) (claim : Claim) (room : ℕ) (before after : List ℕ) → i < length claims → before ≡ victim_counts (drop i claims) → before ≡ room ∷ after
+    → after ≡ victim_counts (drop (i + 1) claims)
+rooms_left claims i claim room before after below are split =
+    let all : victim_counts (drop i claims) ≡ length (get_or claims i claim).victims ∷ victim_counts (drop (i + 1) claims) = ap victim_counts (drop_more claims i claim below) in
+    cc
+
 -- at the end all are
-pub judged_all : (start board : BoardState) (first undo : UndoState) (rule : Rule) (claims : List Claim) (seqs : List ℕ) (told : List Verdict) (i : ℕ)
+pub judged_all : (start board : BoardState) (first undo : UndoState) (rule : Rule) (claims : List Claim) (seqs : List ℕ) (told : List Judgement) (i : ℕ)
     → length claims ≤ i → IsJudging start board first undo rule claims seqs told i → board.tasks ≡ fold tasks_after_claim start.tasks (zip claims told)
 judged_all start board first undo rule claims seqs told i past so =
     so.tasks ∙ ap (λ (cs : List Claim). fold tasks_after_claim start.tasks (zip cs told)) (take_all i claims past)
@@ -105,34 +112,34 @@ first_within p (x ∷ xs) =
     (λ f. rw f (let rest = first_within p xs in omega (arith, rest)))
 
 -- where the first refusal isn't before the end, there is none
-pub no_refusal : (reply : List Verdict) → length reply ≤ first_refusal reply → (first_refusal reply == length reply) ≡ true
+pub no_refusal : (reply : List Judgement) → length reply ≤ first_refused reply → (first_refused reply == length reply) ≡ true
 no_refusal reply past =
-    let most : first_refusal reply ≤ length reply = first_within (λ verdict. not (is_placed verdict)) reply in
-    eq-eqb (first_refusal reply) (length reply) (omega (arith, past, most))
+    let most : first_refused reply ≤ length reply = first_within (λ judgement. not (admits judgement)) reply in
+    eq-eqb (first_refused reply) (length reply) (omega (arith, past, most))
 
 -- a withdrawn gang leaves the tasks
-pub withdrawn_leaves : (place : ℕ) (tasks : List Task) (claims : List Claim) (reply : List Verdict) → fold tasks_after_claim tasks (zip claims (map (withdrawn_for place) reply)) ≡ tasks
+pub withdrawn_leaves : (place : ℕ) (tasks : List Task) (claims : List Claim) (reply : List Judgement) → fold tasks_after_claim tasks (zip claims (map (withdrawn_for place) reply)) ≡ tasks
 withdrawn_leaves place tasks [] reply = refl
 withdrawn_leaves place tasks (claim ∷ claims) [] = refl
-withdrawn_leaves place tasks (claim ∷ claims) (verdict ∷ reply) =
-    ap (λ (ts : List Task). fold tasks_after_claim ts (zip claims (map (withdrawn_for place) reply))) (here verdict) ∙ withdrawn_leaves place tasks claims reply
+withdrawn_leaves place tasks (claim ∷ claims) (judgement ∷ reply) =
+    ap (λ (ts : List Task). fold tasks_after_claim ts (zip claims (map (withdrawn_for place) reply))) (here judgement) ∙ withdrawn_leaves place tasks claims reply
   where
-    here : (v : Verdict) → tasks_after_claim tasks (claim, withdrawn_for place v) ≡ tasks
-    here v = by_answer (is_placed v) (λ t. rw t refl) (λ f. rw (f, f) refl)
+    here : (j : Judgement) → tasks_after_claim tasks (claim, withdrawn_for place j) ≡ tasks
+    here j = by_answer (admits j) (λ t. rw t refl) (λ f. rw (f, f) refl)
 
 -- a gang keeps its tasks where it has no refusal, and else those of the start
-pub gang_tasks : (start board next : BoardState) (undo : UndoState) (claims : List Claim) (told kept : List Verdict)
+pub gang_tasks : (start board next : BoardState) (undo : UndoState) (claims : List Claim) (told kept : List Judgement)
     → board.tasks ≡ fold tasks_after_claim start.tasks (zip claims told) → at_reserve undo board ≡ start
-    → next ≡ (if first_refusal told == length told then board else at_reserve undo board) → kept ≡ all_or_nothing told
+    → next ≡ (if first_refused told == length told then board else at_reserve undo board) → kept ≡ all_or_nothing told
     → next.tasks ≡ fold tasks_after_claim start.tasks (zip claims kept)
 gang_tasks start board next undo claims told kept tasks back next_is kept_is =
-    by_answer (first_refusal told == length told)
+    by_answer (first_refused told == length told)
     (λ t.
     let board_is : next ≡ board = rw t at next_is in
     let told_is : kept ≡ told = rw t at kept_is in
-    ap (λ (b : BoardState). b.tasks) board_is ∙ tasks ∙ ap (λ (vs : List Verdict). fold tasks_after_claim start.tasks (zip claims vs)) (sym told_is))
+    ap (λ (b : BoardState). b.tasks) board_is ∙ tasks ∙ ap (λ (js : List Judgement). fold tasks_after_claim start.tasks (zip claims js)) (sym told_is))
     (λ f.
     let board_is : next ≡ at_reserve undo board = rw f at next_is in
-    let told_is : kept ≡ map (withdrawn_for (first_refusal told)) told = rw f at kept_is in
-    ap (λ (b : BoardState). b.tasks) (board_is ∙ back) ∙ sym (withdrawn_leaves (first_refusal told) start.tasks claims told)
-    ∙ ap (λ (vs : List Verdict). fold tasks_after_claim start.tasks (zip claims vs)) (sym told_is))
+    let told_is : kept ≡ map (withdrawn_for (first_refused told)) told = rw f at kept_is in
+    ap (λ (b : BoardState). b.tasks) (board_is ∙ back) ∙ sym (withdrawn_leaves (first_refused told) start.tasks claims told)
+    ∙ ap (λ (js : List Judgement). fold tasks_after_claim start.tasks (zip claims js)) (sym told_is))

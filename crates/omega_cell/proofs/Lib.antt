@@ -1,6 +1,7 @@
 pub mod Cells
+pub mod Shortest
+pub mod Replies
 pub mod Judging
 pub mod Committing
 pub mod Gangs
 pub mod Evictions
-mod Examples

@@ -1,18 +1,17 @@
 -- The cell that all schedulers share: a history, and the board after it.
 use Rattle.std.specs.Prelude.{◌≡◌, ℕ, ◌≤◌, ◌<◌, ◌^◌, Bool, true, false, List, [], length}
 use Rattle.std.specs.List.{sum_by}
+use Rattle.omega_model.specs.Applying.{EachMayApply}
 use Rattle.omega_model.specs.Legal.{Legal}
 use Rattle.omega_model.specs.State.{state}
 use Rattle.omega_model.specs.Touches.{seq}
 use Rattle.omega_model.specs.declared.claims.Txn.{Txn}
-use Rattle.omega_model.specs.declared.claims.Verdict.{Verdict}
-use Rattle.omega_model.specs.declared.claims.Outcome.{Outcome}
 use Rattle.omega_model.specs.declared.entries.Entry.{Entry}
 use Rattle.omega_model.specs.declared.entries.Entry.TheVariants.{Commit}
 use Rattle.omega_machines.specs.Table.{seq_at}
 use Rattle.omega_board.specs.Board.{BoardState, cell_of}
-use Rattle.omega_board.specs.Histories.{EachMayApply}
 use Rattle.omega_board.specs.Undo.{UndoState}
+use Rattle.omega_cell.specs.Rooms.{victim_counts}
 
 -- a cell as callers see it: its history, and for how many more tasks and entries it has room
 pub record CellState : Type 0 where
@@ -38,18 +37,21 @@ pub record HasRoom (cell : CellState) (txn : Txn) : Type 0 where
   pub tasks : length txn.claims ≤ cell.task_room
   pub entry : 0 < cell.entry_room
 
--- what a prepared transaction keeps: the undo has taken nothing in yet and has room for all claims and
--- their victims, there is room for a verdict and an outcome for each claim, and a verdict can name each
--- claim's place
-pub record IsPrepared (txn : Txn) (undo : UndoState) (verdicts : List Verdict) (verdict_room : ℕ) (outcomes : List Outcome) (outcome_room : ℕ) : Type 0 where
+-- a cell has no less room than before
+pub record KeepsRoom (old new : CellState) : Type 0 where
+  pub tasks : old.task_room ≤ new.task_room
+  pub entries : old.entry_room ≤ new.entry_room
+
+-- what a prepared transaction keeps: a judgement can name each claim's place, the undo has taken nothing
+-- in yet and has room for all claims and their victims, and both the entry and the answer have room for
+-- what each claim evicts
+pub record IsPrepared (txn : Txn) (undo : UndoState) (entry answer : List ℕ) : Type 0 where
   pub few : length txn.claims < 2 ^ 32
   pub log : undo.log ≡ []
   pub claims : undo.claims ≡ length txn.claims
   pub victims : undo.victims ≡ sum_by (λ claim. length claim.victims) txn.claims
-  pub no_verdict : verdicts ≡ []
-  pub verdict_each : length txn.claims ≤ verdict_room
-  pub no_outcome : outcomes ≡ []
-  pub outcome_each : length txn.claims ≤ outcome_room
+  pub entry_room : entry ≡ victim_counts txn.claims
+  pub answer_room : answer ≡ victim_counts txn.claims
 
 -- whether an entry is a commit
 abbrev pub is_commit : Entry → Bool

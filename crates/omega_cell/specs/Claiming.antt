@@ -1,5 +1,9 @@
--- What a scheduler that claims machines knows of them.
-use Rattle.std.specs.Prelude.{ℕ, List, map, take}
+-- What a scheduler that claims machines knows of them, and what takes its claims back.
+use Rattle.std.specs.Prelude.{◌≡◌, ◌≤◌, ℕ, List, map, take, length}
+use Rattle.std.specs.List.{sum_by}
+use Rattle.omega_machines.specs.Table.{seq_at}
+use Rattle.omega_board.specs.Board.{BoardState}
+use Rattle.omega_board.specs.Undo.{UndoState}
 use Rattle.omega_model.specs.Touches.{seq}
 use Rattle.omega_model.specs.declared.claims.Claim.{Claim}
 use Rattle.omega_model.specs.declared.entries.Entry.{Entry}
@@ -7,3 +11,14 @@ use Rattle.omega_model.specs.declared.entries.Entry.{Entry}
 -- the sequence numbers of the claims' machines in a copy that has seen the first entries of a history
 abbrev pub copied_seqs : List Entry → ℕ → List Claim → List ℕ
 copied_seqs history seen claims = map (λ claim. seq (take seen history) claim.machine) claims
+
+-- a board has the sequence numbers of a history, and these are the claims' machines' in a copy that has
+-- seen its first entries
+pub record AreNumbered (board : BoardState) (seqs : List ℕ) (claims : List Claim) (history : List Entry) (seen : ℕ) : Type 0 where
+  pub now : (id : ℕ) → seq_at board.table id ≡ seq history id
+  pub copy : seqs ≡ copied_seqs history seen claims
+
+-- an undo has room for these claims and their victims
+pub record CanUndo (undo : UndoState) (told : List Claim) : Type 0 where
+  pub claims : length told ≤ undo.claims
+  pub victims : sum_by (λ claim. length claim.victims) told ≤ undo.victims

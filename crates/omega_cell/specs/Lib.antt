@@ -1,3 +1,4 @@
 pub mod Cells
 pub mod Claiming
 pub mod Laws
+pub mod Rooms

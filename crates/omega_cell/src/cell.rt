@@ -1,23 +1,22 @@
 //! The cell.
 ghost use Rattle.std.specs.Prelude.{◌≡◌, ◌≤◌, ◌<◌, ◌^◌, ◌++◌, ◌∷◌, [], false, ℕ, length, IfOk, IfErr, OnOk, OnErr, IfSome};
 ghost use Rattle.omega_board.specs.Board.{cell_of};
-ghost use Rattle.omega_board.specs.Entries.{capacity_in, machine_in, EndsRunning};
-ghost use Rattle.omega_board.specs.Histories.{EachMayApply, ListsOrHasRoom};
 ghost use Rattle.omega_machines.specs.Table.{seq_at};
-ghost use Rattle.omega_model.specs.Copy.{Carries};
+ghost use Rattle.omega_model.specs.Applying.{capacity_in, machine_in, EndsRunning, EachMayApply, ListsOrHasRoom};
 ghost use Rattle.omega_model.specs.Fields.{greatest};
 ghost use Rattle.omega_model.specs.Legal.{Legal};
 ghost use Rattle.omega_model.specs.Need.{Fits};
 ghost use Rattle.omega_model.specs.State.{state, reply_of};
 ghost use Rattle.omega_model.specs.Touches.{seq};
 ghost use Rattle.omega_model.specs.Work.{outcomes_of};
-ghost use Rattle.omega_cell.specs.Cells.{HasRoom, is_commit};
+ghost use Rattle.omega_cell.specs.Cells.{HasRoom, KeepsRoom, is_commit};
 ghost use Rattle.omega_cell.specs.Claiming.{copied_seqs};
 
 use crate::deciding::{decide, outcomes_of};
 use crate::prepared::Prepared;
+use crate::room::AnswerRoom;
 use omega_board::Board;
-use omega_model::{Copied, Delta, Entries, Entry, NoMemory, Reply, Seq, Txn};
+use omega_model::{Entries, Entry, NoMemory, Reply, Seq, Txn};
 use std::alloc::Global;
 use std::marker::Model;
 
@@ -81,7 +80,10 @@ impl Cell {
     }
 
     /// Appends an entry that is no commit, and applies it to the board. Where memory runs out the
-    /// entry is handed back, and the history and the board stay.
+    /// entry is handed back, the history and the board stay, and no room is lost.
+    ///
+    /// A capacity is at most 10^12 units of each kind, there are at most 65,536 machines, and an end
+    /// names a task that runs on its machine.
     ///
     /// Costs what the entry changes, and where it displaces a task the tasks on its machine.
     pub fn feed(&mut self, alloc: Global, entry: Entry) -> Result<(), (Entry, NoMemory)>
@@ -92,6 +94,7 @@ impl Cell {
         ensures ok { OnOk result (self.new.history ≡ self.old.history ++ entry ∷ []) }
         ensures err { OnErr result (self.new.history ≡ self.old.history) }
         ensures back { IfErr result (λ refused. refused.0 ≡ entry) }
+        ensures kept { OnErr result (KeepsRoom self.old self.new) }
     {
         if self.entries.reserve(1).is_err() {
             return Err((entry, NoMemory));
@@ -105,19 +108,21 @@ impl Cell {
         }
     }
 
-    /// Makes room for all that the commit of a transaction needs. The history and the board stay.
-    /// Where memory runs out the transaction is handed back. Costs the claims.
+    /// Makes room for all that the commit of a transaction needs. The history and the board stay, and
+    /// no room is lost. Where memory runs out the transaction is handed back. Costs the claims and
+    /// their victims.
     pub fn reserve(&mut self, alloc: Global, txn: Txn) -> Result<Prepared, (Txn, NoMemory)>
         requires { length txn.claims < 2 ^ 32 }
         ensures history { self.new.history ≡ self.old.history }
+        ensures kept { KeepsRoom self.old self.new }
         ensures txn { IfOk result (λ prepared. prepared ≡ txn) }
         ensures room { OnOk result (HasRoom self.new txn) }
         ensures back { IfErr result (λ refused. refused.0 ≡ txn) }
     {
-        let Ok(verdicts) = Vec::with_capacity(alloc, txn.claims.len()) else {
+        let Ok(entry) = AnswerRoom::of(alloc, txn.claims.as_slice()) else {
             return Err((txn, NoMemory));
         };
-        let Ok(outcomes) = Vec::with_capacity(alloc, txn.claims.len()) else {
+        let Ok(answer) = AnswerRoom::of(alloc, txn.claims.as_slice()) else {
             return Err((txn, NoMemory));
         };
         if self.entries.reserve(1).is_err() {
@@ -127,8 +132,8 @@ impl Cell {
             Ok(undo) => Ok(Prepared {
                 txn,
                 undo,
-                verdicts,
-                outcomes,
+                entry,
+                answer,
             }),
             Err(error) => Err((txn, error)),
         }
@@ -137,7 +142,7 @@ impl Cell {
     /// Judges the claims of a prepared transaction on this cell, keeps what its mode keeps, and
     /// appends the commit with its reply. `seen` is the number of entries that the scheduler's copy
     /// had taken in, and `seqs` has for each claim the sequence number of its machine in that copy.
-    /// Answers the place of the entry, and each claim's verdict.
+    /// Answers the place of the entry, and for each claim the verdict and the tasks that it evicts.
     ///
     /// Costs the claims, each compared with those before it, and their victims. Takes no memory.
     pub fn commit(&mut self, scheduler: u32, seen: u64, seqs: &[u64], prepared: Prepared) -> Reply
@@ -151,12 +156,12 @@ impl Cell {
         let Prepared {
             txn,
             undo,
-            verdicts,
-            outcomes,
+            entry,
+            answer,
         } = prepared;
-        let reply = decide(&mut self.board, &txn, seqs, undo, verdicts);
+        let reply = decide(&mut self.board, &txn, seqs, undo, entry);
         self.board.touch_placed(&txn.claims, &reply);
-        let outcomes = outcomes_of(txn.claims.as_slice(), reply.as_slice(), outcomes);
+        let outcomes = outcomes_of(txn.claims.as_slice(), reply.as_slice(), answer);
         let place = self.entries.len() as u64;
         self.entries.push_reserved(Entry::Commit {
             scheduler,
@@ -164,29 +169,6 @@ impl Cell {
             txn,
             reply,
         });
-        Reply {
-            place,
-            outcomes: Seq::of(outcomes),
-        }
+        Reply { place, outcomes }
     }
-
-    /// The delta that holds the history from place `n` on. Costs what it holds.
-    pub fn since(&self, alloc: Global, n: u64) -> Result<Delta, NoMemory>
-        requires { n ≤ length self.now.history }
-        ensures { IfOk result (λ delta. Carries delta self.now.history n (length self.now.history)) }
-    {
-        let later = copied(alloc, &self.entries.as_slice()[n as usize..])?;
-        Ok(Delta::of(n, later))
-    }
-}
-
-// Equal entries.
-fn copied(alloc: Global, entries: &[Entry]) -> Result<Entries, NoMemory>
-    ensures { IfOk result (λ copied. copied ≡ entries.now) }
-{
-    let mut copied = Vec::new(alloc);
-    for entry in entries {
-        copied.push(entry.copy(alloc)?)?;
-    }
-    Ok(Seq::of(copied))
 }

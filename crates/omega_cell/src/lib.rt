@@ -10,6 +10,7 @@ mod cell;
 mod deciding;
 mod laws;
 mod prepared;
+mod room;
 #[cfg(test)]
 mod tests;
 

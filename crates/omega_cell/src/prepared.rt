@@ -1,19 +1,22 @@
 //! A transaction with all the room that its commit needs.
+use crate::room::AnswerRoom;
 use omega_board::Undo;
-use omega_model::{Outcome, Txn, Verdict};
+use omega_model::{Judgement, Outcome, Txn};
 use std::marker::Model;
 
 /// A transaction, ready to be committed without memory. A contract sees the transaction.
+///
+/// It has room for the names of the tasks that its claims evict twice: for the entry of the history,
+/// and for the answer to the scheduler.
 #[derive(Drop)]
 pub struct Prepared {
     pub(crate) txn: Txn,
     pub(crate) undo: Undo,
-    pub(crate) verdicts: Vec<Verdict>,
-    pub(crate) outcomes: Vec<Outcome>,
+    pub(crate) entry: AnswerRoom<Judgement>,
+    pub(crate) answer: AnswerRoom<Outcome>,
 }
 
 impl Model for Prepared {
-    ghost use Rattle.std.specs.Prelude.{vec_capacity};
     ghost use Rattle.omega_model.specs.declared.claims.Txn.{Txn};
     ghost use Rattle.omega_cell.specs.Cells.{IsPrepared};
 
@@ -21,5 +24,5 @@ impl Model for Prepared {
 
     ghost view = { λ p. p.txn };
 
-    ghost invariant = { λ p. IsPrepared p.txn p.undo p.verdicts.items (vec_capacity p.verdicts) p.outcomes.items (vec_capacity p.outcomes) };
+    ghost invariant = { λ p. IsPrepared p.txn p.undo p.entry p.answer };
 }

@@ -1,38 +1,47 @@
-ghost use Rattle.std.specs.Prelude.{◌≡◌, ◌++◌, ◌∷◌, [], ◌<◌, ◌≤◌, ◌^◌, List, length, IfOk, OnOk, IsTrue};
+ghost use Rattle.std.specs.Prelude.{◌≡◌, ◌++◌, ◌∷◌, [], ◌<◌, ◌≤◌, List, length, IfOk, OnOk, IsTrue};
+ghost use Rattle.omega_model.specs.Limits.{most_machines};
 ghost use Rattle.omega_model.specs.State.{state};
 ghost use Rattle.omega_model.specs.declared.entries.Entry.{Entry};
 ghost use Rattle.omega_cell.specs.Claiming.{copied_seqs};
 
 use crate::Cell;
 use omega_model::{
-    Claim, Claims, Delta, Entry, Mode, Need, NoMemory, Outcome, Reply, Rule, Seq, Spec, TaskKey,
-    Txn, Verdict,
+    Claim, Claims, Entry, Mode, Need, NoMemory, Reply, Rule, Seq, Spec, TaskKey, Txn, Verdict,
 };
 use std::alloc::Global;
 
-fn need(cpu: u64, mem: u64) -> Need {
-    Need { cpu, mem }
-}
+// A task that is claimed: its name, the machine, how much CPU and memory it needs, its precedence,
+// and the victims.
+type Asked<'a> = (TaskKey, u64, u64, u8, &'a [TaskKey]);
 
-fn key(job: u64, index: u32) -> TaskKey {
-    TaskKey { job, index }
-}
+// A verdict, the first task that is evicted, and how many are.
+type Told = (Verdict, Option<TaskKey>, usize);
 
-fn spec(amount: u64, prec: u8) -> Spec {
-    Spec {
-        need: need(amount, amount),
-        prec,
-        differ: false,
+const RUNS: TaskKey = TaskKey { job: 1, index: 0 };
+
+const RUNS_TOO: TaskKey = TaskKey { job: 1, index: 1 };
+
+const NEW: TaskKey = TaskKey { job: 2, index: 0 };
+
+const NEW_TOO: TaskKey = TaskKey { job: 2, index: 1 };
+
+const ABSENT: TaskKey = TaskKey { job: 7, index: 0 };
+
+fn need(amount: u64, disk: u64) -> Need {
+    Need {
+        cpu: amount,
+        mem: amount,
+        disk,
     }
 }
 
-fn claim(
-    alloc: Global,
-    key: TaskKey,
-    machine: u64,
-    spec: Spec,
-    victims: &[TaskKey],
-) -> Result<Claim, NoMemory> {
+fn claim(alloc: Global, asked: Asked) -> Result<Claim, NoMemory> {
+    let (key, machine, amount, prec, victims) = asked;
+    let spec = Spec {
+        need: need(amount, 0),
+        prec,
+        differ: false,
+    };
     let victims = Seq::of(Vec::from_slice(alloc, victims)?);
     Ok(Claim {
         key,
@@ -42,50 +51,33 @@ fn claim(
     })
 }
 
-fn txn(claims: Claims, rule: Rule, mode: Mode) -> Txn
-    ensures { result.claims ≡ claims }
-{
-    Txn {
+fn txn(alloc: Global, rule: Rule, mode: Mode, asked: &[Asked]) -> Result<Txn, NoMemory> {
+    let mut claims = Claims::new(alloc);
+    for one in asked {
+        claims.push(claim(alloc, *one)?)?;
+    }
+    Ok(Txn {
         job: 1,
         rule,
         mode,
         claims,
-    }
-}
-
-// A transaction of one claim.
-fn alone(alloc: Global, claim: Claim, rule: Rule) -> Result<Txn, NoMemory>
-    ensures { IfOk result (λ txn. length txn.claims < 2 ^ 32) }
-{
-    let mut claims = Claims::new(alloc);
-    claims.push(claim)?;
-    Ok(txn(claims, rule, Mode::Incremental))
-}
-
-// A transaction of two claims on machine 1, of tasks that need so much.
-fn pair(alloc: Global, amounts: (u64, u64), rule: Rule, mode: Mode) -> Result<Txn, NoMemory>
-    ensures { IfOk result (λ txn. length txn.claims < 2 ^ 32) }
-{
-    let mut claims = Claims::new(alloc);
-    claims.push(claim(alloc, key(1, 0), 1, spec(amounts.0, 0), &[])?)?;
-    claims.push(claim(alloc, key(1, 1), 1, spec(amounts.1, 0), &[])?)?;
-    Ok(txn(claims, rule, mode))
+    })
 }
 
 fn has_room(cell: &Cell) -> bool
-    ensures { IsTrue result → length (state cell.now.history).machines < 65536 }
+    ensures { IsTrue result → length (state cell.now.history).machines < most_machines }
 {
     cell.board().machines().len() < 65_536
 }
 
-// Machine 1 is up with (10, 10).
+// Machine 1 is up with (10, 10, 10).
 fn add(cell: &mut Cell, alloc: Global) -> Result<(), NoMemory>
-    ensures { OnOk result (cell.new.history ≡ cell.old.history ++ Entry.MachineAdd 1 (record { cpu = 10; mem = 10 }) ∷ []) }
+    ensures { OnOk result (cell.new.history ≡ cell.old.history ++ Entry.MachineAdd 1 (record { cpu = 10; mem = 10; disk = 10 }) ∷ []) }
 {
     if !has_room(cell) {
         return Err(NoMemory);
     }
-    let cap = Need { cpu: 10, mem: 10 };
+    let cap = need(10, 10);
     let Ok(()) = cell.feed(alloc, Entry::MachineAdd { machine: 1, cap }) else {
         return Err(NoMemory);
     };
@@ -126,10 +118,12 @@ fn commit(
     seqs: &[u64],
     txn: Txn,
 ) -> Result<Reply, NoMemory>
-    requires few { length txn.claims < 2 ^ 32 }
     requires seen { seen ≤ length cell.old.history }
     requires seqs { seqs.now ≡ copied_seqs cell.old.history seen txn.claims }
 {
+    if txn.claims.len() > 2 {
+        return Err(NoMemory);
+    }
     let Ok(prepared) = cell.reserve(alloc, txn) else {
         return Err(NoMemory);
     };
@@ -137,9 +131,7 @@ fn commit(
 }
 
 // A commit from a copy that has seen everything.
-fn commit_now(cell: &mut Cell, alloc: Global, txn: Txn) -> Result<Reply, NoMemory>
-    requires { length txn.claims < 2 ^ 32 }
-{
+fn commit_now(cell: &mut Cell, alloc: Global, txn: Txn) -> Result<Reply, NoMemory> {
     let seen = cell.history().len() as u64;
     let seqs = numbers(alloc, cell, txn.claims.as_slice())?;
     commit(cell, alloc, seen, seqs.as_slice(), txn)
@@ -151,27 +143,41 @@ fn machine(alloc: Global) -> Result<Cell, NoMemory> {
     Ok(cell)
 }
 
-// The length of the history, the sequence number of machine 1, and how many tasks run.
-fn counts(cell: &Cell) -> (usize, u64, usize) {
+// A cell with machine 1, on which these tasks were placed.
+fn busy(alloc: Global, asked: &[Asked]) -> Result<Cell, NoMemory> {
+    let mut cell = machine(alloc)?;
+    let claims = txn(alloc, Rule::Fine, Mode::Incremental, asked)?;
+    commit_now(&mut cell, alloc, claims)?;
+    Ok(cell)
+}
+
+// What is answered to the claim at a place.
+fn told(reply: &Reply, place: usize) -> Option<Told> {
+    let outcome = reply.outcomes.get(place)?;
+    let first = outcome.evicted.get(0).copied();
+    Some((outcome.verdict, first, outcome.evicted.len()))
+}
+
+// The place of the commit, the sequence number of machine 1, and how many tasks run.
+fn counts(cell: &Cell, reply: &Reply) -> (u64, u64, usize) {
     let board = cell.board();
-    (
-        cell.history().len(),
-        board.machines().seq(1),
-        board.running().count(),
-    )
+    (reply.place, board.machines().seq(1), board.running().count())
+}
+
+fn refused(verdict: Verdict) -> Option<Told> {
+    Some((verdict, None, 0))
 }
 
 #[test]
 fn a_gang_is_withdrawn_whole(rt: HostRuntime) -> Result<(), NoMemory> {
     let alloc = rt.alloc();
     let mut cell = machine(alloc)?;
-    let gang = pair(alloc, (5, 8), Rule::Fine, Mode::Gang)?;
+    let asked: [Asked; 2] = [(RUNS, 1, 5, 0, &[]), (RUNS_TOO, 1, 8, 0, &[])];
+    let gang = txn(alloc, Rule::Fine, Mode::Gang, &asked)?;
     let reply = commit_now(&mut cell, alloc, gang)?;
-    let full = Verdict::Full(need(5, 5));
-    let outcomes = [(key(1, 0), Verdict::Withdrawn(1)), (key(1, 1), full)];
-    let told = outcomes.map(|(key, verdict)| Outcome { key, verdict });
-    assert_eq!(rt; reply.outcomes.as_slice(), told.as_slice());
-    assert_eq!(rt; (reply.place, counts(&cell)), (1, (2, 1, 0)));
+    assert_eq!(rt; told(&reply, 0), refused(Verdict::Withdrawn(1)));
+    assert_eq!(rt; told(&reply, 1), refused(Verdict::Full(need(5, 10))));
+    assert_eq!(rt; counts(&cell, &reply), (1, 1, 0));
     Ok(())
 }
 
@@ -179,13 +185,12 @@ fn a_gang_is_withdrawn_whole(rt: HostRuntime) -> Result<(), NoMemory> {
 fn the_same_claims_one_by_one(rt: HostRuntime) -> Result<(), NoMemory> {
     let alloc = rt.alloc();
     let mut cell = machine(alloc)?;
-    let claims = pair(alloc, (5, 8), Rule::Fine, Mode::Incremental)?;
+    let asked: [Asked; 2] = [(RUNS, 1, 5, 0, &[]), (RUNS_TOO, 1, 8, 0, &[])];
+    let claims = txn(alloc, Rule::Fine, Mode::Incremental, &asked)?;
     let reply = commit_now(&mut cell, alloc, claims)?;
-    let full = Verdict::Full(need(5, 5));
-    let outcomes = [(key(1, 0), Verdict::Placed), (key(1, 1), full)];
-    let told = outcomes.map(|(key, verdict)| Outcome { key, verdict });
-    assert_eq!(rt; reply.outcomes.as_slice(), told.as_slice());
-    assert_eq!(rt; (reply.place, counts(&cell)), (1, (2, 2, 1)));
+    assert_eq!(rt; told(&reply, 0), Some((Verdict::Placed, None, 0)));
+    assert_eq!(rt; told(&reply, 1), refused(Verdict::Full(need(5, 10))));
+    assert_eq!(rt; counts(&cell, &reply), (1, 2, 1));
     Ok(())
 }
 
@@ -193,109 +198,89 @@ fn the_same_claims_one_by_one(rt: HostRuntime) -> Result<(), NoMemory> {
 fn one_commit_is_no_change_to_itself(rt: HostRuntime) -> Result<(), NoMemory> {
     let alloc = rt.alloc();
     let mut cell = machine(alloc)?;
-    let claims = pair(alloc, (5, 5), Rule::Coarse, Mode::Incremental)?;
+    let asked: [Asked; 2] = [(RUNS, 1, 5, 0, &[]), (RUNS_TOO, 1, 5, 0, &[])];
+    let claims = txn(alloc, Rule::Coarse, Mode::Incremental, &asked)?;
     let reply = commit_now(&mut cell, alloc, claims)?;
-    let told = [0, 1].map(|index| Outcome {
-        key: key(1, index),
-        verdict: Verdict::Placed,
-    });
-    assert_eq!(rt; reply.outcomes.as_slice(), told.as_slice());
-    assert_eq!(rt; counts(&cell), (2, 2, 2));
+    assert_eq!(rt; told(&reply, 0), Some((Verdict::Placed, None, 0)));
+    assert_eq!(rt; told(&reply, 1), Some((Verdict::Placed, None, 0)));
+    assert_eq!(rt; counts(&cell, &reply), (1, 2, 2));
     Ok(())
 }
 
-// The verdict on a fine claim on machine 1, on which the task (1, 0) of (8, 8) and precedence 3
-// runs.
-fn verdict_on_busy(
-    alloc: Global,
-    key_of: TaskKey,
-    machine_of: u64,
-    prec: u8,
-    victims: &[TaskKey],
-) -> Result<Option<Verdict>, NoMemory> {
-    let mut cell = machine(alloc)?;
-    let first = claim(alloc, key(1, 0), 1, spec(8, 3), &[])?;
-    commit_now(&mut cell, alloc, alone(alloc, first, Rule::Fine)?)?;
-    let second = claim(alloc, key_of, machine_of, spec(5, prec), victims)?;
-    let reply = commit_now(&mut cell, alloc, alone(alloc, second, Rule::Fine)?)?;
-    Ok(reply.outcomes.get(0).map(|outcome| outcome.verdict))
+// What is answered to a fine claim on machine 1, on which these tasks were placed.
+fn told_on(alloc: Global, placed: &[Asked], asked: Asked) -> Result<Option<Told>, NoMemory> {
+    let mut cell = busy(alloc, placed)?;
+    let claims = txn(alloc, Rule::Fine, Mode::Incremental, &[asked])?;
+    let reply = commit_now(&mut cell, alloc, claims)?;
+    Ok(told(&reply, 0))
 }
 
 #[test]
 fn claims_on_a_busy_machine(rt: HostRuntime) -> Result<(), NoMemory> {
     let alloc = rt.alloc();
-    let runs = key(1, 0);
+    let placed: [Asked; 1] = [(RUNS, 1, 8, 3, &[])];
+    let evicts = Some((Verdict::Placed, Some(RUNS), 1));
+    let full = refused(Verdict::Full(need(2, 10)));
     let none: &[TaskKey] = &[];
-    for (key, machine, prec, victims, verdict) in [
-        (
-            key(2, 0),
-            1,
-            5,
-            [runs, runs].as_slice(),
-            Verdict::VictimGone(runs),
-        ),
-        (
-            key(2, 0),
-            1,
-            3,
-            [runs].as_slice(),
-            Verdict::VictimRank(runs),
-        ),
-        (key(2, 0), 1, 5, none, Verdict::Full(need(2, 2))),
-        (runs, 1, 5, none, Verdict::AlreadyRunning(1)),
-        (key(2, 0), 9, 5, none, Verdict::NoMachine),
-        (key(2, 0), 1, 5, [runs].as_slice(), Verdict::Placed),
+    for (key, machine, prec, victims, answer) in [
+        (NEW, 1, 5, [RUNS, RUNS].as_slice(), evicts),
+        (NEW, 1, 3, [RUNS].as_slice(), refused(Verdict::VictimRank(RUNS))),
+        (NEW, 1, 5, none, full),
+        (RUNS, 1, 5, none, refused(Verdict::AlreadyRunning(1))),
+        (NEW, 9, 5, none, refused(Verdict::NoMachine)),
+        (NEW, 1, 5, [RUNS].as_slice(), evicts),
+        (NEW, 1, 5, [ABSENT, RUNS].as_slice(), evicts),
+        (NEW, 1, 5, [ABSENT].as_slice(), full),
     ] {
-        let told = verdict_on_busy(alloc, key, machine, prec, victims)?;
-        assert_eq!(rt; told, Some(verdict));
+        let asked: Asked = (key, machine, 5, prec, victims);
+        assert_eq!(rt; told_on(alloc, &placed, asked)?, answer);
     }
     Ok(())
 }
 
-// The verdict on a claim from a copy that hasn't seen that machine 1 was removed and added.
-fn verdict_from_old_copy(alloc: Global, rule: Rule) -> Result<Option<Verdict>, NoMemory> {
+#[test]
+fn only_what_is_needed_is_evicted(rt: HostRuntime) -> Result<(), NoMemory> {
+    let alloc = rt.alloc();
+    let placed: [Asked; 2] = [(RUNS, 1, 4, 3, &[]), (RUNS_TOO, 1, 4, 3, &[])];
+    let victims = [RUNS, RUNS_TOO];
+    let first = told_on(alloc, &placed, (NEW, 1, 5, 5, &victims))?;
+    assert_eq!(rt; first, Some((Verdict::Placed, Some(RUNS), 1)));
+    let none = told_on(alloc, &placed, (NEW, 1, 2, 5, &victims))?;
+    assert_eq!(rt; none, Some((Verdict::Placed, None, 0)));
+    Ok(())
+}
+
+#[test]
+fn a_withdrawn_claim_evicts_nothing(rt: HostRuntime) -> Result<(), NoMemory> {
+    let alloc = rt.alloc();
+    let mut cell = busy(alloc, &[(RUNS, 1, 8, 3, &[])])?;
+    let asked: [Asked; 2] = [(NEW, 1, 5, 5, &[RUNS]), (NEW_TOO, 1, 8, 5, &[])];
+    let gang = txn(alloc, Rule::Fine, Mode::Gang, &asked)?;
+    let reply = commit_now(&mut cell, alloc, gang)?;
+    assert_eq!(rt; told(&reply, 0), refused(Verdict::Withdrawn(1)));
+    assert_eq!(rt; told(&reply, 1), refused(Verdict::Full(need(5, 10))));
+    assert_eq!(rt; counts(&cell, &reply), (2, 2, 1));
+    Ok(())
+}
+
+// What is answered to a claim from a copy that hasn't seen that machine 1 was removed and added.
+fn told_old_copy(alloc: Global, rule: Rule) -> Result<Option<Told>, NoMemory> {
     let mut cell = machine(alloc)?;
-    let txn = alone(alloc, claim(alloc, key(1, 0), 1, spec(5, 0), &[])?, rule)?;
+    let claims = txn(alloc, rule, Mode::Incremental, &[(NEW, 1, 5, 0, &[])])?;
     let seen = cell.history().len() as u64;
-    let seqs = numbers(alloc, &cell, txn.claims.as_slice())?;
+    let seqs = numbers(alloc, &cell, claims.claims.as_slice())?;
     remove(&mut cell, alloc)?;
     add(&mut cell, alloc)?;
-    let reply = commit(&mut cell, alloc, seen, seqs.as_slice(), txn)?;
-    Ok(reply.outcomes.get(0).map(|outcome| outcome.verdict))
+    let reply = commit(&mut cell, alloc, seen, seqs.as_slice(), claims)?;
+    Ok(told(&reply, 0))
 }
 
 #[test]
 fn an_old_number_refuses_a_coarse_claim(rt: HostRuntime) -> Result<(), NoMemory> {
     let alloc = rt.alloc();
-    let changed = Verdict::Changed { now: 3, copy: 1 };
-    assert_eq!(rt; verdict_from_old_copy(alloc, Rule::Coarse)?, Some(changed));
-    assert_eq!(rt;
-        verdict_from_old_copy(alloc, Rule::Fine)?,
-        Some(Verdict::Placed)
-    );
-    Ok(())
-}
-
-fn delta_from(cell: &Cell, alloc: Global, n: u64) -> Result<Delta, NoMemory> {
-    if cell.history().len() < n as usize {
-        return Err(NoMemory);
-    }
-    cell.since(alloc, n)
-}
-
-#[test]
-fn a_delta_holds_what_came_later(rt: HostRuntime) -> Result<(), NoMemory> {
-    let alloc = rt.alloc();
-    let mut cell = machine(alloc)?;
-    let claims = pair(alloc, (5, 8), Rule::Fine, Mode::Incremental)?;
-    commit_now(&mut cell, alloc, claims)?;
-    let delta = delta_from(&cell, alloc, 1)?;
-    assert_eq!(rt; (delta.from(), delta.to()), (1, 2));
-    assert_eq!(rt;
-        matches!(delta.entries().get(0), Some(Entry::Commit { seen: 1, .. })),
-        true
-    );
-    assert_eq!(rt; delta_from(&cell, alloc, 2)?.entries().len(), 0);
-    assert_eq!(rt; cell.into_history().len(), 2);
+    let changed = refused(Verdict::Changed { now: 3, copy: 1 });
+    assert_eq!(rt; told_old_copy(alloc, Rule::Coarse)?, changed);
+    let placed = Some((Verdict::Placed, None, 0));
+    assert_eq!(rt; told_old_copy(alloc, Rule::Fine)?, placed);
     Ok(())
 }

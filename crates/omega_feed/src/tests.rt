@@ -33,6 +33,7 @@ fn machine_row(time: u32, machine: u64, code: u8) -> MachineRow {
         cap: Need {
             cpu: 1_000_000_000,
             mem: 1_000_000_000,
+            disk: 0,
         },
     }
 }
@@ -66,6 +67,7 @@ fn task_row(time: u32, job: u64, index: u16, code: u8, n: u32) -> TaskRow {
             need: Need {
                 cpu: u64::from(n),
                 mem: u64::from(n),
+                disk: 0,
             },
             prec: 1,
             differ: false,
@@ -178,13 +180,21 @@ fn asked_each(
 // A board on which task 0 of job 1 runs on machine 4.
 fn busy(alloc: Global) -> Result<Board, NoMemory> {
     let mut board = Board::new(alloc);
-    let cap = Need { cpu: 10, mem: 10 };
+    let cap = Need {
+        cpu: 10,
+        mem: 10,
+        disk: 10,
+    };
     board.apply_entry(alloc, &Entry::MachineAdd { machine: 4, cap })?;
     let claim = Claim {
         key: TaskKey { job: 1, index: 0 },
         machine: 4,
         spec: Spec {
-            need: Need { cpu: 2, mem: 2 },
+            need: Need {
+                cpu: 2,
+                mem: 2,
+                disk: 2,
+            },
             prec: 1,
             differ: false,
         },
@@ -198,10 +208,11 @@ fn place(alloc: Global, board: &mut Board, claim: Claim) -> Result<(), NoMemory>
     let mut claims = Claims::new(alloc);
     claims.push(claim)?;
     let mut undo = board.reserve(alloc, &claims)?;
+    let mut evicted = Vec::new(alloc);
     if let Some(claim) = claims.get(0)
-        && board.judge(claim, None) == Verdict::Placed
+        && board.judge(claim, None, &mut evicted) == Verdict::Placed
     {
-        board.apply_placed(claim, &mut undo);
+        board.apply_placed(claim, evicted.as_slice(), &mut undo);
     }
     Ok(())
 }

@@ -1,5 +1,7 @@
 use Rattle.std.proofs.Common.{◌≡◌, ◌++◌, ◌∷◌, [], List, sym, ap, ◌∙◌, subst}
 use Rattle.omega_model.specs.declared.entries.Entry.{Entry}
+use Rattle.omega_machines.specs.Table.{seq_at}
+use Rattle.omega_board.specs.Board.{cell_of}
 use Rattle.omega_board.proofs.Histories.{may_apply}
 use Rattle.omega_cell.specs.Cells.{CellState, IsCell}
 use Rattle.omega_cell.proofs.Cells.{cell_push, cell_same, fed_follows, fed_may_on, few_entries}
@@ -7,7 +9,7 @@ use Rattle.omega_cell.proofs.cell.Cell.feed.Goals as goal
 
 pub apply_entry-requires : goal.apply_entry-requires
 apply_entry-requires c =
-    may_apply c.self.inside.board c.self.inside.entries.items c.args.entry c.self.invariant.board_is.current c.self.invariant.board_is.numbered
+    may_apply (cell_of c.self.inside.board) (seq_at c.self.inside.board.table) c.self.inside.entries.items c.args.entry c.self.invariant.board_is.current c.self.invariant.board_is.numbered
     (fed_may_on c.self.inside.entries.items c.args.self.now.history c.args.entry (ap (λ (cell : CellState). cell.history) c.self.view_is)
     c.requires.no_commit c.requires.capacity c.requires.machines c.requires.ends (few_entries c.self.inside.entries))
 

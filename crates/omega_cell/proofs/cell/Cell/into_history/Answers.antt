@@ -1,5 +1,5 @@
 use Rattle.std.proofs.Common.{subst}
-use Rattle.omega_board.specs.Histories.{EachMayApply}
+use Rattle.omega_model.specs.Applying.{EachMayApply}
 use Rattle.omega_cell.specs.Cells.{CellState}
 use Rattle.omega_cell.proofs.cell.Cell.into_history.Goals as goal
 
