@@ -14,7 +14,7 @@ use Rattle.omega_model.specs.declared.entries.Entry.{Entry}
 use Rattle.omega_model.specs.declared.entries.Entry.TheVariants.{Commit}
 use Rattle.omega_model.specs.declared.settings.Settings.{Settings}
 use Rattle.omega_model.specs.declared.wishes.Request.{Request}
-use Rattle.omega_top.proofs.Attempts.{length-reply_of, working_commit}
+use Rattle.omega_top.proofs.WorkInRounds.{length-reply_of, working_commit}
 use Rattle.omega_model.proofs.Standing.{failed_push, placed_outcomes}
 use Rattle.omega_top.specs.Answers.{IsBuilt}
 use Rattle.omega_top.specs.Attempts.{IsSettingOf, answer_of, attempt_of, attempted, outcomes_for}

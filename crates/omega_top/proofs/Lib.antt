@@ -1,5 +1,5 @@
 pub mod Appending
-pub mod Attempts
+pub mod WorkInRounds
 pub mod Attempting
 pub mod Completing
 pub mod Fitting

@@ -4,6 +4,7 @@ use Rattle.std.specs.Prelude.{◌==◌, if◌then◌else◌, unwrap_or}
 use Rattle.std.proofs.lemmas.Bool.{both_ways}
 use Rattle.std.specs.List.{zip}
 use Rattle.omega_model.specs.Applying.{MayPlaceAll}
+use Rattle.omega_board.proofs.Placed.{is_placed-Placed}
 use Rattle.omega_model.specs.Cell.{Cell}
 use Rattle.omega_model.specs.Judge.{evicted_for, judge, judge_fine, makes_room, verdict_given}
 use Rattle.omega_model.specs.Plan.{claim_of, goes_in}
@@ -17,21 +18,10 @@ use Rattle.omega_model.specs.declared.claims.Rule.TheVariants.{Fine}
 use Rattle.omega_model.specs.declared.claims.Txn.{Txn}
 use Rattle.omega_model.specs.declared.claims.Judgement.{Judgement}
 use Rattle.omega_model.specs.declared.claims.Verdict.{Verdict}
-use Rattle.omega_model.specs.declared.claims.Verdict.TheVariants.{Placed, NoMachine, AlreadyRunning, Changed, VictimRank, SameJob, Full, Withdrawn}
+use Rattle.omega_model.specs.declared.claims.Verdict.TheVariants.{Placed, Withdrawn}
 use Rattle.omega_model.specs.declared.cells.TaskKey.{TaskKey}
 use Rattle.omega_model.specs.declared.entries.Entry.{Entry}
 use Rattle.omega_model.specs.declared.wishes.Wish.{Wish}
-
--- a verdict that admits its claim is the one
-pub placed_is : (verdict : Verdict) → is_placed verdict ≡ true → verdict ≡ Placed
-placed_is Placed passes = refl
-placed_is NoMachine passes = cc
-placed_is (AlreadyRunning machine) passes = cc
-placed_is (Changed now copy) passes = cc
-placed_is (VictimRank key) passes = cc
-placed_is (SameJob key) passes = cc
-placed_is (Full free) passes = cc
-placed_is (Withdrawn place) passes = cc
 
 -- a withdrawn claim isn't placed
 pub withdrawn_not : (place : ℕ) (judgement : Judgement) → admits (withdrawn_for place judgement) ≡ false
@@ -49,10 +39,10 @@ placed_alone cell wish id goes =
     let verdict : Verdict = verdict_given None cell claim in
     let given : Verdict → Judgement = λ v. record { verdict = v; evicted = (if is_placed v then evicted_for cell claim else []) } in
     let placed : List TaskKey → Judgement = λ keys. record { verdict = Placed; evicted = keys } in
-    ap given (placed_is verdict goes) ∙ ap placed (nobody (makes_room cell claim [])) where
-  nobody : (test : Bool) → unwrap_or (if test then Some [] else None) [] ≡ (let none : List TaskKey = [] in none)
-  nobody true = refl
-  nobody false = refl
+    ap given (is_placed-Placed verdict goes) ∙ ap placed (nobody (makes_room cell claim [])) where
+      nobody : (test : Bool) → unwrap_or (if test then Some [] else None) [] ≡ (let none : List TaskKey = [] in none)
+      nobody true = refl
+      nobody false = refl
 
 -- what is answered under the fine rule doesn't depend on the history
 pub judgements-fine : (history : List Entry) (seen : ℕ) (cell : Cell) (claims : List Claim)

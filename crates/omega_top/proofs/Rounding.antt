@@ -18,7 +18,7 @@ use Rattle.omega_model.specs.declared.rows.Row.{Row}
 use Rattle.omega_model.specs.declared.rows.TraceTables.{TraceTables}
 use Rattle.omega_model.specs.declared.settings.Settings.{Settings}
 use Rattle.omega_model.specs.declared.wishes.Request.{Request}
-use Rattle.omega_top.proofs.Attempts.{requests-other, working_first}
+use Rattle.omega_top.proofs.WorkInRounds.{requests-other, working_first}
 use Rattle.omega_model.proofs.OpenRequests.{requests_from_open}
 
 -- a history with the rows that led to it

@@ -12,8 +12,8 @@ ghost use Rattle.omega_top.specs.Attempts.{IsSettingOf, attempted, outcomes_for}
 use crate::claims::same_key;
 use crate::replaying::Replay;
 use omega_model::{
-    Claim, Copied, Entry, Judgement, NoMemory, Outcome, Request, Requests, Seq, Settings,
-    TaskKey, Wish,
+    Claim, Copied, Entry, Judgement, NoMemory, Outcome, Request, Requests, Seq, Settings, TaskKey,
+    Wish,
 };
 use std::alloc::Global;
 
@@ -150,9 +150,7 @@ fn rest_of(alloc: Global, request: Request, outcomes: &[Outcome]) -> Result<Requ
 fn places_wish(outcomes: &[Outcome], wish: &Wish) -> bool
     ensures { result ≡ places_wish outcomes.now wish.now }
 {
-    outcomes
-        .iter()
-        .any(|outcome| outcome.verdict.is_placed() && same_key(&outcome.key, &wish.key))
+    outcomes.iter().any(|outcome| outcome.verdict.is_placed() && same_key(&outcome.key, &wish.key))
 }
 
 // Whether outcomes end a request of which these wishes are left.

@@ -15,9 +15,7 @@ use crate::claims::any_placed;
 use crate::failures::Failures;
 use crate::{planning, replying};
 use omega_board::Board;
-use omega_model::{
-    Entries, Entry, Judgements, MOST_MACHINES, NoMemory, Policy, Request, Seq, Txn,
-};
+use omega_model::{Entries, Entry, Judgements, MOST_MACHINES, NoMemory, Policy, Request, Seq, Txn};
 use std::alloc::Global;
 use std::marker::Model;
 

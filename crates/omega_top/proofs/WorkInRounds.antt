@@ -1,17 +1,17 @@
 -- One scheduler at work in a round: each attempt on the state of the whole history keeps the round lawful.
 use Rattle.std.proofs.Common.{◌≡◌, ◌≢◌, ◌≤◌, ◌<◌, ◌+◌, ℕ, suc, true, false, List, [], ◌∷◌, ◌++◌, length, map, Option, Some, refl, sym, ap, ap₂, subst, arith, ◌∙◌, if◌then◌else◌, length-append}
-use Rattle.std.specs.Prelude.{slice_get, option_map, ◌==◌}
-use Rattle.std.specs.List.{fold, list_any}
+use Rattle.std.specs.Prelude.{slice_get, option_map, Bool, not, ◌&&◌, ◌==◌}
+use Rattle.std.specs.List.{filter, filter_map, fold, list_any}
 use Rattle.std.proofs.lemmas.Bool.{eq-eqb}
 use Rattle.std.proofs.lemmas.Bool.Decides.{eqb_tells}
 use Rattle.std.proofs.lemmas.List.{take-append-le}
 use Rattle.std.proofs.lemmas.Option.{slice_get_within}
 use Rattle.std.proofs.Math.Seq.{take-length}
 use Rattle.std.proofs.Math.ListN.{drop_of_length-le}
-use Rattle.std.specs.List.{filter_map}
 use Rattle.omega_model.specs.Feed.{feed}
 use Rattle.omega_model.specs.Requests.{given_up, jobs_in_order, request_of, wishes_of, works_on}
 use Rattle.omega_model.specs.Wanted.{wanted}
+use Rattle.omega_model.specs.declared.rows.Row.{Row}
 use Rattle.omega_model.specs.declared.rows.TraceTables.{TraceTables}
 use Rattle.omega_model.proofs.RoundsInOrder.{filter-none}
 use Rattle.omega_model.specs.Lawful.{IsCommitOfRound, RoundOf, after_last, note_commit, LastCommit}
