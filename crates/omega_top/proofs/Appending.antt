@@ -1,14 +1,12 @@
 -- Which entries may be appended to a history.
-use Rattle.std.proofs.Common.{◌≡◌, ◌⊎◌, inl, inr, ℕ, Bool, true, false, List, [], ◌∷◌, ◌++◌, Option, Some, None, length, refl, ap, ap₂, subst, sym, arith, ◌∙◌}
-use Rattle.std.specs.Prelude.{◌==◌, ◌&&◌, if◌then◌else◌, IsSomeAnd}
-use Rattle.std.specs.List.{find}
-use Rattle.std.proofs.lemmas.Bool.{eqb-true}
+use Rattle.std.proofs.Common.{◌≡◌, ℕ, Bool, true, false, List, [], ◌++◌, Option, Some, None, length, refl, ap, subst, sym, arith, ◌∙◌}
+use Rattle.std.specs.Prelude.{◌==◌, if◌then◌else◌, All, IsSomeAnd}
+use Rattle.std.proofs.lemmas.List.Elements.{All-head}
+use Rattle.omega_model.specs.Applying.{CapacityIsInRange}
 use Rattle.omega_model.specs.Cell.{task_at}
-use Rattle.omega_model.specs.Fields.{greatest, MachineFields, AttrFields}
-use Rattle.omega_model.specs.Keys.{same_key}
-use Rattle.omega_model.specs.Need.{Fits}
+use Rattle.omega_model.specs.Fields.{MachineFields, AttrFields, DiskFields}
 use Rattle.omega_model.specs.State.{reply_of, state}
-use Rattle.omega_model.specs.Wanted.{WantedTask, attr_entry, end_of, ends, machine_entry, row_entries}
+use Rattle.omega_model.specs.Wanted.{WantedTask, attr_entry, capacity_from, end_of, ends, machine_entry, row_entries}
 use Rattle.omega_model.specs.declared.cells.Task.{Task}
 use Rattle.omega_model.specs.declared.cells.TaskKey.{TaskKey}
 use Rattle.omega_model.specs.declared.claims.Rule.TheVariants.{Fine}
@@ -17,7 +15,8 @@ use Rattle.omega_model.specs.declared.entries.Entry.{Entry}
 use Rattle.omega_model.specs.declared.entries.Entry.TheVariants.{Round, MachineAdd, MachineUpdate, MachineRemove, AttrSet, AttrDelete, End, Commit}
 use Rattle.omega_model.specs.declared.rows.Row.{Row}
 use Rattle.omega_model.specs.declared.rows.Row.TheVariants.{Machine, Attr, Task as TaskEvent}
-use Rattle.omega_top.specs.Replays.{IsInRange, MayAppend, MayAppendAll}
+use Rattle.omega_board.proofs.Tasks.{found_name}
+use Rattle.omega_top.specs.Replays.{MayAppend, MayAppendAll}
 use Rattle.omega_top.proofs.Placing.{reply_places}
 
 -- a round may begin at any time
@@ -34,44 +33,11 @@ commit_may history scheduler txn fine = record {
   places = reply_places history (state history) (length history) txn fine;
 }
 
--- a test passes or fails
-pub bool_cases : (b : Bool) → (b ≡ true) ⊎ (b ≡ false)
-bool_cases true = inl refl
-bool_cases false = inr refl
-
--- two tests that pass together pass each
-pub first_true : (a b : Bool) → (a && b) ≡ true → a ≡ true
-first_true true b both = refl
-first_true false b both = cc
-
-pub second_true : (a b : Bool) → (a && b) ≡ true → b ≡ true
-second_true true b both = both
-second_true false b both = cc
-
--- what is found passes the test
-pub find-passes : {X : Type 0} (test : X → Bool) (xs : List X) (x : X) → find test xs ≡ Some x → test x ≡ true
-find-passes test [] x found = cc
-find-passes test (y ∷ xs) x found =
-    elim (bool_cases (test y)) [
-      | inl passes ↦
-          let here : Some y ≡ Some x = sym (ap (λ (t : Bool). if t then Some y else find test xs) passes) ∙ found in
-          let same : y ≡ x = cc in
-          ap test (sym same) ∙ passes
-      | inr fails ↦ find-passes test xs x (sym (ap (λ (t : Bool). if t then Some y else find test xs) fails) ∙ found)
-    ]
-
--- one name is that of a task where the test says so
-pub same_key-true : (a b : TaskKey) → same_key a b ≡ true → a ≡ b
-same_key-true a b same =
-    ap₂ (λ (job index : ℕ). let key : TaskKey = record { job = job; index = index } in key)
-    (eqb-true a.job b.job (first_true (a.job == b.job) (a.index == b.index) same))
-    (eqb-true a.index b.index (second_true (a.job == b.job) (a.index == b.index) same))
-
 -- the end of a running task may be appended
 pub end_may : (history : List Entry) (key : TaskKey) (task : Task) → task_at (state history).tasks key ≡ Some task
     → MayAppend history (End task.key task.machine)
 end_may history key task found =
-    let same : task.key ≡ key = same_key-true task.key key (find-passes (λ (t : Task). same_key t.key key) (state history).tasks task found) in
+    let same : task.key ≡ key = found_name (state history).tasks key task found in
     let again : task_at (state history).tasks task.key ≡ Some task = ap (task_at (state history).tasks) same ∙ found in
     record {
       follows = tt;
@@ -86,18 +52,23 @@ pub ends_may : (history : List Entry) (key : TaskKey) (found : Option Task) → 
 ends_may history key None is = tt
 ends_may history key (Some task) is = (end_may history key task is, tt)
 
--- the entry of a machine row may be appended
-pub machine_may : (history : List Entry) (row : MachineFields) → Fits row.cap greatest → MayAppend history (machine_entry row)
-machine_may history row fits =
-    elim (row.code == 0) as (λ adds. MayAppend history (if adds then MachineAdd row.machine row.cap
-    else (if row.code == 1 then MachineRemove row.machine else MachineUpdate row.machine row.cap))) [
-      | true ↦ record { follows = tt; capacity = fits; ends = tt; places = tt }
+-- the entry of a machine row whose capacity is in its range may be appended
+pub machine_may : (history : List Entry) (disks : List DiskFields) (row : MachineFields) → CapacityIsInRange (machine_entry disks row)
+    → MayAppend history (machine_entry disks row)
+machine_may history disks row =
+    elim (row.code == 0) as (λ adds. CapacityIsInRange (entry adds) → MayAppend history (entry adds)) [
+      | true ↦ λ fits. record { follows = tt; capacity = fits; ends = tt; places = tt }
       | false ↦
-          elim (row.code == 1) as (λ removes. MayAppend history (if removes then MachineRemove row.machine else MachineUpdate row.machine row.cap)) [
-            | true ↦ record { follows = tt; capacity = tt; ends = tt; places = tt }
-            | false ↦ record { follows = tt; capacity = fits; ends = tt; places = tt }
+          elim (row.code == 1) as (λ removes. CapacityIsInRange (entry_of removes) → MayAppend history (entry_of removes)) [
+            | true ↦ λ fits. record { follows = tt; capacity = tt; ends = tt; places = tt }
+            | false ↦ λ fits. record { follows = tt; capacity = fits; ends = tt; places = tt }
           ]
-    ]
+    ] where
+      entry_of : Bool → Entry
+      entry_of removes = if removes then MachineRemove row.machine else MachineUpdate row.machine (capacity_from disks row)
+
+      entry : Bool → Entry
+      entry adds = if adds then MachineAdd row.machine (capacity_from disks row) else entry_of (row.code == 1)
 
 -- the entry of an attribute row may be appended
 pub attr_may : (history : List Entry) (row : AttrFields) → MayAppend history (attr_entry row)
@@ -108,10 +79,11 @@ attr_may history row =
     ]
 
 -- the entries of a row may be appended to the history on whose state they are made
-pub row_may : (history : List Entry) (left : List WantedTask) (row : Row) → IsInRange row
-    → MayAppendAll history (row_entries (state history) left row)
-row_may history left (Machine row) range = (machine_may history row range, tt)
-row_may history left (Attr row) range = (attr_may history row, tt)
-row_may history left (TaskEvent row) range =
+pub row_may : (history : List Entry) (disks : List DiskFields) (left : List WantedTask) (row : Row)
+    → All CapacityIsInRange (row_entries disks (state history) left row)
+    → MayAppendAll history (row_entries disks (state history) left row)
+row_may history disks left (Machine row) range = (machine_may history disks row (All-head CapacityIsInRange (machine_entry disks row) [] range), tt)
+row_may history disks left (Attr row) range = (attr_may history row, tt)
+row_may history disks left (TaskEvent row) range =
     elim (ends row.code) as (λ test. MayAppendAll history (if test then end_of (task_at (state history).tasks row.key) ++ [] else []))
     [ true ↦ ends_may history row.key (task_at (state history).tasks row.key) refl | false ↦ tt ]

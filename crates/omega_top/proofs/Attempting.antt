@@ -5,22 +5,22 @@ use Rattle.std.proofs.lemmas.Bool.{eq-eqb, leb-false}
 use Rattle.std.proofs.Math.Seq.{take-length}
 use Rattle.omega_model.specs.Policy.{schedulers}
 use Rattle.omega_model.specs.Requests.{failed}
-use Rattle.omega_model.specs.Work.{Agrees, commits_of, ends_request, failing_after, is_empty, next_position, outcomes_of, planned, rest_of}
-use Rattle.omega_model.specs.Working.{Setting, Working}
+use Rattle.omega_model.specs.Work.{Agrees, commits_of, ends_request, failing_after, is_empty, outcomes_of, planned, rest_of}
+use Rattle.omega_top.specs.Working.{Setting, Working, next_position}
 use Rattle.omega_model.specs.declared.claims.Outcome.{Outcome}
 use Rattle.omega_model.specs.declared.claims.Txn.{Txn}
-use Rattle.omega_model.specs.declared.claims.Verdict.{Verdict}
+use Rattle.omega_model.specs.declared.claims.Judgement.{Judgement}
 use Rattle.omega_model.specs.declared.entries.Entry.{Entry}
 use Rattle.omega_model.specs.declared.entries.Entry.TheVariants.{Commit}
 use Rattle.omega_model.specs.declared.settings.Settings.{Settings}
 use Rattle.omega_model.specs.declared.wishes.Request.{Request}
-use Rattle.omega_model.proofs.Attempts.{length-reply_of, working_commit}
+use Rattle.omega_top.proofs.WorkInRounds.{length-reply_of, working_commit}
 use Rattle.omega_model.proofs.Standing.{failed_push, placed_outcomes}
 use Rattle.omega_top.specs.Answers.{IsBuilt}
 use Rattle.omega_top.specs.Attempts.{IsSettingOf, answer_of, attempt_of, attempted, outcomes_for}
 
 -- the failed commits of a job after a commit for it are those that its outcomes leave
-pub failed_commit : (history : List Entry) (scheduler seen : ℕ) (txn : Txn) (reply : List Verdict) → length reply ≡ length txn.claims
+pub failed_commit : (history : List Entry) (scheduler seen : ℕ) (txn : Txn) (reply : List Judgement) → length reply ≡ length txn.claims
     → failed (history ++ Commit scheduler seen txn reply ∷ []) txn.job ≡ failing_after (failed history txn.job) (outcomes_of txn.claims reply)
 failed_commit history scheduler seen txn reply long =
     let itself : (txn.job == txn.job) ≡ true = eq-eqb txn.job txn.job refl in

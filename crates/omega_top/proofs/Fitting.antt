@@ -1,20 +1,21 @@
 -- Where a wish doesn't fit what is free, it doesn't go.
 use Rattle.std.proofs.Common.{◌≡◌, ℕ, Bool, true, false, List, [], Some, None, sym, ap, subst, arith, ◌∙◌}
 use Rattle.std.specs.Prelude.{option_map, is_some, ◌==◌}
-use Rattle.std.proofs.lemmas.Bool.{both_ways, eqb-true}
+use Rattle.std.proofs.lemmas.Bool.{and_parts, both_ways, eqb-true}
 use Rattle.omega_board.specs.Board.{IsCounted}
 use Rattle.omega_board.proofs.Boards.{state_free}
 use Rattle.omega_board.proofs.Claims.{without_none}
-use Rattle.omega_board.proofs.Parts.{placeable, some_free}
+use Rattle.omega_board.proofs.Parts.{some_free}
+use Rattle.omega_board.proofs.Placed.{is_placed-Placed, placeable_fine}
 use Rattle.omega_board.proofs.Ranks.{fits_means}
 use Rattle.omega_board.proofs.Tasks.{each_found}
-use Rattle.omega_board.proofs.Uses.{need_is, rest_is}
+use Rattle.omega_model.proofs.Amounts.{need_is, rest_is}
 use Rattle.omega_machines.proofs.Laws.{machine_of_state}
 use Rattle.omega_machines.proofs.Places.{by_answer}
 use Rattle.omega_machines.specs.declared.MachineState.{MachineState}
 use Rattle.omega_machines.specs.Table.{free_at, machines_of}
 use Rattle.omega_model.specs.Cell.{Cell, machine_at, rest_on, use_on}
-use Rattle.omega_model.specs.Judge.{capacity_of, free_after}
+use Rattle.omega_model.specs.Judge.{capacity_of, free_without}
 use Rattle.omega_model.specs.Need.{Fits, fits, plus}
 use Rattle.omega_model.specs.Plan.{claim_of, goes_in}
 use Rattle.omega_model.specs.declared.cells.Need.{Need}
@@ -22,7 +23,6 @@ use Rattle.omega_model.specs.declared.cells.Task.{Task}
 use Rattle.omega_model.specs.declared.claims.Claim.{Claim}
 use Rattle.omega_model.specs.declared.wishes.Wish.{Wish}
 use Rattle.omega_running.specs.Order.{Each}
-use Rattle.omega_top.proofs.Placing.{placed_is}
 
 module _ (table : List MachineState) (tasks : List Task) (counted : Each (IsCounted tasks) table) (wish : Wish) (id : ℕ) where
   abbrev cell : Cell
@@ -32,7 +32,7 @@ module _ (table : List MachineState) (tasks : List Task) (counted : Each (IsCoun
   claim = claim_of wish [] id
 
   -- without victims as much is free as the table says
-  free_without_victims : (free : Need) → free_at table id ≡ Some free → free ≡ free_after cell claim
+  free_without_victims : (free : Need) → free_at table id ≡ Some free → free ≡ free_without cell claim []
   free_without_victims free is =
       let known = state_free table id free is in
       let found = each_found (IsCounted tasks) (λ state. state.machine.id == id) table known.0 counted known.1 in
@@ -45,11 +45,12 @@ module _ (table : List MachineState) (tasks : List Task) (counted : Each (IsCoun
       need_is _ _
       (omega (arith, ap (λ (n : Need). n.cpu) own, ap (λ (n : Need). n.cpu) whole, ap (λ (n : Need). n.cpu) used, ap (λ (n : Need). n.cpu) capacity))
       (omega (arith, ap (λ (n : Need). n.mem) own, ap (λ (n : Need). n.mem) whole, ap (λ (n : Need). n.mem) used, ap (λ (n : Need). n.mem) capacity))
+      (omega (arith, ap (λ (n : Need). n.disk) own, ap (λ (n : Need). n.disk) whole, ap (λ (n : Need). n.disk) used, ap (λ (n : Need). n.disk) capacity))
 
   -- a wish that goes fits what is free
   pub goes_where_it_fits : (free : Need) → free_at table id ≡ Some free → goes_in cell wish [] id ≡ true → fits wish.spec.need free ≡ true
   goes_where_it_fits free is goes =
-      subst (λ n. fits wish.spec.need n ≡ true) (sym (free_without_victims free is)) (placeable cell claim (placed_is _ goes)).fits
+      subst (λ n. fits wish.spec.need n ≡ true) (sym (free_without_victims free is)) (and_parts _ _ (placeable_fine cell claim (is_placed-Placed _ goes)).room).0
 
   -- so it doesn't where a test says that it doesn't fit
   pub stays_where_full : (free : Need) → free_at table id ≡ Some free → (test : Bool) → (Fits wish.spec.need free → test ≡ true) → test ≡ false
@@ -63,5 +64,5 @@ module _ (table : List MachineState) (tasks : List Task) (counted : Each (IsCoun
   pub stays_where_down : free_at table id ≡ None → goes_in cell wish [] id ≡ false
   stays_where_down none =
       by_answer (goes_in cell wish [] id)
-      (λ goes. absurd (both_ways _ (ap is_some none) (some_free table id (placeable cell claim (placed_is _ goes)).up)))
+      (λ goes. absurd (both_ways _ (ap is_some none) (some_free table id (placeable_fine cell claim (is_placed-Placed _ goes)).up)))
       (λ stays. stays)

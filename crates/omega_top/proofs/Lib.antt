@@ -1,4 +1,5 @@
 pub mod Appending
+pub mod WorkInRounds
 pub mod Attempting
 pub mod Completing
 pub mod Fitting

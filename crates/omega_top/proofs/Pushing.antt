@@ -8,9 +8,8 @@ use Rattle.std.proofs.lemmas.List.{length-append, take-append-le, take_all}
 use Rattle.std.proofs.lemmas.List.Elements.{All-nil}
 use Rattle.std.proofs.lemmas.List.Sums.{count_by-le-length}
 use Rattle.omega_board.specs.Board.{BoardState, cell_of}
-use Rattle.omega_board.specs.Entries.{HasRoomFor, MayApply, machine_in}
-use Rattle.omega_board.proofs.Histories.{seq_push, room_in_some}
-use Rattle.omega_board.proofs.Histories.{may_apply as may_apply_after}
+use Rattle.omega_model.specs.Applying.{EndsRunning, ListsOrHasRoom, MayApply, PlacesInOrder, machine_in}
+use Rattle.omega_board.proofs.Histories.{seq_push}
 use Rattle.omega_machines.specs.declared.MachineState.{MachineState}
 use Rattle.omega_machines.specs.Table.{machines_of, seq_at}
 use Rattle.omega_model.specs.Cell.{Cell}
@@ -71,15 +70,18 @@ replays_push board after failures counts history entry replays follows stepped n
 
 -- an entry that may be appended to a history may be applied to its board, where it has room
 pub may_apply : (board : BoardState) (failures : Failures) (history : List Entry) (entry : Entry)
-    → Replays board failures history → MayAppend history entry → IfSome (machine_in entry) (HasRoomFor board.table)
-    → length history < 2 ^ 63 → MayApply board entry
-may_apply board failures history entry replays may room short = may_apply_after board history entry replays.current replays.numbered (record {
+    → Replays board failures history → MayAppend history entry → IfSome (machine_in entry) (ListsOrHasRoom (cell_of board).machines)
+    → length history < 2 ^ 63 → MayApply (cell_of board) (seq_at board.table) entry
+may_apply board failures history entry replays may room short = record {
   capacity = may.capacity;
-  machines = room_in_some board.table (state history).machines (machine_in entry) (ap (λ (cell : Cell). cell.machines) replays.current) room;
-  seqs = λ id touched. let few : seq history id ≤ length history = count_by-le-length (touches id) history in omega arith;
-  ends = may.ends;
-  places = may.places;
-})
+  machines = room;
+  numbers = λ id touched.
+      let few : seq history id ≤ length history = count_by-le-length (touches id) history in
+      let same : seq_at board.table id ≡ seq history id = replays.numbered id in
+      omega arith;
+  ends = subst (λ (cell : Cell). EndsRunning cell.tasks entry) (sym replays.current) may.ends;
+  places = subst (λ (cell : Cell). PlacesInOrder cell entry) (sym replays.current) may.places;
+}
 
 -- another board with the same machines and tasks serves as well
 pub replays_same : (board after : BoardState) (failures : Failures) (history : List Entry)

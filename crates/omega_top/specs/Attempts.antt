@@ -3,10 +3,10 @@ use Rattle.std.specs.Prelude.{◌≡◌, ℕ, List, [], ◌∷◌, ◌++◌, len
 use Rattle.omega_model.specs.Policy.{policy_of}
 use Rattle.omega_model.specs.State.{reply_of}
 use Rattle.omega_model.specs.Work.{commits_of, outcomes_of, planned}
-use Rattle.omega_model.specs.Working.{Setting}
+use Rattle.omega_top.specs.Working.{Setting}
 use Rattle.omega_model.specs.declared.claims.Outcome.{Outcome}
 use Rattle.omega_model.specs.declared.claims.Txn.{Txn}
-use Rattle.omega_model.specs.declared.claims.Verdict.{Verdict}
+use Rattle.omega_model.specs.declared.claims.Judgement.{Judgement}
 use Rattle.omega_model.specs.declared.entries.Entry.{Entry}
 use Rattle.omega_model.specs.declared.entries.Entry.TheVariants.{Commit}
 use Rattle.omega_model.specs.declared.settings.Settings.{Settings}
@@ -27,7 +27,7 @@ attempt_of settings scheduler history request = record {
 }
 
 -- the reply that is due to it
-abbrev pub answer_of : Settings → ℕ → List Entry → Request → List Verdict
+abbrev pub answer_of : Settings → ℕ → List Entry → Request → List Judgement
 answer_of settings scheduler history request = reply_of history (length history) (attempt_of settings scheduler history request)
 
 -- the history once it is committed

@@ -7,7 +7,7 @@ use Rattle.omega_model.specs.declared.results.Kind.TheVariants.{Rows, Machines}
 use Rattle.omega_model.specs.declared.results.Status.{Status}
 use Rattle.omega_model.specs.declared.results.Status.TheVariants.{Done, Usage, ReadFault, TooLong, BadRow, TooMany, WriteFault, NoMemory}
 use Rattle.omega_model.specs.declared.rows.Table.{Table}
-use Rattle.omega_model.specs.declared.rows.Table.TheVariants.{MachineEvents, MachineAttributes, TaskEvents, TaskConstraints, MapreduceJobs}
+use Rattle.omega_model.specs.declared.rows.Table.TheVariants.{MachineEvents, MachineAttributes, TaskEvents, TaskConstraints, MapreduceJobs, MachineDisk}
 
 -- the name of a table
 abbrev pub table_name : Table → List ℕ
@@ -16,6 +16,7 @@ table_name MachineAttributes = codes "machine_attributes"
 table_name TaskEvents = codes "task_events"
 table_name TaskConstraints = codes "task_constraints"
 table_name MapreduceJobs = codes "mapreduce_jobs"
+table_name MachineDisk = codes "machine_disk"
 
 -- the words for what there is too much of
 abbrev pub kind_name : Kind → List ℕ

@@ -3,4 +3,5 @@ pub mod Words
 pub mod Faults
 pub mod Answers
 pub mod Counts
+pub mod Working
 pub mod Attempts

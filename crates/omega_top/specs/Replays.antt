@@ -1,17 +1,13 @@
 -- A history with the board after it and the failed commits in it.
-use Rattle.std.specs.Prelude.{◌≡◌, ℕ, List, [], ◌∷◌, ◌++◌, take, IfSome}
+use Rattle.std.specs.Prelude.{◌≡◌, ℕ, List, [], ◌∷◌, ◌++◌, take}
 use Rattle.omega_board.specs.Board.{BoardState, cell_of}
-use Rattle.omega_board.specs.Entries.{EndsRunning, PlacesInOrder, capacity_in}
+use Rattle.omega_model.specs.Applying.{CapacityIsInRange, EndsRunning, PlacesInOrder}
 use Rattle.omega_machines.specs.Table.{seq_at}
-use Rattle.omega_model.specs.Fields.{greatest}
 use Rattle.omega_model.specs.Legal.{Follows, Legal, Sound}
-use Rattle.omega_model.specs.Need.{Fits}
 use Rattle.omega_model.specs.Requests.{failed}
 use Rattle.omega_model.specs.State.{state}
 use Rattle.omega_model.specs.Touches.{seq}
 use Rattle.omega_model.specs.declared.entries.Entry.{Entry}
-use Rattle.omega_model.specs.declared.rows.Row.{Row}
-use Rattle.omega_model.specs.declared.rows.Row.TheVariants.{Machine, Attr, Task}
 use Rattle.omega_top.specs.declared.failures.Failures.{Failures}
 use Rattle.omega_top.specs.Counts.{count_of}
 
@@ -34,7 +30,7 @@ pub record Replays (board : BoardState) (failures : Failures) (history : List En
 -- placed in order
 pub record MayAppend (history : List Entry) (entry : Entry) : Type 0 where
   pub follows : Follows history entry
-  pub capacity : IfSome (capacity_in entry) (λ cap. Fits cap greatest)
+  pub capacity : CapacityIsInRange entry
   pub ends : EndsRunning (state history).tasks entry
   pub places : PlacesInOrder (state history) entry
 
@@ -42,9 +38,3 @@ pub record MayAppend (history : List Entry) (entry : Entry) : Type 0 where
 abbrev pub MayAppendAll : List Entry → List Entry → Type 0
 MayAppendAll history [] = Unit {0}
 MayAppendAll history (entry ∷ entries) = MayAppend history entry × MayAppendAll (history ++ entry ∷ []) entries
-
--- what a row keeps by its type, as far as its entries need it: a capacity is at most the greatest quantity
-abbrev pub IsInRange : Row → Type 0
-IsInRange (Machine row) = Fits row.cap greatest
-IsInRange (Attr row) = Unit {0}
-IsInRange (Task row) = Unit {0}

@@ -4,15 +4,16 @@
 ghost use Rattle.std.specs.Prelude.{◌≡◌, ◌∷◌, List, IfOk};
 ghost use Rattle.omega_model.specs.Lawful.{RoundOf};
 ghost use Rattle.omega_model.specs.Work.{ends_request, outcomes_of, places_wish, rest_of};
-ghost use Rattle.omega_model.specs.Working.{Setting, Working};
+ghost use Rattle.omega_top.specs.Working.{Setting, Working};
 ghost use Rattle.omega_model.specs.declared.wishes.Request.{Request};
 ghost use Rattle.omega_top.specs.Answers.{IsBuilt};
 ghost use Rattle.omega_top.specs.Attempts.{IsSettingOf, attempted, outcomes_for};
 
-use crate::claims::{is_placed, same_key};
+use crate::claims::same_key;
 use crate::replaying::Replay;
 use omega_model::{
-    Claim, Entry, NoMemory, Outcome, Request, Requests, Seq, Settings, Verdict, Wish,
+    Claim, Copied, Entry, Judgement, NoMemory, Outcome, Request, Requests, Seq, Settings, TaskKey,
+    Wish,
 };
 use std::alloc::Global;
 
@@ -99,21 +100,33 @@ fn attempted(
     Ok(Attempt { replay, outcomes })
 }
 
-// The outcomes of claims with these verdicts.
-fn outcomes_of(alloc: Global, claims: &[Claim], reply: &[Verdict]) -> Result<Vec<Outcome>, NoMemory>
+// The outcomes of claims that were answered so.
+fn outcomes_of(
+    alloc: Global,
+    claims: &[Claim],
+    reply: &[Judgement],
+) -> Result<Vec<Outcome>, NoMemory>
     ensures { IfOk result (λ outcomes. outcomes.items ≡ outcomes_of claims.now reply.now) }
 {
     let mut outcomes = Vec::new(alloc);
     for (i, claim) in claims.iter().enumerate() {
-        let Some(verdict) = reply.get(i) else {
+        let Some(judgement) = reply.get(i) else {
             return Ok(outcomes);
         };
-        outcomes.push(Outcome {
-            key: claim.key,
-            verdict: *verdict,
-        })?;
+        outcomes.push(outcome_of(alloc, claim.key, judgement)?)?;
     }
     Ok(outcomes)
+}
+
+// The outcome of a task's claim.
+fn outcome_of(alloc: Global, key: TaskKey, judgement: &Judgement) -> Result<Outcome, NoMemory>
+    ensures { IfOk result (λ outcome. outcome ≡ record { key = key; verdict = judgement.now.verdict; evicted = judgement.now.evicted }) }
+{
+    Ok(Outcome {
+        key,
+        verdict: judgement.verdict,
+        evicted: judgement.evicted.copy(alloc)?,
+    })
 }
 
 // The request with the wishes that the outcomes leave.
@@ -137,7 +150,7 @@ fn rest_of(alloc: Global, request: Request, outcomes: &[Outcome]) -> Result<Requ
 fn places_wish(outcomes: &[Outcome], wish: &Wish) -> bool
     ensures { result ≡ places_wish outcomes.now wish.now }
 {
-    outcomes.iter().any(|outcome| is_placed(outcome.verdict) && same_key(&outcome.key, &wish.key))
+    outcomes.iter().any(|outcome| outcome.verdict.is_placed() && same_key(&outcome.key, &wish.key))
 }
 
 // Whether outcomes end a request of which these wishes are left.

@@ -1,10 +1,10 @@
-//! Small tests on claims and their verdicts.
+//! Small tests on claims and what was answered to them.
 ghost use Rattle.std.specs.Prelude.{◌≡◌};
 ghost use Rattle.std.specs.List.{list_any};
 ghost use Rattle.omega_model.specs.Keys.{same_key};
-ghost use Rattle.omega_model.specs.Touches.{is_placed};
+ghost use Rattle.omega_model.specs.Reply.{admits};
 
-use omega_model::{TaskKey, Verdict};
+use omega_model::{Judgement, TaskKey};
 
 /// Whether two names are of one task.
 pub fn same_key(a: &TaskKey, b: &TaskKey) -> bool
@@ -13,16 +13,9 @@ pub fn same_key(a: &TaskKey, b: &TaskKey) -> bool
     a.job == b.job && a.index == b.index
 }
 
-/// Whether a verdict admits its claim.
-pub fn is_placed(verdict: Verdict) -> bool
-    ensures { result ≡ is_placed verdict }
-{
-    matches!(verdict, Verdict::Placed)
-}
-
 /// Whether a reply places a claim.
-pub fn any_placed(reply: &[Verdict]) -> bool
-    ensures { result ≡ list_any is_placed reply.now }
+pub fn any_placed(reply: &[Judgement]) -> bool
+    ensures { result ≡ list_any admits reply.now }
 {
-    reply.iter().any(|verdict| is_placed(*verdict))
+    reply.iter().any(|judgement| judgement.verdict.is_placed())
 }

@@ -1,17 +1,16 @@
 //! Where a scheduler would put the tasks of a request.
 //!
 //! The claims are tried on the board itself and taken back again.
-ghost use Rattle.std.specs.Prelude.{◌≡◌, ◌≤◌, ◌==◌, [], IfOk, IfSome, false, true, None, option_map, length, map};
+ghost use Rattle.std.specs.Prelude.{◌≡◌, ◌≤◌, ◌==◌, [], IfOk, IfSome, false, true, option_map, length, map};
 ghost use Rattle.std.specs.List.{find};
 ghost use Rattle.omega_board.specs.Board.{cell_of};
 ghost use Rattle.omega_board.specs.Undo.{IsUndoOf, at_reserve};
 ghost use Rattle.omega_machines.specs.Table.{machines_of};
-ghost use Rattle.omega_model.specs.JudgeOn.{judge_on};
+ghost use Rattle.omega_model.specs.Judge.{judge_fine};
 ghost use Rattle.omega_model.specs.declared.claims.Verdict.TheVariants.{Placed};
 ghost use Rattle.omega_model.specs.declared.wishes.Wish.{Wish};
 ghost use Rattle.omega_model.specs.Plan.{claim_of, claims_for, free_claim, goes_in, plan, whole_or_none};
 
-use crate::claims::is_placed;
 use crate::scratch::place;
 use omega_board::{Board, Undo};
 use omega_model::{Claim, Claims, Mode, Need, NoMemory, Policy, Request, Seq, Txn, Wish};
@@ -70,7 +69,7 @@ fn claims_for(
     let mut claims = Vec::new(alloc);
     for wish in wishes {
         if let Some(claim) = free_claim(alloc, board, wish) {
-            place(board, &claim, undo);
+            place(board, &claim, &[], undo);
             claims.push(claim)?;
         }
     }
@@ -80,7 +79,7 @@ fn claims_for(
 // The claim on the first machine that takes the wish as it is.
 fn free_claim(alloc: Global, board: &Board, wish: &Wish) -> Option<Claim>
     ensures claim { result ≡ free_claim (cell_of board.now) 0 wish.now }
-    ensures placed { IfSome result (λ claim. judge_on (cell_of board.now) 0 None claim ≡ Placed) }
+    ensures placed { IfSome result (λ claim. judge_fine (cell_of board.now) claim ≡ record { verdict = Placed; evicted = [] }) }
     ensures no_victims { IfSome result (λ claim. claim.victims ≡ []) }
 {
     match first_fit(alloc, board, wish) {
@@ -92,7 +91,7 @@ fn free_claim(alloc: Global, board: &Board, wish: &Wish) -> Option<Claim>
 // The number of the first machine that takes the wish as it is.
 fn first_fit(alloc: Global, board: &Board, wish: &Wish) -> Option<u64>
     ensures first { result ≡ option_map (λ machine. machine.id) (find (λ machine. goes_in (cell_of board.now) wish.now [] machine.id) (cell_of board.now).machines) }
-    ensures placed { IfSome result (λ id. judge_on (cell_of board.now) 0 None (claim_of wish.now [] id) ≡ Placed) }
+    ensures placed { IfSome result (λ id. judge_fine (cell_of board.now) (claim_of wish.now [] id) ≡ record { verdict = Placed; evicted = [] }) }
 {
     let machines = board.machines();
     for position in 0..machines.len() {
@@ -110,13 +109,14 @@ fn first_fit(alloc: Global, board: &Board, wish: &Wish) -> Option<u64>
 // Whether a machine takes the wish as it is.
 fn goes_in(alloc: Global, board: &Board, wish: &Wish, id: u64) -> bool
     ensures test { result ≡ goes_in (cell_of board.now) wish.now [] id }
-    ensures placed { result ≡ true → judge_on (cell_of board.now) 0 None (claim_of wish.now [] id) ≡ Placed }
+    ensures placed { result ≡ true → judge_fine (cell_of board.now) (claim_of wish.now [] id) ≡ record { verdict = Placed; evicted = [] } }
 {
     if !is_room(board, wish.spec.need, id) {
         return false;
     }
     let claim = claim_of(alloc, wish, id);
-    is_placed(board.judge(&claim, None))
+    let mut evicted = Vec::new(alloc);
+    board.judge(&claim, None, &mut evicted).is_placed()
 }
 
 // Whether a machine is up and has this much free. Where it hasn't, no wish that needs as much goes in

@@ -1,7 +1,7 @@
 //! A history that grows entry by entry, with the board after it.
 ghost use Rattle.std.specs.Prelude.{◌≡◌, ◌++◌, ◌∷◌, [], IfOk, IfSome, IsTrue, false, length, ℕ};
 ghost use Rattle.omega_board.specs.Board.{cell_of};
-ghost use Rattle.omega_board.specs.Entries.{HasRoomFor, machine_in};
+ghost use Rattle.omega_model.specs.Applying.{ListsOrHasRoom, machine_in};
 ghost use Rattle.omega_cell.specs.Laws.{EvictionsGoDown, NoGangIsSplit};
 ghost use Rattle.omega_model.specs.Legal.{Legal, Sound};
 ghost use Rattle.omega_model.specs.Plan.{plan};
@@ -15,7 +15,7 @@ use crate::claims::any_placed;
 use crate::failures::Failures;
 use crate::{planning, replying};
 use omega_board::Board;
-use omega_model::{Entries, Entry, NoMemory, Policy, Request, Seq, Txn, Verdicts};
+use omega_model::{Entries, Entry, Judgements, MOST_MACHINES, NoMemory, Policy, Request, Seq, Txn};
 use std::alloc::Global;
 use std::marker::Model;
 
@@ -100,7 +100,7 @@ impl Replay {
     }
 
     /// The reply to a transaction of a scheduler that has seen the whole history.
-    pub fn reply(&mut self, alloc: Global, txn: &Txn) -> Result<Verdicts, NoMemory>
+    pub fn reply(&mut self, alloc: Global, txn: &Txn) -> Result<Judgements, NoMemory>
         requires { txn.now.rule ≡ Fine }
         ensures stays { self.new ≡ self.old }
         ensures reply { IfOk result (λ reply. reply ≡ reply_of self.old (length self.old) txn.now) }
@@ -143,7 +143,7 @@ fn check_sound(board: &Board)
 
 // Whether a board has the machine of an entry, or room for it.
 fn has_room(board: &Board, entry: &Entry) -> bool
-    ensures { IsTrue result → IfSome (machine_in entry.now) (HasRoomFor board.now.table) }
+    ensures { IsTrue result → IfSome (machine_in entry.now) (ListsOrHasRoom (cell_of board.now).machines) }
 {
     match entry {
         Entry::MachineAdd { machine, .. }
@@ -157,10 +157,10 @@ fn has_room(board: &Board, entry: &Entry) -> bool
 
 // Whether a board has a machine, or room for it.
 fn has_room_for(board: &Board, machine: u64) -> bool
-    ensures { IsTrue result → HasRoomFor board.now.table machine }
+    ensures { IsTrue result → ListsOrHasRoom (cell_of board.now).machines machine }
 {
     let machines = board.machines();
-    machines.len() < 65_536 || machines.position(machine).is_some()
+    machines.len() < MOST_MACHINES || machines.position(machine).is_some()
 }
 
 // The counts of failed commits after one more entry.

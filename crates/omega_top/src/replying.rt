@@ -5,25 +5,25 @@ ghost use Rattle.std.specs.Prelude.{◌≡◌, ◌≤◌, [], ◌∷◌, ◌++�
 ghost use Rattle.std.specs.List.{sum_by};
 ghost use Rattle.omega_board.specs.Board.{cell_of};
 ghost use Rattle.omega_board.specs.Undo.{IsUndoOf, at_reserve};
-ghost use Rattle.omega_model.specs.Reply.{all_or_nothing, by_mode, first_refusal, verdicts, withdrawn_for};
+ghost use Rattle.omega_model.specs.Judge.{judge_fine};
+ghost use Rattle.omega_model.specs.Reply.{all_or_nothing, by_mode, first_refused, judgements, withdrawn_for};
 ghost use Rattle.omega_model.specs.declared.claims.Rule.TheVariants.{Fine};
 
-use crate::claims::is_placed;
 use crate::scratch::place;
 use omega_board::{Board, Undo};
-use omega_model::{Claim, Mode, NoMemory, Seq, Txn, Verdict, Verdicts};
+use omega_model::{Claim, Judgement, Judgements, Mode, NoMemory, Seq, Txn, Verdict};
 use std::alloc::Global;
 
 /// The reply to a transaction under the fine rule, whatever its scheduler had seen. The board has
 /// the same machines and tasks afterwards.
-pub fn reply(alloc: Global, board: &mut Board, txn: &Txn) -> Result<Verdicts, NoMemory>
+pub fn reply(alloc: Global, board: &mut Board, txn: &Txn) -> Result<Judgements, NoMemory>
     requires { txn.now.rule ≡ Fine }
     ensures table { board.new.table ≡ board.old.table }
     ensures tasks { board.new.tasks ≡ board.old.tasks }
-    ensures reply { IfOk result (λ reply. reply ≡ by_mode txn.now.mode (verdicts [] 0 (cell_of board.old) Fine txn.now.claims)) }
+    ensures reply { IfOk result (λ reply. reply ≡ by_mode txn.now.mode (judgements [] 0 (cell_of board.old) Fine txn.now.claims)) }
 {
     let mut undo = board.reserve(alloc, &txn.claims)?;
-    let reply = verdicts(alloc, board, txn.claims.as_slice(), &mut undo);
+    let reply = judgements(alloc, board, txn.claims.as_slice(), &mut undo);
     board.undo(&mut undo);
     match txn.mode {
         Mode::Incremental => Ok(Seq::of(reply?)),
@@ -31,72 +31,86 @@ pub fn reply(alloc: Global, board: &mut Board, txn: &Txn) -> Result<Verdicts, No
     }
 }
 
-// The verdicts on claims in order, each on the board after those before it.
-fn verdicts(
+// What is answered to claims in order, to each on the board after those before it.
+fn judgements(
     alloc: Global,
     board: &mut Board,
     claims: &[Claim],
     undo: &mut Undo,
-) -> Result<Vec<Verdict>, NoMemory>
+) -> Result<Vec<Judgement>, NoMemory>
     requires undo { IsUndoOf board.old undo.old }
     requires claims { length claims.now ≤ undo.old.claims }
     requires victims { sum_by (λ claim. length claim.victims) claims.now ≤ undo.old.victims }
-    ensures reply { IfOk result (λ reply. reply.items ≡ verdicts [] 0 (cell_of board.old) Fine claims.now) }
+    ensures reply { IfOk result (λ reply. reply.items ≡ judgements [] 0 (cell_of board.old) Fine claims.now) }
     ensures undo { IsUndoOf board.new undo.new }
     ensures content { at_reserve undo.new board.new ≡ at_reserve undo.old board.old }
 {
     let mut reply = Vec::new(alloc);
     for claim in claims {
-        let verdict = board.judge(claim, None);
-        if is_placed(verdict) {
-            place(board, claim, undo);
+        let judgement = judged(alloc, board, claim)?;
+        if judgement.verdict.is_placed() {
+            place(board, claim, judgement.evicted.as_slice(), undo);
         }
-        reply.push(verdict)?;
+        reply.push(judgement)?;
     }
     Ok(reply)
 }
 
+// What is answered to a claim.
+fn judged(alloc: Global, board: &Board, claim: &Claim) -> Result<Judgement, NoMemory>
+    ensures { IfOk result (λ judgement. judgement ≡ judge_fine (cell_of board.now) claim.now) }
+{
+    let mut evicted = Vec::with_capacity(alloc, claim.victims.len())?;
+    let verdict = board.judge(claim, None, &mut evicted);
+    Ok(Judgement {
+        verdict,
+        evicted: Seq::of(evicted),
+    })
+}
+
 // A gang with a refusal keeps no claim.
-fn all_or_nothing(alloc: Global, reply: Vec<Verdict>) -> Result<Vec<Verdict>, NoMemory>
+fn all_or_nothing(alloc: Global, reply: Vec<Judgement>) -> Result<Vec<Judgement>, NoMemory>
     ensures { IfOk result (λ kept. kept.items ≡ all_or_nothing reply.items) }
 {
-    let place = first_refusal(reply.as_slice());
+    let place = first_refused(reply.as_slice());
     if place == reply.len() {
         return Ok(reply);
     }
     // A place that a verdict can't hold would be that of a list larger than memory.
     let place = u32::try_from(place).map_err(|_| NoMemory)?;
-    withdrawn(alloc, place, reply.as_slice())
+    withdrawn(alloc, place, reply)
 }
 
-// The verdicts of a gang that is withdrawn for the claim at this place.
-fn withdrawn(alloc: Global, place: u32, reply: &[Verdict]) -> Result<Vec<Verdict>, NoMemory>
-    ensures { IfOk result (λ kept. kept.items ≡ map (withdrawn_for place) reply.now) }
+// The judgements of a gang that is withdrawn for the claim at this place.
+fn withdrawn(alloc: Global, place: u32, reply: Vec<Judgement>) -> Result<Vec<Judgement>, NoMemory>
+    ensures { IfOk result (λ kept. kept.items ≡ map (withdrawn_for place) reply.items) }
 {
     let mut kept = Vec::new(alloc);
-    for verdict in reply {
-        kept.push(withdrawn_for(place, *verdict))?;
+    for judgement in reply {
+        kept.push(withdrawn_for(alloc, place, judgement))?;
     }
     Ok(kept)
 }
 
-// A placed claim is withdrawn for the claim at this place.
-fn withdrawn_for(place: u32, verdict: Verdict) -> Verdict
-    ensures { result ≡ withdrawn_for place verdict }
+// A placed claim is withdrawn for the claim at this place, and evicts nothing.
+fn withdrawn_for(alloc: Global, place: u32, judgement: Judgement) -> Judgement
+    ensures { result ≡ withdrawn_for place judgement }
 {
-    if is_placed(verdict) {
-        Verdict::Withdrawn(place)
-    } else {
-        verdict
+    if !judgement.verdict.is_placed() {
+        return judgement;
+    }
+    Judgement {
+        verdict: Verdict::Withdrawn(place),
+        evicted: Seq::new(alloc),
     }
 }
 
-// The place of the first refusal, or the length where there is none.
-fn first_refusal(reply: &[Verdict]) -> usize
-    ensures { result ≡ first_refusal reply.now }
+// The place of the first claim that is refused, or the length where there is none.
+fn first_refused(reply: &[Judgement]) -> usize
+    ensures { result ≡ first_refused reply.now }
 {
-    for (i, verdict) in reply.iter().enumerate() {
-        if !is_placed(*verdict) {
+    for (i, judgement) in reply.iter().enumerate() {
+        if !judgement.verdict.is_placed() {
             return i;
         }
     }

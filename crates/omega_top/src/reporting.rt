@@ -1,10 +1,10 @@
 //! The report of a history, line by line.
 ghost use Rattle.std.specs.Prelude.{◌≡◌, ◌++◌, ◌∷◌, [], IfOk, OnOk, codes, map};
 ghost use Rattle.std.specs.List.{flat_map, zip};
-ghost use Rattle.omega_model.specs.Report.{Name, Number, claim_lines, entry_lines, history_lines, line_text, task_words, word_text};
+ghost use Rattle.omega_model.specs.Report.{Name, Number, claim_lines, entry_lines, history_lines, line_text, refuse_line, task_words, word_text};
 ghost use Rattle.omega_top.specs.Words.{tail_text, word_of};
 
-use omega_model::{Bytes, Claim, Entry, NoMemory, Seq, TaskKey, Verdict};
+use omega_model::{Bytes, Claim, Entry, Judgement, NoMemory, Seq, TaskKey, Verdict};
 use std::alloc::Global;
 
 // A word of a line that isn't the first one.
@@ -19,7 +19,7 @@ pub fn report(alloc: Global, history: &[Entry]) -> Result<Bytes, NoMemory>
     ensures { IfOk result (λ bytes. bytes ≡ flat_map line_text (history_lines history.now)) }
 {
     let mut out = Vec::new(alloc);
-    push_line(&mut out, "omega", &[Word::Number(1)], &[])?;
+    push_line(&mut out, "omega", &[Word::Number(2)], &[])?;
     for entry in history {
         push_entry(&mut out, entry)?;
     }
@@ -50,25 +50,35 @@ fn push_entry(out: &mut Vec<u8>, entry: &Entry) -> Result<(), NoMemory>
     }
 }
 
-// The lines of claims and their verdicts.
-fn push_claims(out: &mut Vec<u8>, claims: &[Claim], reply: &[Verdict]) -> Result<(), NoMemory>
+// The lines of claims and what was answered to them.
+fn push_claims(out: &mut Vec<u8>, claims: &[Claim], reply: &[Judgement]) -> Result<(), NoMemory>
     ensures { OnOk result (out.new.items ≡ out.old.items ++ flat_map line_text (flat_map claim_lines (zip claims.now reply.now))) }
 {
     for (i, claim) in claims.iter().enumerate() {
-        let Some(verdict) = reply.get(i) else {
+        let Some(judgement) = reply.get(i) else {
             return Ok(());
         };
-        push_claim(out, claim, *verdict)?;
+        push_claim(out, claim, judgement)?;
     }
     Ok(())
 }
 
-// The lines of a claim and its verdict.
-fn push_claim(out: &mut Vec<u8>, claim: &Claim, verdict: Verdict) -> Result<(), NoMemory>
-    ensures { OnOk result (out.new.items ≡ out.old.items ++ flat_map line_text (claim_lines (claim.now, verdict))) }
+// The lines of a claim and what was answered to it.
+fn push_claim(out: &mut Vec<u8>, claim: &Claim, judgement: &Judgement) -> Result<(), NoMemory>
+    ensures { OnOk result (out.new.items ≡ out.old.items ++ flat_map line_text (claim_lines (claim.now, judgement.now))) }
+{
+    if judgement.verdict.is_placed() {
+        return push_placed(out, claim, judgement.evicted.as_slice());
+    }
+    push_refused(out, claim, judgement.verdict)
+}
+
+// The line of a claim that isn't placed.
+fn push_refused(out: &mut Vec<u8>, claim: &Claim, verdict: Verdict) -> Result<(), NoMemory>
+    ensures { OnOk result (out.new.items ≡ out.old.items ++ line_text (refuse_line claim.now verdict)) }
 {
     match verdict {
-        Verdict::Placed => push_placed(out, claim),
+        Verdict::Placed => push_refusal(out, claim, &[]),
         Verdict::NoMachine => push_refusal(out, claim, &[Word::Name("no-machine")]),
         Verdict::AlreadyRunning(machine) => {
             push_refusal(out, claim, &[Word::Name("running"), Word::Number(machine)])
@@ -78,7 +88,6 @@ fn push_claim(out: &mut Vec<u8>, claim: &Claim, verdict: Verdict) -> Result<(), 
             claim,
             &[Word::Name("changed"), Word::Number(now), Word::Number(copy)],
         ),
-        Verdict::VictimGone(key) => push_refusal_by(out, claim, "victim-gone", key),
         Verdict::VictimRank(key) => push_refusal_by(out, claim, "victim-rank", key),
         Verdict::SameJob(key) => push_refusal_by(out, claim, "same-job", key),
         Verdict::Full(free) => push_refusal(
@@ -88,6 +97,7 @@ fn push_claim(out: &mut Vec<u8>, claim: &Claim, verdict: Verdict) -> Result<(), 
                 Word::Name("full"),
                 Word::Number(free.cpu),
                 Word::Number(free.mem),
+                Word::Number(free.disk),
             ],
         ),
         Verdict::Withdrawn(place) => push_withdrawn(out, claim, place),
@@ -95,10 +105,10 @@ fn push_claim(out: &mut Vec<u8>, claim: &Claim, verdict: Verdict) -> Result<(), 
 }
 
 // The lines of a placed claim: whom it evicts, and where its task runs.
-fn push_placed(out: &mut Vec<u8>, claim: &Claim) -> Result<(), NoMemory>
-    ensures { OnOk result (out.new.items ≡ out.old.items ++ flat_map line_text (claim_lines (claim.now, Verdict.Placed))) }
+fn push_placed(out: &mut Vec<u8>, claim: &Claim, evicted: &[TaskKey]) -> Result<(), NoMemory>
+    ensures { OnOk result (out.new.items ≡ out.old.items ++ flat_map line_text (claim_lines (claim.now, record { verdict = Verdict.Placed; evicted = evicted.now }))) }
 {
-    for key in claim.victims.as_slice() {
+    for key in evicted {
         push_line(out, "evict", &task_words(key, claim.machine), &[])?;
     }
     push_line(out, "place", &task_words(&claim.key, claim.machine), &[])

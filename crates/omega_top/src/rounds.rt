@@ -15,13 +15,13 @@ ghost use Rattle.omega_model.specs.declared.rows.Row.{Row};
 ghost use Rattle.omega_model.specs.declared.rows.TraceTables.{TraceTables};
 ghost use Rattle.omega_model.specs.declared.settings.Settings.{Settings};
 ghost use Rattle.omega_top.specs.Answers.{IsBuilt};
-ghost use Rattle.omega_top.specs.Replays.{IsInRange, MayAppendAll, NeverOvercommits};
+ghost use Rattle.omega_top.specs.Replays.{MayAppendAll, NeverOvercommits};
 
 use crate::attempts::{SCHEDULER, worked};
 use crate::replaying::Replay;
 use omega_feed::{Wanted, rounds};
 use omega_model::{
-    Entries, Entry, MachineRow, NoMemory, Request, Requests, Round, Row, Seq, Settings, TraceTables,
+    Entries, Entry, NoMemory, Request, Requests, Round, Row, Seq, Settings, TraceTables,
 };
 use std::alloc::Global;
 
@@ -58,7 +58,7 @@ fn opened(
     round: &Round,
 ) -> Result<Replay, NoMemory>
     ensures history { (settings : Settings) (trace : TraceTables) (rows : List Row) → wanted.old ≡ asked_after settings trace rows
-        → IfOk result (λ after. after ≡ (opened rows replay round.now).history) }
+        → IfOk result (λ after. after ≡ (opened trace rows replay round.now).history) }
     ensures wanted { (settings : Settings) (trace : TraceTables) (rows : List Row) → wanted.old ≡ asked_after settings trace rows
         → OnOk result (wanted.new ≡ asked_after settings trace (rows ++ round.now.rows)) }
 {
@@ -75,20 +75,10 @@ fn opened(
 
 // The history with the entries of the row that was taken last.
 fn with_row(alloc: Global, replay: Replay, wanted: &Wanted, row: &Row) -> Result<Replay, NoMemory>
-    ensures { IfOk result (λ after. after ≡ replay ++ row_entries (state replay) wanted.now.tasks row.now) }
+    ensures { IfOk result (λ after. after ≡ replay ++ row_entries wanted.now.disks (state replay) wanted.now.tasks row.now) }
 {
-    check_range(row);
     let entries = wanted.entries(alloc, row, replay.board())?;
     with_entries(alloc, replay, entries)
-}
-
-// What a row keeps by its type.
-fn check_range(row: &Row)
-    ensures { IsInRange row.now }
-{
-    if let Row::Machine(row) = row {
-        let _cap = row.cap;
-    }
 }
 
 // The history with more entries.

@@ -150,6 +150,7 @@ fn table_name(table: Table) -> &'static str
         Table::TaskEvents => "task_events",
         Table::TaskConstraints => "task_constraints",
         Table::MapreduceJobs => "mapreduce_jobs",
+        Table::MachineDisk => "machine_disk",
     }
 }
 

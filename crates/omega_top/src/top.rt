@@ -1,7 +1,7 @@
 //! The top call.
-ghost use Rattle.std.specs.Prelude.{◌≡◌, ◌≢◌, ◌↔◌, ◌⊎◌, [], ◌∷◌, ℕ, List, None, Some, codes, map, IsTrue, IfOk, IfSome};
+ghost use Rattle.std.specs.Prelude.{◌≡◌, ◌≢◌, ◌↔◌, ◌⊎◌, [], ◌∷◌, ℕ, List, None, Some, codes, map, IsTrue, IfOk};
 ghost use Rattle.omega_cell.specs.Laws.{EvictionsGoDown, NoGangIsSplit};
-ghost use Rattle.omega_io.specs.Edge.{Rose, Tells};
+ghost use Rattle.omega_io.specs.Edge.{Enters, Rose, Tells};
 ghost use Rattle.omega_model.specs.Legal.{Legal};
 ghost use Rattle.omega_model.specs.Refusals.{first_refusal};
 ghost use Rattle.omega_model.specs.Report.{report};
@@ -54,7 +54,7 @@ pub fn omega<T: Tables, K: Sink, G: Gate>(
     ensures usage { (result.status ≡ Usage) ↔ (¬ SayReplay (map (λ word. word.now) words.now)) }
     ensures settings { SayReplay (map (λ word. word.now) words.now) → result.settings ≡ Some default_settings }
     ensures no_settings { result.status ≡ Usage → result.settings ≡ None }
-    ensures folder { SayReplay (map (λ word. word.now) words.now) → result.status ≢ NoMemory → IfSome (T.entered tables.new) (λ folder. folder ≡ codes ".") }
+    ensures folder { SayReplay (map (λ word. word.now) words.now) → result.status ≢ NoMemory → Enters (codes ".") (T.entered tables.old) (T.entered tables.new) }
 
     ensures first { (bytes : Table → List ℕ) → Tells (T.rest tables.old) bytes → result.status ≢ Usage → Answers bytes result.status }
     ensures read_fault { HasReadCause (T.faults tables.old) (T.faults tables.new) result.status }

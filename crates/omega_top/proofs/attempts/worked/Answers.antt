@@ -1,8 +1,8 @@
 use Rattle.std.proofs.Common.{◌≡◌, ◌∷◌, [], List, length, subst, sym, ◌∙◌, refl, arith, rules}
 use Rattle.std.specs.Vec.Iter.{into_iter_items, into_iter_len}
-use Rattle.omega_model.specs.Working.{Working}
+use Rattle.omega_top.specs.Working.{Working}
 use Rattle.omega_model.specs.declared.wishes.Request.{Request}
-use Rattle.omega_model.proofs.Attempts.{working_last}
+use Rattle.omega_top.proofs.WorkInRounds.{working_last}
 use Rattle.omega_top.proofs.attempts.worked.Goals as goal
 
 -- a list of length 0 has no item

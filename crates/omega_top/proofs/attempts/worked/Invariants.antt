@@ -1,5 +1,5 @@
 use Rattle.std.specs.Vec.Iter.{into_iter_items}
-use Rattle.omega_model.specs.Working.{Setting, Working}
+use Rattle.omega_top.specs.Working.{Setting, Working}
 use Rattle.omega_top.specs.Attempts.{IsSettingOf}
 use Rattle.omega_top.proofs.attempts.worked.Given as goal
 

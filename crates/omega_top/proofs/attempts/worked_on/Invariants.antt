@@ -1,5 +1,5 @@
 use Rattle.std.proofs.Common.{◌<◌, ◌-◌, ◌∷◌, List}
-use Rattle.omega_model.specs.Working.{Setting, Working}
+use Rattle.omega_top.specs.Working.{Setting, Working}
 use Rattle.omega_model.specs.declared.wishes.Request.{Request}
 use Rattle.omega_top.specs.Attempts.{IsSettingOf}
 use Rattle.omega_top.proofs.attempts.worked_on.Given as goal

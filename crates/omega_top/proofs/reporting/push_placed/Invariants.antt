@@ -6,5 +6,5 @@ use Rattle.omega_top.proofs.reporting.push_placed.Given as goal
 
 abbrev pub invariant-loop-key : goal.invariant-loop-key
 invariant-loop-key l =
-    l.out.items ++ flat_map line_text (map (evict_line l.claim) (drop l.key-index l.key-items))
-    ≡ l.fn.out.items ++ flat_map line_text (map (evict_line l.claim) l.claim.victims)
+    l.out.items ++ flat_map line_text (map (evict_line l.claim) (drop l.key-index l.evicted))
+    ≡ l.fn.out.items ++ flat_map line_text (map (evict_line l.claim) l.evicted)

@@ -12,7 +12,7 @@ use Rattle.omega_top.proofs.rounds.opened.Given as goal
 -- these rows of the round are applied after those before it
 pub record AreApplied (settings : Settings) (trace : TraceTables) (before : List Row) (wanted : Asked) (history start : List Entry) (some : List Row) : Type 0 where
   pub applied : (let now : Applied = record { rows = before ++ some; history = history } in now)
-      ≡ fold with_row (record { rows = before; history = start }) some
+      ≡ fold (with_row trace) (record { rows = before; history = start }) some
   pub asked : wanted ≡ asked_after settings trace (before ++ some)
 
 abbrev pub invariant-loop-row : goal.invariant-loop-row

@@ -1,36 +1,41 @@
 -- One scheduler at work in a round: each attempt on the state of the whole history keeps the round lawful.
 use Rattle.std.proofs.Common.{◌≡◌, ◌≢◌, ◌≤◌, ◌<◌, ◌+◌, ℕ, suc, true, false, List, [], ◌∷◌, ◌++◌, length, map, Option, Some, refl, sym, ap, ap₂, subst, arith, ◌∙◌, if◌then◌else◌, length-append}
-use Rattle.std.specs.Prelude.{slice_get, option_map, ◌==◌}
-use Rattle.std.specs.List.{fold, list_any}
+use Rattle.std.specs.Prelude.{slice_get, option_map, Bool, not, ◌&&◌, ◌==◌}
+use Rattle.std.specs.List.{filter, filter_map, fold, list_any}
 use Rattle.std.proofs.lemmas.Bool.{eq-eqb}
 use Rattle.std.proofs.lemmas.Bool.Decides.{eqb_tells}
 use Rattle.std.proofs.lemmas.List.{take-append-le}
 use Rattle.std.proofs.lemmas.Option.{slice_get_within}
 use Rattle.std.proofs.Math.Seq.{take-length}
 use Rattle.std.proofs.Math.ListN.{drop_of_length-le}
+use Rattle.omega_model.specs.Feed.{feed}
+use Rattle.omega_model.specs.Requests.{given_up, jobs_in_order, request_of, wishes_of, works_on}
+use Rattle.omega_model.specs.Wanted.{wanted}
+use Rattle.omega_model.specs.declared.rows.Row.{Row}
+use Rattle.omega_model.specs.declared.rows.TraceTables.{TraceTables}
+use Rattle.omega_model.proofs.RoundsInOrder.{filter-none}
 use Rattle.omega_model.specs.Lawful.{IsCommitOfRound, RoundOf, after_last, note_commit, LastCommit}
 use Rattle.omega_model.specs.Policy.{schedulers}
 use Rattle.std.proofs.Common.{inl, inr}
 use Rattle.std.proofs.lemmas.List.{length-map}
 use Rattle.omega_model.specs.Cell.{Cell}
 use Rattle.omega_model.specs.Judge.{judge}
-use Rattle.omega_model.specs.Reply.{after_claim, all_or_nothing, by_mode, first_refusal, verdicts, withdrawn_for}
+use Rattle.omega_model.specs.Reply.{admits, after_claim, all_or_nothing, by_mode, first_refused, judgements, withdrawn_for}
 use Rattle.omega_model.specs.Requests.{failed, requests}
 use Rattle.omega_model.specs.State.{reply_of, state}
-use Rattle.omega_model.specs.Touches.{is_placed}
-use Rattle.omega_model.specs.Work.{Agrees, AgreesWithFirst, HasLeft, IsDue, Position, Standing, after_entry, ends_request, failing_after, failing_with, fresh, moved_on, next_position, outcomes_of, rest_of}
+use Rattle.omega_model.specs.Work.{Agrees, AgreesWithFirst, HasLeft, IsDue, Standing, after_entry, ends_request, failing_after, failing_with, fresh, moved_on, outcomes_of, rest_of}
 use Rattle.omega_model.specs.declared.claims.Claim.{Claim}
 use Rattle.omega_model.specs.declared.claims.Mode.{Mode}
 use Rattle.omega_model.specs.declared.claims.Mode.TheVariants.{Incremental, Gang}
 use Rattle.omega_model.specs.declared.claims.Outcome.{Outcome}
 use Rattle.omega_model.specs.declared.claims.Rule.{Rule}
 use Rattle.omega_model.specs.declared.claims.Txn.{Txn}
-use Rattle.omega_model.specs.declared.claims.Verdict.{Verdict}
+use Rattle.omega_model.specs.declared.claims.Judgement.{Judgement}
 use Rattle.omega_model.specs.declared.entries.Entry.{Entry}
 use Rattle.omega_model.specs.declared.entries.Entry.TheVariants.{Round as RoundEntry, MachineAdd, MachineUpdate, MachineRemove, AttrSet, AttrDelete, End, Commit}
 use Rattle.omega_model.specs.declared.settings.Settings.{Settings}
 use Rattle.omega_model.specs.declared.wishes.Request.{Request}
-use Rattle.omega_model.specs.Working.{Setting, Working, base}
+use Rattle.omega_top.specs.Working.{Position, Setting, Working, base, next_position}
 use Rattle.omega_model.proofs.Growing.{by_place_push_where}
 use Rattle.omega_model.proofs.Standing.{failed_push, has_left-other, placed_outcomes, standing_push}
 
@@ -110,28 +115,28 @@ after_last-within scheduler history =
 pub apart-false : (a b : ℕ) → b ≢ a → (a == b) ≡ false
 apart-false a b apart = elim (eqb_tells a b) [ inl same ↦ absurd (apart (sym same.1)) | inr other ↦ other.0 ]
 
--- each claim has a verdict
-pub length-verdicts : (history : List Entry) (seen : ℕ) (cell : Cell) (rule : Rule) (claims : List Claim)
-    → length (verdicts history seen cell rule claims) ≡ length claims
-length-verdicts history seen cell rule [] = refl
-length-verdicts history seen cell rule (claim ∷ claims) =
-    let rest = length-verdicts history seen (after_claim cell (claim, judge history seen cell rule claim)) rule claims in
+-- each claim is answered
+pub length-judgements : (history : List Entry) (seen : ℕ) (cell : Cell) (rule : Rule) (claims : List Claim)
+    → length (judgements history seen cell rule claims) ≡ length claims
+length-judgements history seen cell rule [] = refl
+length-judgements history seen cell rule (claim ∷ claims) =
+    let rest = length-judgements history seen (after_claim cell (claim, judge history seen cell rule claim)) rule claims in
     ap (λ (n : ℕ). suc n) rest
 
-pub length-all_or_nothing : (reply : List Verdict) → length (all_or_nothing reply) ≡ length reply
+pub length-all_or_nothing : (reply : List Judgement) → length (all_or_nothing reply) ≡ length reply
 length-all_or_nothing reply =
-    elim (first_refusal reply == length reply) as (λ test. length (if test then reply else map (withdrawn_for (first_refusal reply)) reply) ≡ length reply)
-    [ true ↦ refl | false ↦ length-map reply (withdrawn_for (first_refusal reply)) ]
+    elim (first_refused reply == length reply) as (λ test. length (if test then reply else map (withdrawn_for (first_refused reply)) reply) ≡ length reply)
+    [ true ↦ refl | false ↦ length-map reply (withdrawn_for (first_refused reply)) ]
 
-pub length-by_mode : (mode : Mode) (reply : List Verdict) → length (by_mode mode reply) ≡ length reply
+pub length-by_mode : (mode : Mode) (reply : List Judgement) → length (by_mode mode reply) ≡ length reply
 length-by_mode Incremental reply = refl
 length-by_mode Gang reply = length-all_or_nothing reply
 
--- a reply has a verdict for each claim
+-- a reply answers each claim
 pub length-reply_of : (history : List Entry) (seen : ℕ) (txn : Txn) → length (reply_of history seen txn) ≡ length txn.claims
 length-reply_of history seen txn =
-    length-by_mode txn.mode (verdicts history seen (state history) txn.rule txn.claims)
-    ∙ length-verdicts history seen (state history) txn.rule txn.claims
+    length-by_mode txn.mode (judgements history seen (state history) txn.rule txn.claims)
+    ∙ length-judgements history seen (state history) txn.rule txn.claims
 
 -- the position after an attempt is that of the standing
 pub position_moved : (settings : Settings) (standing : Standing) (request : Request) (rest : List Request) (outcomes : List Outcome)
@@ -162,7 +167,7 @@ failing_moved settings standing request rest outcomes job =
     [ true ↦ refl | false ↦ refl ]
 
 -- the failed commits that a standing counts after an attempt are those of the history with its commit
-pub counts_after : (failing : ℕ → ℕ) (history : List Entry) (scheduler seen : ℕ) (txn : Txn) (reply : List Verdict) (first : ℕ)
+pub counts_after : (failing : ℕ → ℕ) (history : List Entry) (scheduler seen : ℕ) (txn : Txn) (reply : List Judgement) (first : ℕ)
     → ((job : ℕ) → failing job ≡ failed history job) → txn.job ≡ first → length reply ≡ length txn.claims
     → (job : ℕ) → failing_with failing first (outcomes_of txn.claims reply) job ≡ failed (history ++ Commit scheduler seen txn reply ∷ []) job
 counts_after failing history scheduler seen txn reply first counts named long job =
@@ -171,7 +176,7 @@ counts_after failing history scheduler seen txn reply first counts named long jo
           let ours : (txn.job == job) ≡ true = eq-eqb txn.job job (named ∙ sym same.1) in
           let placed = placed_outcomes txn.claims reply long in
           rw (same.0, failed_push history (Commit scheduler seen txn reply) job, ours, placed)
-          (ap (λ (count : ℕ). if list_any is_placed reply then 0 else count + 1) (counts first ∙ ap (failed history) (sym same.1)))
+          (ap (λ (count : ℕ). if list_any admits reply then 0 else count + 1) (counts first ∙ ap (failed history) (sym same.1)))
       | inr other ↦
           let theirs : (txn.job == job) ≡ false = apart-false txn.job job (λ same. other.1 (same ∙ named)) in
           rw (other.0, failed_push history (Commit scheduler seen txn reply) job, theirs) (counts job)
@@ -187,7 +192,7 @@ pub working_commit : (at : Setting) (history : List Entry) (request : Request) (
     (failing_after (failed history request.job) (outcomes_of txn.claims (reply_of history (length history) txn)))
     request rest (outcomes_of txn.claims (reply_of history (length history) txn)))
 working_commit at history request rest taken txn known working agrees =
-    let reply : List Verdict = reply_of history (length history) txn in
+    let reply : List Judgement = reply_of history (length history) txn in
     let outcomes : List Outcome = outcomes_of txn.claims reply in
     let entry : Entry = Commit at.scheduler (length history) txn reply in
     let itself : (at.scheduler == at.scheduler) ≡ true = eq-eqb at.scheduler at.scheduler refl in
@@ -240,3 +245,13 @@ working_last at history taken working =
       };
       finished = λ scheduler known. all scheduler;
     }
+
+-- while every job is scheduler 1's, the others have no request
+pub requests-other : (settings : Settings) (trace : TraceTables) (rows : List Row) (history : List Entry) (other : ℕ) → other ≢ 1
+    → requests settings trace rows history other ≡ []
+requests-other settings trace rows history other apart =
+    let theirs : (1 == other) ≡ false = apart-false 1 other apart in
+    let none : filter (works_on settings trace history other) (jobs_in_order (feed trace)) ≡ [] =
+    filter-none (works_on settings trace history other)
+    (λ job. ap (λ (ours : Bool). ours && not (given_up settings history job)) theirs) (jobs_in_order (feed trace)) in
+    ap (λ (jobs : List ℕ). filter_map (λ job. request_of job (wishes_of settings trace (state history) (wanted rows) job)) jobs) none
