@@ -15,21 +15,21 @@ use Rattle.omega_model.specs.declared.cells.TaskKey.{TaskKey}
 use Rattle.omega_model.specs.declared.cells.Task.{Task}
 use Rattle.omega_machines.specs.declared.MachineState.{MachineState}
 use Rattle.omega_machines.specs.Table.{machines_of, state_at, used, use_at, free_if_up, free_at, change_state, new_state, ensured_states, charged, released, touched, IsTable}
-use Rattle.omega_machines.proofs.Bounds.{same_need}
-use Rattle.omega_machines.proofs.Places.{by_answer}
 use Rattle.omega_machines.proofs.Laws.{machine_of_state, listed_state, machines_same, state_changed, others_unchanged}
 use Rattle.omega_running.specs.Order.{Each}
 use Rattle.omega_running.proofs.Lists.{each_map, each_both, each_append, each_of, find_first, filter_none}
 use Rattle.omega_board.specs.Board.{BoardState, IsBoard, IsCounted, is_on_up, recounted, table_with}
 use Rattle.omega_running.proofs.Kept.{found_key}
 use Rattle.omega_board.proofs.Tasks.{each_filter, each_found, each_with, without_ordered, with_ordered}
-use Rattle.omega_board.proofs.Uses.{plus-assoc, plus-nothing, share, total-with, total-without}
+use Rattle.omega_board.proofs.Uses.{total-with, total-without}
+use Rattle.omega_model.proofs.Amounts.{plus-assoc, plus-nothing, need_is, share}
+use Rattle.omega_model.proofs.Lists.{by_answer}
 
 -- a machine that is counted has as much free as the count says
 pub recounted-same : (tasks : List Task) (state : MachineState) → IsCounted tasks state → recounted tasks state ≡ state
 recounted-same tasks state counted =
     let free : minus state.machine.cap (use_on tasks state.machine.id) ≡ state.free =
-    same_need _ _ (omega (arith, ap (λ (n : Need). n.cpu) counted)) (omega (arith, ap (λ (n : Need). n.mem) counted)) (omega (arith, ap (λ (n : Need). n.disk) counted)) in
+    need_is _ _ (omega (arith, ap (λ (n : Need). n.cpu) counted)) (omega (arith, ap (λ (n : Need). n.mem) counted)) (omega (arith, ap (λ (n : Need). n.disk) counted)) in
     λ i. record state { free = free i }
 
 pub table_with-same : (tasks : List Task) (table : List MachineState) → Each (IsCounted tasks) table → table_with tasks table ≡ table
@@ -109,7 +109,7 @@ module _ (table : List MachineState) (tasks : List Task) (board : IsBoard table 
       let known = each_found (IsCounted tasks) (λ state. state.machine.id == id) table s board.counted found in
       let counted : plus s.free (use_on tasks id) ≡ s.machine.cap = subst (λ n. plus s.free (use_on tasks n) ≡ s.machine.cap) (eqb-true _ _ known.1) known.0 in (
         ap (λ o. option_map_or used o nothing) found
-            ∙ same_need _ _ (omega (arith, ap (λ (n : Need). n.cpu) counted)) (omega (arith, ap (λ (n : Need). n.mem) counted)) (omega (arith, ap (λ (n : Need). n.disk) counted)),
+            ∙ need_is _ _ (omega (arith, ap (λ (n : Need). n.cpu) counted)) (omega (arith, ap (λ (n : Need). n.mem) counted)) (omega (arith, ap (λ (n : Need). n.disk) counted)),
         counted,
       )
 
@@ -240,7 +240,7 @@ module _ (table : List MachineState) (tasks : List Task) (board : IsBoard table 
             table (each_both (IsCounted tasks) (λ s. (s.machine.id == t.machine) ≡ true → s ≡ found) (λ s. IsCounted tasks s × ((s.machine.id == t.machine) ≡ true → s ≡ found)) (λ s c o. (c, o)) table board.counted only)
           where
             taken_again : (free need amount : Need) → Fits need free → plus (minus free need) (plus need amount) ≡ plus free amount
-            taken_again free need amount fits = same_need _ _ (omega (arith, fits.0)) (omega (arith, fits.1.0)) (omega (arith, fits.1.1))
+            taken_again free need amount fits = need_is _ _ (omega (arith, fits.0)) (omega (arith, fits.1.0)) (omega (arith, fits.1.1))
 
         up : IsTrue (is_on_up (machines_of table) t)
         up =

@@ -16,12 +16,11 @@ use Rattle.omega_machines.proofs.Laws.{machine_of_state}
 use Rattle.omega_running.proofs.Lists.{find_none, filter_every, each_of}
 use Rattle.omega_board.specs.Board.{BoardState, IsBoard, cell_of, recounted, table_with}
 use Rattle.omega_board.proofs.Tasks.{each_filter, each_absent, found_passes, found_still}
-use Rattle.omega_board.proofs.Uses.{rest_is}
 use Rattle.omega_board.proofs.Boards.{free_where_up, state_up}
 use Rattle.omega_board.proofs.Parts.{some_free, found_on}
 use Rattle.omega_board.proofs.Placed.{IsPlaced}
-use Rattle.omega_board.proofs.Ranks.{fits_means}
 use Rattle.omega_board.proofs.Rewinds.{state_with}
+use Rattle.omega_model.proofs.Amounts.{fits_tested, rest_is}
 
 -- nothing goes
 pub without_none : (tasks : List Task) → without [] tasks ≡ tasks
@@ -56,4 +55,4 @@ module _ (board : BoardState) (kept : IsBoard board.table board.tasks) (claim : 
       let amount : use_on tasks state.0.machine.id ≡ rest_on board.tasks claim.machine evicted =
       ap (use_on tasks) own ∙ ap (λ ts. use_on ts claim.machine) left ∙ sym (rest_is board.tasks claim.machine evicted) in
       let same : free_without (cell_of board) claim evicted ≡ minus state.0.machine.cap (use_on tasks state.0.machine.id) = ap₂ minus cap (sym amount) in
-      subst (λ o. IsSomeAnd o (λ f. Fits claim.spec.need f)) (sym free) (subst (Fits claim.spec.need) same (fits_means _ _ known.fits))
+      subst (λ o. IsSomeAnd o (λ f. Fits claim.spec.need f)) (sym free) (subst (Fits claim.spec.need) same (fits_tested _ _ known.fits))

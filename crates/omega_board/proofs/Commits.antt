@@ -14,12 +14,12 @@ use Rattle.omega_model.specs.declared.cells.Machine.{Machine}
 use Rattle.omega_model.specs.declared.claims.Claim.{Claim}
 use Rattle.omega_model.specs.declared.claims.Judgement.{Judgement}
 use Rattle.omega_machines.specs.Table.{machines_of, seq_at}
-use Rattle.omega_machines.proofs.Places.{by_answer}
 use Rattle.omega_board.specs.Board.{BoardState, cell_of}
 use Rattle.omega_board.specs.Undo.{UndoState, IsUndoOf}
 use Rattle.omega_board.proofs.Counts.{zip_more, zip_past}
 use Rattle.omega_board.proofs.Parts.{not_refused}
 use Rattle.omega_board.proofs.Placed.{placeable_fine, is_placed-Placed}
+use Rattle.omega_model.proofs.Lists.{by_answer}
 
 -- how many victims some claims have
 abbrev pub victims_in : List Claim → ℕ

@@ -12,8 +12,8 @@ use Rattle.omega_model.specs.declared.claims.Claim.{Claim}
 use Rattle.omega_model.specs.declared.claims.Judgement.{Judgement}
 use Rattle.omega_machines.specs.declared.MachineState.{MachineState}
 use Rattle.omega_machines.specs.Table.{machines_of, state_at, seq_at, change_state, touched}
-use Rattle.omega_machines.proofs.Places.{by_answer}
 use Rattle.omega_machines.proofs.Laws.{listed_state, state_changed, others_unchanged}
+use Rattle.omega_model.proofs.Lists.{by_answer}
 
 -- a touch counts on its machine and on no other
 pub seq_touched : (table : List MachineState) (id other : ℕ) → IsTrue (is_listed id (machines_of table)) → seq_at (change_state id touched table) other ≡ seq_at table other + (if id == other then 1 else 0)

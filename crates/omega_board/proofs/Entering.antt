@@ -11,8 +11,6 @@ use Rattle.omega_model.specs.declared.cells.Machine.{Machine}
 use Rattle.omega_model.specs.declared.cells.Task.{Task}
 use Rattle.omega_machines.specs.declared.MachineState.{MachineState}
 use Rattle.omega_machines.specs.Table.{machines_of, state_at, use_at, seq_at, change_state, ensured_states, touched, used, state_added, state_updated, with_machine, IsTable}
-use Rattle.omega_machines.proofs.Bounds.{same_need}
-use Rattle.omega_machines.proofs.Places.{by_answer}
 use Rattle.omega_machines.proofs.Laws.{listed_state, machines_changed, machines_same, state_changed, others_unchanged, listed_changed}
 use Rattle.omega_machines.proofs.Ensuring.{table_ensured}
 use Rattle.omega_running.specs.Order.{Each}
@@ -20,6 +18,8 @@ use Rattle.omega_running.proofs.Lists.{each_of}
 use Rattle.omega_board.specs.Board.{IsBoard, IsCounted, CountsOn}
 use Rattle.omega_board.proofs.Boards.{in_use, ensured_board, changed_board, touched_board}
 use Rattle.omega_board.proofs.Counts.{seq_touched}
+use Rattle.omega_model.proofs.Amounts.{need_is}
+use Rattle.omega_model.proofs.Lists.{by_answer}
 
 -- a machine that is listed has a state
 pub state_listed : (table : List MachineState) (id : ℕ) → IsTrue (is_listed id (machines_of table)) → (s : MachineState) × (state_at table id ≡ Some s)
@@ -90,7 +90,7 @@ module _ (table : List MachineState) (tasks : List Task) (board : IsBoard table 
   recounts : (cap : Need) → Fits (use_on tasks id) cap → (s : MachineState) → (s.machine.id == id) ≡ true → IsCounted tasks s → plus (minus cap (used s)) (use_on tasks s.machine.id) ≡ cap
   recounts cap fits s own counted =
       let fit : Fits (use_on tasks s.machine.id) cap = subst (λ n. Fits (use_on tasks n) cap) (sym (eqb-true _ _ own)) fits in
-      same_need _ _
+      need_is _ _
       (omega (arith, fit.0, ap (λ (n : Need). n.cpu) counted))
       (omega (arith, fit.1.0, ap (λ (n : Need). n.mem) counted))
       (omega (arith, fit.1.1, ap (λ (n : Need). n.disk) counted))

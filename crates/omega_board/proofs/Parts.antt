@@ -19,7 +19,6 @@ use Rattle.omega_model.specs.declared.cells.Task.{Task}
 use Rattle.omega_model.specs.declared.claims.Verdict.TheVariants.{NoMachine}
 use Rattle.omega_machines.specs.declared.MachineState.{MachineState}
 use Rattle.omega_machines.specs.Table.{machines_of, state_at, free_at}
-use Rattle.omega_machines.proofs.Bounds.{same_need}
 use Rattle.omega_machines.proofs.Laws.{machine_of_state, listed_state, found_bounded}
 use Rattle.omega_running.specs.declared.orders.Order.TheVariants.{ByKey}
 use Rattle.omega_running.specs.Order.{IsInOrder}
@@ -27,8 +26,9 @@ use Rattle.omega_running.proofs.Lists.{each_of, filter_every}
 use Rattle.omega_board.specs.Board.{BoardState, IsBoard, Stand}
 use Rattle.omega_running.proofs.Kept.{found_key}
 use Rattle.omega_board.proofs.Tasks.{any_at, found_still, without_more, without_ordered}
-use Rattle.omega_board.proofs.Uses.{plus-assoc, rest_is, total-without}
+use Rattle.omega_board.proofs.Uses.{total-without}
 use Rattle.omega_board.proofs.Boards.{free_where_up, state_free, state_up, in_use, unused}
+use Rattle.omega_model.proofs.Amounts.{plus-assoc, rest_is, need_is}
 
 -- the first part, where something is free on the machine and where nothing is
 pub up_where_free : (table : List MachineState) (id : ℕ) (free : Need) → Some free ≡ free_at table id → None ≡ refusal_if (not (is_up (machine_at (machines_of table) id))) NoMachine
@@ -116,7 +116,7 @@ module _ (board : BoardState) (kept : IsBoard board.table board.tasks) (id : ℕ
 
   -- and is the capacity less what the others use
   pub freed_all : (gone : List TaskKey) (free : Need) → IsFreed board id gone free → free ≡ minus (capacity_of (machine_at (machines_of board.table) id)) (rest_on board.tasks id gone)
-  freed_all gone free freed = same_need _ _ (omega (arith, ap (λ (n : Need). n.cpu) freed)) (omega (arith, ap (λ (n : Need). n.mem) freed)) (omega (arith, ap (λ (n : Need). n.disk) freed))
+  freed_all gone free freed = need_is _ _ (omega (arith, ap (λ (n : Need). n.cpu) freed)) (omega (arith, ap (λ (n : Need). n.mem) freed)) (omega (arith, ap (λ (n : Need). n.disk) freed))
 
   -- a task that stands runs
   pub stands_there : (gone : List TaskKey) → Stand board.tasks id gone → (i : ℕ) (key : TaskKey) → i < length gone → get_or gone i key ≡ key → IsTrue (is_some (task_at board.tasks key))
@@ -144,7 +144,7 @@ used_found board kept id place free machine is placed here =
     find_at test (machines_of board.table) ∙ ap (slice_get (machines_of board.table)) (cond_some _ _ _ (sym placed)).1 ∙ sym here in
     let same : machine ≡ known.0.machine = same_Some _ _ (sym at ∙ machine_of_state board.table id ∙ ap (option_map (λ (s : MachineState). s.machine)) known.1) in
     ap₂ (λ (m : Machine) f. minus m.cap f) same (sym known.3)
-    ∙ same_need _ _ (omega (arith, ap (λ (n : Need). n.cpu) counted)) (omega (arith, ap (λ (n : Need). n.mem) counted)) (omega (arith, ap (λ (n : Need). n.disk) counted))
+    ∙ need_is _ _ (omega (arith, ap (λ (n : Need). n.cpu) counted)) (omega (arith, ap (λ (n : Need). n.mem) counted)) (omega (arith, ap (λ (n : Need). n.disk) counted))
 
 -- a machine on which something is free stands at its position
 pub found_there : (table : List MachineState) (id place : ℕ) (free : Need) → Some free ≡ free_at table id

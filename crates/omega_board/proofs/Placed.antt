@@ -15,36 +15,11 @@ use Rattle.omega_model.specs.declared.claims.Claim.{Claim}
 use Rattle.omega_model.specs.declared.claims.Judgement.{Judgement}
 use Rattle.omega_model.specs.declared.claims.Verdict.{Verdict}
 use Rattle.omega_model.specs.declared.claims.Verdict.TheVariants.{Placed, NoMachine, AlreadyRunning, Changed, VictimRank, SameJob, Full, Withdrawn}
-use Rattle.omega_machines.proofs.Places.{by_answer}
 use Rattle.omega_board.specs.Board.{Stand}
 use Rattle.omega_board.proofs.Standing.{are_standing, first_standing, standing_fewer, stand}
 use Rattle.omega_board.proofs.Evicted.{beginning}
-
--- a part that doesn't place a claim
-unfoldable pub Refuses : Option Verdict → Type 0
-Refuses None = Unit {0}
-Refuses (Some verdict) = is_placed verdict ≡ false
-
-pub refuses_if : (b : Bool) (verdict : Verdict) → is_placed verdict ≡ false → Refuses (refusal_if b verdict)
-unfolding Refuses
-refuses_if true verdict e = e
-refuses_if false verdict e = tt
-
-pub refuses_running : (o : Option Task) → Refuses (option_map (λ task. AlreadyRunning task.machine) o)
-unfolding Refuses
-refuses_running None = tt
-refuses_running (Some t) = refl
-
-refuses_rank : (o : Option TaskKey) → Refuses (option_map VictimRank o)
-unfolding Refuses
-refuses_rank None = tt
-refuses_rank (Some t) = refl
-
-refuses_job : (b : Bool) (o : Option Task) → Refuses (if b then option_map (λ task. SameJob task.key) o else None)
-unfolding Refuses
-refuses_job true None = tt
-refuses_job true (Some t) = refl
-refuses_job false o = tt
+use Rattle.omega_model.proofs.Lists.{by_answer}
+use Rattle.omega_model.proofs.Admitted.{Refuses, refuses_if, refuses_running, refuses_rank, refuses_job}
 
 pub refuses_change : (now : ℕ) (copy : Option ℕ) → Refuses (changed_on now copy)
 unfolding Refuses

@@ -12,23 +12,17 @@ use Rattle.omega_model.specs.State.{excess, ranked_on, goes_on}
 use Rattle.omega_model.specs.declared.cells.Need.{Need}
 use Rattle.omega_model.specs.declared.cells.TaskKey.{TaskKey}
 use Rattle.omega_model.specs.declared.cells.Task.{Task}
-use Rattle.omega_machines.proofs.Bounds.{same_need}
-use Rattle.omega_machines.proofs.Places.{by_answer}
 use Rattle.omega_running.specs.declared.orders.Order.TheVariants.{ByKey}
 use Rattle.omega_running.specs.Order.{Each, IsInOrder}
 use Rattle.omega_running.proofs.Lists.{each_map, each_both, each_of, each_back, filter_every, filter_none, filter_where}
-use Rattle.omega_board.proofs.Tasks.{stays, each_filter, filter_and, filter_alike, key_same, key_itself, key_differs}
-use Rattle.omega_board.proofs.Uses.{plus-swap, share, total-cons}
+use Rattle.omega_board.proofs.Tasks.{stays, each_filter, filter_and, filter_alike, key_same}
+use Rattle.omega_model.proofs.InOrder.{key_itself, key_differs}
+use Rattle.omega_model.proofs.Amounts.{fits_tested, rank_total, plus-swap, need_is, total-cons, share}
+use Rattle.omega_model.proofs.Lists.{by_answer}
 
 -- the test of an amount says what it says
 pub fits_true : (a b : Need) → Fits a b → fits a b ≡ true
 fits_true a b h = and_from _ _ (le-leb _ _ h.0) (and_from _ _ (le-leb _ _ h.1.0) (le-leb _ _ h.1.1))
-
-pub fits_means : (a b : Need) → fits a b ≡ true → Fits a b
-fits_means a b h =
-    let parts = and_parts _ _ h in
-    let rest = and_parts _ _ parts.1 in
-    (leb-true _ _ parts.0, (leb-true _ _ rest.0, leb-true _ _ rest.1))
 
 pub each_at : {X : Type 0} (P : X → Type 0) (xs : List X) (i : ℕ) (d : X) → Each P xs → i < length xs → P (get_or xs i d)
 each_at P [] i d each below = absurd (omega arith)
@@ -54,16 +48,12 @@ total-put p t (o ∷ tasks) =
     ∙ ap (plus (share p t)) (sym (total-cons p o tasks))))
     (λ h. rw h (total-cons p t (o ∷ tasks)))
 
-pub total-rank : (p : Task → Bool) (tasks : List Task) → total (filter p (by_rank tasks)) ≡ total (filter p tasks)
-total-rank p [] = refl
-total-rank p (t ∷ tasks) = total-put p t (by_rank tasks) ∙ ap (plus (share p t)) (total-rank p tasks) ∙ sym (total-cons p t tasks)
-
 -- the tasks on a machine use what is used there
 pub total-ranked : (tasks : List Task) (id : ℕ) → total (ranked_on id tasks) ≡ use_on tasks id
 total-ranked tasks id =
     let all : Task → Bool = λ _. true in
     ap total (sym (filter_every all (ranked_on id tasks) (each_of _ (λ t. refl) _)))
-    ∙ total-rank all (filter (is_on id) tasks)
+    ∙ rank_total all (filter (is_on id) tasks)
     ∙ ap total (filter_every all (filter (is_on id) tasks) (each_of _ (λ t. refl) _))
 
 -- each running task is found under its name
@@ -141,7 +131,7 @@ use-without tasks id xs ys order parts =
     let stay : Task → Bool = λ t. not (is_among t.key (keys_of xs)) in
     let apart : Apart (xs ++ ys) = subst Apart parts (ranked_apart tasks id order) in
     ap total (filter_swap (is_on id) stay tasks)
-    ∙ sym (total-rank stay (filter (is_on id) tasks))
+    ∙ sym (rank_total stay (filter (is_on id) tasks))
     ∙ ap (λ ts. total (filter stay ts)) parts
     ∙ ap total (filter-append stay xs ys)
     ∙ ap₂ (λ a b. total (a ++ b))
@@ -163,7 +153,7 @@ pub excess_first : (cap : Need) (tasks : List Task) → IsExcess cap tasks
 excess_first cap [] = record { others = []; parts = refl; fit = (omega arith, (omega arith, omega arith)) }
 excess_first cap (t ∷ tasks) =
     by_answer (fits (total (t ∷ tasks)) cap)
-    (λ h. record { others = t ∷ tasks; parts = rw h refl; fit = fits_means _ _ h })
+    (λ h. record { others = t ∷ tasks; parts = rw h refl; fit = fits_tested _ _ h })
     (λ h. let rest = excess_first cap tasks in record { others = rest.others; parts = rw h (ap (λ ts. t ∷ ts) rest.parts); fit = rest.fit })
 
 -- the names of those that stop are the first names
@@ -192,10 +182,10 @@ walked_more cap ranked i t left below is walked large =
     let next : drop i ranked ≡ t ∷ drop (i + 1) ranked = drop_more ranked i t below ∙ ap (λ x. x ∷ drop (i + 1) ranked) is in
     let sum : left ≡ plus t.spec.need (total (drop (i + 1) ranked)) = walked.1 ∙ ap total next in
     let too_much : fits (total (t ∷ drop (i + 1) ranked)) cap ≡ false =
-    by_answer (fits (total (t ∷ drop (i + 1) ranked)) cap) (λ h. absurd (large (subst (λ n. Fits n cap) (sym sum) (fits_means _ _ h)))) (λ h. h) in
+    by_answer (fits (total (t ∷ drop (i + 1) ranked)) cap) (λ h. absurd (large (subst (λ n. Fits n cap) (sym sum) (fits_tested _ _ h)))) (λ h. h) in
     let one_more : excess cap (t ∷ drop (i + 1) ranked) ≡ t ∷ excess cap (drop (i + 1) ranked) = rw too_much refl in
     let count : length (excess cap (drop i ranked)) ≡ suc (length (excess cap (drop (i + 1) ranked))) = ap length (ap (excess cap) next ∙ one_more) in
-    (omega (arith, count, walked.0), same_need _ _ (omega (arith, ap (λ (n : Need). n.cpu) sum)) (omega (arith, ap (λ (n : Need). n.mem) sum)) (omega (arith, ap (λ (n : Need). n.disk) sum)))
+    (omega (arith, count, walked.0), need_is _ _ (omega (arith, ap (λ (n : Need). n.cpu) sum)) (omega (arith, ap (λ (n : Need). n.mem) sum)) (omega (arith, ap (λ (n : Need). n.disk) sum)))
 
 -- the task at a place in order of eviction
 pub record IsRankedAt (tasks : List Task) (id i : ℕ) (d : TaskKey) : Type 0 where

@@ -18,12 +18,9 @@ use Rattle.omega_model.specs.declared.claims.Txn.{Txn}
 use Rattle.omega_model.specs.declared.claims.Verdict.{Verdict}
 use Rattle.omega_model.specs.declared.claims.Verdict.TheVariants.{Placed, Changed}
 use Rattle.omega_model.specs.declared.entries.Entry.{Entry}
-use Rattle.omega_machines.proofs.Places.{by_answer}
-use Rattle.omega_board.proofs.Placed.{Refuses, refuses_if, refuses_change, is_placed-Placed, placed_without}
-
--- how many entries pass a test, of a history with one more in front
-count-cons : {X : Type 0} (p : X → Bool) (x : X) (xs : List X) → count_by p (x ∷ xs) ≡ cond (p x) 1 0 + count_by p xs
-count-cons p x xs = sum_by-cons (λ y. cond (p y) 1 0) x xs
+use Rattle.omega_board.proofs.Placed.{refuses_change, is_placed-Placed, placed_without}
+use Rattle.omega_model.proofs.Lists.{by_answer}
+use Rattle.omega_model.proofs.Admitted.{Refuses, refuses_if}
 
 -- some entry passes a test where more than none do
 some_counted : {X : Type 0} (p : X → Bool) (xs : List X) → list_any p xs ≡ not (0 == count_by p xs)
@@ -31,11 +28,11 @@ some_counted p [] = refl
 some_counted p (x ∷ xs) =
     by_answer (p x)
     (λ t.
-    let more : count_by p (x ∷ xs) ≡ suc (count_by p xs) = count-cons p x xs ∙ rw t (omega arith) in
+    let more : count_by p (x ∷ xs) ≡ suc (count_by p xs) = sum_by-cons (λ y. cond (p y) 1 0) x xs ∙ rw t (omega arith) in
     let differ : (0 == count_by p (x ∷ xs)) ≡ false = ne_eqb 0 (count_by p (x ∷ xs)) (λ e. absurd (omega (arith, e, more))) in
     ap (λ b. b || list_any p xs) t ∙ sym (ap not differ))
     (λ f.
-    let same : count_by p (x ∷ xs) ≡ count_by p xs = count-cons p x xs ∙ rw f (omega arith) in
+    let same : count_by p (x ∷ xs) ≡ count_by p xs = sum_by-cons (λ y. cond (p y) 1 0) x xs ∙ rw f (omega arith) in
     ap (λ b. b || list_any p xs) f ∙ some_counted p xs ∙ ap (λ n. not (0 == n)) (sym same))
 
 -- some entry from a place on passes a test exactly where the counts up to the place and of all differ
@@ -45,7 +42,7 @@ later_counted p (suc seen) [] = refl
 later_counted p (suc seen) (x ∷ xs) =
     later_counted p seen xs
     ∙ ap not (both_more (count_by p (take seen xs)) (count_by p xs) (cond (p x) 1 0))
-    ∙ ap₂ (λ a b. not (a == b)) (sym (count-cons p x (take seen xs))) (sym (count-cons p x xs))
+    ∙ ap₂ (λ a b. not (a == b)) (sym (sum_by-cons (λ y. cond (p y) 1 0) x (take seen xs))) (sym (sum_by-cons (λ y. cond (p y) 1 0) x xs))
   where
     both_more : (a b c : ℕ) → (a == b) ≡ (c + a == c + b)
     both_more a b c =

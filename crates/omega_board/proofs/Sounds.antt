@@ -16,7 +16,7 @@ use Rattle.omega_running.specs.declared.orders.Order.TheVariants.{ByKey}
 use Rattle.omega_running.specs.Order.{Each, IsInOrder}
 use Rattle.omega_running.proofs.Lists.{all_of_each}
 use Rattle.omega_board.specs.Board.{IsBoard, IsCounted}
-use Rattle.omega_board.proofs.Tasks.{key_differs}
+use Rattle.omega_model.proofs.InOrder.{key_differs}
 
 -- tasks in order have distinct names
 pub names_distinct : (tasks : List Task) → IsInOrder ByKey tasks → IsDistinct same_key (keys_of tasks)

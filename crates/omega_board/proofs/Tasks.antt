@@ -11,13 +11,14 @@ use Rattle.omega_model.specs.Keys.{same_key, key_lt, is_among}
 use Rattle.omega_model.specs.Cell.{task_at, with_task, without}
 use Rattle.omega_model.specs.declared.cells.TaskKey.{TaskKey}
 use Rattle.omega_model.specs.declared.cells.Task.{Task}
-use Rattle.omega_machines.proofs.Places.{by_answer}
 use Rattle.omega_running.specs.declared.orders.Order.TheVariants.{ByKey}
 use Rattle.omega_running.specs.Order.{Each, IsInOrder, precedes}
 use Rattle.omega_running.proofs.Lists.{each_map, each_append, each_of, filter_every, filter_none, find_none, find_right, any_none}
 use Rattle.omega_running.proofs.Strict.{trans}
-use Rattle.omega_running.proofs.InOrder.{key_apart, key_asym, key_strict}
+use Rattle.omega_running.proofs.InOrder.{key_apart, key_strict}
 use Rattle.omega_running.proofs.Kept.{put_is, put_rises, rises_filter, without_absent}
+use Rattle.omega_model.proofs.InOrder.{key_itself, key_differs, key_asym}
+use Rattle.omega_model.proofs.Lists.{by_answer}
 
 module _ {X : Type 0} where
   -- what holds of each element holds of each that a filter leaves
@@ -78,14 +79,6 @@ key_same a b e =
     let job = eqb-true _ _ parts.0 in
     let index = eqb-true _ _ parts.1 in
     λ i. record { job = job i; index = index i }
-
--- a name is its own
-pub key_itself : (key : TaskKey) → same_key key key ≡ true
-key_itself key = and_from _ _ (eq-eqb key.job key.job refl) (eq-eqb key.index key.index refl)
-
--- names in order are of two tasks
-pub key_differs : (a b : TaskKey) → key_lt a b ≡ true → same_key a b ≡ false
-key_differs a b less = not-true (same_key a b) (sym (key_apart a b) ∙ or_left _ _ less)
 
 pub key_differs_back : (a b : TaskKey) → key_lt a b ≡ true → same_key b a ≡ false
 key_differs_back a b less = not-true (same_key b a) (sym (key_apart b a) ∙ or_right _ _ less)

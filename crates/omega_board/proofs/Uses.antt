@@ -8,32 +8,11 @@ use Rattle.omega_model.specs.Cell.{task_at, with_task, without, total, is_on, us
 use Rattle.omega_model.specs.declared.cells.Need.{Need}
 use Rattle.omega_model.specs.declared.cells.TaskKey.{TaskKey}
 use Rattle.omega_model.specs.declared.cells.Task.{Task}
-use Rattle.omega_machines.proofs.Bounds.{same_need}
-use Rattle.omega_machines.proofs.Places.{by_answer}
 use Rattle.omega_running.specs.declared.orders.Order.TheVariants.{ByKey}
 use Rattle.omega_running.specs.Order.{IsInOrder}
 use Rattle.omega_board.proofs.Tasks.{parted, back_again, gone_absent, filter_and, without_ordered}
-
--- a sum with its first two terms exchanged
-pub plus-swap : (a b c : Need) → plus a (plus b c) ≡ plus b (plus a c)
-plus-swap a b c = same_need _ _ (omega arith) (omega arith) (omega arith)
-
-pub plus-assoc : (a b c : Need) → plus (plus a b) c ≡ plus a (plus b c)
-plus-assoc a b c = same_need _ _ (omega arith) (omega arith) (omega arith)
-
-pub plus-nothing : (a : Need) → plus nothing a ≡ a
-plus-nothing a = same_need _ _ (omega arith) (omega arith) (omega arith)
-
-pub total-append : (xs ys : List Task) → total (xs ++ ys) ≡ plus (total xs) (total ys)
-total-append [] ys = sym (plus-nothing (total ys))
-total-append (x ∷ xs) ys = ap (plus x.spec.need) (total-append xs ys) ∙ sym (plus-assoc x.spec.need (total xs) (total ys))
-
--- what one task adds to a sum over those that pass a test
-abbrev pub share : (Task → Bool) → Task → Need
-share p t = cond (p t) t.spec.need nothing
-
-pub total-cons : (p : Task → Bool) (t : Task) (tasks : List Task) → total (filter p (t ∷ tasks)) ≡ plus (share p t) (total (filter p tasks))
-total-cons p t tasks = by_answer (p t) (λ h. rw h refl) (λ h. rw h (sym (plus-nothing (total (filter p tasks)))))
+use Rattle.omega_model.proofs.Amounts.{plus-swap, plus-assoc, plus-nothing, total-append, need_is, total-cons, share}
+use Rattle.omega_model.proofs.Lists.{by_answer}
 
 -- with one more task
 pub total-with : (p : Task → Bool) (t : Task) (tasks : List Task) → task_at tasks t.key ≡ None → IsInOrder ByKey tasks
@@ -53,7 +32,3 @@ pub total-without : (p : Task → Bool) (t : Task) (tasks : List Task) → task_
 total-without p t tasks found order =
     ap (λ ts. total (filter p ts)) (sym (back_again t tasks found order))
     ∙ total-with p t (without (t.key ∷ []) tasks) (gone_absent t.key tasks) (without_ordered (t.key ∷ []) tasks order)
-
--- the rest of a machine is its use by the tasks that stay
-pub rest_is : (tasks : List Task) (id : ℕ) (gone : List TaskKey) → rest_on tasks id gone ≡ use_on (without gone tasks) id
-rest_is tasks id gone = ap total (sym (filter_and (is_on id) (λ t. not (is_among t.key gone)) tasks))

@@ -26,17 +26,19 @@ use Rattle.omega_model.specs.declared.claims.Verdict.{Verdict}
 use Rattle.omega_model.specs.declared.claims.Verdict.TheVariants.{Changed, NoMachine, VictimRank}
 use Rattle.omega_model.specs.declared.entries.Entry.{Entry}
 use Rattle.omega_model.specs.declared.entries.Entry.TheVariants.{Round, MachineAdd, MachineUpdate, MachineRemove, AttrSet, AttrDelete, End, Commit}
-use Rattle.omega_machines.proofs.Places.{by_answer}
 use Rattle.omega_running.specs.declared.orders.Order.TheVariants.{ByKey}
 use Rattle.omega_running.specs.Order.{Each, IsInOrder, precedes}
 use Rattle.omega_running.proofs.Kept.{rises_filter}
 use Rattle.omega_running.proofs.Lists.{each_map, filter_every, find_none}
 use Rattle.omega_board.proofs.Parts.{found_on, withstands_is}
-use Rattle.omega_board.proofs.Placed.{Refuses, refuses_if, refuses_running, passes, is_placed-Placed, placeable_fine}
+use Rattle.omega_board.proofs.Placed.{passes, is_placed-Placed, placeable_fine}
 use Rattle.omega_board.proofs.Standing.{Once, among_filter, among_first, are_standing, first_standing, stand}
-use Rattle.omega_board.proofs.Tasks.{each_absent, key_itself, filter_and, filter_alike, found_still, gone_absent, key_differs, key_differs_back, stays_other, with_ordered, without_ordered}
+use Rattle.omega_board.proofs.Tasks.{each_absent, filter_and, filter_alike, found_still, gone_absent, key_differs_back, stays_other, with_ordered, without_ordered}
 use Rattle.omega_cell.specs.Laws.{RunsBelow, EachHasToGo, EvictInOrder, EvictsWhatHasToGo, EvictionsGoDown}
 use Rattle.omega_cell.proofs.Shortest.{IsShortest, shortest}
+use Rattle.omega_model.proofs.InOrder.{key_itself, key_differs}
+use Rattle.omega_model.proofs.Lists.{by_answer}
+use Rattle.omega_model.proofs.Admitted.{Refuses, refuses_if, refuses_running}
 
 -- a new task stands in its place, whatever had its name
 with_task_anew : (t : Task) (tasks : List Task) → with_task t (without (t.key ∷ []) tasks) ≡ with_task t tasks

@@ -13,13 +13,14 @@ use Rattle.omega_model.specs.declared.claims.Claim.{Claim}
 use Rattle.omega_model.specs.declared.claims.Judgement.{Judgement}
 use Rattle.omega_model.specs.declared.claims.Rule.{Rule}
 use Rattle.omega_model.specs.declared.entries.Entry.{Entry}
-use Rattle.omega_machines.proofs.Places.{by_answer}
 use Rattle.omega_machines.specs.Table.{machines_of, seq_at}
 use Rattle.omega_board.specs.Board.{BoardState, cell_of}
 use Rattle.omega_board.specs.Undo.{UndoState, IsUndoOf, at_reserve}
 use Rattle.omega_board.proofs.Commits.{victims_in}
 use Rattle.omega_cell.specs.Claiming.{AreNumbered}
 use Rattle.omega_cell.specs.Rooms.{victim_counts}
+use Rattle.omega_model.proofs.Lists.{by_answer}
+use Rattle.omega_model.proofs.Soundness.{withdrawn_same}
 
 -- the claims before a place are judged
 pub record IsJudging (start board : BoardState) (first undo : UndoState) (rule : Rule) (claims : List Claim) (seqs : List ℕ) (told : List Judgement) (i : ℕ) : Type 0 where
@@ -117,16 +118,6 @@ no_refusal reply past =
     let most : first_refused reply ≤ length reply = first_within (λ judgement. not (admits judgement)) reply in
     eq-eqb (first_refused reply) (length reply) (omega (arith, past, most))
 
--- a withdrawn gang leaves the tasks
-pub withdrawn_leaves : (place : ℕ) (tasks : List Task) (claims : List Claim) (reply : List Judgement) → fold tasks_after_claim tasks (zip claims (map (withdrawn_for place) reply)) ≡ tasks
-withdrawn_leaves place tasks [] reply = refl
-withdrawn_leaves place tasks (claim ∷ claims) [] = refl
-withdrawn_leaves place tasks (claim ∷ claims) (judgement ∷ reply) =
-    ap (λ (ts : List Task). fold tasks_after_claim ts (zip claims (map (withdrawn_for place) reply))) (here judgement) ∙ withdrawn_leaves place tasks claims reply
-  where
-    here : (j : Judgement) → tasks_after_claim tasks (claim, withdrawn_for place j) ≡ tasks
-    here j = by_answer (admits j) (λ t. rw t refl) (λ f. rw (f, f) refl)
-
 -- a gang keeps its tasks where it has no refusal, and else those of the start
 pub gang_tasks : (start board next : BoardState) (undo : UndoState) (claims : List Claim) (told kept : List Judgement)
     → board.tasks ≡ fold tasks_after_claim start.tasks (zip claims told) → at_reserve undo board ≡ start
@@ -141,5 +132,5 @@ gang_tasks start board next undo claims told kept tasks back next_is kept_is =
     (λ f.
     let board_is : next ≡ at_reserve undo board = rw f at next_is in
     let told_is : kept ≡ map (withdrawn_for (first_refused told)) told = rw f at kept_is in
-    ap (λ (b : BoardState). b.tasks) (board_is ∙ back) ∙ sym (withdrawn_leaves (first_refused told) start.tasks claims told)
+    ap (λ (b : BoardState). b.tasks) (board_is ∙ back) ∙ sym (withdrawn_same (first_refused told) start.tasks claims told)
     ∙ ap (λ (js : List Judgement). fold tasks_after_claim start.tasks (zip claims js)) (sym told_is))

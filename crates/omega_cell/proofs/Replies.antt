@@ -17,10 +17,10 @@ use Rattle.omega_model.specs.declared.claims.Rule.{Rule}
 use Rattle.omega_model.specs.declared.claims.Txn.{Txn}
 use Rattle.omega_model.specs.declared.claims.Verdict.{Verdict}
 use Rattle.omega_model.specs.declared.entries.Entry.{Entry}
-use Rattle.omega_machines.proofs.Places.{by_answer}
 use Rattle.omega_board.proofs.Standing.{standing_fewer}
 use Rattle.omega_cell.specs.Rooms.{EvictWithin}
 use Rattle.omega_cell.proofs.Shortest.{shortest}
+use Rattle.omega_model.proofs.Lists.{by_answer}
 
 -- each claim is answered
 pub length-judgements : (history : List Entry) (seen : ℕ) (cell : Cell) (rule : Rule) (claims : List Claim) → length (judgements history seen cell rule claims) ≡ length claims

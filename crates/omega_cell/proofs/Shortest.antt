@@ -5,7 +5,7 @@ use Rattle.std.proofs.lemmas.Bool.{cases_eq}
 use Rattle.std.proofs.lemmas.Option.{none-some, same_Some}
 use Rattle.omega_model.specs.Keys.{beginnings}
 use Rattle.omega_model.specs.declared.cells.TaskKey.{TaskKey}
-use Rattle.omega_machines.proofs.Places.{by_answer}
+use Rattle.omega_model.proofs.Lists.{by_answer}
 
 -- the first number from a place on whose answer passes a test
 record IsFirst {X : Type 0} (p : X → Bool) (f : ℕ → X) (from : ℕ) (found : X) : Type 0 where

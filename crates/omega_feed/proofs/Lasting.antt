@@ -10,7 +10,7 @@ use Rattle.std.proofs.lemmas.List.{append-nil, map-append}
 use Rattle.std.proofs.lemmas.List.Elements.{filter_more}
 use Rattle.omega_model.specs.Fields.{DiskFields, greatest_quantity}
 use Rattle.omega_feed.specs.Last.{AreLast}
-use Rattle.omega_feed.proofs.Places.{at_place, off_place}
+use Rattle.omega_model.proofs.Places.{at_place, off_place}
 
 -- the last item of a list with one more at its end
 last_or-end : {X : Type 0} (other : Option X) (xs : List X) (x : X) → last_or other (xs ++ x ∷ []) ≡ Some x

@@ -12,7 +12,8 @@ use Rattle.omega_model.specs.Fields.{ConstraintFields}
 use Rattle.omega_model.specs.Keys.{same_key}
 use Rattle.omega_model.specs.declared.cells.TaskKey.{TaskKey}
 use Rattle.omega_feed.specs.Index.{key_cmp}
-use Rattle.omega_feed.proofs.TaskMap.{Facts, facts, same_refl}
+use Rattle.omega_feed.proofs.TaskMap.{Facts, facts}
+use Rattle.omega_model.proofs.InOrder.{key_itself}
 
 slice_at : (rows : List ConstraintFields) (place : ℕ) (row : ConstraintFields) → place < length rows → row ≡ get_or rows place row → slice_get rows place ≡ Some row
 slice_at [] place row h e = absurd (omega arith)
@@ -41,7 +42,7 @@ listed_more rows place row key places without more list h at named end u v befor
           ∙ filter_map-append (slice_get rows) old (place ∷ [])
           ∙ ap (λ z. z ++ filter_map (slice_get rows) (place ∷ [])) (before key ∙ ap (λ k. filter (λ row. same_key row.key k) (take place rows)) e)
           ∙ ap (λ z. filter (λ row. same_key row.key other) (take place rows) ++ z) placed
-          ∙ sym (here ∙ rw (ap (same_key key) (sym e) ∙ same_refl key) refl)
+          ∙ sym (here ∙ rw (ap (same_key key) (sym e) ∙ key_itself key) refl)
 
       apart : tree.is_at (key_cmp key) other ≡ false → same_key key other ≡ false
           → filter_map (slice_get rows) (unwrap_or (tree.get key_cmp more other) []) ≡ filter (λ row. same_key row.key other) (take (place + 1) rows)

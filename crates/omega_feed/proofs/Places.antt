@@ -14,6 +14,7 @@ use Rattle.omega_model.specs.declared.cells.TaskKey.{TaskKey}
 use Rattle.omega_feed.specs.Asked.{is_task_of}
 use Rattle.omega_feed.specs.Index.{job_at, AreActive}
 use Rattle.omega_feed.specs.declared.jobs.RoutedJob.{RoutedJob}
+use Rattle.omega_model.proofs.Places.{at_place, off_place}
 
 -- a filter finds no task where there was none
 any_filtered : (p q : WantedTask → Bool) (tasks : List WantedTask) → list_any p (filter q tasks) ≡ true → list_any p tasks ≡ true
@@ -34,17 +35,6 @@ had_task job key spec tasks ne e =
         | inl s ↦ absurd (ne (eqb-true _ _ s))
         | inr s ↦ any_filtered (is_task_of job) (λ other. key_lt key other.key) tasks s
       ]
-    ]
-
-pub at_place : (p q : ℕ) → p ≡ q → is_at (nat_cmp p) q ≡ true
-at_place p q e = rw (le-ltb p q (omega arith), eq-eqb p q e) refl
-
-pub off_place : (p q : ℕ) → (p ≡ q → ⊥) → is_at (nat_cmp p) q ≡ false
-off_place p q ne =
-    elim (cases_order p q) [
-      | inl e ↦ absurd (ne e)
-      | inr (inl less) ↦ rw (lt-ltb p q less) refl
-      | inr (inr more) ↦ rw (le-ltb p q (omega arith), ne_eqb p q ne) refl
     ]
 
 -- one more place among the active ones

@@ -26,6 +26,7 @@ use Rattle.omega_model.specs.declared.cells.Spec.{Spec}
 use Rattle.omega_model.specs.declared.cells.TaskKey.{TaskKey}
 use Rattle.omega_feed.specs.Asked.{is_task_of}
 use Rattle.omega_feed.specs.Index.{wanted_task, key_cmp}
+use Rattle.omega_model.proofs.InOrder.{key_itself, key_asym, key_trans}
 
 -- what the order of two keys says of their tests
 abbrev pub Facts : Ordering → TaskKey → TaskKey → Type 0
@@ -80,19 +81,8 @@ less_facts a b is = go (key_cmp a b) (facts a b) is where
   go Equal f e = absurd (cc)
   go Greater f e = absurd (cc)
 
-key_trans : (a b c : TaskKey) → key_lt a b ≡ true → key_lt b c ≡ true → key_lt a c ≡ true
-key_trans a b c p q =
-    lex_trans a.job b.job c.job _ _ _
-    (λ r s. let g : a.index < b.index = ltb-true _ _ r in let h : b.index < c.index = ltb-true _ _ s in lt-ltb a.index c.index (omega arith)) p q
-
-key_asym : (a b : TaskKey) → key_lt a b ≡ true → key_lt b a ≡ false
-key_asym a b p = lex_asym a.job b.job _ _ (lt_asym a.index b.index) p
-
 key_irrefl : (a : TaskKey) → key_lt a a ≡ false
 key_irrefl a = elim (cases_Bool (key_lt a a)) [ inl e ↦ key_asym a a e | inr e ↦ e ]
-
-pub same_refl : (a : TaskKey) → same_key a a ≡ true
-same_refl a = rw (eq-eqb a.job a.job refl, eq-eqb a.index a.index refl) refl
 
 each_keys : (P : TaskKey → Type 0) (es : List (TaskKey × Spec)) → AllByRecursion P (keys_of es) → Each (λ e. P e.0) es
 each_keys P [] h = tt
@@ -172,7 +162,7 @@ drop_is k (e ∷ es) s = by_cases (key_cmp k e.0) (facts k e.0) (behind e es s) 
       → map wanted_task (cond (is_eq o) es (e ∷ remove_entry (is_at (key_cmp k)) es)) ≡ filter (λ task. not (is_named k task)) (map wanted_task (e ∷ es))
   by_cases Less f later rest = kept f.2 rest
   by_cases Equal f later rest =
-      sym (ap (λ b. cond (not b) (wanted_task e ∷ filter (λ task. not (is_named k task)) (map wanted_task es)) (filter (λ task. not (is_named k task)) (map wanted_task es))) (ap (λ z. same_key e.0 z) f ∙ same_refl e.0)
+      sym (ap (λ b. cond (not b) (wanted_task e ∷ filter (λ task. not (is_named k task)) (map wanted_task es)) (filter (λ task. not (is_named k task)) (map wanted_task es))) (ap (λ z. same_key e.0 z) f ∙ key_itself e.0)
       ∙ filter_every (λ task. not (is_named k task)) (map wanted_task es)
       (each_wanted (λ task. not (is_named k task) ≡ true) es (each_map (λ o. Facts Less e.0 o.0) (λ o. not (same_key o.0 k) ≡ true) (λ o h. ap not (ap (λ z. same_key o.0 z) f ∙ h.2)) es later)))
   by_cases Greater f later rest = kept f.2 rest
@@ -183,7 +173,7 @@ has_is k (e ∷ es) = by_cases (key_cmp k e.0) (facts k e.0) (has_is k es) where
   by_cases : (o : Ordering) → Facts o k e.0 → is_some (lookup (is_at (key_cmp k)) es) ≡ list_any (is_named k) (map wanted_task es)
       → is_some (cond (is_eq o) (Some e.1) (lookup (is_at (key_cmp k)) es)) ≡ (same_key e.0 k || list_any (is_named k) (map wanted_task es))
   by_cases Less f rest = rest ∙ sym (ap (λ b. b || list_any (is_named k) (map wanted_task es)) f.2)
-  by_cases Equal f rest = sym (ap (λ b. b || list_any (is_named k) (map wanted_task es)) (ap (λ z. same_key e.0 z) f ∙ same_refl e.0))
+  by_cases Equal f rest = sym (ap (λ b. b || list_any (is_named k) (map wanted_task es)) (ap (λ z. same_key e.0 z) f ∙ key_itself e.0))
   by_cases Greater f rest = rest ∙ sym (ap (λ b. b || list_any (is_named k) (map wanted_task es)) f.2)
 
 from_zero : (i : ℕ) → is_le (nat_cmp 0 i) ≡ true

@@ -5,7 +5,7 @@ use Rattle.std.proofs.lemmas.Bool.{ltb-true, ltb-false}
 use Rattle.std.proofs.lemmas.Option.{cond_some, none-some}
 use Rattle.omega_model.specs.Machines.{with_attr}
 use Rattle.omega_model.specs.declared.cells.Attr.{Attr}
-use Rattle.omega_machines.proofs.Places.{by_answer}
+use Rattle.omega_model.proofs.Lists.{by_answer}
 
 module _ (name value : List ℕ) where
   -- whether an attribute has the name

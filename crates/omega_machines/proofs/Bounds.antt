@@ -5,10 +5,7 @@ use Rattle.omega_model.specs.Machines.{removed}
 use Rattle.omega_model.specs.Need.{Fits, nothing, plus, minus}
 use Rattle.omega_model.specs.declared.cells.Need.{Need}
 use Rattle.omega_machines.specs.Table.{MachineState, IsBounded, used, state_added, state_updated, with_machine, charged, released}
-
--- amounts are equal where their components are
-pub same_need : (a b : Need) → a.cpu ≡ b.cpu → a.mem ≡ b.mem → a.disk ≡ b.disk → a ≡ b
-same_need a b cpu mem disk i = record { cpu = cpu i; mem = mem i; disk = disk i }
+use Rattle.omega_model.proofs.Amounts.{need_is}
 
 module _ (state : MachineState) (bounded : IsBounded state) where
   -- what is free and what is given back are a sum within its type
@@ -35,7 +32,7 @@ module _ (state : MachineState) (bounded : IsBounded state) where
     free = (omega (arith, bounded.free.0, h.0), (omega (arith, bounded.free.1.0, h.1.0), omega (arith, bounded.free.1.1, h.1.1)));
     down = λ down.
         let all = bounded.down down in
-        same_need (plus state.free need) state.machine.cap
+        need_is (plus state.free need) state.machine.cap
         (omega (arith, ap (λ (n : Need). n.cpu) all, h.0)) (omega (arith, ap (λ (n : Need). n.mem) all, h.1.0))
         (omega (arith, ap (λ (n : Need). n.disk) all, h.1.1));
   }
@@ -53,7 +50,7 @@ module _ (state : MachineState) (bounded : IsBounded state) where
     free = (omega arith, (omega arith, omega arith));
     down = λ down.
         let all = bounded.down down in
-        same_need (minus cap (used state)) cap
+        need_is (minus cap (used state)) cap
         (omega (arith, ap (λ (n : Need). n.cpu) all)) (omega (arith, ap (λ (n : Need). n.mem) all))
         (omega (arith, ap (λ (n : Need). n.disk) all));
   }
@@ -63,7 +60,7 @@ module _ (state : MachineState) (bounded : IsBounded state) where
     cap = bounded.cap;
     free = bounded.free;
     down = λ _.
-        same_need state.free state.machine.cap
+        need_is state.free state.machine.cap
         (omega (arith, bounded.free.0, ap (λ (n : Need). n.cpu) none)) (omega (arith, bounded.free.1.0, ap (λ (n : Need). n.mem) none))
         (omega (arith, bounded.free.1.1, ap (λ (n : Need). n.disk) none));
   }

@@ -8,7 +8,7 @@ use Rattle.std.proofs.lemmas.Map.Keys.{IsDistinct-push}
 use Rattle.omega_model.specs.Machines.{is_listed, numbers_of}
 use Rattle.omega_model.specs.declared.cells.Machine.{Machine}
 use Rattle.omega_machines.specs.Table.{MachineState, machines_of, new_state, ensured_states, IsBounded, IsTable}
-use Rattle.omega_machines.proofs.Places.{by_answer}
+use Rattle.omega_model.proofs.Lists.{by_answer}
 
 number_listed : (id : ℕ) (machines : List Machine) → list_any (nat_eq id) (numbers_of machines) ≡ is_listed id machines
 number_listed id [] = refl

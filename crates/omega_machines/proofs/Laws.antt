@@ -14,7 +14,7 @@ use Rattle.omega_model.specs.Need.{Fits, nothing}
 use Rattle.omega_model.specs.declared.cells.Need.{Need}
 use Rattle.omega_model.specs.declared.cells.Machine.{Machine}
 use Rattle.omega_machines.specs.Table.{MachineState, machines_of, state_at, used, use_at, free_if_up, free_at, seq_at, change_state, new_state, ensured_states, charged, IsBounded, IsTable}
-use Rattle.omega_machines.proofs.Places.{by_answer}
+use Rattle.omega_model.proofs.Lists.{by_answer}
 
 -- the machine of a number is that of its state
 pub machine_of_state : (table : List MachineState) (id : ℕ) → machine_at (machines_of table) id ≡ option_map (λ state. state.machine) (state_at table id)

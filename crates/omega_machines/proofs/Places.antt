@@ -15,11 +15,7 @@ use Rattle.omega_model.specs.declared.cells.Need.{Need}
 use Rattle.omega_model.specs.declared.cells.Machine.{Machine}
 use Rattle.omega_machines.specs.Rows.{IsKept}
 use Rattle.omega_machines.specs.Table.{MachineState, machines_of, state_at, used, use_at, free_at, seq_at}
-
--- either answer of a test
-pub by_answer : {P : Type 0} (b : Bool) → (b ≡ true → P) → (b ≡ false → P) → P
-by_answer true t f = t refl
-by_answer false t f = f refl
+use Rattle.omega_model.proofs.Lists.{by_answer}
 
 module _ {A B : Type 0} (f : A → B) (p : B → Bool) where
   position_or_len-map : (xs : List A) → position_or_len p (map f xs) ≡ position_or_len (λ x. p (f x)) xs

@@ -33,7 +33,7 @@ unfolding Refuses
 refuses_if true verdict e = e
 refuses_if false verdict e = tt
 
-refuses_running : (o : Option Task) → Refuses (option_map (λ task. AlreadyRunning task.machine) o)
+pub refuses_running : (o : Option Task) → Refuses (option_map (λ task. AlreadyRunning task.machine) o)
 unfolding Refuses
 refuses_running None = tt
 refuses_running (Some t) = refl
@@ -43,12 +43,12 @@ refuses_changed history seen Fine claim = refuses_none
 refuses_changed history seen Coarse claim =
     refuses_if (list_any (touches claim.machine) (drop seen history)) (Changed (seq history claim.machine) (seq (take seen history) claim.machine)) refl
 
-refuses_rank : (o : Option TaskKey) → Refuses (option_map VictimRank o)
+pub refuses_rank : (o : Option TaskKey) → Refuses (option_map VictimRank o)
 unfolding Refuses
 refuses_rank None = tt
 refuses_rank (Some t) = refl
 
-refuses_job : (b : Bool) (o : Option Task) → Refuses (if b then option_map (λ task. SameJob task.key) o else None)
+pub refuses_job : (b : Bool) (o : Option Task) → Refuses (if b then option_map (λ task. SameJob task.key) o else None)
 unfolding Refuses
 refuses_job true None = tt
 refuses_job true (Some t) = refl

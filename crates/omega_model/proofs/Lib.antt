@@ -10,6 +10,7 @@ mod ExamplesWork
 mod ExamplesWorld
 mod TableExamples
 pub mod Lists
+pub mod Places
 pub mod Amounts
 pub mod InOrder
 pub mod Stopping

@@ -198,7 +198,7 @@ claims_keep history seen machines tasks rule (claim ∷ claims) keeps =
     (judged_keeps history seen machines tasks rule claim keeps)
 
 -- a withdrawn claim changes no task
-withdrawn_same : (place : ℕ) (tasks : List Task) (claims : List Claim) (reply : List Judgement)
+pub withdrawn_same : (place : ℕ) (tasks : List Task) (claims : List Claim) (reply : List Judgement)
     → fold tasks_after_claim tasks (zip claims (map (withdrawn_for place) reply)) ≡ tasks
 withdrawn_same place tasks [] reply = refl
 withdrawn_same place tasks (claim ∷ claims) [] = refl

@@ -1,6 +1,6 @@
 -- The tasks that an entry displaces: what the rest need, and that none is left on a machine that goes.
 use Rattle.std.proofs.Common.{◌≡◌, ℕ, Bool, true, false, not, ◌||◌, List, [], ◌∷◌, ◌++◌, refl, sym, ap, subst, ◌∙◌}
-use Rattle.std.specs.List.{filter, list_any, AllByRecursion as Each}
+use Rattle.std.specs.List.{filter, list_any, AllByRecursion}
 use Rattle.std.proofs.lemmas.Bool.{both_ways, not_from_true, or_left, or_right}
 use Rattle.std.proofs.lemmas.List.Elements.{filter-append}
 use Rattle.omega_model.specs.Cell.{without, total, is_on, use_on, keys_of, by_rank, put_by_rank, goes_before}
@@ -26,7 +26,7 @@ cut cap (t ∷ tasks) = by_answer (fits (total (t ∷ tasks)) cap)
     (λ h. let rest = cut cap tasks in (rest.0, (rw h (ap (λ ts. t ∷ ts) rest.1.0), rest.1.1)))
 
 -- each task is among the names of all
-pub each_among : (tasks : List Task) → Each (λ t. is_among t.key (keys_of tasks) ≡ true) tasks
+pub each_among : (tasks : List Task) → AllByRecursion (λ t. is_among t.key (keys_of tasks) ≡ true) tasks
 each_among [] = tt
 each_among (t ∷ tasks) = (
   or_left _ _ (key_itself t.key),
@@ -73,7 +73,7 @@ names_any key [] = refl
 names_any key (t ∷ tasks) = ap (λ any. same_key key t.key || any) (names_any key tasks)
 
 -- each task on a machine is among those on it
-on_among : (id : ℕ) (tasks : List Task) → Each (λ t. is_on id t ≡ true → list_any (λ o. same_key t.key o.key) (filter (is_on id) tasks) ≡ true) tasks
+on_among : (id : ℕ) (tasks : List Task) → AllByRecursion (λ t. is_on id t ≡ true → list_any (λ o. same_key t.key o.key) (filter (is_on id) tasks) ≡ true) tasks
 on_among id [] = tt
 on_among id (t ∷ tasks) = (
   λ on. rw on (or_left _ _ (key_itself t.key)),
@@ -84,7 +84,7 @@ on_among id (t ∷ tasks) = (
 )
 
 -- a test that fails wherever another holds fails of what the other leaves
-each_left : {X : Type 0} (p q : X → Bool) (xs : List X) → Each (λ x. p x ≡ true → q x ≡ false) xs → Each (λ x. p x ≡ false) (filter q xs)
+each_left : {X : Type 0} (p q : X → Bool) (xs : List X) → AllByRecursion (λ x. p x ≡ true → q x ≡ false) xs → AllByRecursion (λ x. p x ≡ false) (filter q xs)
 each_left p q [] each = tt
 each_left p q (x ∷ xs) each =
     by_answer (q x)
@@ -92,7 +92,7 @@ each_left p q (x ∷ xs) each =
     (λ h. rw h (each_left p q xs each.1))
 
 -- once all tasks of a machine stopped, none is on it
-pub none_left : (id : ℕ) (tasks : List Task) → Each (λ t. is_on id t ≡ false) (without (keys_of (ranked_on id tasks)) tasks)
+pub none_left : (id : ℕ) (tasks : List Task) → AllByRecursion (λ t. is_on id t ≡ false) (without (keys_of (ranked_on id tasks)) tasks)
 none_left id tasks =
     let on = filter (is_on id) tasks in
     each_left (is_on id) (λ t. not (is_among t.key (keys_of (by_rank on)))) tasks

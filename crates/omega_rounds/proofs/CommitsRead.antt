@@ -5,7 +5,7 @@ use Rattle.std.specs.List.{fold, count_by}
 use Rattle.std.proofs.lemmas.Grind.{common_steps}
 use Rattle.std.proofs.lemmas.List.{append-nil}
 use Rattle.std.proofs.lemmas.List.Elements.{All-head, All-tail}
-use Rattle.std.proofs.lemmas.List.Sums.{fold-append}
+use Rattle.std.proofs.lemmas.List.Sums.{fold-append, sum_by-cons}
 use Rattle.omega_model.specs.Lawful.{Applied, IsCommitOfRound, RoundSoFar, opened, with_row}
 use Rattle.omega_model.specs.State.{state}
 use Rattle.omega_model.specs.Turns.{Reading, next_turn, read_entry, round_commits}
@@ -62,9 +62,6 @@ pub commits_push : (before : List Entry) (scheduler seen : ℕ) (txn : Txn) (rep
     } ∷ []
 commits_push before scheduler seen txn reply =
     ap (λ (r : Reading). r.commits) (fold-append read_entry nothing_read before (Commit scheduler seen txn reply ∷ []))
-
-count_first : {X : Type 0} (test : X → Bool) (x : X) (xs : List X) → count_by test (x ∷ xs) ≡ cond (test x) 1 0 + count_by test xs
-count_first test x xs = grind (arith, common_steps)
 
 count_last : {X : Type 0} (test : X → Bool) (xs : List X) (x : X) → count_by test (xs ++ x ∷ []) ≡ count_by test xs + cond (test x) 1 0
 count_last test xs x = grind (arith, common_steps, fold-append)
@@ -144,7 +141,7 @@ turn_more settings opened_at history commits before (entry ∷ later) is within 
       by_entry (End key machine) may rest = absurd may
       by_entry (Commit by seen txn reply) may rest =
           let pushed = turn_push before by seen txn reply scheduler in
-          let counted = count_first (is_commit_of scheduler) (Commit by seen txn reply) later in
+          let counted = sum_by-cons (λ entry. cond (is_commit_of scheduler entry) 1 0) (Commit by seen txn reply) later in
           omega (arith, rest, pushed, counted)
 
 -- the turn of a scheduler is the number of its commits since the round's rows

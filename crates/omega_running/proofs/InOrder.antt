@@ -9,9 +9,7 @@ use Rattle.omega_running.specs.declared.orders.Order.TheVariants.{ByKey, ByMachi
 use Rattle.omega_running.specs.Order.{precedes, is_apart, lead}
 use Rattle.omega_running.proofs.Strict.{IsStrict}
 use Rattle.omega_running.proofs.Lex.{lex_asym, lex_link, lex_apart, lt_asym, lt_link, lt_apart, lex_rises}
-
-pub key_asym : (a b : TaskKey) → key_lt a b ≡ true → key_lt b a ≡ false
-key_asym a b p = lex_asym a.job b.job (ltb a.index b.index) (ltb b.index a.index) (lt_asym a.index b.index) p
+use Rattle.omega_model.proofs.InOrder.{key_asym}
 
 pub key_link : (a b c : TaskKey) → key_lt a b ≡ true → (key_lt a c || key_lt c b) ≡ true
 key_link a b c p =

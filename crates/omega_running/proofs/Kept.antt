@@ -14,8 +14,9 @@ use Rattle.omega_running.specs.declared.orders.Order.TheVariants.{ByKey, ByMachi
 use Rattle.omega_running.specs.Order.{Each, Rises, IsInOrder, precedes, is_apart, put_in, taken_out, has_place}
 use Rattle.omega_running.proofs.Lists.{each_map, each_both, each_append, each_of, filter_every, filter_none, filter_where}
 use Rattle.omega_running.proofs.Strict.{IsStrict, trans, put, apart}
-use Rattle.omega_running.proofs.InOrder.{strict, key_asym, key_apart, apart_by_machine}
+use Rattle.omega_running.proofs.InOrder.{strict, key_apart, apart_by_machine}
 use Rattle.omega_running.proofs.Lex.{lex_same}
+use Rattle.omega_model.proofs.InOrder.{key_asym}
 
 -- a search that finds nothing
 absent_each : {X : Type 0} (p : X → Bool) (xs : List X) → find p xs ≡ None → Each (λ x. p x ≡ false) xs

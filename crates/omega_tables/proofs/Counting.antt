@@ -11,6 +11,7 @@ use Rattle.std.proofs.lemmas.List.{take_more, map-append}
 use Rattle.std.proofs.lemmas.List.Folds.{list_any-append}
 use Rattle.omega_model.specs.Feed.{each_once}
 use Rattle.omega_tables.specs.Checking.{Holds}
+use Rattle.omega_model.proofs.Places.{off_place}
 
 filter_push : (test : ℕ → Bool) (ms : List ℕ) (n : ℕ) → filter test (ms ++ n ∷ []) ≡ cond (test n) (filter test ms ++ n ∷ []) (filter test ms)
 filter_push test [] n = by_cases (test n) where
@@ -54,14 +55,6 @@ count_push ns n count is = is ∙ rw (once_push ns n) (by_cases (list_any (λ m.
   by_cases true = omega arith
   by_cases false = rw (length-append (each_once ns) (n ∷ [])) refl
 
-apart : (a b : ℕ) → (a ≡ b → ⊥) → is_at (nat_cmp a) b ≡ false
-apart a b ne =
-    elim (cases_order a b) [
-      | inl e ↦ absurd (ne e)
-      | inr (inl less) ↦ rw (lt-ltb a b less) refl
-      | inr (inr more) ↦ rw (le-ltb a b (omega arith), ne_eqb a b ne) refl
-    ]
-
 -- one more number in the set is one more among them
 pub holds_push : (old new : BTreeSet ℕ) (ns : List ℕ) (n : ℕ) (added : Bool) → Holds old ns
     → added ≡ not (contains nat_cmp old n) → btree_set_len new ≡ btree_set_len old + (if added then 1 else 0)
@@ -79,7 +72,7 @@ holds_push old new ns n added h is count more = record {
     | inr ne ↦
         let others : list_any (λ m. m == id) (ns ++ n ∷ []) ≡ list_any (λ m. m == id) ns =
         list_any-append (λ m. m == id) ns (n ∷ []) ∙ rw (ne_eqb n id ne) (or-false (list_any (λ m. m == id) ns)) in
-        more.2 id (apart n id ne) ∙ h.members id ∙ sym others
+        more.2 id (off_place n id ne) ∙ h.members id ∙ sym others
   ];
 }
 

@@ -7,11 +7,9 @@ use Rattle.omega_board.proofs.Boards.{state_free}
 use Rattle.omega_board.proofs.Claims.{without_none}
 use Rattle.omega_board.proofs.Parts.{some_free}
 use Rattle.omega_board.proofs.Placed.{is_placed-Placed, placeable_fine}
-use Rattle.omega_board.proofs.Ranks.{fits_means}
 use Rattle.omega_board.proofs.Tasks.{each_found}
-use Rattle.omega_model.proofs.Amounts.{need_is, rest_is}
+use Rattle.omega_model.proofs.Amounts.{need_is, rest_is, fits_tested}
 use Rattle.omega_machines.proofs.Laws.{machine_of_state}
-use Rattle.omega_machines.proofs.Places.{by_answer}
 use Rattle.omega_machines.specs.declared.MachineState.{MachineState}
 use Rattle.omega_machines.specs.Table.{free_at, machines_of}
 use Rattle.omega_model.specs.Cell.{Cell, machine_at, rest_on, use_on}
@@ -23,6 +21,7 @@ use Rattle.omega_model.specs.declared.cells.Task.{Task}
 use Rattle.omega_model.specs.declared.claims.Claim.{Claim}
 use Rattle.omega_model.specs.declared.wishes.Wish.{Wish}
 use Rattle.omega_running.specs.Order.{Each}
+use Rattle.omega_model.proofs.Lists.{by_answer}
 
 module _ (table : List MachineState) (tasks : List Task) (counted : Each (IsCounted tasks) table) (wish : Wish) (id : ℕ) where
   abbrev cell : Cell
@@ -57,7 +56,7 @@ module _ (table : List MachineState) (tasks : List Task) (counted : Each (IsCoun
       → goes_in cell wish [] id ≡ false
   stays_where_full free is test tells full =
       by_answer (goes_in cell wish [] id)
-      (λ goes. absurd (both_ways _ full (tells (fits_means _ _ (goes_where_it_fits free is goes)))))
+      (λ goes. absurd (both_ways _ full (tells (fits_tested _ _ (goes_where_it_fits free is goes)))))
       (λ stays. stays)
 
   -- nor on a machine that isn't up

@@ -22,14 +22,7 @@ use Rattle.omega_model.specs.declared.claims.Verdict.TheVariants.{Placed, Withdr
 use Rattle.omega_model.specs.declared.cells.TaskKey.{TaskKey}
 use Rattle.omega_model.specs.declared.entries.Entry.{Entry}
 use Rattle.omega_model.specs.declared.wishes.Wish.{Wish}
-
--- a withdrawn claim isn't placed
-pub withdrawn_not : (place : ℕ) (judgement : Judgement) → admits (withdrawn_for place judgement) ≡ false
-withdrawn_not place judgement = by_cases (admits judgement) refl where
-  by_cases : (b : Bool) → admits judgement ≡ b
-      → admits (if b then record { verdict = Withdrawn place; evicted = [] } else judgement) ≡ false
-  by_cases true is = refl
-  by_cases false is = is
+use Rattle.omega_board.proofs.Rules.{withdrawn_not}
 
 -- a wish that goes on a machine as it is evicts nobody
 pub placed_alone : (cell : Cell) (wish : Wish) (id : ℕ) → goes_in cell wish [] id ≡ true

@@ -38,10 +38,9 @@ use Rattle.omega_model.specs.declared.wishes.Request.{Request}
 use Rattle.omega_top.specs.Working.{Position, Setting, Working, base, next_position}
 use Rattle.omega_model.proofs.Growing.{by_place_push_where}
 use Rattle.omega_model.proofs.Standing.{failed_push, has_left-other, placed_outcomes, standing_push}
-
--- nothing stands at a place past a history
-pub nothing_past : {X : Type 0} (xs : List X) (place : ℕ) (x : X) → slice_get xs place ≡ Some x → length xs ≤ place → ⊥
-nothing_past xs place x is past = let within : place < length xs = slice_get_within xs place x is in absurd (omega arith)
+use Rattle.omega_cell.proofs.Replies.{length-all_or_nothing, length-judgements}
+use Rattle.omega_rounds.proofs.LastCommits.{after_last-within}
+use Rattle.omega_rounds.proofs.Places.{nothing_past}
 
 -- what a scheduler has left when the rows are applied
 pub has_left_first : (at : Setting) (scheduler : ℕ)
@@ -71,62 +70,9 @@ working_first at alone = record {
   due = λ place entry is here. absurd (nothing_past (base at) place entry is here);
 }
 
--- reading one more entry never puts the last commit past the entries read
-pub note_commit-within : (scheduler : ℕ) (last : LastCommit) (entry : Entry) → last.after ≤ last.place
-    → (note_commit scheduler last entry).after ≤ (note_commit scheduler last entry).place
-note_commit-within scheduler last (RoundEntry number) within = omega arith
-note_commit-within scheduler last (MachineAdd machine cap) within = omega arith
-note_commit-within scheduler last (MachineUpdate machine cap) within = omega arith
-note_commit-within scheduler last (MachineRemove machine) within = omega arith
-note_commit-within scheduler last (AttrSet machine name value) within = omega arith
-note_commit-within scheduler last (AttrDelete machine name) within = omega arith
-note_commit-within scheduler last (End key machine) within = omega arith
-note_commit-within scheduler last (Commit by seen txn reply) within =
-    elim (by == scheduler) as (λ test. (if test then last.place + 1 else last.after) ≤ last.place + 1)
-    [ true ↦ omega arith | false ↦ omega arith ]
-
-note_commit-place : (scheduler : ℕ) (last : LastCommit) (entry : Entry) → (note_commit scheduler last entry).place ≡ last.place + 1
-note_commit-place scheduler last (RoundEntry number) = refl
-note_commit-place scheduler last (MachineAdd machine cap) = refl
-note_commit-place scheduler last (MachineUpdate machine cap) = refl
-note_commit-place scheduler last (MachineRemove machine) = refl
-note_commit-place scheduler last (AttrSet machine name value) = refl
-note_commit-place scheduler last (AttrDelete machine name) = refl
-note_commit-place scheduler last (End key machine) = refl
-note_commit-place scheduler last (Commit by seen txn reply) = refl
-
-pub last_within : (scheduler : ℕ) (last : LastCommit) (history : List Entry) → last.after ≤ last.place
-    → (fold (note_commit scheduler) last history).after ≤ last.place + length history
-last_within scheduler last [] within = omega arith
-last_within scheduler last (entry ∷ history) within =
-    let rest : (fold (note_commit scheduler) (note_commit scheduler last entry) history).after ≤ (note_commit scheduler last entry).place + length history =
-    last_within scheduler (note_commit scheduler last entry) history (note_commit-within scheduler last entry within) in
-    let next : (note_commit scheduler last entry).place ≡ last.place + 1 = note_commit-place scheduler last entry in
-    omega arith
-
--- the last commit of a scheduler stands within the history
-pub after_last-within : (scheduler : ℕ) (history : List Entry) → after_last scheduler history ≤ length history
-after_last-within scheduler history =
-    let all : (fold (note_commit scheduler) (record { place = 0; after = 0 }) history).after ≤ 0 + length history =
-    last_within scheduler (record { place = 0; after = 0 }) history (omega arith) in
-    omega arith
-
 -- two numbers that differ are told apart
 pub apart-false : (a b : ℕ) → b ≢ a → (a == b) ≡ false
 apart-false a b apart = elim (eqb_tells a b) [ inl same ↦ absurd (apart (sym same.1)) | inr other ↦ other.0 ]
-
--- each claim is answered
-pub length-judgements : (history : List Entry) (seen : ℕ) (cell : Cell) (rule : Rule) (claims : List Claim)
-    → length (judgements history seen cell rule claims) ≡ length claims
-length-judgements history seen cell rule [] = refl
-length-judgements history seen cell rule (claim ∷ claims) =
-    let rest = length-judgements history seen (after_claim cell (claim, judge history seen cell rule claim)) rule claims in
-    ap (λ (n : ℕ). suc n) rest
-
-pub length-all_or_nothing : (reply : List Judgement) → length (all_or_nothing reply) ≡ length reply
-length-all_or_nothing reply =
-    elim (first_refused reply == length reply) as (λ test. length (if test then reply else map (withdrawn_for (first_refused reply)) reply) ≡ length reply)
-    [ true ↦ refl | false ↦ length-map reply (withdrawn_for (first_refused reply)) ]
 
 pub length-by_mode : (mode : Mode) (reply : List Judgement) → length (by_mode mode reply) ≡ length reply
 length-by_mode Incremental reply = refl
