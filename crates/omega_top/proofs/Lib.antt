@@ -10,3 +10,4 @@ pub mod Refusing
 pub mod Trying
 pub mod Words
 pub mod Rounding
+pub mod SomeRun

@@ -16,6 +16,9 @@ use Rattle.omega_model.specs.declared.settings.Extra.TheVariants.{Relative}
 use Rattle.omega_model.specs.declared.settings.Format.TheVariants.{Text}
 use Rattle.omega_model.specs.declared.settings.Preempt.TheVariants.{Nobody}
 use Rattle.omega_model.specs.declared.settings.Settings.{Settings}
+use Rattle.omega_model.specs.Limits.{IsWithinLimits}
+use Rattle.omega_model.specs.Report.{report}
+use Rattle.omega_rounds.specs.Gangs.{GangsAreWhole}
 
 -- the words are the one list of words that is taken: `replay` alone
 abbrev pub SayReplay : List (List ℕ) → Type 0
@@ -104,6 +107,26 @@ IsWholeRun settings trace history (ReadFault table) = ⊤
 IsWholeRun settings trace history (TooLong table) = ⊤
 IsWholeRun settings trace history (BadRow table row column cause) = ⊤
 IsWholeRun settings trace history (TooMany kind number) = ⊤
+
+-- in a run that reached its report each gang claims all of its request or nothing, and no transaction
+-- evicts a task of its own job
+abbrev pub HasWholeGangs : Settings → TraceTables → List Entry → Status → Type 0
+HasWholeGangs settings trace history Done = GangsAreWhole settings trace history
+HasWholeGangs settings trace history WriteFault = GangsAreWhole settings trace history
+HasWholeGangs settings trace history NoMemory = ⊤
+HasWholeGangs settings trace history Usage = ⊤
+HasWholeGangs settings trace history (ReadFault table) = ⊤
+HasWholeGangs settings trace history (TooLong table) = ⊤
+HasWholeGangs settings trace history (BadRow table row column cause) = ⊤
+HasWholeGangs settings trace history (TooMany kind number) = ⊤
+
+-- whatever the tables tell, there is a trace within the limits of which the history of a run that reached
+-- its report is the whole run, and of which that report, or a part of it from the front, is written
+pub record IsSomeRun (settings : Settings) (history : List Entry) (status : Status) (before now : Option (List ℕ)) : Type 0 where
+  pub trace : TraceTables
+  pub within : IsWithinLimits trace
+  pub whole : IsWholeRun settings trace history status
+  pub written : Writes (report settings trace history) before now status
 
 -- nothing is written by a run that doesn't reach its report
 abbrev pub WritesNothing : Option (List ℕ) → Option (List ℕ) → Status → Type 0

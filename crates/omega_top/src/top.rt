@@ -9,7 +9,7 @@ ghost use Rattle.omega_model.specs.Trace.{trace_of};
 ghost use Rattle.omega_model.specs.declared.results.Status.TheVariants.{Usage, WriteFault, NoMemory};
 ghost use Rattle.omega_model.specs.declared.rows.Table.{Table};
 ghost use Rattle.omega_top.specs.Replays.{NeverOvercommits};
-ghost use Rattle.omega_top.specs.Answers.{Answers, EndsRun, HasHistory, HasReadCause, IsBuilt, IsWholeRun, NoneRose, SayReplay, Writes, WritesNothing, default_settings};
+ghost use Rattle.omega_top.specs.Answers.{Answers, EndsRun, HasHistory, HasReadCause, HasWholeGangs, IsBuilt, IsSomeRun, IsWholeRun, NoneRose, SayReplay, Writes, WritesNothing, default_settings};
 
 use crate::reporting::report;
 use crate::rounds::replayed;
@@ -64,6 +64,8 @@ pub fn omega<T: Tables, K: Sink, G: Gate>(
         → result.status ≢ Usage → (result.status ≡ Status.Done) ⊎ (result.status ≡ NoMemory) }
 
     ensures lawful { (bytes : Table → List ℕ) → Tells (T.rest tables.old) bytes → IsWholeRun default_settings (trace_of bytes) result.history result.status }
+    ensures whole_gangs { (bytes : Table → List ℕ) → Tells (T.rest tables.old) bytes → HasWholeGangs default_settings (trace_of bytes) result.history result.status }
+    ensures some_run { IsSomeRun default_settings result.history result.status (K.written out.old) (K.written out.new) }
     ensures legal { Legal result.history }
     ensures sound { NeverOvercommits result.history }
     ensures gangs { NoGangIsSplit result.history }
@@ -102,6 +104,8 @@ pub fn omega_with<T: Tables, K: Sink, G: Gate>(
     ensures write_fault { result.status ≡ WriteFault → Rose (K.faults out.old) (K.faults out.new) }
 
     ensures lawful { (bytes : Table → List ℕ) → Tells (T.rest tables.old) bytes → IsWholeRun settings.now (trace_of bytes) result.history result.status }
+    ensures whole_gangs { (bytes : Table → List ℕ) → Tells (T.rest tables.old) bytes → HasWholeGangs settings.now (trace_of bytes) result.history result.status }
+    ensures some_run { IsSomeRun settings.now result.history result.status (K.written out.old) (K.written out.new) }
     ensures legal { Legal result.history }
     ensures sound { NeverOvercommits result.history }
     ensures gangs { NoGangIsSplit result.history }
