@@ -1,15 +1,23 @@
--- Worked answers: whose turn it is, what it has seen, and how many attempts are left.
-use Rattle.std.proofs.Common.{◌≡◌, ℕ, List, [], ◌∷◌, refl, inl, inr, arith}
-use Rattle.std.proofs.lemmas.List.Elements.{recursion_from_All}
+-- Worked answers: whose turn it is, what it has seen, how many attempts are left, and what is no whole gang.
+use Rattle.std.proofs.Common.{◌≡◌, ◌≢◌, ℕ, false, List, [], ◌∷◌, refl, inl, inr, arith}
+use Rattle.std.specs.Prelude.{IsFalse}
+use Rattle.std.proofs.lemmas.List.Elements.{All-from_recursion, recursion_from_All}
+use Rattle.omega_model.specs.Keys.{is_among}
 use Rattle.omega_model.specs.Turns.{StandsBefore, round_commits}
 use Rattle.omega_model.specs.declared.cells.Need.{Need}
-use Rattle.omega_model.specs.declared.claims.Mode.TheVariants.{Incremental}
+use Rattle.omega_model.specs.declared.cells.Spec.{Spec}
+use Rattle.omega_model.specs.declared.cells.TaskKey.{TaskKey}
+use Rattle.omega_model.specs.declared.claims.Claim.{Claim}
+use Rattle.omega_model.specs.declared.claims.Mode.TheVariants.{Gang, Incremental}
 use Rattle.omega_model.specs.declared.claims.Rule.TheVariants.{Fine}
+use Rattle.omega_model.specs.declared.claims.Txn.{Txn}
 use Rattle.omega_model.specs.declared.entries.Entry.{Entry}
 use Rattle.omega_model.specs.declared.entries.Entry.TheVariants.{Round, MachineAdd, Commit}
 use Rattle.omega_model.specs.declared.settings.Settings.{Settings}
 use Rattle.omega_model.specs.declared.wishes.Request.{Request}
+use Rattle.omega_model.specs.declared.wishes.Wish.{Wish}
 use Rattle.omega_rounds.specs.AttemptsLeft.{attempts_left}
+use Rattle.omega_rounds.specs.Gangs.{ClaimsAllOrNothing, SparesItsJob}
 use Rattle.omega_rounds.specs.TurnOrder.{GoesEarlier, LostItsTurn, sees_in_turn, turn_of}
 
 unfoldable amount : ℕ → Need
@@ -66,3 +74,43 @@ lost all = by_last (recursion_from_All (StandsBefore 1 0) (round_commits turns) 
 five_left : (settings : Settings) (request : Request) (failing : ℕ → ℕ) → settings.tries ≡ 3
     → attempts_left settings (record { requests = request ∷ request ∷ []; taken = 1; failing = failing }) ≡ 5
 five_left settings request failing three = rw three refl
+
+unfoldable key : ℕ → ℕ → TaskKey
+key job index = record { job = job; index = index }
+
+unfoldable little : Spec
+little = record { need = amount 1; prec = 5; differ = false }
+
+-- the claim of a task of job 7 on machine 1, with these victims
+unfoldable claim_of : ℕ → List TaskKey → Claim
+claim_of index victims = record { key = key 7 index; machine = 1; spec = little; victims = victims }
+
+unfoldable gang : List Claim → Txn
+gang claims = record { job = 7; rule = Fine; mode = Gang; claims = claims }
+
+unfoldable wish : ℕ → Wish
+wish index = record { key = key 7 index; spec = little; constraints = [] }
+
+-- two tasks of job 7
+unfoldable two : Request
+two = record { job = 7; wishes = wish 0 ∷ wish 1 ∷ [] }
+
+-- a gang that claims the second of them alone isn't whole
+half : ClaimsAllOrNothing two (gang (claim_of 1 [] ∷ [])) → ⊥
+unfolding amount key little claim_of gang wish two
+half (inl all) = absurd (cc)
+half (inr none) = absurd (cc)
+
+-- and one that evicts the first for the second doesn't spare its job
+evicts_its_own : SparesItsJob (gang (claim_of 0 [] ∷ claim_of 1 (key 7 0 ∷ []) ∷ [])) (claim_of 1 (key 7 0 ∷ [])) → ⊥
+unfolding amount key little claim_of gang
+evicts_its_own spares = spares.others 0 (key 7 0) (omega arith) refl
+
+-- one that evicts a task of job 8 does
+evicts_another : SparesItsJob (gang (claim_of 0 [] ∷ claim_of 1 (key 8 0 ∷ []) ∷ [])) (claim_of 1 (key 8 0 ∷ []))
+unfolding amount key little claim_of gang
+evicts_another = record {
+  own = refl;
+  others = All-from_recursion (λ (victim : TaskKey). victim.job ≢ 7) (key 8 0 ∷ []) ((λ same. absurd (omega (arith, same))), tt);
+  unclaimed = All-from_recursion (λ (victim : TaskKey). IsFalse (is_among victim (key 7 0 ∷ key 7 1 ∷ []))) (key 8 0 ∷ []) (refl, tt);
+}

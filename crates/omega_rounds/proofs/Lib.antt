@@ -17,5 +17,6 @@ pub mod MachinesStay
 pub mod OtherJobs
 pub mod OneJob
 pub mod RoundFronts
+pub mod EntireGangs
 pub mod WholeGangs
 mod Examples

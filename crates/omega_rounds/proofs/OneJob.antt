@@ -1,14 +1,18 @@
 -- The wishes of a request are for tasks of its job, at each moment of a round.
-use Rattle.std.proofs.Common.{◌≡◌, ℕ, Bool, true, false, not, ◌&&◌, List, [], ◌∷◌, ◌++◌, drop, take, map, Option, Some, None, ◌==◌, ◌+◌, if◌then◌else◌}
+use Rattle.std.proofs.Common.{◌≡◌, ℕ, true, false, not, List, [], ◌∷◌, length, drop, take, map, Option, Some, None, sym, subst, ◌==◌, ◌+◌}
 use Rattle.std.specs.List.{filter, fold, AllByRecursion as Each}
+use Rattle.std.specs.Prelude.{option_map}
 use Rattle.std.proofs.lemmas.Bool.{eqb-true}
-use Rattle.omega_model.specs.Cell.{Cell, task_at}
+use Rattle.omega_model.specs.Cell.{Cell}
 use Rattle.omega_model.specs.Feed.{feed}
-use Rattle.omega_model.specs.Requests.{extra_wishes, failed, is_running, is_waiting, jobs_in_order, request_of, requests, wish_of, wishes_of, works_on}
+use Rattle.omega_model.specs.Requests.{extra_wishes, failed, is_waiting, jobs_in_order, request_of, requests, wish_of, wishes_of, works_on}
+use Rattle.omega_model.specs.Policy.{policy_of}
+use Rattle.omega_model.specs.Start.{start_of}
 use Rattle.omega_model.specs.State.{state}
 use Rattle.omega_model.specs.Wanted.{WantedTask, wanted}
-use Rattle.omega_model.specs.Work.{Standing, after_entry, after_outcomes, ends_request, failing_after, failing_with, fresh, moved_on, outcomes_of, places_wish, rest_of, standing_of}
-use Rattle.omega_model.specs.declared.claims.Judgement.{Judgement}
+use Rattle.omega_model.specs.Work.{Agrees, Standing, commits_of, planned, after_entry, after_outcomes, ends_request, failing_after, fresh, moved_on, outcomes_of, places_wish, rest_of, standing_of}
+use Rattle.omega_model.specs.declared.claims.Claim.{Claim}
+use Rattle.omega_model.specs.declared.claims.Mode.{Mode}
 use Rattle.omega_model.specs.declared.claims.Outcome.{Outcome}
 use Rattle.omega_model.specs.declared.claims.Txn.{Txn}
 use Rattle.omega_model.specs.declared.entries.Entry.{Entry}
@@ -19,7 +23,7 @@ use Rattle.omega_model.specs.declared.settings.Settings.{Settings}
 use Rattle.omega_model.specs.declared.wishes.Request.{Request}
 use Rattle.omega_model.specs.declared.wishes.Wish.{Wish}
 use Rattle.omega_model.proofs.Lists.{by_answer, each_append, each_filter, each_map, each_of, each_passes}
-use Rattle.omega_rounds.proofs.OtherJobs.{each_image}
+use Rattle.omega_rounds.proofs.OtherJobs.{IsPlanFor, each_image, plan_is_for}
 use Rattle.omega_rounds.proofs.Suited.{OfValue, each_mapped}
 
 -- a wish is for a task of this job
@@ -107,3 +111,24 @@ pub standing_asks : (settings : Settings) (trace : TraceTables) (rows : List Row
 standing_asks settings trace rows opened_at scheduler history =
     entries_ask settings scheduler (Some (fresh (failed (take opened_at history)) (requests settings trace rows (take opened_at history) scheduler)))
     (drop opened_at history) (requests_ask settings trace rows (take opened_at history) scheduler)
+
+-- what holds of each request that remains holds of the first
+pub first_left : (P : Request → Type 0) (standing : Option Standing) (request : Request) (rest : List Request)
+    → OfValue (λ (standing : Standing). Each P standing.requests) standing
+    → option_map (λ (standing : Standing). standing.requests) standing ≡ Some (request ∷ rest) → P request
+first_left P None request rest all is = absurd (cc)
+first_left P (Some standing) request rest all is =
+    let same : standing.requests ≡ request ∷ rest = cc in
+    (subst (λ (requests : List Request). Each P requests) same all).0
+
+module _ (settings : Settings) (trace : TraceTables) where
+  -- a plan for a request that asks for its job
+  pub plan_of_request : (before : List Entry) (scheduler seen : ℕ) (txn : Txn) (request : Request) → AsksForItsJob request
+      → Agrees settings scheduler before seen txn request → IsPlanFor request.job request.wishes txn.mode txn.claims
+  plan_of_request before scheduler seen txn request asks agrees =
+      let entries : List Entry = take seen before in
+      let start : ℕ = start_of settings scheduler (commits_of scheduler before) (length (state entries).machines) in
+      subst (λ (claims : List Claim). IsPlanFor request.job request.wishes txn.mode claims) (sym agrees.claims)
+      (subst (λ (mode : Mode). IsPlanFor request.job request.wishes mode (planned settings scheduler (commits_of scheduler before) entries request.wishes))
+      (sym agrees.mode)
+      (plan_is_for request.job (state entries) request.wishes start (policy_of settings scheduler) asks))

@@ -1,11 +1,11 @@
 -- A plan claims tasks of wishes, all of them or none in a gang, and its victims are of other jobs.
-use Rattle.std.proofs.Common.{◌≡◌, ◌≢◌, ◌≤◌, ◌+◌, ℕ, zero, suc, Bool, true, false, not, ◌&&◌, List, [], ◌∷◌, length, map, take, Option, Some, None, refl, sym, ap, ap₂, subst, arith, ◌∙◌, ◌==◌, inl, inr, if◌then◌else◌}
-use Rattle.std.specs.List.{cons_option, filter, filter_map, find, list_any, range_with_len, AllByRecursion as Each}
-use Rattle.std.specs.Prelude.{All, IsFalse, option_map, ◌⊎◌}
-use Rattle.std.proofs.lemmas.Bool.{eq-eqb, eqb-true, eqb-false}
-use Rattle.omega_model.specs.Cell.{Cell, by_rank, goes_before, is_on, keys_of, put_by_rank}
-use Rattle.omega_model.specs.Keys.{beginnings, is_among, same_key}
-use Rattle.omega_model.specs.Plan.{after_planned, and_claims, candidates, claim_for, claim_of, claims_for, eligible_from, evicting_claim, first_item, free_claim, gives_way, goes_in, or_else, plan, victims, whole_or_none}
+use Rattle.std.proofs.Common.{◌≡◌, ◌≤◌, ◌+◌, ℕ, Bool, true, false, ◌&&◌, List, [], ◌∷◌, length, map, take, Option, Some, None, refl, sym, ap, ap₂, subst, arith, ◌∙◌, ◌==◌, inl, inr, if◌then◌else◌}
+use Rattle.std.specs.List.{filter, range_with_len, AllByRecursion as Each}
+use Rattle.std.specs.Prelude.{option_map, ◌⊎◌}
+use Rattle.std.proofs.lemmas.Bool.{eqb-true}
+use Rattle.omega_model.specs.Cell.{Cell, by_rank, goes_before, is_on, put_by_rank}
+use Rattle.omega_model.specs.Keys.{beginnings, is_among}
+use Rattle.omega_model.specs.Plan.{after_planned, and_claims, candidates, claim_for, claim_of, claims_for, eligible_from, evicting_claim, free_claim, gives_way, goes_in, plan, victims, whole_or_none}
 use Rattle.omega_model.specs.declared.cells.Machine.{Machine}
 use Rattle.omega_model.specs.declared.cells.Task.{Task}
 use Rattle.omega_model.specs.declared.cells.TaskKey.{TaskKey}
@@ -16,7 +16,7 @@ use Rattle.omega_model.specs.declared.claims.Policy.{Policy}
 use Rattle.omega_model.specs.declared.wishes.Wish.{Wish}
 use Rattle.omega_model.proofs.Lists.{by_answer, each_map, each_of, each_passes}
 use Rattle.omega_rounds.specs.Gangs.{claimed, wished}
-use Rattle.omega_rounds.proofs.Suited.{OfValue, and_each, each_mapped, each_take, first_of, found, of_map, or_both}
+use Rattle.omega_rounds.proofs.Suited.{OfValue, each_mapped, each_take, first_of, found, of_map, or_both}
 
 module _ {X Y : Type 0} (P : Y → Type 0) where
   pub each_image : (f : X → Y) → (xs : List X) → Each (λ x. P (f x)) xs → Each P (map f xs)

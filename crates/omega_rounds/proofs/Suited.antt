@@ -65,7 +65,7 @@ pub and_each : (Q : Claim → Type 0) (one : Option Claim) (claims : List Claim)
 and_each Q None claims is each = each
 and_each Q (Some claim) claims is each = (is, each)
 
-each_unmapped : {X Y : Type 0} (P : Y → Type 0) (f : X → Y) (xs : List X) → Each P (map f xs) → Each (λ x. P (f x)) xs
+pub each_unmapped : {X Y : Type 0} (P : Y → Type 0) (f : X → Y) (xs : List X) → Each P (map f xs) → Each (λ x. P (f x)) xs
 each_unmapped P f [] each = tt
 each_unmapped P f (x ∷ xs) each = (each.0, each_unmapped P f xs each.1)
 

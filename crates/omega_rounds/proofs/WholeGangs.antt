@@ -1,24 +1,23 @@
 -- In a lawful history each commit is a whole attempt.
-use Rattle.std.proofs.Common.{◌≡◌, ◌≢◌, ◌≤◌, ◌<◌, ℕ, suc, false, List, [], ◌∷◌, ◌++◌, length, take, drop, Option, Some, None, refl, sym, ap, subst, arith, ◌∙◌, ◌==◌, append-nil, append_assoc}
+use Rattle.std.proofs.Common.{◌≡◌, ◌≢◌, ◌≤◌, ◌<◌, ℕ, suc, List, [], ◌∷◌, ◌++◌, length, take, drop, Option, Some, refl, sym, ap, subst, arith, ◌∙◌, append-nil, append_assoc}
 use Rattle.std.specs.List.{fold, AllByRecursion as Each}
-use Rattle.std.specs.Prelude.{All, IsFalse, option_map, slice_get}
+use Rattle.std.specs.Prelude.{IsFalse, slice_get}
 use Rattle.std.proofs.lemmas.Bool.{eqb-false}
 use Rattle.std.proofs.lemmas.Grind.{flat_map-append}
 use Rattle.std.proofs.lemmas.List.Elements.{All-from_recursion, recursion_from_All}
 use Rattle.std.proofs.lemmas.Option.{slice_get_within}
 use Rattle.omega_model.specs.Feed.{rounds}
 use Rattle.omega_model.specs.Keys.{is_among}
-use Rattle.omega_model.specs.Lawful.{Applied, Lawful, MayCommit, RoundOf, RoundSoFar, Rounds, Underway, opened, rows_of, with_row}
-use Rattle.omega_model.specs.Policy.{policy_of}
-use Rattle.omega_model.specs.Start.{start_of}
+use Rattle.omega_model.specs.Lawful.{Applied, Lawful, MayCommit, RoundSoFar, Rounds, Underway, opened, rows_of, with_row}
+use Rattle.omega_model.specs.Policy.{policy_of, schedulers}
+use Rattle.omega_model.specs.Requests.{requests}
 use Rattle.omega_model.specs.State.{state}
 use Rattle.omega_model.specs.Stepping.{rows_end}
 use Rattle.omega_model.specs.Wanted.{row_entries, wanted}
-use Rattle.omega_model.specs.Work.{Agrees, AgreesWithFirst, Standing, commits_of, planned, standing_of}
+use Rattle.omega_model.specs.Work.{AgreesWithFirst, Standing, standing_of}
 use Rattle.omega_model.specs.declared.cells.TaskKey.{TaskKey}
 use Rattle.omega_model.specs.declared.claims.Claim.{Claim}
-use Rattle.omega_model.specs.declared.claims.Judgement.{Judgement}
-use Rattle.omega_model.specs.declared.claims.Mode.{Mode}
+use Rattle.omega_model.specs.declared.claims.Mode.TheVariants.{Gang}
 use Rattle.omega_model.specs.declared.claims.Txn.{Txn}
 use Rattle.omega_model.specs.declared.entries.Entry.{Entry}
 use Rattle.omega_model.specs.declared.entries.Entry.TheVariants.{Round as RoundEntry, MachineAdd, MachineUpdate, MachineRemove, AttrSet, AttrDelete, End, Commit}
@@ -27,28 +26,20 @@ use Rattle.omega_model.specs.declared.rows.Round.{Round}
 use Rattle.omega_model.specs.declared.rows.TraceTables.{TraceTables}
 use Rattle.omega_model.specs.declared.settings.Settings.{Settings}
 use Rattle.omega_model.specs.declared.wishes.Request.{Request}
-use Rattle.omega_model.specs.declared.wishes.Wish.{Wish}
 use Rattle.omega_model.proofs.Growing.{by_place_push}
 use Rattle.omega_model.proofs.Lists.{each_map}
 use Rattle.omega_model.proofs.RoundsInOrder.{rounds_push}
-use Rattle.omega_rounds.specs.Gangs.{CommitsWhole, GangsAreWhole, IsWholeAttempt, SparesItsJob, claimed}
-use Rattle.omega_rounds.specs.InRound.{rows_now}
+use Rattle.omega_rounds.specs.Gangs.{BeganWith, CommitsWhole, GangsAreWhole, IsWholeAttempt, SparesItsJob, claimed}
+use Rattle.omega_rounds.specs.InRound.{rows_before, rows_now}
+use Rattle.omega_rounds.specs.NextCommit.{left_of}
 use Rattle.omega_rounds.proofs.Agreeing.{first_agrees}
-use Rattle.omega_rounds.proofs.OneJob.{AllAsk, AsksForItsJob, IsOfJob, standing_asks}
-use Rattle.omega_rounds.proofs.OtherJobs.{AreOfOthers, IsOfOther, IsPlanFor, not_among, plan_is_for}
+use Rattle.omega_rounds.proofs.EntireGangs.{IsOneOf, gangs_entire}
+use Rattle.omega_rounds.proofs.OneJob.{AsksForItsJob, IsOfJob, first_left, plan_of_request, standing_asks}
+use Rattle.omega_rounds.proofs.OtherJobs.{AreOfOthers, IsOfOther, IsPlanFor, not_among}
 use Rattle.omega_rounds.proofs.Places.{at_joined, next_is, take_next}
 use Rattle.omega_rounds.proofs.RoundFronts.{so_far_before}
 use Rattle.omega_rounds.proofs.RoundsAdd.{round_from}
 use Rattle.omega_rounds.proofs.RowEntries.{IsOfRow, are_of_row}
-use Rattle.omega_rounds.proofs.Suited.{OfValue}
-
--- the first request that remains asks for its job
-first_asks : (standing : Option Standing) (request : Request) (rest : List Request) → OfValue AllAsk standing
-    → option_map (λ (standing : Standing). standing.requests) standing ≡ Some (request ∷ rest) → AsksForItsJob request
-first_asks None request rest all is = absurd (cc)
-first_asks (Some standing) request rest all is =
-    let same : standing.requests ≡ request ∷ rest = cc in
-    (subst (λ (requests : List Request). Each AsksForItsJob requests) same all).0
 
 module _ (job : ℕ) (txn : Txn) (same_job : txn.job ≡ job) (own : Each (λ claim. claim.key.job ≡ job) txn.claims) where
   claim_spares : (claim : Claim) → (claim.key.job ≡ job) × AreOfOthers job claim.victims → SparesItsJob txn claim
@@ -63,30 +54,32 @@ module _ (job : ℕ) (txn : Txn) (same_job : txn.job ≡ job) (own : Each (λ cl
   }
 
 module _ (settings : Settings) (trace : TraceTables) where
-  -- a plan for a request that asks for its job
-  plan_of_request : (before : List Entry) (scheduler seen : ℕ) (txn : Txn) (request : Request) → AsksForItsJob request
-      → Agrees settings scheduler before seen txn request → IsPlanFor request.job request.wishes txn.mode txn.claims
-  plan_of_request before scheduler seen txn request asks agrees =
-      let entries : List Entry = take seen before in
-      let start : ℕ = start_of settings scheduler (commits_of scheduler before) (length (state entries).machines) in
-      subst (λ (claims : List Claim). IsPlanFor request.job request.wishes txn.mode claims) (sym agrees.claims)
-      (subst (λ (mode : Mode). IsPlanFor request.job request.wishes mode (planned settings scheduler (commits_of scheduler before) entries request.wishes))
-      (sym agrees.mode)
-      (plan_is_for request.job (state entries) request.wishes start (policy_of settings scheduler) asks))
+  -- the first request that a scheduler of gangs has left is one with which the round began
+  first_entire : (before : List Entry) (underway : Underway settings trace before) (scheduler : ℕ) (request : Request) (rest : List Request)
+      → scheduler < schedulers settings → (policy_of settings scheduler).mode ≡ Gang
+      → left_of settings trace (rows_now settings trace before underway) (rows_end settings trace before underway) before scheduler ≡ Some (request ∷ rest)
+      → BeganWith settings trace before underway scheduler request
+  first_entire before underway scheduler request rest known gangs is =
+      let all : List Row = rows_now settings trace before underway in
+      let opened_at : ℕ = rows_end settings trace before underway in
+      let base : List Entry = (opened trace (rows_before settings trace before underway) underway.start underway.round).history in
+      let entire = gangs_entire settings trace (rows_before settings trace before underway) underway.start underway.round before underway.begun scheduler known gangs in
+      subst (λ (begun : List Entry). IsOneOf (requests settings trace all begun scheduler) request) (sym underway.begun.begins)
+      (first_left (IsOneOf (requests settings trace all base scheduler)) (standing_of settings trace all opened_at scheduler before) request rest entire is)
 
   -- a transaction that agrees with the first request that remains is a whole attempt
-  attempt_whole : (before : List Entry) (underway : Underway settings trace before) (scheduler seen : ℕ) (txn : Txn)
+  attempt_whole : (before : List Entry) (underway : Underway settings trace before) (scheduler seen : ℕ) (txn : Txn) → scheduler < schedulers settings
       → AgreesWithFirst settings scheduler before seen txn
       (standing_of settings trace (rows_now settings trace before underway) (rows_end settings trace before underway) scheduler before)
       → IsWholeAttempt settings trace before scheduler seen txn
-  attempt_whole before underway scheduler seen txn agrees =
+  attempt_whole before underway scheduler seen txn known agrees =
       let all : List Row = rows_now settings trace before underway in
       let opened_at : ℕ = rows_end settings trace before underway in
       let standing : Option Standing = standing_of settings trace all opened_at scheduler before in
       let first = first_agrees settings scheduler before seen txn standing agrees in
       let asks : AsksForItsJob first.0 =
-      first_asks standing first.0 first.1.0 (standing_asks settings trace all opened_at scheduler before) first.1.1.0 in
-      let is : IsPlanFor first.0.job first.0.wishes txn.mode txn.claims = plan_of_request before scheduler seen txn first.0 asks first.1.1.1 in
+      first_left AsksForItsJob standing first.0 first.1.0 (standing_asks settings trace all opened_at scheduler before) first.1.1.0 in
+      let is : IsPlanFor first.0.job first.0.wishes txn.mode txn.claims = plan_of_request settings trace before scheduler seen txn first.0 asks first.1.1.1 in
       let own : Each (λ claim. claim.key.job ≡ first.0.job) txn.claims =
       each_map (λ claim. (claim.key.job ≡ first.0.job) × AreOfOthers first.0.job claim.victims) (λ claim. claim.key.job ≡ first.0.job)
       (λ claim both. both.0) txn.claims is.each in
@@ -96,6 +89,7 @@ module _ (settings : Settings) (trace : TraceTables) where
         first = (first.1.0, first.1.1.0);
         planned = first.1.1.1;
         one_job = All-from_recursion (IsOfJob first.0.job) first.0.wishes asks;
+        entire = λ gang. first_entire before underway scheduler first.0 first.1.0 known (sym first.1.1.1.mode ∙ gang) first.1.1.0;
         whole = is.whole;
         spares = All-from_recursion (SparesItsJob txn) txn.claims
             (each_map (λ claim. (claim.key.job ≡ first.0.job) × AreOfOthers first.0.job claim.victims) (SparesItsJob txn)
@@ -165,7 +159,7 @@ module _ (settings : Settings) (trace : TraceTables) where
           whole = before_it;
           begun = so_far_before settings trace rows start round history place from (omega arith) so_far;
         } in
-        attempt_whole (take place history) underway scheduler seen txn
+        attempt_whole (take place history) underway scheduler seen txn may.known
         ((so_far.work scheduler may.known).1.due place (Commit scheduler seen txn reply) is from refl)
 
     round_whole : (history : List Entry) → GangsAreWhole settings trace start → RoundSoFar settings trace rows start round history

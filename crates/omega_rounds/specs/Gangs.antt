@@ -2,6 +2,7 @@
 use Rattle.std.specs.Prelude.{◌≡◌, ◌≢◌, ℕ, List, [], Some, ◌⊎◌, All, IsFalse, map, take, slice_get}
 use Rattle.omega_model.specs.Keys.{is_among}
 use Rattle.omega_model.specs.Lawful.{Underway}
+use Rattle.omega_model.specs.Requests.{requests}
 use Rattle.omega_model.specs.Stepping.{rows_end}
 use Rattle.omega_model.specs.Work.{Agrees}
 use Rattle.omega_model.specs.declared.cells.TaskKey.{TaskKey}
@@ -40,15 +41,22 @@ pub record SparesItsJob (txn : Txn) (claim : Claim) : Type 0 where
   pub others : All (λ (victim : TaskKey). victim.job ≢ claim.key.job) claim.victims
   pub unclaimed : All (λ (victim : TaskKey). IsFalse (is_among victim (claimed txn.claims))) claim.victims
 
+-- a request is one of those with which a scheduler began the round that is under way after these entries
+abbrev pub BeganWith : (settings : Settings) (trace : TraceTables) (before : List Entry) → Underway settings trace before → ℕ → Request → Type 0
+BeganWith settings trace before underway scheduler request =
+    (number : ℕ) × (slice_get (requests settings trace (rows_now settings trace before underway)
+    (take (rows_end settings trace before underway) before) scheduler) number ≡ Some request)
+
 -- a transaction, with so many entries seen, is the attempt of a scheduler on the first request that it has
--- left in the round that is under way after these entries; a gang claims all of this request or nothing, and
--- each claim spares the tasks of its job
+-- left in the round that is under way after these entries; where it is a gang, that is a request with which
+-- the round began, and it claims all of it or nothing; and each claim spares the tasks of its job
 pub record IsWholeAttempt (settings : Settings) (trace : TraceTables) (before : List Entry) (scheduler seen : ℕ) (txn : Txn) : Type 0 where
   pub underway : Underway settings trace before
   pub request : Request
   pub first : WorksOn settings trace (rows_now settings trace before underway) (rows_end settings trace before underway) before scheduler request
   pub planned : Agrees settings scheduler before seen txn request
   pub one_job : IsOfOneJob request
+  pub entire : txn.mode ≡ Gang → BeganWith settings trace before underway scheduler request
   pub whole : txn.mode ≡ Gang → ClaimsAllOrNothing request txn
   pub spares : All (SparesItsJob txn) txn.claims
 

@@ -94,10 +94,10 @@ pub fn claims_meet_constraints()
 {}
 
 /// In a lawful history each commit is its scheduler's attempt on the first request that it has left
-/// in the round that is under way. In gang mode it claims the tasks of all wishes of that request,
-/// in order, or nothing. Each claim is for a task of the transaction's job and each victim is of
-/// another job, so that no transaction evicts a task that it claims. Does nothing: the contract is
-/// the law.
+/// in the round that is under way. In gang mode that is a request with which the round began, still
+/// whole, and the commit claims the tasks of all its wishes, in order, or nothing. Each claim is for
+/// a task of the transaction's job and each victim is of another job, so that no transaction evicts
+/// a task that it claims. Does nothing: the contract is the law.
 pub fn gangs_of_lawful_histories()
     ensures { (settings : Settings) (trace : TraceTables) (history : List Entry)
         → Lawful settings trace history → GangsAreWhole settings trace history }

@@ -1,7 +1,7 @@
 //! Rounds in which schedulers commit in an order.
 //!
 //! So far these are laws over the definitions alone: what comes next in a round, that nothing else
-//! could, and that what is placed is on machines that meet its constraints.
+//! could, that what is placed is on machines that meet its constraints, and that no gang is split.
 #![tactic(auto)]
 
 mod laws;
