@@ -11,7 +11,7 @@ use Rattle.omega_model.specs.declared.claims.Mode.{Mode}
 use Rattle.omega_model.specs.declared.entries.Entry.{Entry}
 use Rattle.omega_model.specs.declared.entries.Entry.TheVariants.{Round, MachineAdd, MachineUpdate, MachineRemove, AttrSet, AttrDelete, End, Commit}
 use Rattle.omega_cell.specs.Laws.{IsWhole, IsUnsplit, NoGangIsSplit}
-use Rattle.omega_cell.proofs.Replies.{length-all_or_nothing, length-judgements}
+use Rattle.omega_model.proofs.Answered.{length-all_or_nothing, length-judgements}
 use Rattle.omega_model.proofs.Lists.{by_answer}
 
 -- where there is no refusal each is placed

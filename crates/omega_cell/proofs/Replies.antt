@@ -21,16 +21,7 @@ use Rattle.omega_board.proofs.Standing.{standing_fewer}
 use Rattle.omega_cell.specs.Rooms.{EvictWithin}
 use Rattle.omega_cell.proofs.Shortest.{shortest}
 use Rattle.omega_model.proofs.Lists.{by_answer}
-
--- each claim is answered
-pub length-judgements : (history : List Entry) (seen : ℕ) (cell : Cell) (rule : Rule) (claims : List Claim) → length (judgements history seen cell rule claims) ≡ length claims
-length-judgements history seen cell rule [] = refl
-length-judgements history seen cell rule (claim ∷ claims) =
-    ap (λ (n : ℕ). suc n) (length-judgements history seen (after_claim cell (claim, judge history seen cell rule claim)) rule claims)
-
-pub length-all_or_nothing : (reply : List Judgement) → length (all_or_nothing reply) ≡ length reply
-length-all_or_nothing reply =
-    by_answer (first_refused reply == length reply) (λ t. rw t refl) (λ f. rw f (length-map reply (withdrawn_for (first_refused reply))))
+use Rattle.omega_model.proofs.Answered.{length-all_or_nothing, length-judgements}
 
 -- what is evicted for a claim is no more than it names
 evicted_within : (cell : Cell) (claim : Claim) → length (evicted_for cell claim) ≤ length claim.victims

@@ -21,6 +21,7 @@ pub mod Records
 pub mod TypedRows
 pub mod FirstRefusal
 pub mod Soundness
+pub mod Answered
 pub mod Standing
 pub mod Remaining
 pub mod RoundsInOrder

@@ -1,6 +1,6 @@
 -- Where a scheduler commits gangs, each request that it has left is one with which the round began.
 use Rattle.std.proofs.Common.{◌≡◌, ◌≤◌, ◌<◌, ◌+◌, ℕ, suc, Bool, true, false, not, ◌&&◌, ◌||◌, List, [], ◌∷◌, ◌++◌, length, map, drop, Option, Some, None, refl, sym, ap, subst, arith, ◌∙◌, inl, inr, ◌==◌, append-nil}
-use Rattle.std.specs.List.{filter, list_any, AllByRecursion as Each}
+use Rattle.std.specs.List.{filter, list_any, AllByRecursion}
 use Rattle.std.specs.Prelude.{nat_le, slice_get, ◌⊎◌}
 use Rattle.std.proofs.lemmas.Bool.{eq-eqb, eqb-true}
 use Rattle.std.proofs.Math.Seq.{take-length}
@@ -38,6 +38,8 @@ use Rattle.omega_rounds.proofs.OneJob.{AllAsk, AsksForItsJob, plan_of_request, s
 use Rattle.omega_rounds.proofs.Places.{at_seam_from, front_push, longer}
 use Rattle.omega_rounds.proofs.RoundsAdd.{round_from}
 use Rattle.omega_rounds.proofs.Suited.{OfValue, each_unmapped}
+use Rattle.omega_model.proofs.Answered.{length-judgements}
+use Rattle.omega_model.proofs.InOrder.{key_itself}
 
 -- whether outcomes place the task of this name
 abbrev places_task : List Outcome → TaskKey → Bool
@@ -50,13 +52,8 @@ Admits judgement = admits judgement ≡ true
 abbrev Refuses : Judgement → Type 0
 Refuses judgement = admits judgement ≡ false
 
-each_answered : (history : List Entry) (seen : ℕ) (cell : Cell) (rule : Rule) (claims : List Claim) → length (judgements history seen cell rule claims) ≡ length claims
-each_answered history seen cell rule [] = refl
-each_answered history seen cell rule (claim ∷ claims) =
-    ap (λ (n : ℕ). suc n) (each_answered history seen (after_claim cell (claim, judge history seen cell rule claim)) rule claims)
-
 -- where there is no refusal each claim is admitted
-all_admitted : (reply : List Judgement) → first_refused reply ≡ length reply → Each Admits reply
+all_admitted : (reply : List Judgement) → first_refused reply ≡ length reply → AllByRecursion Admits reply
 all_admitted [] whole = tt
 all_admitted (judgement ∷ reply) whole =
     by_answer (admits judgement)
@@ -64,37 +61,34 @@ all_admitted (judgement ∷ reply) whole =
     (λ f. absurd (let none = rw f at whole in omega (arith, none)))
 
 -- a withdrawn gang has no claim admitted
-none_admitted : (place : ℕ) (reply : List Judgement) → Each Refuses (map (withdrawn_for place) reply)
+none_admitted : (place : ℕ) (reply : List Judgement) → AllByRecursion Refuses (map (withdrawn_for place) reply)
 none_admitted place [] = tt
 none_admitted place (judgement ∷ reply) =
     (by_answer (admits judgement) (λ t. rw t refl) (λ f. rw f f), none_admitted place reply)
 
 -- then no task is placed
-none_placed : (claims : List Claim) (reply : List Judgement) (key : TaskKey) → Each Refuses reply → places_task (outcomes_of claims reply) key ≡ false
+none_placed : (claims : List Claim) (reply : List Judgement) (key : TaskKey) → AllByRecursion Refuses reply → places_task (outcomes_of claims reply) key ≡ false
 none_placed [] reply key none = refl
 none_placed (claim ∷ claims) [] key none = refl
 none_placed (claim ∷ claims) (judgement ∷ reply) key none = rw none.0 (none_placed claims reply key none.1)
-
-same_itself : (key : TaskKey) → same_key key key ≡ true
-same_itself key = rw (eq-eqb key.job key.job refl, eq-eqb key.index key.index refl) refl
 
 or_true : (a : Bool) → (a || true) ≡ true
 or_true true = refl
 or_true false = refl
 
 -- and where each claim is admitted, each of their tasks is
-all_placed : (claims : List Claim) (reply : List Judgement) → length reply ≡ length claims → Each Admits reply
-    → Each (λ key. places_task (outcomes_of claims reply) key ≡ true) (claimed claims)
+all_placed : (claims : List Claim) (reply : List Judgement) → length reply ≡ length claims → AllByRecursion Admits reply
+    → AllByRecursion (λ key. places_task (outcomes_of claims reply) key ≡ true) (claimed claims)
 all_placed [] reply long all = tt
 all_placed (claim ∷ claims) [] long all = absurd (omega arith)
 all_placed (claim ∷ claims) (judgement ∷ reply) long all =
     let rest : length reply ≡ length claims = omega arith in (
-      rw (all.0, same_itself claim.key) refl,
+      rw (all.0, key_itself claim.key) refl,
       each_map (λ key. places_task (outcomes_of claims reply) key ≡ true) (λ key. places_task (outcomes_of (claim ∷ claims) (judgement ∷ reply)) key ≡ true)
           (λ key t. rw t (or_true (is_placed judgement.verdict && same_key claim.key key))) (claimed claims) (all_placed claims reply rest all.1),
     )
 
-filter_all : {X : Type 0} (test : X → Bool) (xs : List X) → Each (λ x. test x ≡ true) xs → filter test xs ≡ xs
+filter_all : {X : Type 0} (test : X → Bool) (xs : List X) → AllByRecursion (λ x. test x ≡ true) xs → filter test xs ≡ xs
 filter_all test [] all = refl
 filter_all test (x ∷ xs) all = rw all.0 (ap (λ (ys : List _). x ∷ ys) (filter_all test xs all.1))
 
@@ -114,11 +108,11 @@ module _ (settings : Settings) (taken failing : ℕ) (request : Request) where
       by_answer (first_refused told == length told)
       (λ t. rw t (λ goes. absurd (placed_all (all_admitted told (eqb-true (first_refused told) (length told) t)) goes)))
       (λ f. rw f (λ goes. kept (map (withdrawn_for (first_refused told)) told) (none_admitted (first_refused told) told))) where
-        placed_all : Each Admits told → ends_request settings taken failing request (outcomes_of claims told) ≡ false → ⊥
+        placed_all : AllByRecursion Admits told → ends_request settings taken failing request (outcomes_of claims told) ≡ false → ⊥
         placed_all admitted goes =
-            let each : Each (λ (wish : Wish). places_task (outcomes_of claims told) wish.key ≡ true) request.wishes =
+            let each : AllByRecursion (λ (wish : Wish). places_task (outcomes_of claims told) wish.key ≡ true) request.wishes =
             each_unmapped (λ key. places_task (outcomes_of claims told) key ≡ true) (λ (wish : Wish). wish.key) request.wishes
-            (subst (λ (keys : List TaskKey). Each (λ key. places_task (outcomes_of claims told) key ≡ true) keys) all (all_placed claims told long admitted)) in
+            (subst (λ (keys : List TaskKey). AllByRecursion (λ key. places_task (outcomes_of claims told) key ≡ true) keys) all (all_placed claims told long admitted)) in
             let none : filter (λ (wish : Wish). not (places_wish (outcomes_of claims told) wish)) request.wishes ≡ [] =
             filter_none (λ (wish : Wish). not (places_wish (outcomes_of claims told) wish)) request.wishes
             (each_map (λ (wish : Wish). places_task (outcomes_of claims told) wish.key ≡ true) (λ (wish : Wish). not (places_wish (outcomes_of claims told) wish) ≡ false)
@@ -128,7 +122,7 @@ module _ (settings : Settings) (taken failing : ℕ) (request : Request) where
             (nat_le settings.give_up failing) goes).0 in
             let clash : true ≡ false = sym (ap (λ (wishes : List Wish). is_empty wishes) none) ∙ some in absurd (cc)
 
-        kept : (reply : List Judgement) → Each Refuses reply → rest_of request (outcomes_of claims reply) ≡ request
+        kept : (reply : List Judgement) → AllByRecursion Refuses reply → rest_of request (outcomes_of claims reply) ≡ request
         kept reply none =
             ap (λ (wishes : List Wish). record { job = request.job; wishes = wishes })
             (filter_all (λ (wish : Wish). not (places_wish (outcomes_of claims reply) wish)) request.wishes
@@ -145,7 +139,7 @@ module _ (settings : Settings) (taken failing : ℕ) (request : Request) where
       let is : reply_of before seen txn ≡ all_or_nothing told = ap (λ (mode : Mode). by_mode mode told) gang in
       subst (λ (reply : List Judgement). ends_request settings taken failing request (outcomes_of txn.claims reply) ≡ false
       → rest_of request (outcomes_of txn.claims reply) ≡ request) (sym is)
-      (reply_keeps txn.claims told (each_answered before seen (state before) txn.rule txn.claims) all)
+      (reply_keeps txn.claims told (length-judgements before seen (state before) txn.rule txn.claims) all)
   gang_keeps before seen txn gang (inr none) = λ goes.
       let reply : List Judgement = reply_of before seen txn in
       let some : is_empty (outcomes_of txn.claims reply) ≡ false =
@@ -157,7 +151,7 @@ module _ (settings : Settings) (taken failing : ℕ) (request : Request) where
 abbrev pub IsOneOf : List Request → Request → Type 0
 IsOneOf all request = (number : ℕ) × (slice_get all number ≡ Some request)
 
-each_is_one : (all : List Request) → Each (IsOneOf all) all
+each_is_one : (all : List Request) → AllByRecursion (IsOneOf all) all
 each_is_one [] = tt
 each_is_one (request ∷ rest) =
     ((0, refl), each_map (IsOneOf rest) (IsOneOf (request ∷ rest)) (λ other is. (suc is.0, is.1)) rest (each_is_one rest))
@@ -165,10 +159,10 @@ each_is_one (request ∷ rest) =
 module _ (settings : Settings) (trace : TraceTables) (scheduler : ℕ) (gangs : (policy_of settings scheduler).mode ≡ Gang) (all : List Request) where
   -- each request that remains is one of all
   abbrev pub AreEntire : Standing → Type 0
-  AreEntire standing = Each (IsOneOf all) standing.requests
+  AreEntire standing = AllByRecursion (IsOneOf all) standing.requests
 
   moved_entire : (standing : Standing) (before : List Entry) (seen : ℕ) (txn : Txn) (request : Request) (rest : List Request)
-      → AsksForItsJob request → Agrees settings scheduler before seen txn request → IsOneOf all request → Each (IsOneOf all) rest
+      → AsksForItsJob request → Agrees settings scheduler before seen txn request → IsOneOf all request → AllByRecursion (IsOneOf all) rest
       → AreEntire (moved_on settings standing request rest (outcomes_of txn.claims (reply_of before seen txn)))
   moved_entire standing before seen txn request rest asks agrees one others =
       let outcomes : List Outcome = outcomes_of txn.claims (reply_of before seen txn) in
@@ -188,8 +182,8 @@ module _ (settings : Settings) (trace : TraceTables) (scheduler : ℕ) (gangs : 
   commit_entire (Some standing) before seen txn ask entire agrees =
       let itself : (scheduler == scheduler) ≡ true = eq-eqb scheduler scheduler refl in
       let is : standing.requests ≡ agrees.0 ∷ agrees.1.0 = agrees.1.1.0 in
-      let asks : Each AsksForItsJob (agrees.0 ∷ agrees.1.0) = subst (λ (left : List Request). Each AsksForItsJob left) is ask in
-      let ones : Each (IsOneOf all) (agrees.0 ∷ agrees.1.0) = subst (λ (left : List Request). Each (IsOneOf all) left) is entire in
+      let asks : AllByRecursion AsksForItsJob (agrees.0 ∷ agrees.1.0) = subst (λ (left : List Request). AllByRecursion AsksForItsJob left) is ask in
+      let ones : AllByRecursion (IsOneOf all) (agrees.0 ∷ agrees.1.0) = subst (λ (left : List Request). AllByRecursion (IsOneOf all) left) is entire in
       let outcomes : List Outcome = outcomes_of txn.claims (reply_of before seen txn) in
       rw itself
       (subst (λ (left : List Request). OfValue AreEntire (after_outcomes settings standing left outcomes)) (sym is)

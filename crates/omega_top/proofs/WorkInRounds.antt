@@ -38,7 +38,7 @@ use Rattle.omega_model.specs.declared.wishes.Request.{Request}
 use Rattle.omega_top.specs.Working.{Position, Setting, Working, base, next_position}
 use Rattle.omega_model.proofs.Growing.{by_place_push_where}
 use Rattle.omega_model.proofs.Standing.{failed_push, has_left-other, placed_outcomes, standing_push}
-use Rattle.omega_cell.proofs.Replies.{length-all_or_nothing, length-judgements}
+use Rattle.omega_model.proofs.Answered.{length-all_or_nothing, length-judgements}
 use Rattle.omega_rounds.proofs.LastCommits.{after_last-within}
 use Rattle.omega_rounds.proofs.Places.{nothing_past}
 

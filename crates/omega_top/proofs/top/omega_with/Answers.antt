@@ -1,4 +1,6 @@
+use Rattle.std.proofs.Common.{sym}
 use Rattle.omega_top.proofs.Refusing.{answers_refusal}
+use Rattle.omega_top.proofs.SomeRun.{refused_run, whole_gangs}
 use Rattle.omega_top.proofs.top.omega_with.Goals as goal
 
 pub returns-in-Err-clause-first : goal.returns-in-Err-clause-first
