@@ -15,7 +15,8 @@ use Rattle.omega_model.specs.declared.entries.Entry.{Entry}
 use Rattle.omega_model.specs.declared.entries.Entry.TheVariants.{Round, MachineAdd, MachineUpdate, MachineRemove, AttrSet, AttrDelete, End, Commit}
 use Rattle.omega_model.specs.declared.rows.Row.{Row}
 use Rattle.omega_model.specs.declared.rows.Row.TheVariants.{Machine, Attr, Task as TaskEvent}
-use Rattle.omega_board.proofs.Tasks.{found_name}
+use Rattle.omega_model.proofs.Lists.{found_passes}
+use Rattle.omega_board.proofs.Tasks.{key_same}
 use Rattle.omega_top.specs.Replays.{MayAppend, MayAppendAll}
 use Rattle.omega_top.proofs.Placing.{reply_places}
 
@@ -37,7 +38,7 @@ commit_may history scheduler txn fine = record {
 pub end_may : (history : List Entry) (key : TaskKey) (task : Task) → task_at (state history).tasks key ≡ Some task
     → MayAppend history (End task.key task.machine)
 end_may history key task found =
-    let same : task.key ≡ key = found_name (state history).tasks key task found in
+    let same : task.key ≡ key = key_same task.key key (found_passes (λ (t : Task). same_key t.key key) (state history).tasks task found) in
     let again : task_at (state history).tasks task.key ≡ Some task = ap (task_at (state history).tasks) same ∙ found in
     record {
       follows = tt;
