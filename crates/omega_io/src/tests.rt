@@ -35,31 +35,65 @@ fn read_piece<T: Tables>(tables: &mut T, table: Table) -> (Result<usize, Failed>
     (answer, piece)
 }
 
-#[test]
-fn tables_in_memory(rt: HostRuntime) -> Result<(), Fail> {
-    let held = six(rt.alloc())?;
-    let mut tables = MemoryTables::new(rt.alloc(), held)
+// A table, and what a read of it in a piece of four bytes is to answer, with the piece after it.
+type Wanted = (Table, Result<usize, Failed>, [u8; 4]);
+
+// The first of these reads that answers something else.
+fn first_wrong<T: Tables>(tables: &mut T, reads: &[Wanted]) -> Option<Wanted> {
+    for (table, answer, piece) in reads {
+        if read_piece(tables, *table) != (*answer, *piece) {
+            return Some((*table, *answer, *piece));
+        }
+    }
+    None
+}
+
+// Reads of the six tables in pieces of two bytes, of which the second fails.
+const CUT_READS: [Wanted; 12] = [
+    (Table::MachineEvents, Ok(2), *b"ab\0\0"),
+    (Table::MachineEvents, Err(Failed), [0; 4]),
+    (Table::MachineEvents, Ok(1), *b"c\0\0\0"),
+    (Table::MachineEvents, Ok(0), [0; 4]),
+    (Table::MachineAttributes, Ok(0), [0; 4]),
+    (Table::TaskEvents, Ok(2), *b"de\0\0"),
+    (Table::TaskEvents, Ok(0), [0; 4]),
+    (Table::TaskConstraints, Ok(0), [0; 4]),
+    (Table::MapreduceJobs, Ok(1), *b"f\0\0\0"),
+    (Table::MapreduceJobs, Ok(0), [0; 4]),
+    (Table::MachineDisk, Ok(2), *b"gh\0\0"),
+    (Table::MachineDisk, Ok(0), [0; 4]),
+];
+
+// Reads of the six tables, none of which fails.
+const WHOLE_READS: [Wanted; 5] = [
+    (Table::MachineEvents, Ok(3), *b"abc\0"),
+    (Table::MachineEvents, Ok(0), [0; 4]),
+    (Table::TaskEvents, Ok(2), *b"de\0\0"),
+    (Table::MapreduceJobs, Ok(1), *b"f\0\0\0"),
+    (Table::MachineDisk, Ok(2), *b"gh\0\0"),
+];
+
+// The first wrong answer of the reads that are cut, and the faults after them.
+fn cut_reads(alloc: Global) -> Result<(Option<Wanted>, [u64; 6]), NoMemory> {
+    let mut tables = MemoryTables::new(alloc, six(alloc)?)
         .fail_at(3)
         .cut(2)
         .fail_at(1);
     tables.enter("folder")?;
-    for (table, answer, piece) in [
-        (Table::MachineEvents, Ok(2), *b"ab\0\0"),
-        (Table::MachineEvents, Err(Failed), [0; 4]),
-        (Table::MachineEvents, Ok(1), *b"c\0\0\0"),
-        (Table::MachineEvents, Ok(0), [0; 4]),
-        (Table::MachineAttributes, Ok(0), [0; 4]),
-        (Table::TaskEvents, Ok(2), *b"de\0\0"),
-        (Table::TaskEvents, Ok(0), [0; 4]),
-        (Table::TaskConstraints, Ok(0), [0; 4]),
-        (Table::MapreduceJobs, Ok(1), *b"f\0\0\0"),
-        (Table::MapreduceJobs, Ok(0), [0; 4]),
-        (Table::MachineDisk, Ok(2), *b"gh\0\0"),
-        (Table::MachineDisk, Ok(0), [0; 4]),
-    ] {
-        assert_eq!(rt; read_piece(&mut tables, table), (answer, piece));
-    }
-    assert_eq!(rt; faults_of(&tables), [1, 0, 0, 0, 0, 0]);
+    Ok((first_wrong(&mut tables, &CUT_READS), faults_of(&tables)))
+}
+
+// The same of tables that never fail.
+fn whole_reads(alloc: Global) -> Result<(Option<Wanted>, [u64; 6]), NoMemory> {
+    let mut tables = SteadyTables::new(alloc, six(alloc)?);
+    tables.enter("folder")?;
+    Ok((first_wrong(&mut tables, &WHOLE_READS), faults_of(&tables)))
+}
+
+#[test]
+fn tables_in_memory(rt: HostRuntime) -> Result<(), Fail> {
+    assert_eq!(rt; cut_reads(rt.alloc())?, (None, [1, 0, 0, 0, 0, 0]));
+    assert_eq!(rt; whole_reads(rt.alloc())?, (None, [0; 6]));
     Ok(())
 }
 
@@ -119,22 +153,9 @@ fn write_outside(rt: &HostRuntime) -> [(Result<(), Failed>, u64); 2] {
 }
 
 #[test]
-fn other_objects(rt: HostRuntime) -> Result<(), Fail> {
-    let mut tables = SteadyTables::new(rt.alloc(), six(rt.alloc())?);
-    tables.enter("folder")?;
-    for (table, answer, piece) in [
-        (Table::MachineEvents, Ok(3), *b"abc\0"),
-        (Table::MachineEvents, Ok(0), [0; 4]),
-        (Table::TaskEvents, Ok(2), *b"de\0\0"),
-        (Table::MapreduceJobs, Ok(1), *b"f\0\0\0"),
-        (Table::MachineDisk, Ok(2), *b"gh\0\0"),
-    ] {
-        assert_eq!(rt; read_piece(&mut tables, table), (answer, piece));
-    }
-    assert_eq!(rt; faults_of(&tables), [0; 6]);
+fn outside(rt: HostRuntime) {
     assert_eq!(rt; write_outside(&rt), [(Ok(()), 0); 2]);
     PassGate.at(1, Point::Planned);
-    Ok(())
 }
 
 // What the first read of each table in a folder answers.
@@ -153,24 +174,42 @@ fn first_reads(
     ])
 }
 
+// What a read before the first folder answers, then the first reads of three folders and the next
+// read of machines, a read of machines after the first folder is entered again, and the faults.
+type FolderReads = (
+    Result<usize, Failed>,
+    [[Result<usize, Failed>; 6]; 3],
+    Result<usize, Failed>,
+    (Result<usize, Failed>, [u8; 4]),
+    [u64; 6],
+);
+
+fn folder_reads(rt: &HostRuntime) -> Result<FolderReads, NoMemory> {
+    let mut tables = FolderTables::new(rt);
+    let unread = read_piece(&mut tables, Table::TaskConstraints).0;
+    let reads = [
+        first_reads(&mut tables, "trace")?,
+        first_reads(&mut tables, "nowhere")?,
+        first_reads(&mut tables, "trace/")?,
+    ];
+    let next = read_piece(&mut tables, Table::MachineEvents).0;
+    tables.enter("trace")?;
+    let again = read_piece(&mut tables, Table::MachineEvents);
+    Ok((unread, reads, next, again, faults_of(&tables)))
+}
+
 #[test]
 fn tables_of_a_folder(rt: HostRuntime) -> Result<(), Fail> {
     fs::create_dir(&rt, "trace")?;
     fs::write(&rt, "trace/machine_events.csv", "ab")?;
-    let mut tables = FolderTables::new(&rt);
-    let unread = read_piece(&mut tables, Table::TaskConstraints);
-    assert_eq!(rt; unread, (Err(Failed), [0; 4]));
-    for (folder, first) in [
-        ("trace", Ok(2)),
-        ("nowhere", Err(Failed)),
-        ("trace/", Ok(2)),
-    ] {
-        let answers = first_reads(&mut tables, folder)?;
-        assert_eq!(rt; answers, [first, Ok(0), Err(Failed), Ok(0), Ok(0), Ok(0)]);
-    }
-    let last = read_piece(&mut tables, Table::MachineEvents);
-    assert_eq!(rt; last, (Ok(0), [0; 4]));
-    assert_eq!(rt; faults_of(&tables), [1, 0, 3, 1, 0, 0]);
+    let (unread, reads, next, again, faults) = folder_reads(&rt)?;
     fs::remove_dir_all(&rt, "trace")?;
+    let there = [Ok(2), Ok(0), Err(Failed), Ok(0), Ok(0), Ok(0)];
+    let nowhere = [Err(Failed), Ok(0), Err(Failed), Ok(0), Ok(0), Ok(0)];
+    assert_eq!(rt; unread, Err(Failed));
+    assert_eq!(rt; reads, [there, nowhere, there]);
+    assert_eq!(rt; next, Ok(0));
+    assert_eq!(rt; again, (Ok(2), *b"ab\0\0"));
+    assert_eq!(rt; faults, [1, 0, 3, 1, 0, 0]);
     Ok(())
 }

@@ -382,12 +382,16 @@ const REFUSED: [(&[u8], &[u8], &str); 5] = [
     ),
 ];
 
+// What is printed of two tables, or of the refusal.
+fn read_two(alloc: Global, machines: &[u8], tasks: &[u8]) -> Result<String, AllocError> {
+    let mut tables = SteadyTables::new(alloc, six(alloc, machines, tasks)?);
+    printed(alloc, read_tables(alloc, &mut tables))
+}
+
 #[test]
 fn refusals(rt: HostRuntime) -> Result<(), Fail> {
     for (machines, tasks, want) in REFUSED {
-        let mut tables = SteadyTables::new(rt.alloc(), six(rt.alloc(), machines, tasks)?);
-        let answer = read_tables(rt.alloc(), &mut tables);
-        assert_eq!(rt; printed(rt.alloc(), answer)?.as_str(), want);
+        assert_eq!(rt; read_two(rt.alloc(), machines, tasks)?.as_str(), want);
     }
     Ok(())
 }
@@ -472,15 +476,19 @@ fn rows_after_refusal(alloc: Global) -> Result<usize, ReadRefusal> {
     })
 }
 
+// Whether one table is read whole.
+fn reads_tasks(alloc: Global) -> Result<bool, ReadRefusal> {
+    let mut tables = SteadyTables::new(alloc, six(alloc, MACHINES, TASKS)?);
+    let tasks = read_bytes(alloc, &mut tables, Table::TaskEvents)?;
+    Ok(tasks.as_slice() == TASKS)
+}
+
 #[test]
 fn single_calls(rt: HostRuntime) -> Result<(), Fail> {
-    let alloc = rt.alloc();
     let passed = ReadRefusal::TooMany(Kind::Machines, MOST_MACHINES + 1);
-    assert_eq!(rt; machines_refused(alloc)?, Some(passed));
-    assert_eq!(rt; rows_after_refusal(alloc), Ok(2));
-    let mut tables = SteadyTables::new(alloc, six(alloc, MACHINES, TASKS)?);
-    let tasks = read_bytes(alloc, &mut tables, Table::TaskEvents);
-    assert!(rt; tasks.is_ok_and(|bytes| bytes.as_slice() == TASKS));
+    assert_eq!(rt; machines_refused(rt.alloc())?, Some(passed));
+    assert_eq!(rt; rows_after_refusal(rt.alloc()), Ok(2));
+    assert_eq!(rt; reads_tasks(rt.alloc()), Ok(true));
     assert_eq!(rt; Status::from(ReadRefusal::from(NoMemory)), Status::NoMemory);
     Ok(())
 }
