@@ -1,10 +1,10 @@
 //! The cell.
-ghost use Rattle.std.specs.Prelude.{◌≡◌, ◌≤◌, ◌<◌, ◌^◌, ◌++◌, ◌∷◌, [], false, ℕ, length, IfOk, IfErr, OnOk, OnErr, IfSome};
+ghost use Rattle.std.specs.Prelude.{◌≡◌, ◌≤◌, ◌<◌, ◌^◌, ◌++◌, ◌∷◌, [], false, ℕ, length, take, IfOk, IfErr, OnOk, OnErr, IfSome};
 ghost use Rattle.omega_board.specs.Board.{cell_of};
 ghost use Rattle.omega_machines.specs.Table.{seq_at};
 ghost use Rattle.omega_model.specs.Applying.{capacity_in, machine_in, EndsRunning, EachMayApply, ListsOrHasRoom};
 ghost use Rattle.omega_model.specs.Fields.{greatest};
-ghost use Rattle.omega_model.specs.Legal.{Legal};
+ghost use Rattle.omega_model.specs.Legal.{Legal, Sound};
 ghost use Rattle.omega_model.specs.Need.{Fits};
 ghost use Rattle.omega_model.specs.State.{state, reply_of};
 ghost use Rattle.omega_model.specs.Touches.{seq};
@@ -59,12 +59,13 @@ impl Cell {
         &self.board
     }
 
-    /// The history, from its first entry on. It is legal, and each of its entries could be applied to
-    /// the state before it.
+    /// The history, from its first entry on. It is legal, each of its entries could be applied to the
+    /// state before it, and no state on the way is overcommitted.
     pub fn history(&self) -> &[Entry]
         ensures history { result.now ≡ self.now.history }
         ensures legal { Legal self.now.history }
         ensures applied { EachMayApply self.now.history }
+        ensures sound { (n : ℕ) → Sound (state (take n self.now.history)) }
     {
         self.entries.as_slice()
     }
@@ -74,6 +75,7 @@ impl Cell {
         ensures history { result ≡ self.history }
         ensures legal { Legal self.history }
         ensures applied { EachMayApply self.history }
+        ensures sound { (n : ℕ) → Sound (state (take n self.history)) }
     {
         let Cell { entries, .. } = self;
         Seq::of(entries)
