@@ -1,5 +1,5 @@
 -- A copy that follows a history.
-use Rattle.std.proofs.Common.{◌≡◌, ℕ, suc, ◌+◌, ◌<◌, ◌≤◌, List, [], ◌∷◌, ◌++◌, length, get_or, take, drop, slice_get, Option, Some, None, refl, sym, ap, ◌∙◌, subst, arith, if◌then◌else◌}
+use Rattle.std.proofs.Common.{◌≡◌, ℕ, zero, suc, ◌+◌, ◌<◌, ◌≤◌, List, [], ◌∷◌, ◌++◌, length, get_or, take, drop, slice_get, Option, Some, None, refl, sym, ap, ◌∙◌, subst, arith, if◌then◌else◌}
 use Rattle.std.proofs.lemmas.List.{take_more}
 use Rattle.std.proofs.lemmas.Option.{slice_get_within, get_or_from_slice_get}
 use Rattle.omega_model.specs.Applying.{MayApply}
@@ -40,13 +40,13 @@ stands_next cell after seqs next seen history entry stands here stepped numbered
 
 -- an entry of the rest of a list is one of the list
 rest_get : {X : Type 0} (xs : List X) (n i : ℕ) → slice_get (drop n xs) i ≡ slice_get xs (n + i)
-rest_get xs 0 i = refl
+rest_get xs zero i = let same : i ≡ 0 + i = omega arith in ap (slice_get xs) same
 rest_get [] (suc n) i = refl
-rest_get (x ∷ xs) (suc n) i = rest_get xs n i
+rest_get (x ∷ xs) (suc n) i = let next : suc (n + i) ≡ suc n + i = omega arith in rest_get xs n i ∙ ap (slice_get (x ∷ xs)) next
 
 got : {X : Type 0} (xs : List X) (i : ℕ) (d : X) → i < length xs → slice_get xs i ≡ Some (get_or xs i d)
 got [] i d below = absurd (omega arith)
-got (x ∷ xs) 0 d below = refl
+got (x ∷ xs) zero d below = refl
 got (x ∷ xs) (suc i) d below = got xs i d (omega arith)
 
 -- a copy has followed so many of these entries
@@ -64,22 +64,25 @@ next_entry : (start now : CopyState) (later : List Entry) (n : ℕ) (entry : Ent
 next_entry start now later n entry so here history rest =
     ap (slice_get history) so.count ∙ sym (rest_get history start.seen n) ∙ ap (λ (es : List Entry). slice_get es n) (sym rest) ∙ here
 
-module _ (start now : CopyState) (later : List Entry) (n : ℕ) (d : Entry) (so : IsFollowing start now later n) (below : n < length later) where
+module _ (start now : CopyState) (later : List Entry) (n : ℕ) (entry : Entry) (so : IsFollowing start now later n) (below : n < length later) (is : entry ≡ get_or later n entry) where
+  here : slice_get later n ≡ Some entry
+  here = got later n entry below ∙ ap Some (sym is)
+
   -- and may be applied
-  pub next_may : MayFollow start later → MayApply (cell_of now.board) (seq_at now.board.table) (get_or later n d)
+  pub next_may : MayFollow start later → MayApply (cell_of now.board) (seq_at now.board.table) entry
   next_may may =
       let stands = so.stands may.history may.stands may.rest in
-      may_apply (cell_of now.board) (seq_at now.board.table) (take now.seen may.history) (get_or later n d) (cell_is _ _ stands.machines stands.tasks) stands.numbers
-      (may.applied now.seen (get_or later n d) (next_entry start now later n (get_or later n d) so (got later n d below) may.history may.rest))
+      may_apply (cell_of now.board) (seq_at now.board.table) (take now.seen may.history) entry (cell_is _ _ stands.machines stands.tasks) stands.numbers
+      (may.applied now.seen entry (next_entry start now later n entry so here may.history may.rest))
 
   -- once it was, the copy has followed one more
-  pub follows_more : (after : CopyState) → after.trial ≡ None → after.seen ≡ now.seen + 1 → cell_of after.board ≡ step (cell_of now.board) (get_or later n d)
-      → ((id : ℕ) → seq_at after.board.table id ≡ seq_at now.board.table id + (if touches id (get_or later n d) then 1 else 0)) → IsFollowing start after later (n + 1)
+  pub follows_more : (after : CopyState) → after.trial ≡ None → after.seen ≡ now.seen + 1 → cell_of after.board ≡ step (cell_of now.board) entry
+      → ((id : ℕ) → seq_at after.board.table id ≡ seq_at now.board.table id + (if touches id entry then 1 else 0)) → IsFollowing start after later (n + 1)
   follows_more after none seen stepped numbered = record {
     no_trial = none;
     count = omega (arith, seen, so.count);
     stands = λ history stands rest.
         subst (λ k. StandsFor (cell_of after.board) (seq_at after.board.table) k history) (sym seen)
-        (stands_next (cell_of now.board) (cell_of after.board) (seq_at now.board.table) (seq_at after.board.table) now.seen history (get_or later n d) (so.stands history stands rest)
-        (next_entry start now later n (get_or later n d) so (got later n d below) history rest) stepped numbered);
+        (stands_next (cell_of now.board) (cell_of after.board) (seq_at now.board.table) (seq_at after.board.table) now.seen history entry (so.stands history stands rest)
+        (next_entry start now later n entry so here history rest) stepped numbered);
   }

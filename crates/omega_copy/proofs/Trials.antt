@@ -1,11 +1,14 @@
 -- Claims of a trial, and what taking them back comes to.
-use Rattle.std.proofs.Common.{◌≡◌, ℕ, ◌≤◌, Bool, true, false, List, [], ◌∷◌, ◌++◌, Option, refl, sym, ap, ◌∙◌, subst, ◌==◌}
+use Rattle.std.proofs.Common.{◌≡◌, ℕ, ◌≤◌, Bool, true, false, List, [], ◌∷◌, ◌++◌, length, Option, refl, sym, ap, ◌∙◌, subst, ◌==◌}
 use Rattle.std.specs.List.{list_any}
 use Rattle.std.proofs.lemmas.Bool.{or_parts}
+use Rattle.std.proofs.lemmas.List.{length-map}
 use Rattle.std.proofs.lemmas.List.Folds.{list_any-append}
+use Rattle.omega_model.specs.Applying.{PlacesInOrder}
 use Rattle.omega_model.specs.Cell.{Cell, use_on}
 use Rattle.omega_model.specs.Judge.{judge_fine, would_be_placed}
 use Rattle.omega_model.specs.Reply.{tasks_placed, tasks_after_claim, after_claim}
+use Rattle.omega_model.specs.State.{step}
 use Rattle.omega_model.specs.Touches.{is_placed}
 use Rattle.omega_model.specs.declared.cells.Machine.{Machine}
 use Rattle.omega_model.specs.declared.cells.Need.{Need}
@@ -15,6 +18,7 @@ use Rattle.omega_model.specs.declared.claims.Claim.{Claim}
 use Rattle.omega_model.specs.declared.claims.Judgement.{Judgement}
 use Rattle.omega_model.specs.declared.claims.Verdict.{Verdict}
 use Rattle.omega_model.specs.declared.claims.Verdict.TheVariants.{Placed}
+use Rattle.omega_model.specs.declared.entries.Entry.{Entry}
 use Rattle.omega_machines.specs.declared.MachineState.{MachineState}
 use Rattle.omega_machines.specs.Table.{machines_of}
 use Rattle.omega_running.specs.declared.orders.Order.TheVariants.{ByKey}
@@ -27,9 +31,9 @@ use Rattle.omega_board.proofs.Commits.{cell_is}
 use Rattle.omega_board.proofs.Placed.{is_placed-Placed}
 use Rattle.omega_board.proofs.Rewinds.{machines_with}
 use Rattle.omega_copy.specs.Copies.{IsTrialOf}
-use Rattle.omega_copy.specs.Telling.{frees_of, TellsBut}
+use Rattle.omega_copy.specs.Telling.{frees_of, TellsBut, grown, is_in, is_touched}
 use Rattle.omega_copy.proofs.Tells.{tells_while}
-use Rattle.omega_copy.proofs.Untouched.{claim_local}
+use Rattle.omega_copy.proofs.Untouched.{claim_local, tells_after}
 
 -- a claim that would be placed is judged so
 pub judged_placed : (cell : Cell) (claim : Claim) (verdict : Verdict) (evicted : List TaskKey) → would_be_placed cell claim ≡ true
@@ -98,8 +102,17 @@ machines_before (change ∷ log) board = machines_before log (before_change chan
 
 -- once a trial is taken back, an index tells all but its machines
 pub tells_back : (frees : List (Option Need)) (board back : BoardState) (undo : UndoState) (changed : List ℕ) (spare : ℕ) → frees ≡ frees_of (cell_of board) → IsTrialOf board undo changed spare
-    → back ≡ at_reserve undo board → TellsBut (λ id. list_any (λ machine. machine == id) changed) back.tasks frees (machines_of back.table)
+    → back ≡ at_reserve undo board → TellsBut (is_in changed) back.tasks frees (machines_of back.table)
 tells_back frees board back undo changed spare is trial was =
-    tells_same (λ id. list_any (λ machine. machine == id) changed) frees board back is
+    tells_same (is_in changed) frees board back is
     (ap (λ (b : BoardState). machines_of b.table) was ∙ machines_before undo.log board)
     (λ id out. ap (λ (b : BoardState). use_on b.tasks id) was ∙ trial.elsewhere id out)
+
+-- once an entry was applied, an index with a place for a new machine tells all but what it touches
+pub tells_entry : (before after : BoardState) (entry : Entry) (frees kept grew : List (Option Need)) → frees ≡ frees_of (cell_of before) → kept ≡ frees → grew ≡ grown (length after.table) kept
+    → IsInOrder ByKey before.tasks → PlacesInOrder (cell_of before) entry → cell_of after ≡ step (cell_of before) entry
+    → TellsBut (is_touched entry) after.tasks grew (machines_of after.table)
+tells_entry before after entry frees kept grew is same grows order places stepped =
+    let long : length (machines_of after.table) ≡ length after.table = length-map after.table (λ (s : MachineState). s.machine) in
+    subst (λ fs. TellsBut (is_touched entry) after.tasks fs (machines_of after.table)) (ap (λ n. grown n kept) long ∙ sym grows)
+    (tells_after (cell_of before) (cell_of after) entry kept (same ∙ is) order places stepped)

@@ -1,10 +1,9 @@
 //! What changed on a board, told to the index of what is free on its machines.
-ghost use Rattle.std.specs.Prelude.{◌≡◌, ◌<◌, ◌==◌, ◌||◌, ℕ, Bool, length};
-ghost use Rattle.std.specs.List.{list_any, zip};
+ghost use Rattle.std.specs.Prelude.{◌≡◌, ◌<◌, ℕ, Bool, length};
+ghost use Rattle.std.specs.List.{zip};
 ghost use Rattle.omega_machines.specs.Table.{machines_of};
-ghost use Rattle.omega_model.specs.Touches.{places_on, touches};
 ghost use Rattle.omega_board.specs.Board.{cell_of};
-ghost use Rattle.omega_copy.specs.Telling.{frees_of, TellsBut, grown};
+ghost use Rattle.omega_copy.specs.Telling.{frees_of, TellsBut, grown, is_this, is_this_or, is_in, is_claimed, is_touched};
 
 use omega_board::Board;
 use omega_fit::FitIndex;
@@ -22,7 +21,7 @@ pub(crate) fn grow(index: &mut FitIndex, board: &Board)
 
 /// Tells the index what is free on the machines that an entry touches, which has told all else.
 pub(crate) fn tell_touched(index: &mut FitIndex, board: &Board, entry: &Entry)
-    requires { TellsBut (λ id. touches id entry.now) board.now.tasks index.old.free (machines_of board.now.table) }
+    requires { TellsBut (is_touched entry.now) board.now.tasks index.old.free (machines_of board.now.table) }
     ensures { index.new.free ≡ frees_of (cell_of board.now) }
 {
     match entry {
@@ -41,7 +40,7 @@ pub(crate) fn tell_touched(index: &mut FitIndex, board: &Board, entry: &Entry)
 
 /// Tells the index what is free on these machines, which has told all else.
 pub(crate) fn tell_all(index: &mut FitIndex, board: &Board, machines: &[u64])
-    requires { TellsBut (λ id. list_any (λ machine. machine == id) machines.now) board.now.tasks index.old.free (machines_of board.now.table) }
+    requires { TellsBut (is_in machines.now) board.now.tasks index.old.free (machines_of board.now.table) }
     ensures { index.new.free ≡ frees_of (cell_of board.now) }
 {
     for machine in machines {
@@ -51,7 +50,7 @@ pub(crate) fn tell_all(index: &mut FitIndex, board: &Board, machines: &[u64])
 
 /// Tells the index what is free on a machine, which has told all else.
 pub(crate) fn tell_one(index: &mut FitIndex, board: &Board, machine: u64)
-    requires { TellsBut (λ id. machine == id) board.now.tasks index.old.free (machines_of board.now.table) }
+    requires { TellsBut (is_this machine) board.now.tasks index.old.free (machines_of board.now.table) }
     ensures { index.new.free ≡ frees_of (cell_of board.now) }
 {
     tell(index, board, machine);
@@ -59,7 +58,7 @@ pub(crate) fn tell_one(index: &mut FitIndex, board: &Board, machine: u64)
 
 // The same for the machines of the placed claims.
 fn tell_placed(index: &mut FitIndex, board: &Board, claims: &[Claim], reply: &[Judgement])
-    requires { TellsBut (λ id. list_any (places_on id) (zip claims.now reply.now)) board.now.tasks index.old.free (machines_of board.now.table) }
+    requires { TellsBut (is_claimed (zip claims.now reply.now)) board.now.tasks index.old.free (machines_of board.now.table) }
     ensures { index.new.free ≡ frees_of (cell_of board.now) }
 {
     let count = claims.len().min(reply.len());
@@ -73,7 +72,7 @@ fn tell_placed(index: &mut FitIndex, board: &Board, claims: &[Claim], reply: &[J
 // Tells the index what is free on a machine, if it is in the list.
 fn tell(index: &mut FitIndex, board: &Board, machine: u64)
     requires { length index.old.free ≡ length board.now.table }
-    ensures { (stale : ℕ → Bool) → TellsBut (λ id. machine == id || stale id) board.now.tasks index.old.free (machines_of board.now.table) → TellsBut stale board.now.tasks index.new.free (machines_of board.now.table) }
+    ensures { (stale : ℕ → Bool) → TellsBut (is_this_or machine stale) board.now.tasks index.old.free (machines_of board.now.table) → TellsBut stale board.now.tasks index.new.free (machines_of board.now.table) }
 {
     let machines = board.machines();
     match machines.position(machine) {

@@ -22,4 +22,4 @@ pub returns : goal.returns
 returns c =
     told_all c.args.board.now.tasks c.loop-machine.index.free (machines_of c.args.board.now.table)
     (subst (λ ms. TellsBut (λ id. list_any (λ machine. machine == id) ms) c.args.board.now.tasks c.loop-machine.index.free (machines_of c.args.board.now.table))
-    (drop_all c.args.machines.now c.loop-machine.machine-index c.loop-machine-test.false) c.loop-machine.invariant)
+    (drop_all c.loop-machine.machine-index c.args.machines.now c.loop-machine-test.false) c.loop-machine.invariant)
