@@ -29,8 +29,27 @@ impl Board {
         ensures undo { IfOk result (λ undo. IsUndoOf self.new undo) }
         ensures content { IfOk result (λ undo. at_reserve undo self.new ≡ self.new) }
     {
-        let undo = Undo::with_room(alloc, claims.len(), count_victims(claims.as_slice())?)?;
-        self.running.reserve(alloc, claims.len())?;
+        let victims = count_victims(claims.as_slice())?;
+        self.reserve_room(alloc, claims.len(), victims)
+    }
+
+    /// Makes room for placing so many claims with so many victims in all, and for taking them back.
+    /// The machines and tasks stay, also where memory runs out, and no room is lost then.
+    pub fn reserve_room(
+        &mut self,
+        alloc: Global,
+        claims: usize,
+        victims: usize,
+    ) -> Result<Undo, NoMemory>
+        ensures table { self.new.table ≡ self.old.table }
+        ensures tasks { self.new.tasks ≡ self.old.tasks }
+        ensures kept { self.old.spare ≤ self.new.spare }
+        ensures room { IfOk result (λ undo. undo ≡ record { log = []; claims = claims; victims = victims }) }
+        ensures undo { IfOk result (λ undo. IsUndoOf self.new undo) }
+        ensures content { IfOk result (λ undo. at_reserve undo self.new ≡ self.new) }
+    {
+        let undo = Undo::with_room(alloc, claims, victims)?;
+        self.running.reserve(alloc, claims)?;
         Ok(undo)
     }
 

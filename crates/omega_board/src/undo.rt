@@ -1,5 +1,5 @@
 //! The log by which placed claims are taken back.
-ghost use Rattle.std.specs.Prelude.{◌≡◌, ◌+◌, ◌<◌, ◌≤◌, [], ◌∷◌, IfOk, MatchOption};
+ghost use Rattle.std.specs.Prelude.{◌≡◌, ◌+◌, ◌<◌, ◌≤◌, [], ◌∷◌, IfOk, OnOk, MatchOption};
 ghost use Rattle.omega_board.specs.Undo.{UndoState};
 
 use omega_model::{NoMemory, Task, TaskKey};
@@ -49,6 +49,25 @@ impl Undo {
             claims,
             victims,
         })
+    }
+
+    /// Makes room for at least so many victims. The changes and the room for claims stay, also where
+    /// memory runs out, and no room is lost then. Takes no memory where there is enough room.
+    pub fn reserve_victims(&mut self, n: usize) -> Result<(), NoMemory>
+        ensures log { self.new.log ≡ self.old.log }
+        ensures claims { self.new.claims ≡ self.old.claims }
+        ensures kept { self.old.victims ≤ self.new.victims }
+        ensures room { OnOk result (n ≤ self.new.victims) }
+    {
+        if n <= self.victims {
+            return Ok(());
+        }
+        let Some(room) = self.claims.checked_add(n) else {
+            return Err(NoMemory);
+        };
+        self.log.reserve(room)?;
+        self.victims = n;
+        Ok(())
     }
 
     // Notes that a task stopped. Takes no memory.

@@ -1,0 +1,4 @@
+pub mod Tells
+pub mod Untouched
+pub mod Trials
+pub mod Follows

@@ -1,0 +1,11 @@
+use Rattle.omega_copy.proofs.Follows.{next_may, follows_more}
+use Rattle.omega_copy.proofs.copy.PrivateCopy.follow.Goals as goal
+
+pub take_in-requires-clause-may : goal.take_in-requires-clause-may
+take_in-requires-clause-may c =
+    next_may c.args.self.now c.loop-entry.self c.args.later.now c.loop-entry.entry-index c.entry-item.result c.loop-entry.invariant c.loop-entry-test.true c.entry-item.is c.requires.history
+
+pub loop-entry-preserved : goal.loop-entry-preserved
+loop-entry-preserved c =
+    follows_more c.args.self.now c.loop-entry.self c.args.later.now c.loop-entry.entry-index c.entry-item.result c.loop-entry.invariant c.loop-entry-test.true c.entry-item.is
+    c.take_in.new.self c.take_in.ensures.no_trial c.in_ok-take_in.ensures.seen c.in_ok-take_in.ensures.cell c.in_ok-take_in.ensures.seqs

@@ -1,0 +1,14 @@
+//! A scheduler's private copy of the cell.
+//!
+//! A copy follows the history of the cell that all schedulers share, and knows what is free on each
+//! machine by an index that every change of its board is told to. A scheduler plans on it: it begins
+//! a trial, makes its claims on the copy alone, and drops them again.
+#![tactic(auto)]
+
+mod copy;
+mod telling;
+#[cfg(test)]
+mod tests;
+mod trial;
+
+pub use copy::PrivateCopy;
