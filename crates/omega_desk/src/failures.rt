@@ -1,6 +1,7 @@
 //! How many commits in a row for each job placed nothing.
 ghost use Rattle.std.specs.Prelude.{◌≡◌, ◌<◌, ◌+◌, ◌^◌, ℕ, [], OnOk, map};
-ghost use Rattle.std.specs.List.{All};
+ghost use Rattle.std.specs.List.{All, list_any};
+ghost use Rattle.omega_model.specs.Touches.{is_placed};
 ghost use Rattle.omega_model.specs.Work.{failing_after, failing_with};
 ghost use Rattle.omega_model.specs.declared.wishes.Request.{Request};
 ghost use Rattle.omega_desk.specs.Counts.{count_of, IsCounted, KeepsCounts, KeepsRoom};
@@ -77,9 +78,12 @@ fn failing_after(count: u64, outcomes: &[Outcome]) -> u64
     requires { count + 1 < 2 ^ 64 }
     ensures { result ≡ failing_after count outcomes.now }
 {
-    if outcomes.iter().any(|outcome| outcome.verdict.is_placed()) {
-        0
-    } else {
-        count + 1
-    }
+    if places_any(outcomes) { 0 } else { count + 1 }
+}
+
+// Whether outcomes place a task.
+fn places_any(outcomes: &[Outcome]) -> bool
+    ensures { result ≡ list_any (λ outcome. is_placed outcome.verdict) outcomes.now }
+{
+    outcomes.iter().any(|outcome| outcome.verdict.is_placed())
 }
