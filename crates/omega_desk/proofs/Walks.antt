@@ -1,6 +1,6 @@
 -- Walking wishes along outcomes in their order leaves what comparing each with each would leave.
-use Rattle.std.proofs.Common.{◌≡◌, Bool, true, false, not, cond, ◌&&◌, ◌||◌, List, [], ◌∷◌, map, length, refl, sym, ap, ◌∙◌, subst, arith}
-use Rattle.std.specs.List.{filter, list_any, items_where_true, IsDistinct, AllByRecursion as Each}
+use Rattle.std.proofs.Common.{◌≡◌, Bool, true, false, not, cond, List, [], ◌∷◌, map, length, refl, sym, ap, ◌∙◌, subst, arith}
+use Rattle.std.specs.List.{filter, items_where_true, IsDistinct, AllByRecursion as Each}
 use Rattle.std.specs.List.Retain.{IsFiltered, ReturnsInTurn}
 use Rattle.std.proofs.lemmas.Bool.{and_parts, both_ways, eqb-true}
 use Rattle.std.proofs.lemmas.Map.Keys.{IsDistinct-head, IsDistinct-tail, IsDistinct-cons}

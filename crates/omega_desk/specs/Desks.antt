@@ -1,5 +1,5 @@
 -- What a desk is seen as.
-use Rattle.std.specs.Prelude.{◌≡◌, ℕ, ◌≤◌, Bool, true, List, [], ◌∷◌, ◌++◌, Option, None, Some, nat_le, option_to_list, IsNone}
+use Rattle.std.specs.Prelude.{◌≡◌, ℕ, ◌≤◌, true, List, [], ◌∷◌, ◌++◌, Option, not, nat_le, option_to_list, IsNone}
 use Rattle.std.specs.List.{All, filter}
 use Rattle.omega_model.specs.Work.{Standing}
 use Rattle.omega_model.specs.declared.claims.Outcome.{Outcome}
@@ -32,9 +32,10 @@ pub record IsSameDesk (old new : DeskState) : Type 0 where
   pub settings : new.settings ≡ old.settings
   pub scheduler : new.scheduler ≡ old.scheduler
 
--- whether a job with so many commits in a row that placed nothing is given up
-abbrev pub gives_up : Settings → ℕ → Bool
-gives_up settings failing = nat_le settings.give_up failing
+-- the requests of jobs that aren't given up, where each job has so many commits in a row that placed
+-- nothing
+abbrev pub open_requests : Settings → (ℕ → ℕ) → List Request → List Request
+open_requests settings failing requests = filter (λ request. not (nat_le settings.give_up (failing request.job))) requests
 
 -- there is a request left, and the tasks of the outcomes are some of its, in their order
 abbrev pub AnswersFirst : List Request → List Outcome → Type 0

@@ -1,9 +1,8 @@
 -- Wishes and outcomes side by side.
-use Rattle.std.specs.Prelude.{◌≡◌, Bool, true, false, List, [], ◌∷◌, not, map, if◌then◌else◌}
+use Rattle.std.specs.Prelude.{Bool, true, false, List, [], ◌∷◌, not, map, if◌then◌else◌}
 use Rattle.std.specs.List.{IsDistinct}
 use Rattle.omega_model.specs.Keys.{same_key}
 use Rattle.omega_model.specs.Touches.{is_placed}
-use Rattle.omega_model.specs.declared.cells.TaskKey.{TaskKey}
 use Rattle.omega_model.specs.declared.claims.Outcome.{Outcome}
 use Rattle.omega_model.specs.declared.wishes.Request.{Request}
 use Rattle.omega_model.specs.declared.wishes.Wish.{Wish}

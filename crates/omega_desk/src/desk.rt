@@ -1,11 +1,10 @@
 //! The desk.
-ghost use Rattle.std.specs.Prelude.{◌≡◌, ◌+◌, ◌<◌, ◌^◌, [], Some, not, option_map, slice_get, OnOk, OnErr};
-ghost use Rattle.std.specs.List.{All, filter};
+ghost use Rattle.std.specs.Prelude.{◌≡◌, ◌+◌, ◌<◌, ◌^◌, [], Some, option_map, slice_get, OnOk, OnErr};
+ghost use Rattle.std.specs.List.{All};
 ghost use Rattle.omega_model.specs.Draws.{drawn_start};
 ghost use Rattle.omega_model.specs.Work.{after_outcomes, fresh};
-ghost use Rattle.omega_model.specs.declared.wishes.Request.{Request};
 ghost use Rattle.omega_desk.specs.Counts.{count_of};
-ghost use Rattle.omega_desk.specs.Desks.{AnswersFirst, IsSameDesk, gives_up, left_at};
+ghost use Rattle.omega_desk.specs.Desks.{AnswersFirst, IsSameDesk, left_at, open_requests};
 ghost use Rattle.omega_desk.specs.Walks.{HasDistinctWishes};
 
 use crate::failures::Failures;
@@ -71,7 +70,7 @@ impl Desk {
         ensures desk { IsSameDesk self.old self.new }
         ensures attempts { self.new.attempts ≡ self.old.attempts }
         ensures ok { OnOk result (left_at self.new ≡ fresh (left_at self.old).failing
-            (filter (λ (request : Request). not (gives_up self.old.settings (count_of self.old.counts request.job))) requests)) }
+            (open_requests self.old.settings (left_at self.old).failing requests)) }
         ensures err { OnErr result (left_at self.new ≡ fresh (left_at self.old).failing []) }
     {
         let requests = open_requests(requests, &self.failures, &self.settings);
@@ -92,7 +91,8 @@ impl Desk {
     /// The place in a list of so many machines at which the present attempt begins: below their
     /// number, or 0 where there are none. Takes no memory, and its cost doesn't grow with the attempts.
     pub fn start(&self, machines: usize) -> usize
-        ensures { result ≡ drawn_start self.now.settings self.now.scheduler self.now.attempts machines }
+        ensures drawn { result ≡ drawn_start self.now.settings self.now.scheduler self.now.attempts machines }
+        ensures below { 0 < machines → result < machines }
     {
         if machines == 0 {
             return 0;
@@ -110,7 +110,8 @@ impl Desk {
         requires few { self.old.attempts + 1 < 2 ^ 64 }
         ensures desk { IsSameDesk self.old self.new }
         ensures attempts { self.new.attempts ≡ self.old.attempts + 1 }
-        ensures left { after_outcomes self.old.settings (left_at self.old) self.old.requests reply.now.outcomes ≡ Some (left_at self.new) }
+        ensures left { after_outcomes self.old.settings (left_at self.old) self.old.requests reply.now.outcomes
+            ≡ Some (left_at self.new) }
     {
         let Some(request) = self.present.take() else {
             return;
@@ -131,7 +132,7 @@ impl Desk {
 
 // The requests of jobs that aren't given up.
 fn open_requests(requests: Requests, failures: &Failures, settings: &Settings) -> Vec<Request>
-    ensures { result.items ≡ filter (λ (request : Request). not (gives_up settings.now (count_of failures.now.counts.entries request.job))) requests }
+    ensures { result.items ≡ open_requests settings.now (count_of failures.now.counts.entries) requests }
 {
     let mut open = requests.into_items();
     open.retain(|request| failures.of(request.job) < u64::from(settings.give_up));

@@ -10,3 +10,6 @@ mod walk;
 
 pub use desk::Desk;
 
+
+#[cfg(test)]
+mod tests;

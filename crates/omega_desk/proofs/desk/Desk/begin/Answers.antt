@@ -1,9 +1,9 @@
-use Rattle.std.proofs.Common.{◌≡◌, ◌++◌, [], Bool, List, not, sym, ap, ◌∙◌, subst}
-use Rattle.std.specs.List.{All, filter}
+use Rattle.std.proofs.Common.{Bool, nat_le, not, sym, ap, ◌∙◌, subst}
+use Rattle.std.specs.List.{All}
 use Rattle.std.proofs.lemmas.List.Elements.{All-filter}
 use Rattle.omega_model.specs.declared.wishes.Request.{Request}
 use Rattle.omega_desk.specs.Counts.{count_of, IsCounted}
-use Rattle.omega_desk.specs.Desks.{DeskState, gives_up}
+use Rattle.omega_desk.specs.Desks.{DeskState}
 use Rattle.omega_desk.specs.Walks.{HasDistinctWishes}
 use Rattle.omega_desk.proofs.Desks.{opened}
 use Rattle.omega_desk.proofs.desk.Desk.begin.Goals as goal
@@ -11,7 +11,7 @@ use Rattle.omega_desk.proofs.desk.Desk.begin.Goals as goal
 pub invariant_of-self-2 : goal.invariant_of-self-2
 invariant_of-self-2 c =
     let d = c.self.inside in
-    let keeps : Request → Bool = λ request. not (gives_up d.settings (count_of d.failures.counts.entries request.job)) in
+    let keeps : Request → Bool = λ request. not (nat_le d.settings.give_up (count_of d.failures.counts.entries request.job)) in
     let counted : Request → Type 0 = λ request. IsCounted c.reserve.new.self.counts.entries request.job in
     let none = ap (λ (desk : DeskState). desk.requests) c.self.view_is ∙ c.requires.no_work in
     let kept = c.from.ensures.0 ∙ c.open_requests-requests.ensures in
