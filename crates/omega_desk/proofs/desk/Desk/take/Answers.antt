@@ -1,0 +1,18 @@
+use Rattle.std.proofs.Common.{sym, ◌∙◌, subst}
+use Rattle.omega_desk.specs.Desks.{IsDesk}
+use Rattle.omega_desk.proofs.Desks.{moved, stayed}
+use Rattle.omega_desk.proofs.desk.Desk.take.Goals as goal
+
+pub invariant_of-self-then-ends_request : goal.invariant_of-self-then-ends_request
+invariant_of-self-then-ends_request c =
+    let d = c.self.inside in
+    let desk = subst (λ p. IsDesk p d.waiting.items d.attempts d.taken d.failures.counts.entries) (sym c.take.ensures.value ∙ c.in-Some.is) c.self.invariant in
+    moved c.in-Some.request d.waiting.items d.attempts d.taken d.failures.counts.entries _ c.as_slice-outcomes.result.now desk c.note-failing.ensures.others c.note-failing.ensures.counts
+    _ _ c.pop_front.ensures.items c.pop_front.ensures.rest
+
+pub invariant_of-self-else-ends_request-2 : goal.invariant_of-self-else-ends_request-2
+invariant_of-self-else-ends_request-2 c =
+    let d = c.self.inside in
+    let desk = subst (λ p. IsDesk p d.waiting.items d.attempts d.taken d.failures.counts.entries) (sym c.take.ensures.value ∙ c.in-Some.is) c.self.invariant in
+    stayed c.in-Some.request d.waiting.items d.attempts d.taken d.failures.counts.entries _ c.as_slice-outcomes.result.now desk c.note-failing.ensures.others c.note-failing.ensures.counts
+    _ c.rest_of-rest.ensures

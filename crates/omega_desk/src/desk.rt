@@ -1,0 +1,140 @@
+//! The desk.
+ghost use Rattle.std.specs.Prelude.{◌≡◌, ◌+◌, ◌<◌, ◌^◌, [], Some, option_map, slice_get, OnOk, OnErr};
+ghost use Rattle.std.specs.List.{All};
+ghost use Rattle.omega_model.specs.Draws.{drawn_start};
+ghost use Rattle.omega_model.specs.Work.{after_outcomes, fresh};
+ghost use Rattle.omega_desk.specs.Counts.{count_of};
+ghost use Rattle.omega_desk.specs.Desks.{AnswersFirst, IsSameDesk, left_at, open_requests};
+ghost use Rattle.omega_desk.specs.Walks.{HasDistinctWishes};
+
+use crate::failures::Failures;
+use crate::walk::{ends_request, rest_of};
+use omega_model::{NoMemory, Reply, Request, Requests, Settings};
+use rand_pcg::Lcg64Xsh32;
+use rand_pcg::rand_core::utils::NextWord;
+use std::alloc::Global;
+use std::collections::VecDeque;
+use std::marker::Model;
+
+/// What is left of a scheduler's work in a round, and how many attempts it has taken in all.
+///
+/// A contract sees whose desk it is, the requests that are left in order, the first of them with the
+/// wishes that aren't placed yet, and the counts that decide when a request ends.
+#[derive(Drop)]
+pub struct Desk {
+    settings: Settings,
+    scheduler: u32,
+    attempts: u64,
+    taken: u64,
+    present: Option<Request>,
+    waiting: VecDeque<Request>,
+    failures: Failures,
+}
+
+impl Model for Desk {
+    ghost use Rattle.std.specs.Prelude.{◌++◌, option_to_list};
+    ghost use Rattle.omega_desk.specs.Desks.{DeskState, IsDesk};
+
+    ghost Value = { DeskState };
+
+    ghost view = { λ d. record { settings = d.settings; scheduler = d.scheduler; attempts = d.attempts; requests = option_to_list d.present ++ d.waiting.items; taken = d.taken; counts = d.failures.counts.entries } };
+
+    ghost invariant = { λ d. IsDesk d.present d.waiting.items d.attempts d.taken d.failures.counts.entries };
+}
+
+impl Desk {
+    /// The desk of a scheduler that has no work and has taken no attempts. Takes no memory.
+    pub fn new(alloc: Global, settings: &Settings, scheduler: u32) -> Desk
+        ensures settings { result.settings ≡ settings.now }
+        ensures scheduler { result.scheduler ≡ scheduler }
+        ensures attempts { result.attempts ≡ 0 }
+        ensures left { left_at result ≡ fresh (λ job. 0) [] }
+    {
+        Desk {
+            settings: *settings,
+            scheduler,
+            attempts: 0,
+            taken: 0,
+            present: None,
+            waiting: VecDeque::new(alloc),
+            failures: Failures::new(alloc),
+        }
+    }
+
+    /// Takes a round's requests in order, but for those of jobs that are given up, and makes room for
+    /// what `take` counts. Where memory runs out no work is left. Costs the requests, each times the
+    /// logarithm of the jobs that the desk has seen.
+    pub fn begin(&mut self, requests: Requests) -> Result<(), NoMemory>
+        requires no_work { self.old.requests ≡ [] }
+        requires distinct { All HasDistinctWishes requests }
+        ensures desk { IsSameDesk self.old self.new }
+        ensures attempts { self.new.attempts ≡ self.old.attempts }
+        ensures ok { OnOk result (left_at self.new ≡ fresh (left_at self.old).failing
+            (open_requests self.old.settings (left_at self.old).failing requests)) }
+        ensures err { OnErr result (left_at self.new ≡ fresh (left_at self.old).failing []) }
+    {
+        let requests = open_requests(requests, &self.failures, &self.settings);
+        self.failures.reserve(requests.as_slice())?;
+        self.waiting = VecDeque::from(requests);
+        self.present = self.waiting.pop_front();
+        Ok(())
+    }
+
+    /// The present request with the wishes that aren't placed yet. `None` exactly where nothing is
+    /// left of the round's work. Takes no memory.
+    pub fn next(&self) -> Option<&Request>
+        ensures { option_map (λ request. request.now) result ≡ slice_get self.now.requests 0 }
+    {
+        self.present.as_ref()
+    }
+
+    /// The place in a list of so many machines at which the present attempt begins: below their
+    /// number, or 0 where there are none. Takes no memory, and its cost doesn't grow with the attempts.
+    pub fn start(&self, machines: usize) -> usize
+        ensures drawn { result ≡ drawn_start self.now.settings self.now.scheduler self.now.attempts machines }
+        ensures below { 0 < machines → result < machines }
+    {
+        if machines == 0 {
+            return 0;
+        }
+        let mut words = Lcg64Xsh32::new(self.settings.seed, u64::from(self.scheduler));
+        words.advance(self.attempts);
+        words.next_word() as usize % machines
+    }
+
+    /// Counts an attempt on the present request and moves on by what was answered to its commit. Its
+    /// outcomes are for wishes of the request, in the order of the wishes. Costs the request, and the
+    /// logarithm of the jobs that the desk has seen. Takes no memory.
+    pub fn take(&mut self, reply: &Reply)
+        requires answers { AnswersFirst self.old.requests reply.now.outcomes }
+        requires few { self.old.attempts + 1 < 2 ^ 64 }
+        ensures desk { IsSameDesk self.old self.new }
+        ensures attempts { self.new.attempts ≡ self.old.attempts + 1 }
+        ensures left { after_outcomes self.old.settings (left_at self.old) self.old.requests reply.now.outcomes
+            ≡ Some (left_at self.new) }
+    {
+        let Some(request) = self.present.take() else {
+            return;
+        };
+        let outcomes = reply.outcomes.as_slice();
+        self.attempts += 1;
+        self.taken += 1;
+        let failing = self.failures.note(request.job, outcomes);
+        let rest = rest_of(request, outcomes);
+        if ends_request(&self.settings, self.taken, failing, &rest, outcomes) {
+            self.taken = 0;
+            self.present = self.waiting.pop_front();
+        } else {
+            self.present = Some(rest);
+        }
+    }
+}
+
+// The requests of jobs that aren't given up.
+fn open_requests(requests: Requests, failures: &Failures, settings: &Settings) -> Vec<Request>
+    ensures { result.items ≡ open_requests settings.now (count_of failures.now.counts.entries) requests }
+{
+    let mut open = requests.into_items();
+    open.retain(|request| failures.of(request.job) < u64::from(settings.give_up));
+    open
+}

@@ -1,0 +1,15 @@
+//! A scheduler's desk: what is left of its work, and where its present attempt begins.
+//!
+//! A desk takes a round's requests in order. It hands out the first one with the wishes that aren't
+//! placed yet, and takes what came of an attempt on it, until nothing is left.
+#![tactic(auto)]
+
+mod desk;
+mod failures;
+mod walk;
+
+pub use desk::Desk;
+
+
+#[cfg(test)]
+mod tests;
