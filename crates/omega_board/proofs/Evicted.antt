@@ -14,9 +14,9 @@ use Rattle.omega_model.specs.declared.cells.Task.{Task}
 use Rattle.omega_model.specs.declared.claims.Claim.{Claim}
 use Rattle.omega_running.specs.Order.{Each}
 use Rattle.omega_running.proofs.Lists.{each_map, each_both}
-use Rattle.omega_board.proofs.Tasks.{key_same}
 use Rattle.omega_board.proofs.Standing.{AreStanding, later_apart, each_drop}
 use Rattle.omega_model.proofs.Lists.{by_answer}
+use Rattle.omega_model.proofs.InOrder.{key_same}
 
 -- the first of the beginnings of at least this length that passes a test
 abbrev pub first_from : (List TaskKey → Bool) → List TaskKey → ℕ → Option (List TaskKey)

@@ -15,8 +15,8 @@ use Rattle.omega_model.specs.declared.cells.Task.{Task}
 use Rattle.omega_running.specs.declared.orders.Order.TheVariants.{ByKey}
 use Rattle.omega_running.specs.Order.{Each, IsInOrder}
 use Rattle.omega_running.proofs.Lists.{each_map, each_both, each_of, each_back, filter_every, filter_none, filter_where}
-use Rattle.omega_board.proofs.Tasks.{stays, each_filter, filter_and, filter_alike, key_same}
-use Rattle.omega_model.proofs.InOrder.{key_itself, key_differs}
+use Rattle.omega_board.proofs.Tasks.{stays, each_filter, filter_and, filter_alike}
+use Rattle.omega_model.proofs.InOrder.{key_itself, key_differs, key_same, same_key-sym}
 use Rattle.omega_model.proofs.Amounts.{fits_tested, rank_total, plus-swap, need_is, total-cons, share}
 use Rattle.omega_model.proofs.Lists.{by_answer}
 
@@ -73,9 +73,6 @@ ranked_found tasks id order =
 abbrev pub Apart : List Task → Type 0
 Apart [] = Unit {0}
 Apart (t ∷ tasks) = Each (λ y. same_key t.key y.key ≡ false) tasks × Apart tasks
-
-same_key-sym : (a b : TaskKey) → same_key a b ≡ false → same_key b a ≡ false
-same_key-sym a b differ = by_answer (same_key b a) (λ t. absurd (both_ways _ differ (subst (λ k. same_key k b ≡ true) (key_same b a t) (key_itself b)))) (λ f. f)
 
 ordered_apart : (tasks : List Task) → IsInOrder ByKey tasks → Apart tasks
 ordered_apart [] order = tt

@@ -18,8 +18,8 @@ use Rattle.omega_model.specs.declared.claims.Verdict.TheVariants.{SameJob}
 use Rattle.omega_running.specs.Order.{Each}
 use Rattle.omega_running.proofs.Lists.{each_map, each_both, each_of}
 use Rattle.omega_board.specs.Board.{Stand}
-use Rattle.omega_board.proofs.Tasks.{each_filter, each_passes, filter_and, filter_alike, key_same}
-use Rattle.omega_model.proofs.InOrder.{key_itself}
+use Rattle.omega_board.proofs.Tasks.{each_filter, each_passes, filter_and, filter_alike}
+use Rattle.omega_model.proofs.InOrder.{key_itself, key_same}
 use Rattle.omega_model.proofs.Lists.{by_answer}
 
 -- the names that pass a test and are among some

@@ -17,7 +17,7 @@ use Rattle.omega_running.proofs.Lists.{each_map, each_append, each_of, filter_ev
 use Rattle.omega_running.proofs.Strict.{trans}
 use Rattle.omega_running.proofs.InOrder.{key_apart, key_strict}
 use Rattle.omega_running.proofs.Kept.{put_is, put_rises, rises_filter, without_absent}
-use Rattle.omega_model.proofs.InOrder.{key_itself, key_differs, key_asym}
+use Rattle.omega_model.proofs.InOrder.{key_itself, key_differs, key_asym, key_same}
 use Rattle.omega_model.proofs.Lists.{by_answer}
 
 module _ {X : Type 0} where
@@ -71,14 +71,6 @@ module _ {X : Type 0} where
       by_answer (s x)
       (λ t. rw t (ap (λ o. cond (q x) (Some x) o) (find_filtered q s leaves xs)))
       (λ f. by_answer (q x) (λ u. absurd (both_ways (s x) f (leaves x u))) (λ u. rw (f, u) (find_filtered q s leaves xs)))
-
--- names of one task are equal
-pub key_same : (a b : TaskKey) → same_key a b ≡ true → a ≡ b
-key_same a b e =
-    let parts = and_parts _ _ e in
-    let job = eqb-true _ _ parts.0 in
-    let index = eqb-true _ _ parts.1 in
-    λ i. record { job = job i; index = index i }
 
 pub key_differs_back : (a b : TaskKey) → key_lt a b ≡ true → same_key b a ≡ false
 key_differs_back a b less = not-true (same_key b a) (sym (key_apart b a) ∙ or_right _ _ less)

@@ -16,12 +16,12 @@ use Rattle.omega_model.specs.declared.claims.Claim.{Claim}
 use Rattle.omega_model.specs.declared.claims.Judgement.{Judgement}
 use Rattle.omega_machines.specs.declared.MachineState.{MachineState}
 use Rattle.omega_machines.specs.Table.{machines_of, free_at, free_if_up, IsTable}
-use Rattle.omega_machines.proofs.Places.{by_answer}
 use Rattle.omega_running.specs.Order.{Each}
 use Rattle.omega_board.specs.Board.{IsCounted}
 use Rattle.omega_board.proofs.Boards.{recounted-same}
 use Rattle.omega_board.proofs.Counts.{zip_more, zip_past}
 use Rattle.omega_copy.specs.Telling.{free_on, TellsBut, grown}
+use Rattle.omega_model.proofs.Lists.{by_answer}
 
 -- an index has a place for each machine
 pub told_length : (stale : ℕ → Bool) (tasks : List Task) (frees : List (Option Need)) (ms : List Machine) → TellsBut stale tasks frees ms → length frees ≡ length ms

@@ -24,7 +24,6 @@ use Rattle.omega_model.specs.declared.claims.Verdict.{Verdict}
 use Rattle.omega_model.specs.declared.claims.Verdict.TheVariants.{Placed}
 use Rattle.omega_model.specs.declared.entries.Entry.{Entry}
 use Rattle.omega_model.specs.declared.entries.Entry.TheVariants.{Round, MachineAdd, MachineUpdate, MachineRemove, AttrSet, AttrDelete, End, Commit}
-use Rattle.omega_machines.proofs.Places.{by_answer}
 use Rattle.omega_running.specs.declared.orders.Order.TheVariants.{ByKey}
 use Rattle.omega_running.specs.Order.{Each, IsInOrder}
 use Rattle.omega_running.proofs.Lists.{each_map, each_both, each_of, each_front, filter_where}
@@ -32,10 +31,13 @@ use Rattle.omega_board.proofs.Claims.{absent_still}
 use Rattle.omega_board.proofs.Parts.{runs_on_is, found_on}
 use Rattle.omega_board.proofs.Placed.{placed_so, is_placed-Placed}
 use Rattle.omega_board.proofs.Ranks.{each_here, each_rank, excess_first}
-use Rattle.omega_board.proofs.Tasks.{each_filter, each_passes, filter_and, key_same, with_ordered, without_ordered}
-use Rattle.omega_board.proofs.Uses.{plus-nothing, total-with}
+use Rattle.omega_board.proofs.Tasks.{each_filter, each_passes, filter_and, with_ordered, without_ordered}
+use Rattle.omega_board.proofs.Uses.{total-with}
 use Rattle.omega_copy.specs.Telling.{frees_of, TellsBut, grown}
 use Rattle.omega_copy.proofs.Tells.{apart, tells_while, tells_changed, tells_grown, tells_ensured}
+use Rattle.omega_model.proofs.InOrder.{key_same}
+use Rattle.omega_model.proofs.Amounts.{plus-nothing}
+use Rattle.omega_model.proofs.Lists.{by_answer}
 
 -- where the tasks on a machine stay, it uses as much
 use_kept : (tasks : List Task) (id : ℕ) (p : Task → Bool) → Each (λ t. is_on id t ≡ true → p t ≡ true) tasks → use_on (filter p tasks) id ≡ use_on tasks id

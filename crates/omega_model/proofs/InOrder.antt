@@ -1,7 +1,7 @@
 -- Running tasks in order of name, with some less and with one more.
-use Rattle.std.proofs.Common.{◌≡◌, ◌<◌, ◌⊎◌, inl, inr, Bool, true, false, List, [], ◌∷◌, ◌++◌, refl, ◌∙◌, arith}
+use Rattle.std.proofs.Common.{◌≡◌, ◌<◌, ◌⊎◌, inl, inr, Bool, true, false, List, [], ◌∷◌, ◌++◌, refl, subst, ◌∙◌, arith}
 use Rattle.std.specs.List.{filter, IsDistinct, AllByRecursion as Each}
-use Rattle.std.proofs.lemmas.Bool.{and_parts, and_from, or_cases, or_left, or_right, ltb-true, lt-ltb, eqb-true, eq-eqb, false_from_ne_true}
+use Rattle.std.proofs.lemmas.Bool.{and_parts, and_from, both_ways, or_cases, or_left, or_right, ltb-true, lt-ltb, eqb-true, eq-eqb, false_from_ne_true}
 use Rattle.std.proofs.lemmas.Map.Keys.{IsDistinct-cons}
 use Rattle.omega_model.specs.Cell.{with_task, keys_of}
 use Rattle.omega_model.specs.Keys.{same_key, key_lt}
@@ -53,6 +53,19 @@ key_differs a b p = false_from_ne_true _ (λ same.
 -- a name is its own
 pub key_itself : (key : TaskKey) → same_key key key ≡ true
 key_itself key = and_from _ _ (eq-eqb key.job key.job refl) (eq-eqb key.index key.index refl)
+
+-- names of one task are equal
+pub key_same : (a b : TaskKey) → same_key a b ≡ true → a ≡ b
+key_same a b e =
+    let parts = and_parts _ _ e in
+    let job = eqb-true _ _ parts.0 in
+    let index = eqb-true _ _ parts.1 in
+    λ i. record { job = job i; index = index i }
+
+-- names of two tasks in the other order
+pub same_key-sym : (a b : TaskKey) → same_key a b ≡ false → same_key b a ≡ false
+same_key-sym a b differ =
+    by_answer (same_key b a) (λ t. absurd (both_ways _ differ (subst (λ k. same_key k b ≡ true) (key_same b a t) (key_itself b)))) (λ f. f)
 
 -- tasks stand in order of name
 abbrev pub Rise : List Task → Type 0

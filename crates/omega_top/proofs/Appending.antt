@@ -15,10 +15,11 @@ use Rattle.omega_model.specs.declared.entries.Entry.{Entry}
 use Rattle.omega_model.specs.declared.entries.Entry.TheVariants.{Round, MachineAdd, MachineUpdate, MachineRemove, AttrSet, AttrDelete, End, Commit}
 use Rattle.omega_model.specs.declared.rows.Row.{Row}
 use Rattle.omega_model.specs.declared.rows.Row.TheVariants.{Machine, Attr, Task as TaskEvent}
+use Rattle.omega_model.specs.Keys.{same_key}
 use Rattle.omega_model.proofs.Lists.{found_passes}
-use Rattle.omega_board.proofs.Tasks.{key_same}
 use Rattle.omega_top.specs.Replays.{MayAppend, MayAppendAll}
 use Rattle.omega_top.proofs.Placing.{reply_places}
+use Rattle.omega_model.proofs.InOrder.{key_same}
 
 -- a round may begin at any time
 pub round_may : (history : List Entry) (number : ℕ) → MayAppend history (Round number)

@@ -1,5 +1,7 @@
-use Rattle.std.proofs.Common.{◌∙◌}
+use Rattle.std.proofs.Common.{◌∙◌, refl}
 use Rattle.omega_top.proofs.Completing.{completes}
+use Rattle.omega_top.proofs.SomeRun.{no_memory_run, usage_run}
+use Rattle.omega_top.specs.Answers.{default_settings}
 use Rattle.omega_top.proofs.top.omega.Goals as goal
 
 -- entering a folder leaves what is told of the tables
@@ -20,3 +22,12 @@ returns-clause-to_end g c bytes told done = c.omega_with.ensures.to_end bytes (�
 
 pub returns-clause-lawful : goal.returns-clause-lawful
 returns-clause-lawful g c bytes told = c.omega_with.ensures.lawful bytes (λ table. c.enter.ensures.rests table ∙ told table)
+
+pub returns-clause-whole_gangs : goal.returns-clause-whole_gangs
+returns-clause-whole_gangs g c bytes told = c.omega_with.ensures.whole_gangs bytes (λ table. c.enter.ensures.rests table ∙ told table)
+
+pub returns-then-not-say_replay-clause-some_run : goal.returns-then-not-say_replay-clause-some_run
+returns-then-not-say_replay-clause-some_run g c = rw c.refused.ensures.answer (usage_run default_settings _ _ refl)
+
+pub returns-then-is_err-clause-some_run : goal.returns-then-is_err-clause-some_run
+returns-then-is_err-clause-some_run g c = rw c.refused-then-is_err.ensures.answer (no_memory_run default_settings _ _ refl)

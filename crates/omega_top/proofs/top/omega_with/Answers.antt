@@ -1,8 +1,17 @@
-use Rattle.std.proofs.Common.{sym}
+use Rattle.std.proofs.Common.{refl}
 use Rattle.omega_top.proofs.Refusing.{answers_refusal}
 use Rattle.omega_top.proofs.SomeRun.{refused_run, whole_gangs}
 use Rattle.omega_top.proofs.top.omega_with.Goals as goal
 
+pub returns-in-Ok-clause-whole_gangs : goal.returns-in-Ok-clause-whole_gangs
+returns-in-Ok-clause-whole_gangs g c bytes told =
+    let trace = c.in-Ok.ensures.trace bytes told in
+    rw (← trace) (whole_gangs c.args.settings.now _ c.replay_and_write.result.history c.replay_and_write.result.status c.replay_and_write.ensures.lawful)
+
 pub returns-in-Err-clause-first : goal.returns-in-Err-clause-first
 returns-in-Err-clause-first g c bytes told =
     rw (c.refused.ensures.answer, c.from.ensures) (answers_refusal bytes c.in-Err.refusal (c.in-Err.ensures.refusal bytes told))
+
+pub returns-in-Err-clause-some_run : goal.returns-in-Err-clause-some_run
+returns-in-Err-clause-some_run g c =
+    rw (c.refused.ensures.answer, c.from.ensures) (refused_run c.args.settings.now c.in-Err.refusal _ _ refl)
