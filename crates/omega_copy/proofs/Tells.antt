@@ -99,8 +99,10 @@ tells_put stale tasks id (s ∷ ss) (f ∷ fs) place distinct counted is below t
     let next : suc behind ≡ place = omega (arith, counted_on) in
     let differ : (id == s.machine.id) ≡ false = apart s.machine.id id other in
     subst (λ p. TellsBut stale tasks (set (f ∷ fs) p (free_at (s ∷ ss) id)) (machines_of (s ∷ ss))) next
-    (rw other (λ fresh. told.0 (rw (differ, fresh) refl),
-    tells_put stale tasks id ss fs behind (IsDistinct-tail nat_eq s.machine.id (numbers_of (machines_of ss)) distinct) counted.1 refl (omega (arith, below, next)) told.1)))
+    (rw other (
+      λ fresh. told.0 (rw (differ, fresh) refl),
+      tells_put stale tasks id ss fs behind (IsDistinct-tail nat_eq s.machine.id (numbers_of (machines_of ss)) distinct) counted.1 refl (omega (arith, below, next)) told.1,
+    )))
 
 module _ (stale : ℕ → Bool) (tasks : List Task) (id : ℕ) (out : stale id ≡ true) where
   -- a machine that is left out may change

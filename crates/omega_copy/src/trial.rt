@@ -21,12 +21,7 @@ pub(crate) struct Trial {
 
 impl Trial {
     /// Places a claim on the board. Where memory runs out, it isn't placed.
-    pub fn place(
-        &mut self,
-        alloc: Global,
-        board: &mut Board,
-        claim: &Claim,
-    ) -> Result<(), NoMemory>
+    pub fn place(&mut self, alloc: Global, board: &mut Board, claim: &Claim) -> Result<(), NoMemory>
         requires kept { IsTrialOf board.old self.old.undo self.old.machines.items (vec_capacity self.old.machines - vec_len self.old.machines) }
         requires placed { IsTrue (would_be_placed (cell_of board.old) claim.now) }
         requires room { 0 < self.old.undo.claims }

@@ -12,8 +12,8 @@ returns c =
     let with_tasks : List Task → Cell = λ tasks. record { machines = cell.machines; tasks = tasks } in
     if_ok_weaker c.requests_beside.result
     (λ requests is settings trace rows asked.
-        is cell.machines
-        ∙ ap (λ (tasks : List Task). asked_requests c.args.self.now (with_tasks tasks) c.args.scheduler) c.running.ensures.tasks
-        ∙ ap (λ (asks : Asked). asked_requests asks cell c.args.scheduler) asked
-        ∙ asked_open settings trace rows cell c.args.scheduler)
+    is cell.machines
+    ∙ ap (λ (tasks : List Task). asked_requests c.args.self.now (with_tasks tasks) c.args.scheduler) c.running.ensures.tasks
+    ∙ ap (λ (asks : Asked). asked_requests asks cell c.args.scheduler) asked
+    ∙ asked_open settings trace rows cell c.args.scheduler)
     c.requests_beside.ensures
