@@ -70,8 +70,8 @@ grown_with attempts counts job outcomes within other =
     (λ f. rw f (omega (arith, within other)))
 
 module _ (request : Request) (waiting : List Request) (attempts taken : ℕ) (counts new : List (ℕ × ℕ)) (outcomes : List Outcome)
-  (desk : IsDesk (Some request) waiting attempts taken counts) (room : KeepsRoom counts new)
-  (noted : (job : ℕ) → count_of new job ≡ failing_with (count_of counts) request.job outcomes job) where
+    (desk : IsDesk (Some request) waiting attempts taken counts) (room : KeepsRoom counts new)
+    (noted : (job : ℕ) → count_of new job ≡ failing_with (count_of counts) request.job outcomes job) where
   within_new : AreWithin new (attempts + 1)
   within_new job = subst (λ n. n ≤ attempts + 1) (sym (noted job)) (grown_with attempts counts request.job outcomes desk.within job)
 

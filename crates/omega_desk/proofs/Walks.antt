@@ -34,8 +34,8 @@ key_turned : (a b : TaskKey) → same_key a b ≡ false → same_key b a ≡ fal
 key_turned a b apart =
     by_answer (same_key b a)
     (λ same.
-      let e : b ≡ a = key_same b a same in
-      absurd (both_ways (same_key a b) apart (ap (λ k. same_key a k) e ∙ sym (ap (λ k. same_key k a) e) ∙ same)))
+    let e : b ≡ a = key_same b a same in
+    absurd (both_ways (same_key a b) apart (ap (λ k. same_key a k) e ∙ sym (ap (λ k. same_key k a) e) ∙ same)))
     (λ f. f)
 
 -- an outcome for another task doesn't place a wish
@@ -52,8 +52,8 @@ unplaced (outcome ∷ outcomes) [] wish answers differ = absurd (cc)
 unplaced (outcome ∷ outcomes) (other ∷ wishes) wish answers differ =
     by_answer (same_key outcome.key other.key)
     (λ same.
-      other_task outcome outcomes wish (ap (λ k. same_key k wish.key) (key_same outcome.key other.key same) ∙ key_turned wish.key other.key differ.0)
-      ∙ unplaced outcomes wishes wish (rw same at answers) differ.1)
+    other_task outcome outcomes wish (ap (λ k. same_key k wish.key) (key_same outcome.key other.key same) ∙ key_turned wish.key other.key differ.0)
+    ∙ unplaced outcomes wishes wish (rw same at answers) differ.1)
     (λ apart. unplaced (outcome ∷ outcomes) wishes wish (rw apart at answers) differ.1)
 
 -- the wishes that outcomes leave
@@ -86,21 +86,21 @@ walked_leaves (outcome ∷ outcomes) (wish ∷ wishes) distinct answers =
     let all = outcome ∷ outcomes in
     by_answer (same_key outcome.key wish.key)
     (λ same.
-      let stay = not (is_placed outcome.verdict) in
-      let here : are_wished outcomes wishes ≡ true = rw same at answers in
-      let step : walked all (wish ∷ wishes) ≡ cond stay (wish ∷ walked outcomes wishes) (walked outcomes wishes) = rw same refl in
-      let over : left_by all wishes ≡ left_by outcomes wishes =
-      passed_over outcome outcomes wishes (subst (λ k. DifferFrom k wishes) (sym (key_same outcome.key wish.key same)) differ) in
-      let test = decided outcome outcomes wish same (unplaced outcomes wishes wish here differ) in
-      step
-      ∙ ap (λ ws. cond stay (wish ∷ ws) ws) (walked_leaves outcomes wishes rest here ∙ sym over)
-      ∙ ap (λ b. cond (not b) (wish ∷ left_by all wishes) (left_by all wishes)) (sym test))
+    let stay = not (is_placed outcome.verdict) in
+    let here : are_wished outcomes wishes ≡ true = rw same at answers in
+    let step : walked all (wish ∷ wishes) ≡ cond stay (wish ∷ walked outcomes wishes) (walked outcomes wishes) = rw same refl in
+    let over : left_by all wishes ≡ left_by outcomes wishes =
+    passed_over outcome outcomes wishes (subst (λ k. DifferFrom k wishes) (sym (key_same outcome.key wish.key same)) differ) in
+    let test = decided outcome outcomes wish same (unplaced outcomes wishes wish here differ) in
+    step
+    ∙ ap (λ ws. cond stay (wish ∷ ws) ws) (walked_leaves outcomes wishes rest here ∙ sym over)
+    ∙ ap (λ b. cond (not b) (wish ∷ left_by all wishes) (left_by all wishes)) (sym test))
     (λ apart.
-      let here : are_wished all wishes ≡ true = rw apart at answers in
-      let step : walked all (wish ∷ wishes) ≡ wish ∷ walked all wishes = rw apart refl in
-      step
-      ∙ ap (λ ws. wish ∷ ws) (walked_leaves all wishes rest here)
-      ∙ ap (λ b. cond (not b) (wish ∷ left_by all wishes) (left_by all wishes)) (sym (unplaced all wishes wish here differ)))
+    let here : are_wished all wishes ≡ true = rw apart at answers in
+    let step : walked all (wish ∷ wishes) ≡ wish ∷ walked all wishes = rw apart refl in
+    step
+    ∙ ap (λ ws. wish ∷ ws) (walked_leaves all wishes rest here)
+    ∙ ap (λ b. cond (not b) (wish ∷ left_by all wishes) (left_by all wishes)) (sym (unplaced all wishes wish here differ)))
 
 -- what differs from a name still does when some go
 differ_still : (test : Wish → Bool) (wishes : List Wish) (key : TaskKey) → DifferFrom key wishes → DifferFrom key (filter test wishes)
@@ -126,7 +126,7 @@ chosen true bs wish wishes = refl
 chosen false bs wish wishes = refl
 
 module _ {F : Type 0} (R : F → Wish → Bool → F → Type 0) (ahead : F → List Outcome)
-  (says : (f : F) (wish : Wish) (b : Bool) (g : F) → R f wish b g → (b ≡ stays (ahead f) wish) × (ahead g ≡ met_after (ahead f) wish)) where
+    (says : (f : F) (wish : Wish) (b : Bool) (g : F) → R f wish b g → (b ≡ stays (ahead f) wish) × (ahead g ≡ met_after (ahead f) wish)) where
   in_turn : (f : F) (bs : List Bool) (wishes : List Wish) (g : F) → length bs ≡ length wishes → ReturnsInTurn R f bs wishes g
       → items_where_true bs wishes ≡ walked (ahead f) wishes
   unfolding walked

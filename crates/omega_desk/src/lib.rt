@@ -10,6 +10,5 @@ mod walk;
 
 pub use desk::Desk;
 
-
 #[cfg(test)]
 mod tests;

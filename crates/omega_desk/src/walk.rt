@@ -27,14 +27,16 @@ fn walked(wishes: Vec<Wish>, outcomes: &[Outcome]) -> Vec<Wish>
 {
     let mut wishes = wishes;
     let mut ahead = outcomes;
-    wishes.retain(|wish|
-        ensures stays { result ≡ stays ahead.entry.now wish.now }
-        ensures after { ahead.exit.now ≡ met_after ahead.entry.now wish.now }
-    {
-        let stays = stays(ahead, wish);
-        ahead = met_after(ahead, wish);
-        stays
-    });
+    wishes.retain(
+        |wish|
+            ensures stays { result ≡ stays ahead.entry.now wish.now }
+            ensures after { ahead.exit.now ≡ met_after ahead.entry.now wish.now }
+        {
+            let stays = stays(ahead, wish);
+            ahead = met_after(ahead, wish);
+            stays
+        },
+    );
     wishes
 }
 

@@ -7,11 +7,10 @@ use Rattle.omega_desk.proofs.failures.Failures.reserve.Goals as goal
 pub loop-request-preserved : goal.loop-request-preserved
 loop-request-preserved c =
     let ensures = c.in_ok-reserve_one.ensures in
-    let IsCountedNow : Request → Type 0 = λ request. IsCounted c.reserve_one.new.self.counts.entries request.job in
-    (
+    let IsCountedNow : Request → Type 0 = λ request. IsCounted c.reserve_one.new.self.counts.entries request.job in (
       λ job. ensures.counts job ∙ c.loop-request.invariant.0 job,
       All-more IsCountedNow c.args.requests.now c.loop-request.request-index c.request-item.result
-      c.loop-request-test.true
-      (λ k d below. ensures.others _ (c.loop-request.invariant.1 k d below))
-      (subst IsCountedNow c.request-item.is ensures.room)
+          c.loop-request-test.true
+          (λ k d below. ensures.others _ (c.loop-request.invariant.1 k d below))
+          (subst IsCountedNow c.request-item.is ensures.room),
     )
