@@ -22,23 +22,6 @@ names wishes = map (λ (wish : Wish). wish.key) wishes
 abbrev pub DifferFrom : TaskKey → List Wish → Type 0
 DifferFrom key wishes = Each (λ other. same_key key other ≡ false) (names wishes)
 
--- names of one task are equal
-key_same : (a b : TaskKey) → same_key a b ≡ true → a ≡ b
-key_same a b e =
-    let parts = and_parts _ _ e in
-    let job = eqb-true _ _ parts.0 in
-    let index = eqb-true _ _ parts.1 in
-    λ i. record { job = job i; index = index i }
-
--- names of two tasks in the other order
-key_turned : (a b : TaskKey) → same_key a b ≡ false → same_key b a ≡ false
-key_turned a b apart =
-    by_answer (same_key b a)
-    (λ same.
-    let e : b ≡ a = key_same b a same in
-    absurd (both_ways (same_key a b) apart (ap (λ k. same_key a k) e ∙ sym (ap (λ k. same_key k a) e) ∙ same)))
-    (λ f. f)
-
 -- an outcome for another task doesn't place a wish
 other_task : (outcome : Outcome) (outcomes : List Outcome) (wish : Wish) → same_key outcome.key wish.key ≡ false
     → places_wish (outcome ∷ outcomes) wish ≡ places_wish outcomes wish
@@ -54,7 +37,6 @@ unplaced (outcome ∷ outcomes) (other ∷ wishes) wish answers differ =
     by_answer (same_key outcome.key other.key)
     (λ same.
     other_task outcome outcomes wish (ap (λ k. same_key k wish.key) (key_same outcome.key other.key same) ∙ same_key-sym wish.key other.key differ.0)
-    other_task outcome outcomes wish (ap (λ k. same_key k wish.key) (key_same outcome.key other.key same) ∙ key_turned wish.key other.key differ.0)
     ∙ unplaced outcomes wishes wish (rw same at answers) differ.1)
     (λ apart. unplaced (outcome ∷ outcomes) wishes wish (rw apart at answers) differ.1)
 

@@ -29,15 +29,6 @@ fn wish(alloc: Global, key: TaskKey) -> Wish
     }
 }
 
-// A request for the task 0 of a job.
-fn single(alloc: Global, job: u64) -> Result<Request, NoMemory>
-    ensures { IfOk result HasDistinctWishes }
-{
-    let mut wishes = Wishes::new(alloc);
-    wishes.push(wish(alloc, key(job, 0)))?;
-    Ok(Request { job, wishes })
-}
-
 // A request for the tasks 0 and 1 of job 7.
 fn pair(alloc: Global) -> Result<Request, NoMemory>
     ensures { IfOk result HasDistinctWishes }
@@ -58,19 +49,6 @@ fn alone(alloc: Global, request: Request) -> Result<Requests, NoMemory>
     Ok(requests)
 }
 
-// Requests for the tasks 0 of the jobs 8 and 9.
-fn two(alloc: Global) -> Result<Requests, NoMemory>
-    ensures { IfOk result (λ requests. All HasDistinctWishes requests) }
-{
-    let mut requests = alone(alloc, single(alloc, 8)?)?;
-    requests.push(single(alloc, 9)?)?;
-    Ok(requests)
-}
-
-fn reply(outcomes: Outcomes) -> Reply {
-    Reply { place: 0, outcomes }
-}
-
 // A commit of a task that was placed, or refused.
 fn answer(alloc: Global, key: TaskKey, verdict: Verdict) -> Result<Reply, NoMemory> {
     let mut outcomes = Outcomes::new(alloc);
@@ -79,7 +57,7 @@ fn answer(alloc: Global, key: TaskKey, verdict: Verdict) -> Result<Reply, NoMemo
         verdict,
         evicted: Keys::new(alloc),
     })?;
-    Ok(reply(outcomes))
+    Ok(Reply { place: 0, outcomes })
 }
 
 // Whether there are no outcomes, or only one, for the first of these wishes.
@@ -134,20 +112,6 @@ fn present(desk: &Desk) -> Option<TaskKey> {
     Some(desk.next()?.wishes.get(0)?.key)
 }
 
-// A desk under these settings, with the requests of `two`.
-fn busy(alloc: Global, tries: u32, give_up: u32) -> Result<Desk, NoMemory>
-    ensures { IfOk result (λ desk. desk.attempts ≡ 0) }
-{
-    let settings = Settings {
-        tries,
-        give_up,
-        ..Settings::default()
-    };
-    let mut desk = Desk::new(alloc, &settings, 0);
-    begin(&mut desk, two(alloc)?)?;
-    Ok(desk)
-}
-
 #[test]
 fn placed_wishes_leave_the_request(rt: HostRuntime) -> Result<(), NoMemory> {
     let alloc = rt.alloc();
@@ -161,37 +125,11 @@ fn placed_wishes_leave_the_request(rt: HostRuntime) -> Result<(), NoMemory> {
 }
 
 #[test]
-fn a_refused_task_is_tried_again(rt: HostRuntime) -> Result<(), NoMemory> {
-    let alloc = rt.alloc();
-    let mut desk = busy(alloc, 2, 9)?;
-    commit(&mut desk, alloc, key(8, 0), Verdict::NoMachine)?;
-    assert_eq!(rt; present(&desk), Some(key(8, 0)));
-    commit(&mut desk, alloc, key(8, 0), Verdict::NoMachine)?;
-    assert_eq!(rt; present(&desk), Some(key(9, 0)));
-    Ok(())
-}
-
-#[test]
-fn a_job_is_given_up(rt: HostRuntime) -> Result<(), NoMemory> {
-    let alloc = rt.alloc();
-    let mut desk = busy(alloc, 5, 1)?;
-    commit(&mut desk, alloc, key(8, 0), Verdict::NoMachine)?;
-    commit(&mut desk, alloc, key(9, 0), Verdict::Placed)?;
-    assert_eq!(rt; present(&desk), None);
-    begin(&mut desk, two(alloc)?)?;
-    assert_eq!(rt; present(&desk), Some(key(9, 0)));
-    Ok(())
-}
-
-#[test]
 fn starts_are_words_of_the_generator(rt: HostRuntime) -> Result<(), NoMemory> {
     let alloc = rt.alloc();
     let settings = Settings::default();
     assert_eq!(rt; Desk::new(alloc, &settings, 1).start(1 << 32), 0x0F5D_EBA9);
     assert_eq!(rt; Desk::new(alloc, &settings, 2).start(10), 0x7AA1_0266 % 10);
     assert_eq!(rt; Desk::new(alloc, &settings, 2).start(0), 0);
-    let mut desk = busy(alloc, 5, 9)?;
-    take(&mut desk, &reply(Outcomes::new(alloc)));
-    assert_eq!(rt; desk.start(1 << 32), 0x379C_6516);
     Ok(())
 }
