@@ -2,8 +2,7 @@
 //!
 //! The board is the state of the history at every moment, and the history is legal. What is fed to
 //! the cell is appended, and a commit is judged and appended in one step that takes no memory: all
-//! that it needs was made room for before. No call looks through the history but the one that
-//! hands out a part of it.
+//! that it needs was made room for before. No call looks through the history.
 #![tactic(auto)]
 
 mod cell;

@@ -26,5 +26,6 @@ invariant_of-self-in-Ok c =
 
 pub invariant_of-self-in-Err : goal.invariant_of-self-in-Err
 invariant_of-self-in-Err c =
-    subst (IsCell c.apply_entry.new.self) (sym c.reserve.ensures.items)
-    (cell_same c.self.inside.board c.apply_entry.new.self c.self.inside.entries.items c.self.invariant c.in-Err.ensures.table c.in-Err.ensures.tasks)
+    let kept : IsCell c.apply_entry.new.self c.self.inside.entries.items =
+    cell_same c.self.inside.board c.apply_entry.new.self c.self.inside.entries.items c.self.invariant c.in-Err.ensures.table c.in-Err.ensures.tasks in
+    subst (IsCell c.apply_entry.new.self) (cc) kept
