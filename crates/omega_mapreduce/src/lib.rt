@@ -12,9 +12,9 @@ use omega_model::{Extra, Need};
 /// wanted and `running` extra ones run.
 ///
 /// `need` is what each extra task asks for, `used` and `cap` are what is in use and the capacity,
-/// both of the whole cell. Under `Extra::Cap` the extra tasks keep the use of each component within
-/// the percentage; 0 where that doesn't go. Any amounts and any percentage are allowed. A few
-/// divisions, however large the numbers are; takes no memory.
+/// both of the whole cell. Under `Extra::Cap` it is the greatest number with which the use of each
+/// component stays within the percentage of its capacity, and 0 where there is none. Any amounts
+/// and any percentage are allowed. Three divisions, however large the numbers are; takes no memory.
 pub fn extras(
     policy: Extra,
     activities: u32,
