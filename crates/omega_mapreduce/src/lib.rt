@@ -11,10 +11,11 @@ use omega_model::{Extra, Need};
 /// The number of extra tasks of a MapReduce job with so many activities, of which `asked` tasks are
 /// wanted and `running` extra ones run.
 ///
-/// `need` is what each extra task asks for, `used` and `cap` are what is in use and the capacity,
-/// both of the whole cell. Under `Extra::Cap` the extra tasks keep the use of each component within
-/// the percentage; 0 where that doesn't go. Any amounts and any percentage are allowed. A few
-/// divisions, however large the numbers are; takes no memory.
+/// They are what is missing to the target, which is `activities`, or under `Extra::Relative` at most
+/// four times `asked`. Under `Extra::Cap` they are the most of these with which the use of each
+/// component stays within the percentage of its capacity; 0 where it is beyond that already. `need`
+/// is what each asks for, `used` and `cap` are what is in use and the capacity of the whole cell.
+/// Any amounts and any percentage are allowed. Three divisions at most; takes no memory.
 pub fn extras(
     policy: Extra,
     activities: u32,
