@@ -49,6 +49,7 @@ impl Desk {
         ensures scheduler { result.scheduler ≡ scheduler }
         ensures attempts { result.attempts ≡ 0 }
         ensures left { left_at result ≡ fresh (λ job. 0) [] }
+        ensures idle { result.requests ≡ [] }
     {
         Desk {
             settings: *settings,

@@ -208,10 +208,11 @@ fn place(alloc: Global, board: &mut Board, claim: Claim) -> Result<(), NoMemory>
     let mut claims = Claims::new(alloc);
     claims.push(claim)?;
     let mut undo = board.reserve(alloc, &claims)?;
-    let mut evicted = Vec::new(alloc);
-    if let Some(claim) = claims.get(0)
-        && board.judge(claim, None, &mut evicted) == Verdict::Placed
-    {
+    let Some(claim) = claims.get(0) else {
+        return Ok(());
+    };
+    let mut evicted = Vec::with_capacity(alloc, claim.victims.len())?;
+    if board.judge(claim, None, &mut evicted) == Verdict::Placed {
         board.apply_placed(claim, evicted.as_slice(), &mut undo);
     }
     Ok(())
