@@ -8,7 +8,9 @@ use Rattle.std.specs.Ordering.{nat_cmp}
 use Rattle.std.proofs.lemmas.Bool.{eq-eqb, ne_eqb, eqb-true, le-ltb, lt-ltb, cases_eq, cases_order, cases_Bool}
 use Rattle.std.proofs.lemmas.List.Folds.{list_any-append}
 use Rattle.omega_model.specs.Feed.{feed, each_once}
+use Rattle.omega_model.specs.Plan.{first_item}
 use Rattle.omega_model.specs.Requests.{job_of_row, jobs_in_order}
+use Rattle.omega_model.specs.Routing.{class_in, class_of, scheduler_for}
 use Rattle.omega_model.specs.declared.rows.Row.{Row}
 use Rattle.omega_model.specs.declared.rows.Row.TheVariants.{Machine, Attr, Task}
 use Rattle.omega_model.specs.declared.rows.TraceTables.{TraceTables}
@@ -167,38 +169,79 @@ all_new : (ms : List ℕ) → filter (is_new []) ms ≡ ms
 all_new [] = refl
 all_new (m ∷ ms) = ap (λ z. m ∷ z) (all_new ms)
 
--- the jobs after one more row
-abbrev pub note_job : Settings → TraceTables → List RoutedJob → Row → List RoutedJob
-note_job settings trace jobs (Machine row) = jobs
-note_job settings trace jobs (Attr row) = jobs
-note_job settings trace jobs (Task row) = with_job jobs (routed settings trace row.key.job)
+-- a job with the scheduler for this class
+abbrev pub classed : Settings → Option ℕ → ℕ → RoutedJob
+classed settings class job = record { job = job; scheduler = scheduler_for settings class job }
 
-any_routed : (settings : Settings) (trace : TraceTables) (job : ℕ) (ns : List ℕ) → list_any (is_job job) (map (routed settings trace) ns) ≡ list_any (λ m. m == job) ns
-any_routed settings trace job [] = refl
-any_routed settings trace job (n ∷ ns) = ap (λ z. (n == job) || z) (any_routed settings trace job ns)
+-- the jobs after one more row: a new one is routed by the row's class
+abbrev pub note_job : Settings → List RoutedJob → Row → List RoutedJob
+note_job settings jobs (Machine row) = jobs
+note_job settings jobs (Attr row) = jobs
+note_job settings jobs (Task row) = with_job jobs (classed settings (Some row.class) row.key.job)
 
-map_push : {X Y : Type 0} (f : X → Y) (xs : List X) (x : X) → map f (xs ++ x ∷ []) ≡ map f xs ++ f x ∷ []
-map_push f [] x = refl
-map_push f (y ∷ xs) x = ap (λ z. f y ∷ z) (map_push f xs x)
+-- the class of a job by the first of these rows that is one of its tasks
+abbrev first_class : List Row → ℕ → Option ℕ
+first_class rows job = first_item (filter_map (class_in job) rows)
 
-with_routed : (settings : Settings) (trace : TraceTables) (ns : List ℕ) (job : ℕ)
-    → with_job (map (routed settings trace) ns) (routed settings trace job) ≡ map (routed settings trace) (add_once ns job)
-with_routed settings trace ns job = rw (any_routed settings trace job ns) (by_cases (list_any (λ m. m == job) ns)) where
-  by_cases : (b : Bool) → cond b (map (routed settings trace) ns) (map (routed settings trace) ns ++ routed settings trace job ∷ []) ≡ map (routed settings trace) (cond b ns (ns ++ job ∷ []))
-  by_cases true = refl
-  by_cases false = sym (map_push (routed settings trace) ns job)
+module _ (settings : Settings) (class : ℕ → Option ℕ) where
+  -- a job with the scheduler for its class
+  abbrev routed_by : ℕ → RoutedJob
+  routed_by job = classed settings (class job) job
 
-fold_routed : (settings : Settings) (trace : TraceTables) (ns : List ℕ) (rows : List Row)
-    → fold (note_job settings trace) (map (routed settings trace) ns) rows ≡ map (routed settings trace) (fold add_once ns (filter_map job_of_row rows))
-fold_routed settings trace ns [] = refl
-fold_routed settings trace ns (Machine row ∷ rows) = fold_routed settings trace ns rows
-fold_routed settings trace ns (Attr row ∷ rows) = fold_routed settings trace ns rows
-fold_routed settings trace ns (Task row ∷ rows) =
-    ap (λ z. fold (note_job settings trace) z rows) (with_routed settings trace ns row.key.job)
-    ∙ fold_routed settings trace (add_once ns row.key.job) rows
+  any_routed : (job : ℕ) (ns : List ℕ) → list_any (is_job job) (map routed_by ns) ≡ list_any (λ m. m == job) ns
+  any_routed job [] = refl
+  any_routed job (n ∷ ns) = ap (λ z. (n == job) || z) (any_routed job ns)
+
+  map_push : (ns : List ℕ) (n : ℕ) → map routed_by (ns ++ n ∷ []) ≡ map routed_by ns ++ routed_by n ∷ []
+  map_push [] n = refl
+  map_push (m ∷ ns) n = ap (λ z. routed_by m ∷ z) (map_push ns n)
+
+  with_routed : (ns : List ℕ) (job : ℕ) (given : Option ℕ) → (list_any (λ m. m == job) ns ≡ false → class job ≡ given)
+      → with_job (map routed_by ns) (classed settings given job) ≡ map routed_by (add_once ns job)
+  with_routed ns job given is = rw (any_routed job ns) (by_cases (list_any (λ m. m == job) ns) is) where
+    by_cases : (b : Bool) → (b ≡ false → class job ≡ given)
+        → cond b (map routed_by ns) (map routed_by ns ++ classed settings given job ∷ []) ≡ map routed_by (cond b ns (ns ++ job ∷ []))
+    by_cases true is = refl
+    by_cases false is = ap (λ (c : Option ℕ). map routed_by ns ++ classed settings c job ∷ []) (sym (is refl)) ∙ sym (map_push ns job)
+
+  -- of a job that isn't noted yet the class is that of its first row among those that remain
+  abbrev IsFirst : List ℕ → List Row → Type 0
+  IsFirst ns rows = (job : ℕ) → list_any (λ m. m == job) ns ≡ false → class job ≡ first_class rows job
+
+  past : (ns : List ℕ) (n job : ℕ) → list_any (λ m. m == job) (add_once ns n) ≡ false
+      → (list_any (λ m. m == job) ns ≡ false) × ((n == job) ≡ false)
+  past ns n job is = by_cases (list_any (λ m. m == n) ns) refl is where
+    by_cases : (b : Bool) → list_any (λ m. m == n) ns ≡ b → list_any (λ m. m == job) (cond b ns (ns ++ n ∷ [])) ≡ false
+        → (list_any (λ m. m == job) ns ≡ false) × ((n == job) ≡ false)
+    by_cases true has none = (none,
+        elim (cases_eq n job) [
+          | inl same ↦ let both : true ≡ false = sym has ∙ ap (λ z. list_any (λ m. m == z) ns) same ∙ none in absurd (cc)
+          | inr ne ↦ ne_eqb n job ne
+        ])
+    by_cases false has none = both_false (list_any (λ m. m == job) ns) (n == job) (sym (list_any-append (λ m. m == job) ns (n ∷ [])) ∙ none)
+
+    both_false : (a b : Bool) → (a || (b || false)) ≡ false → (a ≡ false) × (b ≡ false)
+    both_false true b e = absurd (cc)
+    both_false false true e = absurd (cc)
+    both_false false false e = (refl, refl)
+
+  fold_routed : (ns : List ℕ) (rows : List Row) → IsFirst ns rows
+      → fold (note_job settings) (map routed_by ns) rows ≡ map routed_by (fold add_once ns (filter_map job_of_row rows))
+  fold_routed ns [] first = refl
+  fold_routed ns (Machine row ∷ rows) first = fold_routed ns rows first
+  fold_routed ns (Attr row ∷ rows) first = fold_routed ns rows first
+  fold_routed ns (Task row ∷ rows) first =
+      ap (λ z. fold (note_job settings) z rows) (with_routed ns row.key.job (Some row.class) (λ none. first row.key.job none ∙ here))
+      ∙ fold_routed (add_once ns row.key.job) rows later where
+        here : first_class (Task row ∷ rows) row.key.job ≡ Some row.class
+        here = rw (eq-eqb row.key.job row.key.job refl) refl
+
+        later : IsFirst (add_once ns row.key.job) rows
+        later job none = let past = past ns row.key.job job none in first job past.0 ∙ rw past.1 refl
 
 -- the jobs noted from row to row are those of the trace in order of their first task row
-pub jobs_noted : (settings : Settings) (trace : TraceTables) → fold (note_job settings trace) [] (feed trace) ≡ map (routed settings trace) (jobs_in_order (feed trace))
+pub jobs_noted : (settings : Settings) (trace : TraceTables)
+    → fold (note_job settings) [] (feed trace) ≡ map (routed settings trace) (jobs_in_order (feed trace))
 jobs_noted settings trace =
-    fold_routed settings trace [] (feed trace)
+    fold_routed settings (class_of trace) [] (feed trace) (λ job none. refl)
     ∙ ap (map (routed settings trace)) (fold_once [] (filter_map job_of_row (feed trace)) ∙ all_new _)

@@ -5,7 +5,8 @@ use Rattle.omega_model.specs.Cell.{Cell}
 use Rattle.omega_model.specs.Feed.{feed}
 use Rattle.omega_model.specs.Fields.{ConstraintFields, DiskFields}
 use Rattle.omega_model.specs.Keys.{same_key}
-use Rattle.omega_model.specs.Requests.{jobs_in_order, scheduler_of, request_of, is_waiting}
+use Rattle.omega_model.specs.Requests.{jobs_in_order, request_of, is_waiting}
+use Rattle.omega_model.specs.Routing.{scheduler_of}
 use Rattle.omega_model.specs.Wanted.{WantedTask, wanted}
 use Rattle.omega_model.specs.declared.cells.TaskKey.{TaskKey}
 use Rattle.omega_model.specs.declared.rows.Row.{Row}

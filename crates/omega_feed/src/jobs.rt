@@ -1,7 +1,9 @@
 //! The jobs of a trace in order of their first task row.
 ghost use Rattle.std.specs.Prelude.{◌≡◌, ◌↔◌, [], ℕ, Some, map, slice_get, option_copied, OnOk, OnErr, IfOk};
 ghost use Rattle.omega_model.specs.Feed.{feed};
-ghost use Rattle.omega_model.specs.Requests.{scheduler_of, jobs_in_order};
+ghost use Rattle.omega_model.specs.Ranges.{IsInRange};
+ghost use Rattle.omega_model.specs.Requests.{jobs_in_order};
+ghost use Rattle.omega_model.specs.Routing.{scheduler_for};
 ghost use Rattle.omega_feed.specs.Asked.{routed, with_job};
 ghost use Rattle.omega_feed.specs.Index.{job_at};
 
@@ -52,13 +54,14 @@ impl Jobs {
     /// The jobs of a trace in order of their first task row, each with its scheduler. Costs a sort of
     /// the rows by time, and a look-up for each task row.
     pub fn of(alloc: Global, tables: &TraceTables, settings: &Settings) -> Result<Jobs, NoMemory>
+        requires { IsInRange settings.now }
         ensures { IfOk result (λ jobs. jobs ≡ map (routed settings.now tables.now) (jobs_in_order (feed tables.now))) }
     {
         let mut jobs = Jobs::new(alloc);
         for row in feed(alloc, tables)? {
             if let Row::Task(row) = row {
                 let job = row.key.job;
-                let scheduler = scheduler_of(settings, tables, job);
+                let scheduler = scheduler_for(settings, row.class, job);
                 jobs.add(RoutedJob { job, scheduler })?;
             }
         }
@@ -98,9 +101,14 @@ impl Jobs {
     }
 }
 
-/// The scheduler of a job. For now every job goes to scheduler 1.
-fn scheduler_of(_settings: &Settings, _tables: &TraceTables, _job: u64) -> u32
-    ensures { result ≡ scheduler_of _settings.now _tables.now _job }
+/// The scheduler for jobs of a class: 0 for services, whose class is 2 or 3, else one of the batch
+/// schedulers from 1 on, by the job's number.
+fn scheduler_for(settings: &Settings, class: u8, job: u64) -> u32
+    requires { IsInRange settings.now }
+    ensures { result ≡ scheduler_for settings.now (Some class) job }
 {
-    1
+    match class {
+        2 | 3 => 0,
+        _ => 1 + (job % u64::from(settings.batch)) as u32,
+    }
 }

@@ -3,6 +3,7 @@ ghost use Rattle.std.specs.Prelude.{◌≡◌, ◌++◌, ◌∷◌, [], All, Lis
 ghost use Rattle.std.specs.List.{filter};
 ghost use Rattle.omega_model.specs.Applying.{CapacityIsInRange};
 ghost use Rattle.omega_model.specs.OpenRequests.{open_requests};
+ghost use Rattle.omega_model.specs.Ranges.{IsInRange};
 ghost use Rattle.omega_model.specs.Requests.{is_waiting};
 ghost use Rattle.omega_model.specs.Wanted.{wanted_after, wanted_after_task, with_wanted, is_named, row_entries};
 ghost use Rattle.omega_model.specs.declared.cells.Machine.{Machine};
@@ -55,6 +56,7 @@ impl Wanted {
     /// What a trace asks for before its first row: no task is wanted. Costs a sort of the rows by
     /// time and a look-up for each task row and each constraint.
     pub fn new(alloc: Global, tables: &TraceTables, settings: &Settings) -> Result<Wanted, NoMemory>
+        requires { IsInRange settings.now }
         ensures { IfOk result (λ wanted. wanted ≡ asked_after settings.now tables.now []) }
     {
         Ok(Wanted {

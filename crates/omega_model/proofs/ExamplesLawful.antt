@@ -1,5 +1,6 @@
 -- A worked run: a small trace with a history that is lawful for it and in turns, and one that isn't.
 use Rattle.std.proofs.Common.{◌≡◌, ◌≤◌, ◌<◌, All, inl, ℕ, zero, suc, false, List, [], ◌∷◌, Some, refl, subst, take, slice_get, lit<, lit≤, arith}
+use Rattle.rand_pcg.specs.Lcg.{state_after}
 use Rattle.omega_model.specs.Fields.{TaskFields}
 use Rattle.omega_model.specs.Feed.{feed}
 use Rattle.omega_model.specs.Lawful.{Lawful, RoundOf, IsCommitOfRound}
@@ -121,7 +122,7 @@ due_at scheduler one two (suc (suc (suc (suc place)))) entry at past = absurd cc
 
 -- each of the two commits is the attempt that is due
 first_due : IsDue settings trace (feed trace) 2 1 (take 2 whole) first
-unfolding amount spec key submitted settings trace asks first second whole room placed
+unfolding amount spec key submitted settings trace asks first second whole room placed state_after
 first_due same = (
   record { job = 1; wishes = record { key = key 1; spec = spec; constraints = [] } ∷ [] },
   (
@@ -131,7 +132,7 @@ first_due same = (
 )
 
 second_due : IsDue settings trace (feed trace) 2 1 (take 3 whole) second
-unfolding amount spec key submitted settings trace asks first second whole room placed
+unfolding amount spec key submitted settings trace asks first second whole room placed state_after
 second_due same = (
   record { job = 2; wishes = record { key = key 2; spec = spec; constraints = [] } ∷ [] },
   (

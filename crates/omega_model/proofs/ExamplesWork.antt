@@ -1,11 +1,13 @@
 -- Worked answers: requests, plans, and what is left of a scheduler's requests.
 use Rattle.std.proofs.Common.{◌≡◌, ℕ, Bool, true, false, List, [], ◌∷◌, ◌++◌, Option, Some, None, option_map, option_and_then, refl, take}
 use Rattle.std.specs.List.{fold}
+use Rattle.rand_pcg.specs.Lcg.{state_after}
 use Rattle.omega_model.specs.Fields.{TaskFields, DiskFields}
 use Rattle.omega_model.specs.Cell.{Cell}
 use Rattle.omega_model.specs.Feed.{feed}
 use Rattle.omega_model.specs.Lawful.{opened, after_last}
-use Rattle.omega_model.specs.Plan.{plan, victims}
+use Rattle.omega_model.specs.Plan.{victims}
+use Rattle.omega_model.specs.Planning.{plan_for}
 use Rattle.omega_model.specs.Requests.{requests, failed, jobs_in_order}
 use Rattle.omega_model.specs.State.{state}
 use Rattle.omega_model.specs.Work.{Standing, fresh, after_outcomes, standing_of, planned, commits_of}
@@ -165,29 +167,29 @@ claim_on machine job index n prec = record { key = task_key job index; machine =
 
 -- the second wish goes on the other machine, the third goes nowhere and is left out, the fourth fits
 -- beside the first
-leaves_out : plan cell (wish 1 0 6 [] ∷ wish 1 1 7 [] ∷ wish 1 2 8 [] ∷ wish 1 3 4 [] ∷ []) 0 (policy Incremental false) ≡
+leaves_out : plan_for cell (wish 1 0 6 [] ∷ wish 1 1 7 [] ∷ wish 1 2 8 [] ∷ wish 1 3 4 [] ∷ []) 0 (policy Incremental false) ≡
     claim_on 1 1 0 6 1 ∷ claim_on 2 1 1 7 1 ∷ claim_on 1 1 3 4 1 ∷ []
 unfolding amount task_key spec_of wish policy cell claim_on room
 leaves_out = refl
 
 -- as a gang they make no claim at all
-gang_of_none : plan cell (wish 1 0 6 [] ∷ wish 1 1 7 [] ∷ wish 1 2 8 [] ∷ wish 1 3 4 [] ∷ []) 0 (policy Gang false) ≡ []
+gang_of_none : plan_for cell (wish 1 0 6 [] ∷ wish 1 1 7 [] ∷ wish 1 2 8 [] ∷ wish 1 3 4 [] ∷ []) 0 (policy Gang false) ≡ []
 unfolding amount task_key spec_of wish policy cell room
 gang_of_none = refl
 
 -- a gang all of whose wishes find a machine is claimed whole
-gang_of_all : plan cell (wish 1 0 6 [] ∷ wish 1 1 7 [] ∷ wish 1 3 4 [] ∷ []) 0 (policy Gang false) ≡
+gang_of_all : plan_for cell (wish 1 0 6 [] ∷ wish 1 1 7 [] ∷ wish 1 3 4 [] ∷ []) 0 (policy Gang false) ≡
     claim_on 1 1 0 6 1 ∷ claim_on 2 1 1 7 1 ∷ claim_on 1 1 3 4 1 ∷ []
 unfolding amount task_key spec_of wish policy cell claim_on room
 gang_of_all = refl
 
 -- machines are tried from the start on and then from the first one: a machine that is down takes nothing
-from_place_one : plan cell (wish 1 0 6 [] ∷ wish 1 1 6 [] ∷ []) 1 (policy Incremental false) ≡
+from_place_one : plan_for cell (wish 1 0 6 [] ∷ wish 1 1 6 [] ∷ []) 1 (policy Incremental false) ≡
     claim_on 2 1 0 6 1 ∷ claim_on 1 1 1 6 1 ∷ []
 unfolding amount task_key spec_of wish policy cell claim_on room
 from_place_one = refl
 
-from_place_two : plan cell (wish 1 0 6 [] ∷ []) 2 (policy Incremental false) ≡ claim_on 1 1 0 6 1 ∷ []
+from_place_two : plan_for cell (wish 1 0 6 [] ∷ []) 2 (policy Incremental false) ≡ claim_on 1 1 0 6 1 ∷ []
 unfolding amount task_key spec_of wish policy cell claim_on room
 from_place_two = refl
 
@@ -195,7 +197,7 @@ from_place_two = refl
 unfoldable lonely : ℕ → Wish
 lonely index = record { key = task_key 1 index; spec = spec_of 1 1 true; constraints = [] }
 
-apart : plan cell (lonely 0 ∷ lonely 1 ∷ lonely 2 ∷ []) 0 (policy Incremental true) ≡
+apart : plan_for cell (lonely 0 ∷ lonely 1 ∷ lonely 2 ∷ []) 0 (policy Incremental true) ≡
     record { key = task_key 1 0; machine = 1; spec = spec_of 1 1 true; victims = [] }
     ∷ record { key = task_key 1 1; machine = 2; spec = spec_of 1 1 true; victims = [] } ∷ []
 unfolding amount task_key spec_of lonely policy cell room
@@ -233,28 +235,28 @@ unfolding amount task_key spec_of asks claim_on crowded strong room placed refus
 needless = refl
 
 -- a plan evicts where the policy lets it
-evicts : plan crowded (strong 4 ∷ []) 0 (policy Incremental true) ≡
+evicts : plan_for crowded (strong 4 ∷ []) 0 (policy Incremental true) ≡
     record { key = task_key 7 1; machine = 1; spec = spec_of 4 4 false; victims = task_key 10 1 ∷ task_key 10 2 ∷ [] } ∷ []
 unfolding amount task_key spec_of asks claim_on crowded strong policy room placed refused
 evicts = refl
 
 -- and makes no claim where it doesn't
-spares : plan crowded (strong 4 ∷ []) 0 (policy Incremental false) ≡ []
+spares : plan_for crowded (strong 4 ∷ []) 0 (policy Incremental false) ≡ []
 unfolding amount task_key spec_of asks claim_on crowded strong policy room placed refused
 spares = refl
 
 -- room without eviction on a later machine is taken before eviction on an earlier one
-room_first : plan crowded (strong 1 ∷ []) 0 (policy Incremental true) ≡ claim_on 2 7 1 1 4 ∷ []
+room_first : plan_for crowded (strong 1 ∷ []) 0 (policy Incremental true) ≡ claim_on 2 7 1 1 4 ∷ []
 unfolding amount task_key spec_of asks claim_on crowded strong policy room placed refused
 room_first = refl
 
 -- a wish of equal precedence evicts nobody
-equals_stay : plan crowded (record { key = task_key 8 0; spec = spec_of 4 1 false; constraints = [] } ∷ []) 0 (policy Incremental true) ≡ []
+equals_stay : plan_for crowded (record { key = task_key 8 0; spec = spec_of 4 1 false; constraints = [] } ∷ []) 0 (policy Incremental true) ≡ []
 unfolding amount task_key spec_of asks claim_on crowded policy room placed refused
 equals_stay = refl
 
 -- the second wish is planned on the cell without the first one's victims
-after_eviction : plan crowded (strong 3 ∷ record { key = task_key 8 0; spec = spec_of 2 1 false; constraints = [] } ∷ []) 0 (policy Incremental true) ≡
+after_eviction : plan_for crowded (strong 3 ∷ record { key = task_key 8 0; spec = spec_of 2 1 false; constraints = [] } ∷ []) 0 (policy Incremental true) ≡
     record { key = task_key 7 1; machine = 1; spec = spec_of 3 4 false; victims = task_key 10 1 ∷ task_key 10 2 ∷ [] }
     ∷ claim_on 1 8 0 2 1 ∷ []
 unfolding amount task_key spec_of asks claim_on crowded strong policy room placed refused
@@ -378,7 +380,7 @@ unfoldable first_commit : Entry
 first_commit = Commit 1 2 (asks 1 (claim 1 0 6 ∷ [])) (placed ∷ [])
 
 first_plan : planned (settings_with 3 9) 1 (commits_of 1 start) (take 2 start) (wish 1 0 6 [] ∷ []) ≡ claim 1 0 6 ∷ []
-unfolding amount task_key spec_of claim settings_with wish start room
+unfolding amount task_key spec_of claim settings_with wish start room state_after
 first_plan = refl
 
 -- then job 2 is left
@@ -389,12 +391,12 @@ second_due = refl
 
 -- from the state before the first commit job 2 would be planned on the same machine, and refused
 stale_plan : planned (settings_with 3 9) 1 1 (take 2 (start ++ first_commit ∷ [])) (wish 2 0 6 [] ∷ []) ≡ claim 2 0 6 ∷ []
-unfolding amount task_key spec_of claim asks settings_with wish start first_commit room placed refused
+unfolding amount task_key spec_of claim asks settings_with wish start first_commit room placed refused state_after
 stale_plan = refl
 
 -- from the state after it there is no room, and the commit is empty
 fresh_plan : planned (settings_with 3 9) 1 1 (take 3 (start ++ first_commit ∷ [])) (wish 2 0 6 [] ∷ []) ≡ []
-unfolding amount task_key spec_of claim asks settings_with wish start first_commit room placed refused
+unfolding amount task_key spec_of claim asks settings_with wish start first_commit room placed refused state_after
 fresh_plan = refl
 
 unfoldable second_commit : Entry
@@ -453,10 +455,10 @@ disk_wish = record { key = task_key 10 0; spec = record { need = quarter 1000000
 
 -- it goes nowhere for its disk alone
 too_small_a_disk : planned (settings_with 5 1000) 1 0 (Round 0 ∷ MachineAdd 1 (half 900000) ∷ []) (disk_wish ∷ []) ≡ []
-unfolding task_key quarter half disk_wish settings_with
+unfolding task_key quarter half disk_wish settings_with state_after
 too_small_a_disk = refl
 
 wide_disk : planned (settings_with 5 1000) 1 0 (Round 0 ∷ MachineAdd 1 (half 1000000000000) ∷ []) (disk_wish ∷ []) ≡
     record { key = task_key 10 0; machine = 1; spec = record { need = quarter 1000000; prec = 1; differ = false }; victims = [] } ∷ []
-unfolding task_key quarter half disk_wish settings_with
+unfolding task_key quarter half disk_wish settings_with state_after
 wide_disk = refl

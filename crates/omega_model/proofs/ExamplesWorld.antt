@@ -1,5 +1,6 @@
 -- Worked answers: steps of a scheduler in a small world.
 use Rattle.std.proofs.Common.{◌≡◌, ◌≤◌, ℕ, zero, suc, false, List, [], ◌∷◌, ◌++◌, Option, Some, None, refl, take, slice_get, arith}
+use Rattle.rand_pcg.specs.Lcg.{state_after}
 use Rattle.omega_model.specs.Feed.{feed}
 use Rattle.omega_model.specs.Stepping.{Step, BeginsRound}
 use Rattle.omega_model.specs.Work.{HasLeft, IsDue}
@@ -125,7 +126,7 @@ syncs = record {
 
 -- its second step commits the plan for its first request, at the history's end
 commits : Step settings trace (feed trace) 2 (world begun (Some 2)) 1 (world committed None) (Committed 2)
-unfolding spec key settings begun request txn committed world only
+unfolding spec key settings begun request txn committed world only state_after
 commits = record {
   left = request ∷ [];
   is_left = one_left;

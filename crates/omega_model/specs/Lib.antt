@@ -14,7 +14,6 @@ pub mod Report
 pub mod Feed
 pub mod Wanted
 pub mod Requests
-pub mod Start
 pub mod Work
 pub mod Lawful
 pub mod Turns

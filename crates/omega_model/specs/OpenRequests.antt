@@ -3,7 +3,8 @@ use Rattle.std.specs.Prelude.{ℕ, Bool, List, ◌==◌, not}
 use Rattle.std.specs.List.{filter, filter_map}
 use Rattle.omega_model.specs.Cell.{Cell}
 use Rattle.omega_model.specs.Feed.{feed}
-use Rattle.omega_model.specs.Requests.{jobs_in_order, scheduler_of, request_of, wishes_of, given_up}
+use Rattle.omega_model.specs.Requests.{jobs_in_order, request_of, wishes_of, given_up}
+use Rattle.omega_model.specs.Routing.{scheduler_of}
 use Rattle.omega_model.specs.Wanted.{wanted}
 use Rattle.omega_model.specs.declared.entries.Entry.{Entry}
 use Rattle.omega_model.specs.declared.rows.Row.{Row}

@@ -1,4 +1,4 @@
--- Where a scheduler would put the tasks of a request, where constraints count.
+-- Where a scheduler would put the tasks of a request.
 use Rattle.std.specs.Prelude.{ℕ, Bool, List, [], ◌∷◌, Option, None, option_map, length, if◌then◌else◌}
 use Rattle.std.specs.List.{find, filter, filter_map}
 use Rattle.omega_model.specs.Cell.{Cell}

@@ -5,6 +5,7 @@ use Rattle.omega_model.specs.Keys.{same_key}
 use Rattle.omega_model.specs.Cell.{Cell, task_at}
 use Rattle.omega_model.specs.Reply.{admits}
 use Rattle.omega_model.specs.Feed.{feed, each_once}
+use Rattle.omega_model.specs.Routing.{scheduler_of}
 use Rattle.omega_model.specs.State.{state}
 use Rattle.omega_model.specs.Wanted.{WantedTask, wanted}
 use Rattle.omega_model.specs.declared.cells.Task.{Task}
@@ -26,10 +27,6 @@ job_of_row _ = None
 -- the jobs of some rows in order of their first task row
 abbrev pub jobs_in_order : List Row → List ℕ
 jobs_in_order rows = each_once (filter_map job_of_row rows)
-
--- the scheduler of a job: for now it is scheduler 1
-abbrev pub scheduler_of : Settings → TraceTables → ℕ → ℕ
-scheduler_of settings trace job = 1
 
 -- the constraints of a task: those of all rows for it, whatever their times
 abbrev pub constraints_of : TraceTables → WantedTask → List Constraint
@@ -76,7 +73,7 @@ abbrev pub request_of : ℕ → List Wish → Option Request
 request_of job [] = None
 request_of job (wish ∷ wishes) = Some (record { job = job; wishes = wish ∷ wishes })
 
--- whether a scheduler works on a job: it is routed there and not given up
+-- whether a scheduler works on a job: it is routed there, for now by its class alone, and not given up
 abbrev pub works_on : Settings → TraceTables → List Entry → ℕ → ℕ → Bool
 works_on settings trace history scheduler job =
     scheduler_of settings trace job == scheduler && not (given_up settings history job)

@@ -30,8 +30,14 @@ is_service (Some class) = class == 2 || class == 3
 abbrev pub batch_scheduler : Settings → ℕ → ℕ
 batch_scheduler settings job = 1 + job % settings.batch
 
--- the scheduler of a job: the last one for MapReduce, the first one for services, else a batch one
+-- the scheduler for jobs of a class: the first one for services, else a batch one
+abbrev pub scheduler_for : Settings → Option ℕ → ℕ → ℕ
+scheduler_for settings class job = if is_service class then 0 else batch_scheduler settings job
+
+-- the scheduler of a job by its class alone
+abbrev pub scheduler_of : Settings → TraceTables → ℕ → ℕ
+scheduler_of settings trace job = scheduler_for settings (class_of trace job) job
+
+-- the scheduler of a job: the last one for MapReduce, else that of its class
 abbrev pub routed_to : Settings → TraceTables → ℕ → ℕ
-routed_to settings trace job =
-    if is_mapreduce trace job then settings.batch + 1
-    else (if is_service (class_of trace job) then 0 else batch_scheduler settings job)
+routed_to settings trace job = if is_mapreduce trace job then settings.batch + 1 else scheduler_of settings trace job

@@ -3,9 +3,9 @@ use Rattle.std.specs.Prelude.{◌≡◌, ℕ, Bool, List, [], ◌∷◌, Option,
 use Rattle.std.specs.List.{filter, fold, list_any, count_by, zip}
 use Rattle.omega_model.specs.Keys.{same_key}
 use Rattle.omega_model.specs.Policy.{policy_of}
-use Rattle.omega_model.specs.Plan.{plan}
+use Rattle.omega_model.specs.Planning.{plan_for}
 use Rattle.omega_model.specs.Requests.{requests, failed}
-use Rattle.omega_model.specs.Start.{start_of}
+use Rattle.omega_model.specs.Draws.{drawn_start}
 use Rattle.omega_model.specs.State.{state}
 use Rattle.omega_model.specs.Touches.{is_placed}
 use Rattle.omega_model.specs.declared.claims.Claim.{Claim}
@@ -110,8 +110,8 @@ commits_of scheduler history = count_by (is_commit_of scheduler) history
 -- seen, as its attempt of this number
 abbrev pub planned : Settings → ℕ → ℕ → List Entry → List Wish → List Claim
 planned settings scheduler attempt seen_entries wishes =
-    plan (state seen_entries) wishes
-    (start_of settings scheduler attempt (length (state seen_entries).machines))
+    plan_for (state seen_entries) wishes
+    (drawn_start settings scheduler attempt (length (state seen_entries).machines))
     (policy_of settings scheduler)
 
 -- a transaction, with so many entries seen, is the attempt on this request that is due after these

@@ -4,10 +4,10 @@ use Rattle.std.specs.List.{filter, fold, AllByRecursion as Each}
 use Rattle.std.specs.Prelude.{option_map}
 use Rattle.std.proofs.lemmas.Bool.{eqb-true}
 use Rattle.omega_model.specs.Cell.{Cell}
+use Rattle.omega_model.specs.Draws.{drawn_start}
 use Rattle.omega_model.specs.Feed.{feed}
 use Rattle.omega_model.specs.Requests.{extra_wishes, failed, is_waiting, jobs_in_order, request_of, requests, wish_of, wishes_of, works_on}
 use Rattle.omega_model.specs.Policy.{policy_of}
-use Rattle.omega_model.specs.Start.{start_of}
 use Rattle.omega_model.specs.State.{state}
 use Rattle.omega_model.specs.Wanted.{WantedTask, wanted}
 use Rattle.omega_model.specs.Work.{Agrees, Standing, commits_of, planned, after_entry, after_outcomes, ends_request, failing_after, fresh, moved_on, outcomes_of, places_wish, rest_of, standing_of}

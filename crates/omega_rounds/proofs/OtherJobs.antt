@@ -5,7 +5,8 @@ use Rattle.std.specs.Prelude.{option_map, ◌⊎◌}
 use Rattle.std.proofs.lemmas.Bool.{eqb-true}
 use Rattle.omega_model.specs.Cell.{Cell, by_rank, goes_before, is_on, put_by_rank}
 use Rattle.omega_model.specs.Keys.{beginnings, is_among}
-use Rattle.omega_model.specs.Plan.{after_planned, and_claims, candidates, claim_for, claim_of, claims_for, eligible_from, evicting_claim, free_claim, gives_way, goes_in, plan, victims, whole_or_none}
+use Rattle.omega_model.specs.Plan.{after_planned, and_claims, candidates, claim_of, gives_way, goes_in, victims, whole_or_none}
+use Rattle.omega_model.specs.Planning.{claim_as_is, claim_for_wish, claim_with_victims, claims_for_wishes, plan_for, suiting_from}
 use Rattle.omega_model.specs.declared.cells.Machine.{Machine}
 use Rattle.omega_model.specs.declared.cells.Task.{Task}
 use Rattle.omega_model.specs.declared.cells.TaskKey.{TaskKey}
@@ -69,18 +70,18 @@ victims_others cell id wish =
     (λ n. each_take (IsOfOther wish.key.job) n keys (candidates_others cell id wish)) (range_with_len 0 (length keys + 1))))
 
 -- the claim for a wish
-claim_is_for : (cell : Cell) (start : ℕ) (preempts : Bool) (wish : Wish) → OfValue (IsFor wish) (claim_for cell start preempts wish)
+claim_is_for : (cell : Cell) (start : ℕ) (preempts : Bool) (wish : Wish) → OfValue (IsFor wish) (claim_for_wish cell start preempts wish)
 claim_is_for cell start preempts wish =
-    let some : List Machine = eligible_from cell.machines wish start in
+    let some : List Machine = suiting_from cell.machines wish start in
     let any : Machine → Type 0 = λ machine. Unit {0} in
-    or_both (IsFor wish) (free_claim cell start wish) (if preempts then evicting_claim cell start wish else None)
+    or_both (IsFor wish) (claim_as_is cell start wish) (if preempts then claim_with_victims cell start wish else None)
     (of_map any (IsFor wish) (λ (machine : Machine). claim_of wish [] machine.id) (λ machine is. (refl, tt)) _
     (found any (λ (machine : Machine). goes_in cell wish [] machine.id) some (each_of any (λ machine. tt) some)))
     (by_policy preempts (first_of (IsFor wish) _
     (each_mapped any (IsFor wish) (λ (machine : Machine). option_map (λ keys. claim_of wish keys machine.id) (victims cell machine.id wish))
     (λ machine is. of_map (AreOfOthers wish.key.job) (IsFor wish) (λ keys. claim_of wish keys machine.id) (λ keys others. (refl, others)) _
     (victims_others cell machine.id wish)) some (each_of any (λ machine. tt) some)))) where
-      by_policy : (test : Bool) → OfValue (IsFor wish) (evicting_claim cell start wish) → OfValue (IsFor wish) (if test then evicting_claim cell start wish else None)
+      by_policy : (test : Bool) → OfValue (IsFor wish) (claim_with_victims cell start wish) → OfValue (IsFor wish) (if test then claim_with_victims cell start wish else None)
       by_policy true is = is
       by_policy false is = tt
 
@@ -108,11 +109,11 @@ claims_more job wish wishes (Some claim) claims own is are =
     }
 
 claims_are_for : (job : ℕ) (cell : Cell) (start : ℕ) (preempts : Bool) (wishes : List Wish) → Each (λ wish. wish.key.job ≡ job) wishes
-    → AreFor job wishes (claims_for cell start preempts wishes)
+    → AreFor job wishes (claims_for_wishes cell start preempts wishes)
 claims_are_for job cell start preempts [] own = record { each = tt; no_more = omega arith; in_order = λ same. refl }
 claims_are_for job cell start preempts (wish ∷ wishes) own =
-    claims_more job wish wishes (claim_for cell start preempts wish) _ own.0 (claim_is_for cell start preempts wish)
-    (claims_are_for job (after_planned cell (claim_for cell start preempts wish)) start preempts wishes own.1)
+    claims_more job wish wishes (claim_for_wish cell start preempts wish) _ own.0 (claim_is_for cell start preempts wish)
+    (claims_are_for job (after_planned cell (claim_for_wish cell start preempts wish)) start preempts wishes own.1)
 
 -- a plan for the wishes of a job: each claim is of the job, with victims of others, and a gang is whole
 pub record IsPlanFor (job : ℕ) (wishes : List Wish) (mode : Mode) (claims : List Claim) : Type 0 where
@@ -120,7 +121,7 @@ pub record IsPlanFor (job : ℕ) (wishes : List Wish) (mode : Mode) (claims : Li
   pub whole : mode ≡ Gang → (claimed claims ≡ wished wishes) ⊎ (claims ≡ [])
 
 pub plan_is_for : (job : ℕ) (cell : Cell) (wishes : List Wish) (start : ℕ) (policy : Policy) → Each (λ wish. wish.key.job ≡ job) wishes
-    → IsPlanFor job wishes policy.mode (plan cell wishes start policy)
+    → IsPlanFor job wishes policy.mode (plan_for cell wishes start policy)
 plan_is_for job cell wishes start policy own = by_mode policy.mode _ (claims_are_for job cell start policy.preempt wishes own) where
   by_mode : (mode : Mode) (claims : List Claim) → AreFor job wishes claims → IsPlanFor job wishes mode (whole_or_none mode (length wishes) claims)
   by_mode Incremental claims are = record { each = are.each; whole = λ same. absurd (cc) }
