@@ -1,5 +1,5 @@
 -- A reply answers each claim.
-use Rattle.std.proofs.Common.{◌≡◌, ℕ, suc, List, [], ◌∷◌, length, map, refl, ap, ◌==◌}
+use Rattle.std.proofs.Common.{◌≡◌, ℕ, suc, List, [], ◌∷◌, length, refl, ap, ◌==◌}
 use Rattle.std.proofs.lemmas.List.{length-map}
 use Rattle.omega_model.specs.Cell.{Cell}
 use Rattle.omega_model.specs.Judge.{judge}

@@ -1,18 +1,15 @@
 -- What a plan is made of: claims, and the tasks that give way to them.
-use Rattle.std.specs.Prelude.{ℕ, Bool, true, List, [], ◌∷◌, ◌++◌, Option, Some, None, option_map, ◌==◌, ◌&&◌, not, nat_lt, length, take, drop, if◌then◌else◌}
-use Rattle.std.specs.List.{find, filter, filter_map}
+use Rattle.std.specs.Prelude.{ℕ, Bool, List, [], ◌∷◌, ◌++◌, Option, Some, None, ◌==◌, ◌&&◌, not, nat_lt, length, take, drop, if◌then◌else◌}
+use Rattle.std.specs.List.{find, filter}
 use Rattle.omega_model.specs.Cell.{Cell, is_on, by_rank, keys_of}
 use Rattle.omega_model.specs.Judge.{judge_fine, would_be_placed}
 use Rattle.omega_model.specs.Keys.{beginnings}
 use Rattle.omega_model.specs.Reply.{after_claim}
-use Rattle.omega_model.specs.declared.cells.Attr.{Attr}
-use Rattle.omega_model.specs.declared.cells.Machine.{Machine}
 use Rattle.omega_model.specs.declared.cells.Task.{Task}
 use Rattle.omega_model.specs.declared.cells.TaskKey.{TaskKey}
 use Rattle.omega_model.specs.declared.claims.Claim.{Claim}
 use Rattle.omega_model.specs.declared.claims.Mode.{Mode}
 use Rattle.omega_model.specs.declared.claims.Mode.TheVariants.{Incremental, Gang}
-use Rattle.omega_model.specs.declared.claims.Policy.{Policy}
 use Rattle.omega_model.specs.declared.wishes.Wish.{Wish}
 
 -- the claim of a wish on a machine

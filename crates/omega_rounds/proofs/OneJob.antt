@@ -127,7 +127,7 @@ module _ (settings : Settings) (trace : TraceTables) where
       → Agrees settings scheduler before seen txn request → IsPlanFor request.job request.wishes txn.mode txn.claims
   plan_of_request before scheduler seen txn request asks agrees =
       let entries : List Entry = take seen before in
-      let start : ℕ = start_of settings scheduler (commits_of scheduler before) (length (state entries).machines) in
+      let start : ℕ = drawn_start settings scheduler (commits_of scheduler before) (length (state entries).machines) in
       subst (λ (claims : List Claim). IsPlanFor request.job request.wishes txn.mode claims) (sym agrees.claims)
       (subst (λ (mode : Mode). IsPlanFor request.job request.wishes mode (planned settings scheduler (commits_of scheduler before) entries request.wishes))
       (sym agrees.mode)

@@ -1,13 +1,5 @@
-pub mod Appending
-pub mod WorkInRounds
-pub mod Attempting
 pub mod Completing
-pub mod Fitting
 pub mod Lines
-pub mod Placing
-pub mod Pushing
 pub mod Refusing
-pub mod Trying
 pub mod Words
-pub mod Rounding
 pub mod SomeRun

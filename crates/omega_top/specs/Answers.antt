@@ -1,7 +1,10 @@
 -- What the top call answers, and why.
-use Rattle.std.specs.Prelude.{◌≡◌, ℕ, List, [], ◌∷◌, Option, Some, None, codes, ⊤}
+use Rattle.std.specs.Prelude.{◌≡◌, ℕ, List, [], ◌∷◌, Option, Some, None, codes, take, ⊤}
 use Rattle.omega_io.specs.Edge.{Appends, AppendsPart, Rose}
 use Rattle.omega_model.specs.Lawful.{Lawful}
+use Rattle.omega_model.specs.Legal.{Sound}
+use Rattle.omega_model.specs.State.{state}
+use Rattle.omega_model.specs.Turns.{InTurns}
 use Rattle.omega_model.specs.Ranges.{IsInRange}
 use Rattle.omega_model.specs.Refusals.{first_refusal, refusal_before}
 use Rattle.omega_model.specs.declared.claims.Mode.TheVariants.{Incremental}
@@ -46,11 +49,12 @@ default_settings = record {
 pub record IsBuilt (settings : Settings) : Type 0 where
   pub ranges : IsInRange settings
   pub command : settings.command ≡ Replay
-  pub batch : settings.batch ≡ 1
-  pub rule : settings.rule ≡ Fine
-  pub mode : settings.mode ≡ Incremental
-  pub preempt : settings.preempt ≡ Nobody
   pub format : settings.format ≡ Text
+
+-- after each of its entries the state of the history is sound: no machine is used beyond its capacity,
+-- no task runs twice, and each is on a machine that is up
+abbrev pub NeverOvercommits : List Entry → Type 0
+NeverOvercommits history = (n : ℕ) → Sound (state (take n history))
 
 -- what may be answered of tables that tell these bytes: the first refusal of theirs, a read that
 -- fails before any of them, or, where there is none, how the run ended
@@ -107,6 +111,22 @@ IsWholeRun settings trace history (ReadFault table) = ⊤
 IsWholeRun settings trace history (TooLong table) = ⊤
 IsWholeRun settings trace history (BadRow table row column cause) = ⊤
 IsWholeRun settings trace history (TooMany kind number) = ⊤
+
+-- a history is the only one that is the whole run of the trace under the settings with the schedulers
+-- taking turns
+abbrev pub IsTheOnly : Settings → TraceTables → List Entry → Type 0
+IsTheOnly settings trace history = (other : List Entry) → Lawful settings trace other → InTurns other → other ≡ history
+
+-- so is the history of a run that reached its report
+abbrev pub IsOnlyRun : Settings → TraceTables → List Entry → Status → Type 0
+IsOnlyRun settings trace history Done = IsTheOnly settings trace history
+IsOnlyRun settings trace history WriteFault = IsTheOnly settings trace history
+IsOnlyRun settings trace history NoMemory = ⊤
+IsOnlyRun settings trace history Usage = ⊤
+IsOnlyRun settings trace history (ReadFault table) = ⊤
+IsOnlyRun settings trace history (TooLong table) = ⊤
+IsOnlyRun settings trace history (BadRow table row column cause) = ⊤
+IsOnlyRun settings trace history (TooMany kind number) = ⊤
 
 -- in a run that reached its report each gang claims all of its request or nothing, and no transaction
 -- evicts a task of its own job

@@ -1,7 +1,3 @@
-pub mod Replays
 pub mod Words
 pub mod Faults
 pub mod Answers
-pub mod Counts
-pub mod Working
-pub mod Attempts

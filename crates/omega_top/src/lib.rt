@@ -1,15 +1,8 @@
 //! The top call: words and tables in, a report and a history out.
 #![tactic(auto)]
 
-mod attempts;
-mod claims;
-mod failures;
-mod planning;
-mod replaying;
-mod replying;
+mod replay;
 mod reporting;
-mod rounds;
-mod scratch;
 mod status;
 mod top;
 

@@ -6,13 +6,13 @@ ghost use Rattle.omega_model.specs.Legal.{Legal};
 ghost use Rattle.omega_model.specs.Refusals.{first_refusal};
 ghost use Rattle.omega_model.specs.Report.{report};
 ghost use Rattle.omega_model.specs.Trace.{trace_of};
+ghost use Rattle.omega_model.specs.Turns.{InTurns};
 ghost use Rattle.omega_model.specs.declared.results.Status.TheVariants.{Usage, WriteFault, NoMemory};
 ghost use Rattle.omega_model.specs.declared.rows.Table.{Table};
-ghost use Rattle.omega_top.specs.Replays.{NeverOvercommits};
-ghost use Rattle.omega_top.specs.Answers.{Answers, EndsRun, HasHistory, HasReadCause, HasWholeGangs, IsBuilt, IsSomeRun, IsWholeRun, NoneRose, SayReplay, Writes, WritesNothing, default_settings};
+ghost use Rattle.omega_top.specs.Answers.{Answers, EndsRun, HasHistory, HasReadCause, HasWholeGangs, IsBuilt, IsOnlyRun, IsSomeRun, IsWholeRun, NeverOvercommits, NoneRose, SayReplay, Writes, WritesNothing, default_settings};
 
 use crate::reporting::report;
-use crate::rounds::replayed;
+use crate::replay::replayed;
 use omega_io::{Gate, Sink, Tables, write_all};
 use omega_model::{
     Command, Done, Extra, Format, Mode, Preempt, Rule, Seq, Settings, Status, TraceTables,
@@ -64,6 +64,8 @@ pub fn omega<T: Tables, K: Sink, G: Gate>(
         → result.status ≢ Usage → (result.status ≡ Status.Done) ⊎ (result.status ≡ NoMemory) }
 
     ensures lawful { (bytes : Table → List ℕ) → Tells (T.rest tables.old) bytes → IsWholeRun default_settings (trace_of bytes) result.history result.status }
+    ensures only { (bytes : Table → List ℕ) → Tells (T.rest tables.old) bytes → IsOnlyRun default_settings (trace_of bytes) result.history result.status }
+    ensures turns { InTurns result.history }
     ensures whole_gangs { (bytes : Table → List ℕ) → Tells (T.rest tables.old) bytes → HasWholeGangs default_settings (trace_of bytes) result.history result.status }
     ensures some_run { IsSomeRun default_settings result.history result.status (K.written out.old) (K.written out.new) }
     ensures legal { Legal result.history }
@@ -104,6 +106,8 @@ pub fn omega_with<T: Tables, K: Sink, G: Gate>(
     ensures write_fault { result.status ≡ WriteFault → Rose (K.faults out.old) (K.faults out.new) }
 
     ensures lawful { (bytes : Table → List ℕ) → Tells (T.rest tables.old) bytes → IsWholeRun settings.now (trace_of bytes) result.history result.status }
+    ensures only { (bytes : Table → List ℕ) → Tells (T.rest tables.old) bytes → IsOnlyRun settings.now (trace_of bytes) result.history result.status }
+    ensures turns { InTurns result.history }
     ensures whole_gangs { (bytes : Table → List ℕ) → Tells (T.rest tables.old) bytes → HasWholeGangs settings.now (trace_of bytes) result.history result.status }
     ensures some_run { IsSomeRun settings.now result.history result.status (K.written out.old) (K.written out.new) }
     ensures legal { Legal result.history }
@@ -135,6 +139,7 @@ fn say_replay(words: &[&str]) -> bool
 // A run that ends with nothing written and without a history.
 fn refused(alloc: Global, status: Status, settings: Option<Settings>) -> Done
     ensures answer { result ≡ record { status = status; settings = settings; history = [] } }
+    ensures turns { InTurns result.history }
     ensures sound { NeverOvercommits result.history }
     ensures gangs { NoGangIsSplit result.history }
     ensures evictions { EvictionsGoDown result.history }
@@ -158,6 +163,8 @@ fn replay_and_write<K: Sink>(
     ensures ends { EndsRun result.status }
     ensures cause { result.status ≡ WriteFault → Rose (K.faults out.old) (K.faults out.new) }
     ensures lawful { IsWholeRun settings.now trace.now result.history result.status }
+    ensures only { IsOnlyRun settings.now trace.now result.history result.status }
+    ensures turns { InTurns result.history }
     ensures legal { Legal result.history }
     ensures sound { NeverOvercommits result.history }
     ensures gangs { NoGangIsSplit result.history }
