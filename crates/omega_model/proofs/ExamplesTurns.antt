@@ -1,7 +1,8 @@
 -- Worked answers: turns, extra tasks, and the lines of the report.
 use Rattle.std.proofs.Common.{◌≡◌, ℕ, false, List, [], ◌∷◌, refl, take, codes, lit<, lit≤}
+use Rattle.std.specs.List.{flat_map}
 use Rattle.omega_model.specs.Extras.{extras}
-use Rattle.omega_model.specs.Report.{Line, Word, Name, Number, claim_lines, report_lines, line_text, report}
+use Rattle.omega_model.specs.Report.{Line, Word, Name, Number, claim_lines, entry_lines, line_text}
 use Rattle.std.proofs.lemmas.Fmt.{decimal_digit, decimal_step}
 use Rattle.omega_model.specs.Turns.{Taken, round_commits, next_turn, turn_start}
 use Rattle.omega_model.specs.declared.cells.Need.{Need}
@@ -14,9 +15,7 @@ use Rattle.omega_model.specs.declared.claims.Verdict.{Verdict}
 use Rattle.omega_model.specs.declared.claims.Verdict.TheVariants.{Placed, NoMachine, AlreadyRunning, Changed, VictimRank, SameJob, Full, Withdrawn}
 use Rattle.omega_model.specs.declared.entries.Entry.{Entry}
 use Rattle.omega_model.specs.declared.entries.Entry.TheVariants.{Round, MachineAdd, Commit}
-use Rattle.omega_model.specs.declared.rows.TraceTables.{TraceTables}
 use Rattle.omega_model.specs.declared.settings.Extra.{Extra}
-use Rattle.omega_model.specs.declared.settings.Settings.{Settings}
 use Rattle.omega_model.specs.declared.settings.Extra.TheVariants.{Max, Cap, Relative}
 
 unfoldable amount : ℕ → Need
@@ -207,9 +206,8 @@ short =
     ∷ nothing_by 1 4 ∷ []
 
 -- its lines
-short_report : (settings : Settings) (trace : TraceTables) → report_lines settings trace short ≡
-    (Name (codes "omega") ∷ Number 2 ∷ [])
-    ∷ (Name (codes "round") ∷ Number 3 ∷ [])
+short_lines : flat_map entry_lines short ≡
+    (Name (codes "round") ∷ Number 3 ∷ [])
     ∷ (Name (codes "commit") ∷ Number 0 ∷ Number 2 ∷ Number 12 ∷ [])
     ∷ (Name (codes "evict") ∷ Number 10 ∷ Number 2 ∷ Number 5 ∷ [])
     ∷ (Name (codes "place") ∷ Number 12 ∷ Number 3 ∷ Number 5 ∷ [])
@@ -218,11 +216,7 @@ short_report : (settings : Settings) (trace : TraceTables) → report_lines sett
     ∷ (Name (codes "refuse") ∷ Number 12 ∷ Number 3 ∷ Number 5 ∷ Name (codes "no-machine") ∷ [])
     ∷ (Name (codes "commit") ∷ Number 1 ∷ Number 4 ∷ Number 1 ∷ []) ∷ []
 unfolding amount nothing_by key claim short placed refused
-short_report settings trace = refl
-
--- the bytes of a report without entries: its first line alone
-empty_report : (settings : Settings) (trace : TraceTables) → report settings trace [] ≡ codes "omega 2\n"
-empty_report settings trace = rw (decimal_digit 2 (lit< tt)) refl
+short_lines = refl
 
 -- words are parted by one space, numbers are decimal, and a line ends with a line feed
 line_bytes : line_text (Name (codes "place") ∷ Number 12 ∷ Number 0 ∷ []) ≡ codes "place 12 0\n"

@@ -1,4 +1,4 @@
--- The lines that are printed of a history, and their bytes.
+-- Lines that are printed of rounds and commits, and the bytes of a line.
 use Rattle.std.specs.Prelude.{ℕ, List, [], ◌∷◌, ◌++◌, map, codes, decimal, if◌then◌else◌}
 use Rattle.std.specs.List.{flat_map, join_with_byte, zip}
 use Rattle.omega_model.specs.declared.cells.TaskKey.{TaskKey}
@@ -9,8 +9,6 @@ use Rattle.omega_model.specs.declared.claims.Verdict.{Verdict}
 use Rattle.omega_model.specs.declared.claims.Verdict.TheVariants.{Placed, NoMachine, AlreadyRunning, Changed, VictimRank, SameJob, Full, Withdrawn}
 use Rattle.omega_model.specs.declared.entries.Entry.{Entry}
 use Rattle.omega_model.specs.declared.entries.Entry.TheVariants.{Round, Commit}
-use Rattle.omega_model.specs.declared.rows.TraceTables.{TraceTables}
-use Rattle.omega_model.specs.declared.settings.Settings.{Settings}
 
 -- a word of a line
 pub data Word : Type 0 where
@@ -56,21 +54,13 @@ claim_lines (claim, judgement) =
     then map (evict_line claim) judgement.evicted ++ place_line claim ∷ []
     else refuse_line claim judgement.verdict ∷ []
 
--- the lines of an entry: so far those of rounds and commits alone
+-- the lines that an entry has on every cell: those of a round or of a commit
 abbrev pub entry_lines : Entry → List Line
 entry_lines (Round number) = (Name (codes "round") ∷ Number number ∷ []) ∷ []
 entry_lines (Commit scheduler seen txn reply) =
     (Name (codes "commit") ∷ Number scheduler ∷ Number seen ∷ Number txn.job ∷ [])
     ∷ flat_map claim_lines (zip txn.claims reply)
 entry_lines _ = []
-
--- the first line, and the lines of the entries of a history
-abbrev pub history_lines : List Entry → List Line
-history_lines history = (Name (codes "omega") ∷ Number 2 ∷ []) ∷ flat_map entry_lines history
-
--- the lines of the report of a history: so far those of its entries, whatever the settings and the trace
-abbrev pub report_lines : Settings → TraceTables → List Entry → List Line
-report_lines settings trace history = history_lines history
 
 -- the bytes of a word
 abbrev pub word_text : Word → List ℕ
@@ -80,7 +70,3 @@ word_text (Number number) = decimal number
 -- the bytes of a line: its words parted by one space, and a line feed
 abbrev pub line_text : Line → List ℕ
 line_text line = join_with_byte 32 (map word_text line) ++ 10 ∷ []
-
--- the bytes of the report of a history
-abbrev pub report : Settings → TraceTables → List Entry → List ℕ
-report settings trace history = flat_map line_text (report_lines settings trace history)
