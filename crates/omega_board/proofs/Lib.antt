@@ -7,6 +7,8 @@ pub mod Ranks
 pub mod Rewinds
 pub mod Rows
 pub mod Starting
+pub mod Lacking
+pub mod Rewritten
 pub mod Standing
 pub mod Evicted
 pub mod Placed
