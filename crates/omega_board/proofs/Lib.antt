@@ -9,6 +9,7 @@ pub mod Rows
 pub mod Starting
 pub mod Lacking
 pub mod Rewritten
+pub mod Reaching
 pub mod Standing
 pub mod Evicted
 pub mod Placed
