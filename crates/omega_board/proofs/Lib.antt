@@ -5,6 +5,11 @@ pub mod Sounds
 pub mod Parts
 pub mod Ranks
 pub mod Rewinds
+pub mod Rows
+pub mod Starting
+pub mod Lacking
+pub mod Rewritten
+pub mod Reaching
 pub mod Standing
 pub mod Evicted
 pub mod Placed

@@ -74,11 +74,11 @@ abbrev pub Apart : List Task → Type 0
 Apart [] = Unit {0}
 Apart (t ∷ tasks) = Each (λ y. same_key t.key y.key ≡ false) tasks × Apart tasks
 
-ordered_apart : (tasks : List Task) → IsInOrder ByKey tasks → Apart tasks
+pub ordered_apart : (tasks : List Task) → IsInOrder ByKey tasks → Apart tasks
 ordered_apart [] order = tt
 ordered_apart (t ∷ tasks) order = (each_map (λ y. key_lt t.key y.key ≡ true) (λ y. same_key t.key y.key ≡ false) (λ y less. key_differs t.key y.key less) tasks order.0, ordered_apart tasks order.1)
 
-filter_apart : (p : Task → Bool) (tasks : List Task) → Apart tasks → Apart (filter p tasks)
+pub filter_apart : (p : Task → Bool) (tasks : List Task) → Apart tasks → Apart (filter p tasks)
 filter_apart p [] apart = tt
 filter_apart p (t ∷ tasks) apart =
     by_answer (p t)

@@ -18,6 +18,7 @@ use Rattle.omega_machines.specs.declared.MachineState.{MachineState}
 use Rattle.omega_machines.specs.Table.{machines_of, state_at, free_if_up, free_at, seq_at}
 use Rattle.omega_running.proofs.Lists.{each_of_all}
 use Rattle.omega_board.specs.Board.{BoardState, IsBoard, cell_of, recounted, table_with}
+use Rattle.omega_board.specs.Putting.{MayStart}
 use Rattle.omega_board.specs.Undo.{UndoState, before_change, before_all, MayTakeAllBack, at_reserve, IsUndoOf}
 use Rattle.omega_board.specs.declared.undo.Change.TheVariants.{Stopped, Started}
 use Rattle.omega_board.proofs.Tasks.{each_found, back_again, gone_again, gone_absent, found_new}
@@ -106,17 +107,18 @@ module _ (board next : BoardState) (kept : IsBoard board.table board.tasks) wher
         }
 
 -- a task with which the cell is sound fits its machine
-pub sound_room : (board : BoardState) (t : Task) → IsBoard board.table board.tasks → task_at board.tasks t.key ≡ None → Sound (cell_of (before_change (Stopped t) board))
+pub sound_room : (board : BoardState) (t : Task) → IsBoard board.table board.tasks → MayStart (cell_of board) t
     → IsSomeAnd (free_at board.table t.machine) (λ free. Fits t.spec.need free)
-sound_room board t kept absent sound =
-    let machines : machines_of (table_with (with_task t board.tasks) board.table) ≡ machines_of board.table = machines_with (with_task t board.tasks) board.table in
+sound_room board t kept may =
+    let absent : task_at board.tasks t.key ≡ None = may.absent in
+    let sound = may.sound in
     let up : is_up (machine_at (machines_of board.table) t.machine) ≡ true =
-    ap (λ ms. is_up (machine_at ms t.machine)) (sym machines) ∙ (each_found (λ y. IsTrue (is_up (machine_at (machines_of (table_with (with_task t board.tasks) board.table)) y.machine))) (λ y. same_key y.key t.key) (with_task t board.tasks) t (each_of_all _ _ sound.placed) (found_new t board.tasks)).0 in
+    (each_found (λ y. IsTrue (is_up (machine_at (machines_of board.table) y.machine))) (λ y. same_key y.key t.key) (with_task t board.tasks) t (each_of_all _ _ sound.placed) (found_new t board.tasks)).0 in
     let known = state_up board.table t.machine up in
     let use_now = (in_use board.table board.tasks kept t.machine known.0 known.1).1 in
     let own : is_on t.machine t ≡ true = eq-eqb _ _ refl in
     let use_then : use_on (with_task t board.tasks) t.machine ≡ plus t.spec.need (use_on board.tasks t.machine) = rw own at (total-with (is_on t.machine) t board.tasks absent kept.ordered) in
-    let within : Fits (use_on (with_task t board.tasks) t.machine) known.0.machine.cap = cap_within board.table t.machine known.0 known.1 (subst (λ ms. All (λ m. Fits (use_on (with_task t board.tasks) m.id) m.cap) ms) machines sound.within) in
+    let within : Fits (use_on (with_task t board.tasks) t.machine) known.0.machine.cap = cap_within board.table t.machine known.0 known.1 sound.within in
     let free : free_at board.table t.machine ≡ Some known.0.free = ap (option_and_then free_if_up) known.1 ∙ rw known.2 refl in
     subst (λ o. IsSomeAnd o (λ free. Fits t.spec.need free)) (sym free) (
       omega (arith, within.0, ap (λ (n : Need). n.cpu) use_then, ap (λ (n : Need). n.cpu) use_now),

@@ -1,2 +1,4 @@
 pub mod Board
 pub mod Undo
+pub mod Parts
+pub mod Putting

@@ -1,5 +1,5 @@
 //! Changes of one machine, each counted on it.
-ghost use Rattle.std.specs.Prelude.{◌≡◌, ◌-◌, ◌<◌, ◌^◌, ℕ, [], OnOk, OnErr, IsTrue};
+ghost use Rattle.std.specs.Prelude.{◌≡◌, ◌-◌, ◌≤◌, ◌<◌, ◌^◌, ℕ, [], OnOk, OnErr, IsTrue};
 ghost use Rattle.std.specs.List.{filter};
 ghost use Rattle.omega_machines.specs.Table.{machines_of, ensured_states, seq_at};
 ghost use Rattle.omega_model.specs.Applying.{ListsOrHasRoom};
@@ -27,7 +27,7 @@ impl Board {
     }
 
     // The machine is in the list, at its end where it wasn't there.
-    fn list(&mut self, id: u64) -> Result<(), NoMemory>
+    pub(crate) fn list(&mut self, id: u64) -> Result<(), NoMemory>
         requires { ListsOrHasRoom (machines_of self.old.table) id }
         ensures ok { OnOk result (self.new ≡ record self.old { table = ensured_states id self.old.table }) }
         ensures err { OnErr result (self.new ≡ self.old) }
@@ -36,9 +36,10 @@ impl Board {
     }
 
     // These tasks stop.
-    fn stop_all(&mut self, keys: &[TaskKey])
+    pub(crate) fn stop_all(&mut self, keys: &[TaskKey])
         ensures tasks { self.new.tasks ≡ without keys.now self.old.tasks }
         ensures table { self.new.table ≡ table_with self.new.tasks self.old.table }
+        ensures room { self.old.spare ≤ self.new.spare }
     {
         let _ = &self.table;
         for key in keys {

@@ -192,7 +192,7 @@ impl Board {
     }
 
     // What the tasks on a machine use.
-    fn use_on(&self, machine: u64) -> Need
+    pub(crate) fn use_on(&self, machine: u64) -> Need
         ensures { result ≡ use_on self.now.tasks machine }
     {
         let (Some(free), Some(place)) = (self.table.free(machine), self.table.position(machine))

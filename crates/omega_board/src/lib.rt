@@ -11,6 +11,7 @@ mod changes;
 mod entries;
 mod judging;
 mod placing;
+mod putting;
 #[cfg(test)]
 mod tests;
 mod undo;

@@ -10,6 +10,7 @@ ghost use Rattle.omega_model.specs.Reply.{tasks_placed};
 ghost use Rattle.omega_model.specs.Touches.{places_on};
 ghost use Rattle.omega_model.specs.declared.claims.Verdict.TheVariants.{Placed};
 ghost use Rattle.omega_board.specs.Board.{cell_of, table_with};
+ghost use Rattle.omega_board.specs.Putting.{MayStart};
 ghost use Rattle.omega_board.specs.Undo.{IsUndoOf, at_reserve, before_change, MayTakeBack};
 
 use crate::Board;
@@ -153,8 +154,8 @@ impl Board {
         ensures claims { undo.new.claims + 1 ≡ undo.old.claims }
         ensures victims { undo.new.victims ≡ undo.old.victims }
     {
-        let _ = &self.table;
-        self.start(task);
+        self.running.insert_reserved(task);
+        self.table.charge(task.machine, task.spec.need);
         undo.note_started(task.key);
     }
 
@@ -163,7 +164,6 @@ impl Board {
         requires { MayTakeBack change self.old }
         ensures { self.new ≡ before_change change self.old }
     {
-        let _ = &self.table;
         match change {
             Change::Stopped(task) => self.start(task),
             Change::Started(key) => {
@@ -184,10 +184,9 @@ impl Board {
         Some(task)
     }
 
-    // One more task runs, on a machine that is up and has so much free.
-    fn start(&mut self, task: Task)
-        requires absent { task_at self.old.tasks task.key ≡ None }
-        requires fits { IsSomeAnd (free_at self.old.table task.machine) (λ free. Fits task.spec.need free) }
+    // One more task runs, with which the cell is sound.
+    pub(crate) fn start(&mut self, task: Task)
+        requires starts { MayStart (cell_of self.old) task }
         requires room { 0 < self.old.spare }
         ensures tasks { self.new.tasks ≡ with_task task self.old.tasks }
         ensures table { self.new.table ≡ table_with self.new.tasks self.old.table }

@@ -1,10 +1,11 @@
 -- Changes that leave a machine within its bounds.
-use Rattle.std.proofs.Common.{◌≡◌, ◌+◌, ◌<◌, ◌^◌, true, sym, ap, ◌∙◌, true≢false, arith}
+use Rattle.std.proofs.Common.{◌≡◌, ℕ, ◌+◌, ◌<◌, ◌^◌, true, false, sym, ap, ◌∙◌, true≢false, arith}
 use Rattle.omega_model.specs.Fields.{greatest}
 use Rattle.omega_model.specs.Machines.{removed}
 use Rattle.omega_model.specs.Need.{Fits, nothing, plus, minus}
 use Rattle.omega_model.specs.declared.cells.Need.{Need}
-use Rattle.omega_machines.specs.Table.{MachineState, IsBounded, used, state_added, state_updated, with_machine, charged, released}
+use Rattle.omega_model.specs.declared.cells.Machine.{Machine}
+use Rattle.omega_machines.specs.Table.{MachineState, IsBounded, used, state_added, state_updated, state_put, with_machine, charged, released}
 use Rattle.omega_model.proofs.Amounts.{need_is}
 
 module _ (state : MachineState) (bounded : IsBounded state) where
@@ -64,3 +65,15 @@ module _ (state : MachineState) (bounded : IsBounded state) where
         (omega (arith, bounded.free.0, ap (λ (n : Need). n.cpu) none)) (omega (arith, bounded.free.1.0, ap (λ (n : Need). n.mem) none))
         (omega (arith, bounded.free.1.1, ap (λ (n : Need). n.disk) none));
   }
+
+-- a row is within its bounds that has nothing in use while its machine isn't up
+pub bounded-put : (machine : Machine) (used : Need) (seq : ℕ) → Fits machine.cap greatest → (machine.up ≡ false → used ≡ nothing) → IsBounded (state_put machine used seq)
+bounded-put machine used seq most down = record {
+  cap = most;
+  free = (omega arith, (omega arith, omega arith));
+  down = λ isnt.
+      let none = down isnt in
+      need_is (minus machine.cap used) machine.cap
+      (omega (arith, ap (λ (n : Need). n.cpu) none)) (omega (arith, ap (λ (n : Need). n.mem) none))
+      (omega (arith, ap (λ (n : Need). n.disk) none));
+}

@@ -10,9 +10,14 @@ use Rattle.std.proofs.lemmas.List.{set-get_or}
 use Rattle.std.proofs.lemmas.List.Elements.{All-set, All-get_or}
 use Rattle.std.proofs.lemmas.Option.{slice_get-map, same_Some, slice_get_within, get_or_from_slice_get, none-some}
 use Rattle.indexmap.specs.IndexMap.{set_value_at}
+use Rattle.omega_model.specs.Fields.{greatest}
 use Rattle.omega_model.specs.Machines.{numbers_of}
+use Rattle.omega_model.specs.Need.{Fits, nothing}
+use Rattle.omega_model.specs.declared.cells.Machine.{Machine}
+use Rattle.omega_model.specs.declared.cells.Need.{Need}
 use Rattle.omega_machines.specs.Rows.{IsKept}
-use Rattle.omega_machines.specs.Table.{MachineState, machines_of, change_state, IsBounded, IsTable}
+use Rattle.omega_machines.specs.Table.{MachineState, machines_of, change_state, state_put, IsBounded, IsTable}
+use Rattle.omega_machines.proofs.Bounds.{bounded-put}
 use Rattle.omega_machines.proofs.Places.{Stands, stands}
 
 -- a value that is written in a row is written in the table
@@ -72,29 +77,36 @@ pub bounded_row : (rows : List (ℕ × MachineState)) (place key : ℕ) (state :
 bounded_row rows place key state kept row =
     bounded_at (values_of rows) place state kept.table (slice_get-map (λ (e : ℕ × MachineState). e.1) rows place ∙ ap (option_map (λ (e : ℕ × MachineState). e.1)) row)
 
--- the row of a machine written anew: the rows stay a table, and it is the table with this machine changed
-pub rewritten : (rows : List (ℕ × MachineState)) (table : List MachineState) (id place key : ℕ) (state next : MachineState) (changed : MachineState → MachineState)
-    → values_of rows ≡ table → IsKept rows → position (λ machine. machine.id == id) (machines_of table) ≡ Some place → slice_get rows place ≡ Some (key, state)
-    → changed state ≡ next → (changed state).machine.id ≡ state.machine.id → (Stands table id place state → IsBounded state → IsBounded (changed state))
+-- the state of a row stands at the row's place in the table
+row_stands : (rows : List (ℕ × MachineState)) (table : List MachineState) (place key : ℕ) (state : MachineState) → values_of rows ≡ table → slice_get rows place ≡ Some (key, state)
+    → slice_get table place ≡ Some state
+row_stands rows table place key state seen row =
+    ap (λ t. slice_get t place) (sym seen) ∙ slice_get-map (λ (e : ℕ × MachineState). e.1) rows place ∙ ap (option_map (λ (e : ℕ × MachineState). e.1)) row
+
+-- the row of a machine written anew, at its place: the rows stay a table, and it is the table with this
+-- machine changed
+pub rewritten_at : (rows : List (ℕ × MachineState)) (table : List MachineState) (id place key : ℕ) (state next : MachineState) (changed : MachineState → MachineState)
+    → values_of rows ≡ table → IsKept rows → state.machine.id ≡ id → slice_get rows place ≡ Some (key, state)
+    → changed state ≡ next → (changed state).machine.id ≡ state.machine.id → (IsBounded state → IsBounded (changed state))
     → IsKept (set_value_at rows place next) × (values_of (set_value_at rows place next) ≡ change_state id changed table)
-rewritten rows table id place key state next changed seen kept placed row is same bounds =
+rewritten_at rows table id place key state next changed seen kept numbered row is same bounds =
     subst (λ n. IsKept (set_value_at rows place n) × (values_of (set_value_at rows place n) ≡ change_state id changed table)) is (
       record {
         keyed = keys-set_value_at rows place written ∙ kept.keyed ∙ ap (λ t. numbers_of (machines_of t)) seen ∙ sym numbers ∙ ap (λ t. numbers_of (machines_of t)) (sym values);
         table = subst IsTable (sym values) (record {
           few = omega (arith, length-set {A = MachineState}, held.few);
           distinct = subst (IsDistinct nat_eq) (sym numbers) held.distinct;
-          bounded = All-set IsBounded table place written (bounds here (bounded_at table place state held here.at)) held.bounded;
+          bounded = All-set IsBounded table place written (bounds (bounded_at table place state held at)) held.bounded;
         });
       },
-      values ∙ set-change id changed table place state held.distinct here.at here.numbered,
+      values ∙ set-change id changed table place state held.distinct at numbered,
     )
   where
     written : MachineState
     written = changed state
 
-    here : Stands table id place state
-    here = stands rows table id place key state seen placed row
+    at : slice_get table place ≡ Some state
+    at = row_stands rows table place key state seen row
 
     held : IsTable table
     held = subst IsTable seen kept.table
@@ -103,12 +115,38 @@ rewritten rows table id place key state next changed seen kept placed row is sam
     values = values-set_value_at rows place (changed state) ∙ ap (λ t. set t place (changed state)) seen
 
     numbers : numbers_of (machines_of (set table place (changed state))) ≡ numbers_of (machines_of table)
-    numbers = numbers-set table place state (changed state) here.at same
+    numbers = numbers-set table place state (changed state) at same
+
+-- and at the place that a look-up found
+pub rewritten : (rows : List (ℕ × MachineState)) (table : List MachineState) (id place key : ℕ) (state next : MachineState) (changed : MachineState → MachineState)
+    → values_of rows ≡ table → IsKept rows → position (λ machine. machine.id == id) (machines_of table) ≡ Some place → slice_get rows place ≡ Some (key, state)
+    → changed state ≡ next → (changed state).machine.id ≡ state.machine.id → (Stands table id place state → IsBounded state → IsBounded (changed state))
+    → IsKept (set_value_at rows place next) × (values_of (set_value_at rows place next) ≡ change_state id changed table)
+rewritten rows table id place key state next changed seen kept placed row is same bounds =
+    let here : Stands table id place state = stands rows table id place key state seen placed row in
+    rewritten_at rows table id place key state next changed seen kept here.numbered row is same (bounds here)
+
+module _ (rows : List (ℕ × MachineState)) (table : List MachineState) (place key : ℕ) (state next : MachineState) (machine : Machine) (used : Need) (seq : ℕ)
+    (seen : values_of rows ≡ table) (kept : IsKept rows) (there : slice_get (numbers_of (machines_of table)) place ≡ Some machine.id) (row : slice_get rows place ≡ Some (key, state)) where
+  -- the machine at a place has the number that stands there
+  there_numbered : state.machine.id ≡ machine.id
+  there_numbered =
+      let at = row_stands rows table place key state seen row in
+      let here : slice_get (numbers_of (machines_of table)) place ≡ Some state.machine.id =
+      slice_get-map (λ (m : Machine). m.id) (machines_of table) place ∙ ap (option_map (λ (m : Machine). m.id)) (slice_get-map (λ (s : MachineState). s.machine) table place ∙ ap (option_map (λ (s : MachineState). s.machine)) at) in
+      same_Some _ _ (sym here ∙ there)
+
+  -- another row in its place
+  pub row_put : next ≡ state_put machine used seq → Fits machine.cap greatest → (machine.up ≡ false → used ≡ nothing)
+      → IsKept (set_value_at rows place next) × (values_of (set_value_at rows place next) ≡ change_state machine.id (λ _. state_put machine used seq) table)
+  row_put is most down =
+      rewritten_at rows table machine.id place key state next (λ _. state_put machine used seq) seen kept there_numbered row (sym is) (sym there_numbered)
+      (λ _. bounded-put machine used seq most down)
 
 -- a row written as it was leaves the table
 pub unwritten : (rows : List (ℕ × MachineState)) (table : List MachineState) (place key : ℕ) (state next : MachineState)
     → values_of rows ≡ table → slice_get rows place ≡ Some (key, state) → next ≡ state → values_of (set_value_at rows place next) ≡ table
 unwritten rows table place key state next seen row same =
-    let at : slice_get table place ≡ Some state = ap (λ t. slice_get t place) (sym seen) ∙ slice_get-map (λ (e : ℕ × MachineState). e.1) rows place ∙ ap (option_map (λ (e : ℕ × MachineState). e.1)) row in
+    let at = row_stands rows table place key state seen row in
     values-set_value_at rows place next ∙ (λ i. set (seen i) place (same i))
     ∙ ap (set table place) (sym (get_or_from_slice_get table place state state at)) ∙ set-get_or table place state

@@ -57,6 +57,10 @@ state_added cap state = record state { machine = added cap state.machine; free =
 abbrev pub state_updated : Need → MachineState → MachineState
 state_updated cap state = record state { machine = updated cap state.machine; free = minus cap (used state) }
 
+-- this machine, with so much of it in use, touched by so many entries
+abbrev pub state_put : Machine → Need → ℕ → MachineState
+state_put machine used seq = record { machine = machine; free = minus machine.cap used; seq = seq }
+
 -- the machine changed, with as much free on it as before
 abbrev pub with_machine : (Machine → Machine) → MachineState → MachineState
 with_machine changed state = record state { machine = changed state.machine }

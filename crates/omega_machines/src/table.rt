@@ -1,10 +1,10 @@
 //! The table of machines.
-ghost use Rattle.std.specs.Prelude.{◌≡◌, ◌-◌, ◌<◌, ◌^◌, ◌⊎◌, ◌==◌, [], ◌∷◌, ◌++◌, None, Some, nat_eq, length, take, slice_get, option_map, position, is_some, IsTrue, IsSomeAnd, OnOk, OnErr};
+ghost use Rattle.std.specs.Prelude.{◌≡◌, ◌-◌, ◌<◌, ◌^◌, ◌⊎◌, ◌==◌, false, [], ◌∷◌, ◌++◌, None, Some, nat_eq, length, take, slice_get, option_map, position, is_some, IsTrue, IsSomeAnd, OnOk, OnErr};
 ghost use Rattle.indexmap.specs.IndexMap.{get, IsUnchanged};
 ghost use Rattle.omega_model.specs.Fields.{greatest};
-ghost use Rattle.omega_model.specs.Machines.{is_listed, removed, attr_set, attr_deleted};
+ghost use Rattle.omega_model.specs.Machines.{is_listed, numbers_of, removed, attr_set, attr_deleted};
 ghost use Rattle.omega_model.specs.Need.{Fits, nothing};
-ghost use Rattle.omega_machines.specs.Table.{machines_of, use_at, free_at, seq_at, change_state, ensured_states, state_added, state_updated, with_machine, charged, released, touched, IsTable};
+ghost use Rattle.omega_machines.specs.Table.{machines_of, use_at, free_at, seq_at, change_state, ensured_states, state_added, state_updated, state_put, with_machine, charged, released, touched, IsTable};
 
 use crate::{MachineState, attrs};
 use indexmap::IndexMap;
@@ -188,7 +188,7 @@ impl MachineTable {
         self.ensure(id)?;
         let set = self.set_attr(id, name, value);
         if set.is_err() {
-            self.forget_after(count);
+            self.truncate(count);
         }
         set
     }
@@ -203,6 +203,30 @@ impl MachineTable {
         let alloc = *self.rows.allocator();
         let (_, state) = self.rows.pair_mut(place);
         attrs::delete(&mut state.machine.attrs, alloc, name);
+    }
+
+    /// The first `n` machines stay as they are and the others leave the list, so that a refused
+    /// `ensure` among several can be undone.
+    pub fn truncate(&mut self, n: usize)
+        ensures first { self.new ≡ take n self.old }
+        ensures table { IsTable self.new }
+    {
+        self.rows.truncate(n);
+    }
+
+    /// Puts another row in the place of a machine, whose number stays: so much is in use on it then,
+    /// and so many entries have touched it. Nothing is in use on a machine that isn't up.
+    pub fn put(&mut self, position: usize, machine: Machine, used: Need, seq: u64)
+        requires there { slice_get (numbers_of (machines_of self.old)) position ≡ Some machine.id }
+        requires cap { Fits machine.cap greatest }
+        requires in_use { Fits used machine.cap }
+        requires down { machine.up ≡ false → used ≡ nothing }
+        ensures changed { self.new ≡ change_state machine.id (λ _. state_put machine used seq) self.old }
+        ensures table { IsTable self.new }
+    {
+        let free = machine.cap.minus(used);
+        let (_, state) = self.rows.pair_mut(position);
+        *state = MachineState { machine, free, seq };
     }
 
     /// What is free on a machine: its capacity less what is in use. `None` exactly where it isn't
@@ -262,14 +286,6 @@ impl MachineTable {
         let place = self.place_of(id);
         let (_, state) = self.rows.pair_mut(place);
         state.free = state.free.plus(need);
-    }
-
-    /// The first so many machines alone. Takes no memory.
-    fn forget_after(&mut self, count: usize)
-        ensures first { self.new ≡ take count self.old }
-        ensures table { IsTable self.new }
-    {
-        self.rows.truncate(count);
     }
 
     /// The place of a machine that is there.

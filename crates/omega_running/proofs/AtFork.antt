@@ -31,6 +31,13 @@ pub record AtFork (order : Order) (d l : List Task) (x : Task) (r : List Task) :
   pub left : IsInOrder order l
   pub right : IsInOrder order r
 
+-- so it is of any list in order that is put together so
+pub at_middle : {order : Order} {d l : List Task} {x : Task} {r : List Task} → IsInOrder order d → d ≡ l ++ x ∷ r → AtFork order d l x r
+at_middle {order} {d} {l} {x} {r} rises is =
+    let u : IsInOrder order (l ++ x ∷ r) = subst (IsInOrder order) is rises in
+    let s = sides (precedes order) l x r u in
+    record { is = is; rises = u; before = s.before; after = s.after; left = s.left; right = s.right }
+
 pub at_fork : {order : Order} {tree : Tree} {node : Box Node Global} → IsInOrder order (tasks_of tree) → tree ≡ Fork node → AtFork order (tasks_of tree) (tasks_of node.value.left) node.value.task (tasks_of node.value.right)
 at_fork {order} {tree} {node} rises is =
     let u : IsInOrder order (tasks_of node.value.left ++ node.value.task ∷ tasks_of node.value.right) = subst (λ z. IsInOrder order (tasks_of z)) is rises in

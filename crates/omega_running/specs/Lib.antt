@@ -1,3 +1,4 @@
 pub mod Order
 pub mod Tree
 pub mod Kept
+pub mod Standing

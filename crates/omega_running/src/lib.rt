@@ -8,8 +8,10 @@
 
 mod nodes;
 mod orders;
+mod standing;
 mod table;
 
+pub use standing::stands_in;
 pub use table::Running;
 
 #[cfg(test)]

@@ -4,10 +4,12 @@ ghost use Rattle.std.specs.List.{filter};
 ghost use Rattle.omega_model.specs.Cell.{task_at, with_task, without, is_on, by_rank, keys_of};
 ghost use Rattle.omega_model.specs.Jobs.{is_of_job, other_of_job};
 ghost use Rattle.omega_running.specs.Kept.{KeysRise};
+ghost use Rattle.omega_running.specs.Standing.{stands_in};
 
 use crate::nodes::{Node, Tree};
 use crate::orders::Order;
-use omega_model::{Keys, NoMemory, Seq, Task, TaskKey};
+use crate::standing::same_task;
+use omega_model::{Keys, NoMemory, Seq, Task, TaskKey, Tasks};
 use std::alloc::Global;
 use std::marker::Model;
 
@@ -149,6 +151,28 @@ impl Running {
             .collect(Order::ByMachine, machine, &mut found)?;
         found.sort_unstable_by_key(|task| (task.spec.prec, task.key.job, task.key.index));
         keys_of(alloc, &found)
+    }
+
+    /// The tasks on a machine in order of key. Takes the time of what the machine has, and
+    /// logarithmic in the number of tasks.
+    pub fn tasks_on(&self, alloc: Global, machine: u64) -> Result<Tasks, NoMemory>
+        ensures { IfOk result (λ tasks. tasks ≡ filter (is_on machine) self.now.tasks) }
+    {
+        let mut found = Vec::new(alloc);
+        self.by_machine
+            .collect(Order::ByMachine, machine, &mut found)?;
+        Ok(Seq::of(found))
+    }
+
+    /// Whether a task runs, the same in all. Takes no memory, and time logarithmic in the number of
+    /// tasks.
+    pub fn has(&self, task: &Task) -> bool
+        ensures { result ≡ stands_in self.now.tasks task.now }
+    {
+        match self.get(task.key) {
+            Some(other) => same_task(other, task),
+            None => false,
+        }
     }
 
     /// The keys of a job's running tasks by index. Takes the time of what the job has, and

@@ -1,4 +1,4 @@
-use Rattle.std.proofs.Common.{refl, sym, ap, ◌∙◌, [], ◌∷◌, take, not}
+use Rattle.std.proofs.Common.{refl, sym, ap, ◌∙◌, [], ◌∷◌, take, not, arith}
 use Rattle.std.proofs.lemmas.List.{take_more}
 use Rattle.omega_model.specs.Keys.{is_among}
 use Rattle.omega_model.specs.Cell.{without}
@@ -14,6 +14,7 @@ loop-key-init c =
     let kept = at_now _ _ c.self.view_is c.self.invariant in (
       sym (filter_every (λ task. not (is_among task.key [])) c.args.self.now.tasks (each_of _ (λ task. refl) c.args.self.now.tasks)),
       sym (table_with-same c.args.self.now.tasks c.args.self.now.table kept.counted),
+      omega arith,
     )
 
 pub loop-key-preserved : goal.loop-key-preserved
@@ -25,4 +26,5 @@ loop-key-preserved c = (
   c.stop.ensures.table
       ∙ ap (table_with c.stop.new.self.tasks) c.loop-key.invariant.1
       ∙ table_with-twice c.stop.new.self.tasks c.loop-key.self.tasks c.args.self.now.table,
+  omega (arith, c.loop-key.invariant.2, c.stop.ensures.spare),
 )

@@ -1,10 +1,16 @@
 use Rattle.std.proofs.Common.{subst}
+use Rattle.omega_model.specs.Cell.{with_task}
+use Rattle.omega_model.specs.Legal.{Sound}
 use Rattle.omega_board.specs.Undo.{MayTakeBack}
-use Rattle.omega_board.proofs.Boards.{at_now}
-use Rattle.omega_board.proofs.Rewinds.{sound_room}
+use Rattle.omega_board.proofs.Rewinds.{machines_with}
 use Rattle.omega_board.proofs.board.Board.take_back.Goals as goal
 
-pub start-requires-clause-fits : goal.start-requires-clause-fits
-start-requires-clause-fits c =
-    let may = subst (λ change. MayTakeBack change c.args.self.now) c.in-Stopped.is c.requires in
-    sound_room c.args.self.now c.in-Stopped.task (at_now _ _ c.self.view_is c.self.invariant) may.0 may.2
+pub start-requires-clause-starts : goal.start-requires-clause-starts
+start-requires-clause-starts c =
+    let board = c.args.self.now in
+    let task = c.in-Stopped.task in
+    let may = subst (λ change. MayTakeBack change board) c.in-Stopped.is c.requires in
+    record {
+      absent = may.0;
+      sound = subst (λ machines. Sound (record { machines = machines; tasks = with_task task board.tasks })) (machines_with (with_task task board.tasks) board.table) may.2;
+    }
