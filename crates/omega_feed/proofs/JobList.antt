@@ -179,6 +179,11 @@ note_job settings jobs (Machine row) = jobs
 note_job settings jobs (Attr row) = jobs
 note_job settings jobs (Task row) = with_job jobs (classed settings (Some row.class) row.key.job)
 
+both_false : (a b : Bool) → (a || (b || false)) ≡ false → (a ≡ false) × (b ≡ false)
+both_false true b e = absurd (cc)
+both_false false true e = absurd (cc)
+both_false false false e = (refl, refl)
+
 -- the class of a job by the first of these rows that is one of its tasks
 abbrev first_class : List Row → ℕ → Option ℕ
 first_class rows job = first_item (filter_map (class_in job) rows)
@@ -213,17 +218,14 @@ module _ (settings : Settings) (class : ℕ → Option ℕ) where
   past ns n job is = by_cases (list_any (λ m. m == n) ns) refl is where
     by_cases : (b : Bool) → list_any (λ m. m == n) ns ≡ b → list_any (λ m. m == job) (cond b ns (ns ++ n ∷ [])) ≡ false
         → (list_any (λ m. m == job) ns ≡ false) × ((n == job) ≡ false)
-    by_cases true has none = (none,
-        elim (cases_eq n job) [
-          | inl same ↦ let both : true ≡ false = sym has ∙ ap (λ z. list_any (λ m. m == z) ns) same ∙ none in absurd (cc)
-          | inr ne ↦ ne_eqb n job ne
-        ])
+    by_cases true has none = (
+      none,
+      elim (cases_eq n job) [
+        | inl same ↦ let both : true ≡ false = sym has ∙ ap (λ z. list_any (λ m. m == z) ns) same ∙ none in absurd (cc)
+        | inr ne ↦ ne_eqb n job ne
+      ],
+    )
     by_cases false has none = both_false (list_any (λ m. m == job) ns) (n == job) (sym (list_any-append (λ m. m == job) ns (n ∷ [])) ∙ none)
-
-    both_false : (a b : Bool) → (a || (b || false)) ≡ false → (a ≡ false) × (b ≡ false)
-    both_false true b e = absurd (cc)
-    both_false false true e = absurd (cc)
-    both_false false false e = (refl, refl)
 
   fold_routed : (ns : List ℕ) (rows : List Row) → IsFirst ns rows
       → fold (note_job settings) (map routed_by ns) rows ≡ map routed_by (fold add_once ns (filter_map job_of_row rows))
