@@ -8,6 +8,5 @@ pub mod Placing
 pub mod Pushing
 pub mod Refusing
 pub mod Trying
-pub mod Words
 pub mod Rounding
 pub mod SomeRun

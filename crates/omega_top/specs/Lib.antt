@@ -5,3 +5,4 @@ pub mod Answers
 pub mod Counts
 pub mod Working
 pub mod Attempts
+pub mod Chosen

@@ -3,13 +3,12 @@
 //! Which words there are is data: the table of `omega_model`, and the part of it that is built.
 #![tactic(auto)]
 
-ghost use Rattle.std.specs.Prelude.{◌≡◌, [], IfErr, IfOk, true, map};
-ghost use Rattle.clap.specs.Faults.{fault_of};
+ghost use Rattle.std.specs.Prelude.{◌≡◌, IfErr, IfOk, true, map};
 ghost use Rattle.omega_model.specs.PlainWords.{is_plain};
 ghost use Rattle.omega_model.specs.Ranges.{IsInRange};
 ghost use Rattle.omega_model.specs.WordSettings.{folder_of, settings_of};
 ghost use Rattle.omega_words.specs.Built.{KeepsDefaults, built_words};
-ghost use Rattle.omega_words.specs.Taken.{app, are_of_table, folder_in, is_taken, settings_in, text_in};
+ghost use Rattle.omega_words.specs.Taken.{AreAccepted, are_of_table, folder_in, is_taken, settings_in, text_in};
 
 mod command;
 mod entries;
@@ -60,7 +59,7 @@ pub fn read_words(alloc: Global, words: &[&str]) -> Result<Parsed, WordsRefusal>
     ensures never_on_plain { let given = map (λ word. word.now) words.now in
         IfErr result (λ e. is_plain built_words given ≡ true → e ≡ WordsRefusal.NoMemory) }
     ensures accepted { let given = map (λ word. word.now) words.now in
-        IfOk result (λ _. fault_of (app built_words) given ≡ []) }
+        IfOk result (λ _. AreAccepted built_words given) }
     ensures values { let given = map (λ word. word.now) words.now in
         IfOk result (λ _. are_of_table built_words (text_in built_words given) ≡ true) }
     ensures settings { let given = map (λ word. word.now) words.now in
