@@ -1,5 +1,4 @@
 pub mod Completing
 pub mod Lines
 pub mod Refusing
-pub mod Words
 pub mod SomeRun

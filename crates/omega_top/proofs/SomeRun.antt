@@ -38,9 +38,6 @@ refused_run settings (Bad table row column cause) before now stays = record { tr
 refused_run settings (Many kind number) before now stays = record { trace = no_rows; within = no_rows-within; whole = tt; written = stays }
 refused_run settings Memory before now stays = record { trace = no_rows; within = no_rows-within; whole = tt; written = stays }
 
--- so is one that the words end, or want of memory before the reading
-pub usage_run : (settings : Settings) (before now : Option (List ℕ)) → now ≡ before → IsSomeRun settings [] Usage before now
-usage_run settings before now stays = record { trace = no_rows; within = no_rows-within; whole = tt; written = stays }
-
+-- so is one that want of memory ends before the reading
 pub no_memory_run : (settings : Settings) (before now : Option (List ℕ)) → now ≡ before → IsSomeRun settings [] NoMemory before now
 no_memory_run settings before now stays = record { trace = no_rows; within = no_rows-within; whole = tt; written = stays }

@@ -1,5 +1,5 @@
 -- What the top call answers, and why.
-use Rattle.std.specs.Prelude.{◌≡◌, ℕ, List, [], ◌∷◌, Option, Some, None, codes, take, ⊤}
+use Rattle.std.specs.Prelude.{◌≡◌, ℕ, List, [], Option, Some, None, take, ⊤}
 use Rattle.omega_io.specs.Edge.{Appends, AppendsPart, Rose}
 use Rattle.omega_model.specs.Lawful.{Lawful}
 use Rattle.omega_model.specs.Legal.{Sound}
@@ -15,35 +15,12 @@ use Rattle.omega_model.specs.declared.results.Status.TheVariants.{Done, Usage, R
 use Rattle.omega_model.specs.declared.rows.Table.{Table}
 use Rattle.omega_model.specs.declared.rows.TraceTables.{TraceTables}
 use Rattle.omega_model.specs.declared.settings.Command.TheVariants.{Replay}
-use Rattle.omega_model.specs.declared.settings.Extra.TheVariants.{Relative}
 use Rattle.omega_model.specs.declared.settings.Format.TheVariants.{Text}
 use Rattle.omega_model.specs.declared.settings.Preempt.TheVariants.{Nobody}
 use Rattle.omega_model.specs.declared.settings.Settings.{Settings}
 use Rattle.omega_model.specs.Limits.{IsWithinLimits}
 use Rattle.omega_model.specs.Report.{report}
 use Rattle.omega_rounds.specs.Gangs.{GangsAreWhole}
-
--- the words are the one list of words that is taken: `replay` alone
-abbrev pub SayReplay : List (List ℕ) → Type 0
-SayReplay words = words ≡ codes "replay" ∷ []
-
--- the settings that these words give
-abbrev pub default_settings : Settings
-default_settings = record {
-  command = Replay;
-  seed = 0;
-  batch = 1;
-  rule = Fine;
-  mode = Incremental;
-  preempt = Nobody;
-  extra = Relative;
-  tries = 5;
-  give_up = 1000;
-  window = 300000000;
-  format = Text;
-  machines = 64;
-  jobs = 500;
-}
 
 -- the settings are in their ranges, and what isn't built yet has its default
 pub record IsBuilt (settings : Settings) : Type 0 where

@@ -1,7 +1,7 @@
 //! The top call.
-ghost use Rattle.std.specs.Prelude.{◌≡◌, ◌≢◌, ◌↔◌, ◌⊎◌, [], ◌∷◌, ℕ, List, None, Some, codes, map, IsTrue, IfOk};
+ghost use Rattle.std.specs.Prelude.{◌≡◌, ◌≢◌, ◌⊎◌, [], ℕ, List, None, Some, map, IfSome};
 ghost use Rattle.omega_cell.specs.Laws.{EvictionsGoDown, NoGangIsSplit};
-ghost use Rattle.omega_io.specs.Edge.{Enters, Rose, Tells};
+ghost use Rattle.omega_io.specs.Edge.{Rose, Tells};
 ghost use Rattle.omega_model.specs.Legal.{Legal};
 ghost use Rattle.omega_model.specs.Refusals.{first_refusal};
 ghost use Rattle.omega_model.specs.Report.{report};
@@ -9,41 +9,25 @@ ghost use Rattle.omega_model.specs.Trace.{trace_of};
 ghost use Rattle.omega_model.specs.Turns.{InTurns};
 ghost use Rattle.omega_model.specs.declared.results.Status.TheVariants.{Usage, WriteFault, NoMemory};
 ghost use Rattle.omega_model.specs.declared.rows.Table.{Table};
-ghost use Rattle.omega_top.specs.Answers.{Answers, EndsRun, HasHistory, HasReadCause, HasWholeGangs, IsBuilt, IsOnlyRun, IsSomeRun, IsWholeRun, NeverOvercommits, NoneRose, SayReplay, Writes, WritesNothing, default_settings};
+ghost use Rattle.omega_top.specs.Answers.{Answers, EndsRun, HasHistory, HasReadCause, HasWholeGangs, IsBuilt, IsOnlyRun, IsSomeRun, IsWholeRun, NeverOvercommits, NoneRose, Writes, WritesNothing};
+ghost use Rattle.omega_top.specs.Chosen.{AreChosenBy, AreTaken, EntersChosen};
 
 use crate::reporting::report;
 use crate::replay::replayed;
 use omega_io::{Gate, Sink, Tables, write_all};
-use omega_model::{
-    Command, Done, Extra, Format, Mode, Preempt, Rule, Seq, Settings, Status, TraceTables,
-};
+use omega_model::{Done, Seq, Settings, Status, TraceTables};
 use omega_tables::read_tables;
+use omega_words::read_words;
 use std::alloc::Global;
 
-/// The settings of the one word `replay`.
-const DEFAULTS: Settings = Settings {
-    command: Command::Replay,
-    seed: 0,
-    batch: 1,
-    rule: Rule::Fine,
-    mode: Mode::Incremental,
-    preempt: Preempt::Nobody,
-    extra: Extra::Relative,
-    tries: 5,
-    give_up: 1000,
-    window: 300_000_000,
-    format: Format::Text,
-    machines: 64,
-    jobs: 500,
-};
-
-/// Does what the words say with the tables of a folder: replays them and writes the report of the
-/// history that it answers.
+/// Does what the words say with the tables of their folder: replays them and writes the report of
+/// the history that it answers.
 ///
 /// Of the refusals the first that stands is answered: that of the words, then for each table in
 /// order that of its reading, its length and its rows, then that of the limits over all tables, then
-/// that of the writing. Want of memory alone may be answered at any place before the first write. The
-/// gate is for runs with threads, which aren't built yet.
+/// that of the writing. Want of memory alone may be answered at any place before the first write.
+/// Settings are answered unless the words weren't read. The gate is for runs with threads, which
+/// aren't built yet.
 pub fn omega<T: Tables, K: Sink, G: Gate>(
     alloc: Global,
     words: &[&str],
@@ -51,40 +35,48 @@ pub fn omega<T: Tables, K: Sink, G: Gate>(
     out: &mut K,
     gate: &G,
 ) -> Done
-    ensures usage { (result.status ≡ Usage) ↔ (¬ SayReplay (map (λ word. word.now) words.now)) }
-    ensures settings { SayReplay (map (λ word. word.now) words.now) → result.settings ≡ Some default_settings }
+    ensures usage { result.status ≡ Usage → ¬ AreTaken (map (λ word. word.now) words.now) }
+    ensures settings { IfSome result.settings (AreChosenBy (map (λ word. word.now) words.now)) }
     ensures no_settings { result.status ≡ Usage → result.settings ≡ None }
-    ensures folder { SayReplay (map (λ word. word.now) words.now) → result.status ≢ NoMemory → Enters (codes ".") (T.entered tables.old) (T.entered tables.new) }
+    ensures not_read { result.settings ≡ None → (result.status ≡ Usage) ⊎ (result.status ≡ NoMemory) }
+    ensures folder { result.settings ≢ None → result.status ≢ NoMemory
+        → EntersChosen (map (λ word. word.now) words.now) (T.entered tables.old) (T.entered tables.new) }
 
     ensures first { (bytes : Table → List ℕ) → Tells (T.rest tables.old) bytes → result.status ≢ Usage → Answers bytes result.status }
     ensures read_fault { HasReadCause (T.faults tables.old) (T.faults tables.new) result.status }
     ensures write_fault { result.status ≡ WriteFault → Rose (K.faults out.old) (K.faults out.new) }
     ensures complete { (bytes : Table → List ℕ) → Tells (T.rest tables.old) bytes → first_refusal bytes ≡ None
         → NoneRose (T.faults tables.old) (T.faults tables.new) (K.faults out.old) (K.faults out.new)
-        → result.status ≢ Usage → (result.status ≡ Status.Done) ⊎ (result.status ≡ NoMemory) }
+        → AreTaken (map (λ word. word.now) words.now) → (result.status ≡ Status.Done) ⊎ (result.status ≡ NoMemory) }
 
-    ensures lawful { (bytes : Table → List ℕ) → Tells (T.rest tables.old) bytes → IsWholeRun default_settings (trace_of bytes) result.history result.status }
-    ensures only { (bytes : Table → List ℕ) → Tells (T.rest tables.old) bytes → IsOnlyRun default_settings (trace_of bytes) result.history result.status }
+    ensures lawful { (bytes : Table → List ℕ) → Tells (T.rest tables.old) bytes
+        → IfSome result.settings (λ settings. IsWholeRun settings (trace_of bytes) result.history result.status) }
+    ensures only { (bytes : Table → List ℕ) → Tells (T.rest tables.old) bytes
+        → IfSome result.settings (λ settings. IsOnlyRun settings (trace_of bytes) result.history result.status) }
     ensures turns { InTurns result.history }
-    ensures whole_gangs { (bytes : Table → List ℕ) → Tells (T.rest tables.old) bytes → HasWholeGangs default_settings (trace_of bytes) result.history result.status }
-    ensures some_run { IsSomeRun default_settings result.history result.status (K.written out.old) (K.written out.new) }
+    ensures whole_gangs { (bytes : Table → List ℕ) → Tells (T.rest tables.old) bytes
+        → IfSome result.settings (λ settings. HasWholeGangs settings (trace_of bytes) result.history result.status) }
+    ensures some_run { IfSome result.settings
+        (λ settings. IsSomeRun settings result.history result.status (K.written out.old) (K.written out.new)) }
     ensures legal { Legal result.history }
     ensures sound { NeverOvercommits result.history }
     ensures gangs { NoGangIsSplit result.history }
     ensures evictions { EvictionsGoDown result.history }
     ensures history { HasHistory result.history result.status }
     ensures written { (bytes : Table → List ℕ) → Tells (T.rest tables.old) bytes
-        → Writes (report default_settings (trace_of bytes) result.history) (K.written out.old) (K.written out.new) result.status }
+        → IfSome result.settings
+        (λ settings. Writes (report settings (trace_of bytes) result.history) (K.written out.old) (K.written out.new) result.status) }
     ensures nothing { WritesNothing (K.written out.old) (K.written out.new) result.status }
     ensures to_end { (bytes : Table → List ℕ) → Tells (T.rest tables.old) bytes → result.status ≡ Status.Done → Tells (T.rest tables.new) (λ table. []) }
 {
-    if !say_replay(words) {
-        return refused(alloc, Status::Usage, None);
+    let parsed = match read_words(alloc, words) {
+        Ok(parsed) => parsed,
+        Err(refusal) => return refused(alloc, Status::from(refusal), None),
+    };
+    if tables.enter(parsed.folder.as_str()).is_err() {
+        return refused(alloc, Status::NoMemory, Some(parsed.settings));
     }
-    if tables.enter(".").is_err() {
-        return refused(alloc, Status::NoMemory, Some(DEFAULTS));
-    }
-    omega_with(alloc, &DEFAULTS, tables, out, gate)
+    omega_with(alloc, &parsed.settings, tables, out, gate)
 }
 
 /// What `omega` does once the words are read and the folder is entered, under any settings that
@@ -123,16 +115,6 @@ pub fn omega_with<T: Tables, K: Sink, G: Gate>(
     match read_tables(alloc, tables) {
         Ok(trace) => replay_and_write(alloc, settings, &trace, out),
         Err(refusal) => refused(alloc, Status::from(refusal), Some(*settings)),
-    }
-}
-
-// Whether the words are the one word that is built.
-fn say_replay(words: &[&str]) -> bool
-    ensures { IsTrue result ↔ SayReplay (map (λ word. word.now) words.now) }
-{
-    match words {
-        [word] => *word == "replay",
-        _ => false,
     }
 }
 

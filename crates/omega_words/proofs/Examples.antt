@@ -21,6 +21,10 @@ machines_are_not_built : is_plain built_words (codes "replay" ∷ codes "--machi
 unfolding built_words
 machines_are_not_built = refl
 
+seeds_are_not_built : is_plain built_words (codes "replay" ∷ codes "--seed" ∷ codes "5" ∷ []) ≡ false
+unfolding built_words
+seeds_are_not_built = refl
+
 run_is_refused : is_taken built_words (codes "run" ∷ []) ≡ false
 unfolding built_words clap_on_literals
 run_is_refused = refl
@@ -29,13 +33,17 @@ machines_are_refused : is_taken built_words (codes "replay" ∷ codes "--machine
 unfolding built_words clap_on_literals
 machines_are_refused = refl
 
+seeds_are_refused : is_taken built_words (codes "replay" ∷ codes "--seed" ∷ codes "5" ∷ []) ≡ false
+unfolding built_words clap_on_literals
+seeds_are_refused = refl
+
 -- ---- words that are taken, though they aren't plain
 
 joined : is_taken whole_table (codes "run" ∷ codes "--seed=5" ∷ []) ≡ true
 unfolding clap_on_literals
 joined = refl
 
-of_joined : settings_in built_words (codes "replay" ∷ codes "--seed=5" ∷ []) ≡ record default_settings { seed = 5 }
+of_joined : settings_in built_words (codes "replay" ∷ codes "--tries=7" ∷ []) ≡ record default_settings { tries = 7 }
 unfolding built_words clap_on_literals
 of_joined = refl
 

@@ -5,5 +5,7 @@ pub mod Taken
 pub mod Texts
 pub mod Building
 pub mod Where
+pub mod Absent
 pub mod Tables
+pub mod Defaults
 mod Examples

@@ -1,7 +1,8 @@
 -- The command that `clap` is given, the words that it takes, and the settings of its matches.
-use Rattle.std.specs.Prelude.{ℕ, Bool, true, false, ◌&&◌, List, ◌∷◌, map, Option, Some, codes}
+use Rattle.std.specs.Prelude.{◌≡◌, ℕ, Bool, true, false, ◌&&◌, List, [], ◌∷◌, map, Option, Some, codes}
 use Rattle.std.specs.List.{list_all}
 use Rattle.std.specs.Option.{option_map_or}
+use Rattle.clap.specs.Faults.{fault_of}
 use Rattle.clap.specs.Words.{App, Rule, new_app, new_rule, takes, matches_of, first_of}
 use Rattle.omega_model.specs.Options.{Choice, WordTable, is_among, is_value}
 use Rattle.omega_model.specs.WordSettings.{settings_by, folder_by}
@@ -47,6 +48,10 @@ are_of_table table texts =
 -- whether words are taken: `clap` takes them, and the texts of its matches are such as the table has them
 abbrev pub is_taken : WordTable → List (List ℕ) → Bool
 is_taken table words = takes (app table) words && are_of_table table (text_in table words)
+
+-- `clap` finds no fault in the words
+abbrev pub AreAccepted : WordTable → List (List ℕ) → Type 0
+AreAccepted table words = fault_of (app table) words ≡ []
 
 -- the settings and the folder of the matches
 abbrev pub settings_in : WordTable → List (List ℕ) → Settings

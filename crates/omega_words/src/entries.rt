@@ -67,22 +67,14 @@ fn make_entry<'a>(name: &'a str, kind: Kind<'a>) -> Entry<'a>
 }
 
 /// The options of the table.
-pub fn table() -> [Entry<'static>; 12]
+pub fn table() -> [Entry<'static>; 4]
     ensures { map choice_of result ≡ built_words.choices }
 {
     [
         make_entry("tables", Kind::Folder),
-        make_entry("seed", Kind::Number(SEEDS)),
-        make_entry("batch", Kind::Number(BATCHES)),
-        make_entry("rule", Kind::OneOf(&["fine", "coarse"])),
-        make_entry("mode", Kind::OneOf(&["incremental", "gang"])),
-        make_entry("preempt", Kind::OneOf(&["none", "service", "all"])),
-        make_entry("extra", Kind::OneOf(&["max", "cap", "relative"])),
-        make_entry("cap", Kind::Number(CAPS)),
         make_entry("tries", Kind::Number(TRIES)),
         make_entry("give-up", Kind::Number(GIVE_UPS)),
         make_entry("window", Kind::Number(WINDOWS)),
-        make_entry("format", Kind::OneOf(&["text", "json"])),
     ]
 }
 

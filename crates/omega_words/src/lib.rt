@@ -3,19 +3,18 @@
 //! Which words there are is data: the table of `omega_model`, and the part of it that is built.
 #![tactic(auto)]
 
-ghost use Rattle.std.specs.Prelude.{◌≡◌, [], IfErr, IfOk, true, map};
-ghost use Rattle.clap.specs.Faults.{fault_of};
+ghost use Rattle.std.specs.Prelude.{◌≡◌, IfErr, IfOk, true, map};
 ghost use Rattle.omega_model.specs.PlainWords.{is_plain};
 ghost use Rattle.omega_model.specs.Ranges.{IsInRange};
 ghost use Rattle.omega_model.specs.WordSettings.{folder_of, settings_of};
-ghost use Rattle.omega_words.specs.Built.{built_words};
-ghost use Rattle.omega_words.specs.Taken.{app, are_of_table, folder_in, is_taken, settings_in, text_in};
+ghost use Rattle.omega_words.specs.Built.{KeepsDefaults, built_words};
+ghost use Rattle.omega_words.specs.Taken.{AreAccepted, are_of_table, folder_in, is_taken, settings_in, text_in};
 
 mod command;
 mod entries;
 mod matches;
 
-use omega_model::{Settings, Text};
+use omega_model::{Settings, Status, Text};
 use std::alloc::Global;
 
 /// What the words say: the settings, and the folder of the tables.
@@ -33,19 +32,34 @@ pub enum WordsRefusal {
     NoMemory,
 }
 
+impl From<WordsRefusal> for Status {
+    ghost use Rattle.std.specs.Prelude.{◌≡◌};
+    ghost use Rattle.omega_words.specs.Refusals.{status_of};
+
+    ghost from_gives = { λ refusal status. status ≡ status_of refusal };
+
+    fn from(refusal: WordsRefusal) -> Status {
+        match refusal {
+            WordsRefusal::Usage => Status::Usage,
+            WordsRefusal::NoMemory => Status::NoMemory,
+        }
+    }
+}
+
 /// Reads words; the first is the first behind the program's name.
 ///
 /// A command and options are read as `clap` reads them. `Usage` comes only where `clap` doesn't
 /// take the words or a text isn't among the values of its option, and so never on plain words.
 /// `Ok` comes only where `clap` finds no fault in the words and all texts are values; settings and
-/// folder are those of its matches, and on plain words what the words write.
+/// folder are those of its matches, and on plain words what the words write. What isn't built has its
+/// default.
 pub fn read_words(alloc: Global, words: &[&str]) -> Result<Parsed, WordsRefusal>
     ensures usage { let given = map (λ word. word.now) words.now in
         IfErr result (λ e. is_taken built_words given ≡ true → e ≡ WordsRefusal.NoMemory) }
     ensures never_on_plain { let given = map (λ word. word.now) words.now in
         IfErr result (λ e. is_plain built_words given ≡ true → e ≡ WordsRefusal.NoMemory) }
     ensures accepted { let given = map (λ word. word.now) words.now in
-        IfOk result (λ _. fault_of (app built_words) given ≡ []) }
+        IfOk result (λ _. AreAccepted built_words given) }
     ensures values { let given = map (λ word. word.now) words.now in
         IfOk result (λ _. are_of_table built_words (text_in built_words given) ≡ true) }
     ensures settings { let given = map (λ word. word.now) words.now in
@@ -57,6 +71,7 @@ pub fn read_words(alloc: Global, words: &[&str]) -> Result<Parsed, WordsRefusal>
     ensures plain_folder { let given = map (λ word. word.now) words.now in
         IfOk result (λ r. is_plain built_words given ≡ true → r.folder ≡ folder_of given) }
     ensures in_range { IfOk result (λ r. IsInRange r.settings) }
+    ensures defaults { IfOk result (λ r. KeepsDefaults r.settings) }
 {
     let entries = entries::table();
     let matches = match command::matches_for(alloc, &entries, words) {

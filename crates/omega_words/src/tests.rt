@@ -1,153 +1,54 @@
 use super::*;
-use omega_model::{Command, Extra, Format, Mode, Preempt, Rule};
 
-/// The settings of the command `replay` alone.
-const REPLAY: Settings = Settings {
-    command: Command::Replay,
-    seed: 0,
-    batch: 1,
-    rule: Rule::Fine,
-    mode: Mode::Incremental,
-    preempt: Preempt::Nobody,
-    extra: Extra::Relative,
-    tries: 5,
-    give_up: 1000,
-    window: 300_000_000,
-    format: Format::Text,
-    machines: 64,
-    jobs: 500,
-};
-
-/// Words that are taken, with what they say.
-const TAKEN: [(&[&str], Settings, &str); 27] = [
-    (&["replay"], REPLAY, "."),
+/// Words that are taken, with the numbers of tries, of failed commits after which a job is given
+/// up, and of microseconds of a round that they say, and their folder.
+const TAKEN: [(&[&str], u32, u32, u64, &str); 14] = [
+    (&["replay"], 5, 1000, 300_000_000, "."),
+    (&["replay", "--tries", "100"], 100, 1000, 300_000_000, "."),
+    (&["replay", "--tries=1"], 1, 1000, 300_000_000, "."),
+    (&["replay", "--give-up", "007"], 5, 7, 300_000_000, "."),
     (
-        &["replay", "--seed", "5"],
-        Settings { seed: 5, ..REPLAY },
-        ".",
-    ),
-    (&["replay", "--seed=5"], Settings { seed: 5, ..REPLAY }, "."),
-    (
-        &["replay", "--seed=007"],
-        Settings { seed: 7, ..REPLAY },
+        &["replay", "--window", "00000000000000000001099511627776"],
+        5,
+        1000,
+        1_099_511_627_776,
         ".",
     ),
     (
-        &["replay", "--seed", "00000000000018446744073709551615"],
-        Settings {
-            seed: u64::MAX,
-            ..REPLAY
-        },
-        ".",
+        &[
+            "replay",
+            "--window",
+            "1",
+            "--tables",
+            "a b",
+            "--tries",
+            "2",
+            "--give-up",
+            "3",
+        ],
+        2,
+        3,
+        1,
+        "a b",
     ),
     (
-        &["replay", "--batch", "30"],
-        Settings {
-            batch: 30,
-            ..REPLAY
-        },
-        ".",
+        &["replay", "--tables", "größe"],
+        5,
+        1000,
+        300_000_000,
+        "größe",
     ),
-    (
-        &["replay", "--rule", "coarse"],
-        Settings {
-            rule: Rule::Coarse,
-            ..REPLAY
-        },
-        ".",
-    ),
-    (&["replay", "--rule", "fine"], REPLAY, "."),
-    (
-        &["replay", "--mode", "gang"],
-        Settings {
-            mode: Mode::Gang,
-            ..REPLAY
-        },
-        ".",
-    ),
-    (
-        &["replay", "--preempt", "service"],
-        Settings {
-            preempt: Preempt::Service,
-            ..REPLAY
-        },
-        ".",
-    ),
-    (
-        &["replay", "--preempt", "all"],
-        Settings {
-            preempt: Preempt::All,
-            ..REPLAY
-        },
-        ".",
-    ),
-    (
-        &["replay", "--extra", "max"],
-        Settings {
-            extra: Extra::Max,
-            ..REPLAY
-        },
-        ".",
-    ),
-    (
-        &["replay", "--extra", "cap"],
-        Settings {
-            extra: Extra::Cap(60),
-            ..REPLAY
-        },
-        ".",
-    ),
-    (
-        &["replay", "--cap", "0", "--extra", "cap"],
-        Settings {
-            extra: Extra::Cap(0),
-            ..REPLAY
-        },
-        ".",
-    ),
-    (&["replay", "--cap", "7"], REPLAY, "."),
-    (
-        &["replay", "--tries", "100", "--give-up", "1"],
-        Settings {
-            tries: 100,
-            give_up: 1,
-            ..REPLAY
-        },
-        ".",
-    ),
-    (
-        &["replay", "--window", "1099511627776"],
-        Settings {
-            window: 1_099_511_627_776,
-            ..REPLAY
-        },
-        ".",
-    ),
-    (
-        &["replay", "--format", "json"],
-        Settings {
-            format: Format::Json,
-            ..REPLAY
-        },
-        ".",
-    ),
-    (&["replay", "--tables", "a b"], REPLAY, "a b"),
-    (&["replay", "--tables", "größe"], REPLAY, "größe"),
-    (&["replay", "--tables", ""], REPLAY, ""),
-    (&["replay", "--tables="], REPLAY, ""),
-    (&["replay", "--tables", "-"], REPLAY, "-"),
-    (&["replay", "--tables=-x"], REPLAY, "-x"),
-    (&["replay", "--"], REPLAY, "."),
-    (&["--", "replay"], REPLAY, "."),
-    (
-        &["--seed", "5", "replay"],
-        Settings { seed: 5, ..REPLAY },
-        ".",
-    ),
+    (&["replay", "--tables", ""], 5, 1000, 300_000_000, ""),
+    (&["replay", "--tables="], 5, 1000, 300_000_000, ""),
+    (&["replay", "--tables", "-"], 5, 1000, 300_000_000, "-"),
+    (&["replay", "--tables=-x"], 5, 1000, 300_000_000, "-x"),
+    (&["replay", "--"], 5, 1000, 300_000_000, "."),
+    (&["--", "replay"], 5, 1000, 300_000_000, "."),
+    (&["--tries", "9", "replay"], 9, 1000, 300_000_000, "."),
 ];
 
 /// Words that are refused.
-const REFUSED: [&[&str]; 42] = [
+const REFUSED: [&[&str]; 43] = [
     &[],
     &[""],
     &["run"],
@@ -165,43 +66,50 @@ const REFUSED: [&[&str]; 42] = [
     &["replay", "-h"],
     &["replay", "-V"],
     &["replay", "--version"],
-    &["replay", "--", "--seed", "5"],
+    &["replay", "--", "--tries", "5"],
     &["replay", "--speed", "5"],
-    &["replay", "--see", "5"],
+    &["replay", "--trie", "5"],
+    &["replay", "--seed", "5"],
+    &["replay", "--seed=5"],
+    &["replay", "--rule", "fine"],
     &["replay", "--machines", "5"],
     &["replay", "--jobs", "5"],
-    &["replay", "--seed", "1", "--seed", "1"],
-    &["replay", "--seed=1", "--seed=2"],
-    &["replay", "--seed"],
-    &["replay", "--seed", "--batch", "3"],
-    &["replay", "--seed", ""],
-    &["replay", "--seed", "-5"],
-    &["replay", "--seed=-5"],
-    &["replay", "--seed=+5"],
-    &["replay", "--seed", " 5"],
-    &["replay", "--seed", "5 "],
+    &["replay", "--tries", "1", "--tries", "1"],
+    &["replay", "--tries=1", "--tries=2"],
+    &["replay", "--tries"],
+    &["replay", "--tries", "--window", "3"],
+    &["replay", "--tries", ""],
+    &["replay", "--tries", "-5"],
+    &["replay", "--tries=-5"],
+    &["replay", "--tries=+5"],
+    &["replay", "--tries", " 5"],
+    &["replay", "--tries", "5 "],
     &[
         "replay",
-        "--seed",
+        "--tries",
         "0000000000000000000000000000000000000005",
     ],
-    &["replay", "--seed", "18446744073709551616"],
-    &["replay", "--seed", "٥"],
-    &["replay", "--batch", "0"],
-    &["replay", "--batch", "31"],
-    &["replay", "--window", "0"],
-    &["replay", "--rule", "loose"],
     &["replay", "--window", "1099511627777"],
+    &["replay", "--tries", "٥"],
+    &["replay", "--tries", "0"],
+    &["replay", "--tries", "101"],
+    &["replay", "--give-up", "1001"],
     &["replay", "--tables", "-x"],
     &["replay", "--tables", "--"],
 ];
 
 #[test]
 fn reads_words(rt: HostRuntime) {
-    for (words, settings, folder) in &TAKEN {
+    for (words, tries, give_up, window, folder) in &TAKEN {
         let parsed = read_words(rt.alloc(), words);
         let read = parsed.map(|parsed| (parsed.settings, parsed.folder.as_str() == *folder));
-        assert_eq!(rt; read, Ok((*settings, true)), "{:?}", words);
+        let settings = Settings {
+            tries: *tries,
+            give_up: *give_up,
+            window: *window,
+            ..Settings::default()
+        };
+        assert_eq!(rt; read, Ok((settings, true)), "{:?}", words);
     }
     for words in &REFUSED {
         let read = read_words(rt.alloc(), words).map(|parsed| parsed.settings);

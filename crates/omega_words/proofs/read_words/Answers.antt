@@ -11,6 +11,8 @@ use Rattle.omega_words.proofs.Tables.{not_taken, plain_is_taken, rows_are, takes
 use Rattle.omega_words.proofs.Where.{failed, passed}
 use Rattle.omega_model.specs.Ranges.{IsInRange}
 use Rattle.omega_model.proofs.WordRanges.{settings_in_range}
+use Rattle.omega_words.specs.Built.{KeepsDefaults}
+use Rattle.omega_words.proofs.Defaults.{keeps_defaults}
 use Rattle.omega_words.proofs.read_words.Goals as goal
 
 pub returns-in-Err-clause-never_on_plain : goal.returns-in-Err-clause-never_on_plain
@@ -71,3 +73,12 @@ returns-in-Ok-from_str-clause-in_range c =
     let rows : List Row = rows_of (found_of c.in-Ok.matches) in
     let is = c.settings_of-settings.ensures ∙ ap (λ (k : Command). record (settings_by (texts_of rows)) { command = k }) known.1 in
     subst IsInRange (sym is) (settings_in_range (texts_of rows))
+
+pub returns-in-Ok-from_str-clause-defaults : goal.returns-in-Ok-from_str-clause-defaults
+returns-in-Ok-from_str-clause-defaults c =
+    let words : List Text = map (λ s. s.now) c.args.words.now in
+    let known = passed _ _ _ c.in-Some.ensures in
+    let rows : List Row = rows_of (found_of c.in-Ok.matches) in
+    let are = rows_are words (map choice_of c.table-entries.result) rows c.table-entries.ensures c.in-Ok.ensures.rows in
+    let is = c.settings_of-settings.ensures ∙ ap (λ (k : Command). record (settings_by (texts_of rows)) { command = k }) known.1 in
+    subst KeepsDefaults (sym is) (keeps_defaults words rows are known.0)

@@ -1,7 +1,6 @@
 use Rattle.std.proofs.Common.{◌∙◌, refl}
 use Rattle.omega_top.proofs.Completing.{completes}
-use Rattle.omega_top.proofs.SomeRun.{no_memory_run, usage_run}
-use Rattle.omega_top.specs.Answers.{default_settings}
+use Rattle.omega_top.proofs.SomeRun.{no_memory_run}
 use Rattle.omega_top.proofs.top.omega.Goals as goal
 
 -- entering a folder leaves what is told of the tables
@@ -14,20 +13,16 @@ returns-clause-complete g c bytes told clean none taken =
     (c.omega_with.ensures.first bytes (λ table. c.enter.ensures.rests table ∙ told table))
     c.omega_with.ensures.read_fault c.omega_with.ensures.write_fault
 
-pub returns-clause-written : goal.returns-clause-written
-returns-clause-written g c bytes told = c.omega_with.ensures.written bytes (λ table. c.enter.ensures.rests table ∙ told table)
-
 pub returns-clause-to_end : goal.returns-clause-to_end
 returns-clause-to_end g c bytes told done = c.omega_with.ensures.to_end bytes (λ table. c.enter.ensures.rests table ∙ told table) done
 
 pub returns-clause-lawful : goal.returns-clause-lawful
-returns-clause-lawful g c bytes told = c.omega_with.ensures.lawful bytes (λ table. c.enter.ensures.rests table ∙ told table)
+returns-clause-lawful g c bytes told =
+    rw c.omega_with.ensures.settings (c.omega_with.ensures.lawful bytes (λ table. c.enter.ensures.rests table ∙ told table))
 
 pub returns-clause-whole_gangs : goal.returns-clause-whole_gangs
-returns-clause-whole_gangs g c bytes told = c.omega_with.ensures.whole_gangs bytes (λ table. c.enter.ensures.rests table ∙ told table)
-
-pub returns-then-not-say_replay-clause-some_run : goal.returns-then-not-say_replay-clause-some_run
-returns-then-not-say_replay-clause-some_run g c = rw c.refused.ensures.answer (usage_run default_settings _ _ refl)
+returns-clause-whole_gangs g c bytes told =
+    rw c.omega_with.ensures.settings (c.omega_with.ensures.whole_gangs bytes (λ table. c.enter.ensures.rests table ∙ told table))
 
 pub returns-then-is_err-clause-some_run : goal.returns-then-is_err-clause-some_run
-returns-then-is_err-clause-some_run g c = rw c.refused-then-is_err.ensures.answer (no_memory_run default_settings _ _ refl)
+returns-then-is_err-clause-some_run g c = rw c.refused-then-is_err.ensures.answer (no_memory_run c.in-Ok.parsed.settings _ _ refl)
