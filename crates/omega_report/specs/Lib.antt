@@ -1,0 +1,5 @@
+pub mod Counted
+pub mod Lines
+pub mod Pages
+pub mod Readings
+pub mod Spelling
