@@ -1,3 +1,4 @@
+pub mod Empty
 pub mod Tells
 pub mod Untouched
 pub mod Shared
