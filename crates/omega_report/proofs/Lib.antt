@@ -2,3 +2,4 @@ pub mod Empty
 pub mod Tells
 pub mod Untouched
 pub mod Shared
+pub mod Tallying

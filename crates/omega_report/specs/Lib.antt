@@ -5,3 +5,6 @@ pub mod Readings
 pub mod Spelling
 pub mod Shares
 pub mod Telling
+pub mod Tallies
+pub mod Failing
+pub mod Passing

@@ -10,7 +10,15 @@ mod lines;
 mod page;
 mod words;
 
+mod entry_lines;
+mod failures;
+mod judgements;
+mod pass;
+mod report;
 mod shares;
 mod so_far;
+mod tally;
 mod telling;
 mod totals;
+
+pub use report::report;
