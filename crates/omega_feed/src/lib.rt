@@ -16,7 +16,7 @@ mod wanted;
 
 pub use jobs::RoutedJob;
 pub use ordered::rounds;
-pub use unplaced::{Waiting, waiting};
+pub use unplaced::{WaitingTasks, waiting};
 pub use wanted::Wanted;
 
 #[cfg(test)]

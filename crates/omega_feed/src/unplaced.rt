@@ -9,7 +9,7 @@ use std::alloc::Global;
 
 /// The tasks that a trace asks for after all its rows and that don't run.
 #[derive(Debug, Drop)]
-pub struct Waiting {
+pub struct WaitingTasks {
     /// How many there are.
     pub tasks: u64,
     /// Their jobs, each once.
@@ -18,7 +18,7 @@ pub struct Waiting {
 
 /// The tasks that a trace asks for after all its rows and that don't run on a board. Costs a sort of
 /// the rows by time, and the logarithm of the tasks for each task row.
-pub fn waiting(alloc: Global, tables: &TraceTables, board: &Board) -> Result<Waiting, NoMemory>
+pub fn waiting(alloc: Global, tables: &TraceTables, board: &Board) -> Result<WaitingTasks, NoMemory>
     ensures tasks { IfOk result (λ found. found.tasks ≡ length (waiting tables.now (cell_of board.now))) }
     ensures jobs { IfOk result (λ found. found.jobs ≡ jobs_of (waiting tables.now (cell_of board.now))) }
 {

@@ -3,3 +3,4 @@ pub mod Tells
 pub mod Untouched
 pub mod Shared
 pub mod Tallying
+pub mod PassGrows

@@ -15,7 +15,7 @@ use Rattle.omega_model.specs.Work.{is_commit_of, is_empty}
 use Rattle.omega_model.specs.declared.claims.Judgement.{Judgement}
 use Rattle.omega_model.specs.declared.claims.Txn.{Txn}
 use Rattle.omega_model.specs.declared.entries.Entry.{Entry}
-use Rattle.omega_model.specs.declared.entries.Entry.TheVariants.{Commit}
+use Rattle.omega_model.specs.declared.entries.Entry.TheVariants.{Round, MachineAdd, MachineUpdate, MachineRemove, AttrSet, AttrDelete, End, Commit}
 use Rattle.omega_report.specs.Counted.{counts_in}
 use Rattle.omega_report.specs.Tallies.{added_at, counts_over, sum_of_counts, tallies}
 use Rattle.omega_report.specs.declared.counts.Counts.{Counts as HeldCounts}
@@ -111,6 +111,17 @@ tallies_commit schedulers history by seen txn reply = commit_adds history by see
 pub tallies_other : (schedulers : ℕ) (history : List Entry) (entry : Entry) → ((scheduler : ℕ) → is_commit_of scheduler entry ≡ false)
     → tallies schedulers history ≡ tallies schedulers (history ++ entry ∷ [])
 tallies_other schedulers history entry none = others_keep history entry 0 schedulers (λ scheduler above. none scheduler)
+
+-- an entry that isn't a commit is no scheduler's
+pub no_commit : (entry : Entry) → ((by seen : ℕ) (txn : Txn) (reply : List Judgement) → entry ≡ Commit by seen txn reply → ⊥) → (scheduler : ℕ) → is_commit_of scheduler entry ≡ false
+no_commit (Commit by seen txn reply) none scheduler = absurd (none by seen txn reply refl)
+no_commit (Round number) none scheduler = refl
+no_commit (MachineAdd machine cap) none scheduler = refl
+no_commit (MachineUpdate machine cap) none scheduler = refl
+no_commit (MachineRemove machine) none scheduler = refl
+no_commit (AttrSet machine name value) none scheduler = refl
+no_commit (AttrDelete machine name) none scheduler = refl
+no_commit (End key machine) none scheduler = refl
 
 -- one commit's counts, in full
 pub commit_counts : (scheduler seen : ℕ) (txn : Txn) (reply : List Judgement)

@@ -31,9 +31,9 @@ fn push_lines(page: &mut Page, entry: &Entry, stopped: &Keys) -> Result<(), NoMe
 {
     match entry {
         Entry::Round { number } => page.round(*number),
-        Entry::MachineAdd { machine, .. }
-        | Entry::MachineUpdate { machine, .. }
-        | Entry::MachineRemove { machine } => page.displaced(*machine, stopped.as_slice()),
+        Entry::MachineAdd { machine, .. } => page.displaced(*machine, stopped.as_slice()),
+        Entry::MachineUpdate { machine, .. } => page.displaced(*machine, stopped.as_slice()),
+        Entry::MachineRemove { machine } => page.displaced(*machine, stopped.as_slice()),
         Entry::AttrSet { .. } | Entry::AttrDelete { .. } => Ok(()),
         Entry::End { key, machine } => page.end(*key, *machine),
         Entry::Commit {

@@ -14,11 +14,11 @@ mod entry_lines;
 mod failures;
 mod judgements;
 mod pass;
-mod report;
+mod reporting;
 mod shares;
 mod so_far;
 mod tally;
 mod telling;
 mod totals;
 
-pub use report::report;
+pub use reporting::report;

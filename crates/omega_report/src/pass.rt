@@ -1,5 +1,5 @@
 //! One pass over a history.
-ghost use Rattle.std.specs.Prelude.{◌≡◌, ◌+◌, ◌++◌, ◌∷◌, ◌≤◌, ℕ, List, [], IfOk, OnOk, option_copied, if◌then◌else◌};
+ghost use Rattle.std.specs.Prelude.{◌≡◌, ◌+◌, ◌++◌, ◌∷◌, ◌&&◌, ◌≤◌, ℕ, List, [], IfOk, OnOk, slice_get, if◌then◌else◌};
 ghost use Rattle.omega_board.specs.Board.{cell_of};
 ghost use Rattle.omega_machines.specs.Table.{seq_at};
 ghost use Rattle.omega_model.specs.Applying.{EachMayApply, MayApply};
@@ -51,9 +51,8 @@ pub fn passed(
         failures: Failures::new(alloc),
     };
     for (place, entry) in history.iter().enumerate() {
-        let due = prints && is_round_end(history.get(place + 1));
         pass.take_in(alloc, entry, prints)?;
-        push_use_if(&mut pass.page, &pass.cell, due)?;
+        pass.push_use_if(use_is_due(prints, history, place + 1))?;
     }
     Ok(pass)
 }
@@ -72,19 +71,24 @@ impl Pass {
         let displaced = self.cell.take_in(alloc, entry)?;
         push_entry(&mut self.page, prints, entry, &displaced)?;
         self.tally.note(entry)?;
-        self.failures.note(entry)
+        self.failures.note(entry)?;
+        Ok(())
     }
-}
 
-// Appends the line that says how much of a cell is used, if it is due.
-fn push_use_if(page: &mut Page, cell: &CellSoFar, due: bool) -> Result<(), NoMemory>
-    ensures format { OnOk result (page.new.format ≡ page.old.format) }
-    ensures lines { OnOk result (page.new.lines ≡ page.old.lines ++ use_if due (cell_of cell.now)) }
-{
-    if !due {
-        return Ok(());
+    // Appends the line that says how much of the cell is used, if it is due.
+    fn push_use_if(&mut self, due: bool) -> Result<(), NoMemory>
+        ensures format { OnOk result (self.new.page.format ≡ self.old.page.format) }
+        ensures lines { OnOk result (self.new.page.lines ≡ self.old.page.lines ++ use_if due (cell_of self.old.cell)) }
+        ensures cell { self.new.cell ≡ self.old.cell }
+        ensures tally { self.new.tally ≡ self.old.tally }
+        ensures failures { self.new.failures ≡ self.old.failures }
+    {
+        if !due {
+            return Ok(());
+        }
+        self.page.usage(self.cell.used(), self.cell.capacity())?;
+        Ok(())
     }
-    page.usage(cell.used(), cell.capacity())
 }
 
 // Whether a command prints the lines of the rounds.
@@ -97,11 +101,18 @@ fn prints_rounds(command: Command) -> bool
     }
 }
 
-// Whether a round ends before an entry, or before the end.
-fn is_round_end(next: Option<&Entry>) -> bool
-    ensures { result ≡ is_round_end (option_copied next.entry) }
+// Whether the use is printed after so many entries.
+fn use_is_due(prints: bool, history: &[Entry], count: usize) -> bool
+    ensures { result ≡ (prints && is_round_end (slice_get history.now count)) }
 {
-    match next {
+    prints && ends_at(history, count)
+}
+
+// Whether a round ends after so many entries.
+fn ends_at(history: &[Entry], count: usize) -> bool
+    ensures { result ≡ is_round_end (slice_get history.now count) }
+{
+    match history.get(count) {
         None | Some(Entry::Round { .. }) => true,
         Some(_) => false,
     }

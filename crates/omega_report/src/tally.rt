@@ -53,7 +53,8 @@ impl Tally {
                 ..
             } => {
                 let more = Counts::of_commit(txn, reply.as_slice())?;
-                self.add(*scheduler as usize, &more)
+                self.add(*scheduler as usize, &more)?;
+                Ok(())
             }
             _ => Ok(()),
         }

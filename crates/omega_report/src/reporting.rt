@@ -1,16 +1,14 @@
 //! The report of a history.
-ghost use Rattle.std.specs.Prelude.{◌≡◌, ◌++◌, ◌<◌, ◌≤◌, ◌^◌, List, IfOk, OnOk, count_by, length, map, nat_le};
-ghost use Rattle.std.specs.List.{enumerate_from};
+ghost use Rattle.std.specs.Prelude.{◌≡◌, ◌++◌, ◌<◌, ◌≤◌, ◌^◌, List, IfOk, OnOk, count_by, length, nat_le};
 ghost use Rattle.omega_model.specs.Applying.{EachMayApply};
 ghost use Rattle.omega_model.specs.Policy.{schedulers};
 ghost use Rattle.omega_model.specs.Report.{Line};
 ghost use Rattle.omega_model.specs.ReportForms.{printed_report};
-ghost use Rattle.omega_model.specs.ReportLines.{counts_line, final_lines};
+ghost use Rattle.omega_model.specs.ReportLines.{final_lines};
 ghost use Rattle.omega_model.specs.declared.entries.Entry.{Entry};
 ghost use Rattle.omega_model.specs.declared.settings.Format.{Format};
-ghost use Rattle.omega_report.specs.Counted.{counts_in};
 ghost use Rattle.omega_report.specs.Failing.{count_of};
-ghost use Rattle.omega_report.specs.Passing.{IsAfter};
+ghost use Rattle.omega_report.specs.Passing.{lines_of_all, IsAfter};
 
 use crate::counts::Counts;
 use crate::failures::Failures;
@@ -81,10 +79,10 @@ fn summed_up(
 fn push_counts(page: &mut Page, counts: &[Counts]) -> Result<(), NoMemory>
     requires { length counts.now < 2 ^ 32 }
     ensures format { OnOk result (page.new.format ≡ page.old.format) }
-    ensures lines { OnOk result (page.new.lines ≡ page.old.lines ++ map (λ each. counts_line each.0 (counts_in each.1)) (enumerate_from 0 counts.now)) }
+    ensures lines { OnOk result (page.new.lines ≡ page.old.lines ++ lines_of_all counts.now) }
 {
-    for (scheduler, counts) in counts.iter().enumerate() {
-        page.counts(scheduler as u32, counts)?;
+    for (scheduler, of_one) in counts.iter().enumerate() {
+        page.counts(scheduler as u32, of_one)?;
     }
     Ok(())
 }
