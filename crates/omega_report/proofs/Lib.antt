@@ -4,3 +4,4 @@ pub mod Untouched
 pub mod Shared
 pub mod Tallying
 pub mod PassGrows
+pub mod Summed
