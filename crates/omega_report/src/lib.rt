@@ -6,6 +6,8 @@
 
 mod claims;
 mod counts;
+mod json;
 mod lines;
 mod page;
+mod text;
 mod words;
