@@ -78,8 +78,8 @@ page_grows format bytes line page plain short =
     let is_first : Bool = (length bytes == 0) in
     let lines = lines_grown format bytes is_first line page plain short in
     let form : (bytes ++ added_bytes format is_first line ≡ open_form format (lines_read bytes ++ line ∷ [])) =
-        subst (λ (b : List ℕ). b ++ added_bytes format (length b == 0) line ≡ open_form format (lines_read bytes ++ line ∷ []))
-            (sym page.form) (form_added format (lines_read bytes) line) in
+    subst (λ (b : List ℕ). b ++ added_bytes format (length b == 0) line ≡ open_form format (lines_read bytes ++ line ∷ []))
+    (sym page.form) (form_added format (lines_read bytes) line) in
     record {
       lines = lines;
       page = record {

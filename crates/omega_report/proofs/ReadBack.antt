@@ -43,20 +43,20 @@ module _ (form : Word → List ℕ) (leaves : (word : Word) → Spells (word_tex
     (gap stop : ℕ)
     (gaps : (lines : List Line) (words : Line) (bytes : List ℕ) → read_byte (at lines words bytes) gap ≡ at lines (words_read words bytes) [])
     (stops : (lines : List Line) (words : Line) (bytes : List ℕ) → read_byte (at lines words bytes) stop ≡ whole_lines (lines ++ words_read words bytes ∷ []))
-    where
-  read_words : (lines : List Line) (words : Line) (word : Word) (line : Line) (more : List ℕ) → AreWords (word ∷ line)
-      → fold read_byte (at lines words []) (join_with_byte gap (map form (word ∷ line)) ++ stop ∷ more)
-      ≡ fold read_byte (whole_lines (lines ++ (words ++ word ∷ line) ∷ [])) more
-  read_words lines words word [] more s =
-      leaves word s.0 lines words (stop ∷ more)
-      ∙ ap (λ (r : Reading). fold read_byte r more) (stops lines words (word_text word) ∙ ap (λ (ws : Line). whole_lines (lines ++ ws ∷ [])) (s.0.read words))
-  read_words lines words word (next ∷ line) more s =
-      ap (λ (b : List ℕ). fold read_byte (at lines words []) b) (append_assoc (form word) (gap ∷ join_with_byte gap (map form (next ∷ line))) (stop ∷ more))
-      ∙ leaves word s.0 lines words (gap ∷ join_with_byte gap (map form (next ∷ line)) ++ stop ∷ more)
-      ∙ ap (λ (r : Reading). fold read_byte r (join_with_byte gap (map form (next ∷ line)) ++ stop ∷ more))
-          (gaps lines words (word_text word) ∙ ap (λ (ws : Line). at lines ws []) (s.0.read words))
-      ∙ read_words lines (words ++ word ∷ []) next line more s.1
-      ∙ ap (λ (ws : Line). fold read_byte (whole_lines (lines ++ ws ∷ [])) more) (append_assoc words (word ∷ []) (next ∷ line))
+  where
+    read_words : (lines : List Line) (words : Line) (word : Word) (line : Line) (more : List ℕ) → AreWords (word ∷ line)
+        → fold read_byte (at lines words []) (join_with_byte gap (map form (word ∷ line)) ++ stop ∷ more)
+        ≡ fold read_byte (whole_lines (lines ++ (words ++ word ∷ line) ∷ [])) more
+    read_words lines words word [] more s =
+        leaves word s.0 lines words (stop ∷ more)
+        ∙ ap (λ (r : Reading). fold read_byte r more) (stops lines words (word_text word) ∙ ap (λ (ws : Line). whole_lines (lines ++ ws ∷ [])) (s.0.read words))
+    read_words lines words word (next ∷ line) more s =
+        ap (λ (b : List ℕ). fold read_byte (at lines words []) b) (append_assoc (form word) (gap ∷ join_with_byte gap (map form (next ∷ line))) (stop ∷ more))
+        ∙ leaves word s.0 lines words (gap ∷ join_with_byte gap (map form (next ∷ line)) ++ stop ∷ more)
+        ∙ ap (λ (r : Reading). fold read_byte r (join_with_byte gap (map form (next ∷ line)) ++ stop ∷ more))
+        (gaps lines words (word_text word) ∙ ap (λ (ws : Line). at lines ws []) (s.0.read words))
+        ∙ read_words lines (words ++ word ∷ []) next line more s.1
+        ∙ ap (λ (ws : Line). fold read_byte (whole_lines (lines ++ ws ∷ [])) more) (append_assoc words (word ∷ []) (next ∷ line))
 
 pub read_text : (lines : List Line) (word : Word) (line : Line) → AreWords (word ∷ line)
     → fold read_byte (whole_lines lines) (line_text (word ∷ line)) ≡ whole_lines (lines ++ (word ∷ line) ∷ [])

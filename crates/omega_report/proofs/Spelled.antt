@@ -50,13 +50,15 @@ letter byte plain = leb-true 97 byte (and_parts (nat_le 97 byte) _ plain).0
 
 plain_spelled : (byte : ℕ) → is_plain_byte byte ≡ true → IsSpelled byte
 plain_spelled byte plain = elim (or_cases (byte == 45) _ plain) [
-    inl dash ↦ let e = eqb-true byte 45 dash in low byte (omega arith) (omega arith)
-  | inr small ↦ high byte (letter byte small) ]
+  | inl dash ↦ let e = eqb-true byte 45 dash in low byte (omega arith) (omega arith)
+  | inr small ↦ high byte (letter byte small)
+]
 
 no_digit : (byte : ℕ) → is_plain_byte byte ≡ true → is_digit byte ≡ false
 no_digit byte plain = elim (or_cases (byte == 45) _ plain) [
-    inl dash ↦ let e = eqb-true byte 45 dash in grind (arith, nat_tests)
-  | inr small ↦ let above = letter byte small in grind (arith, nat_tests) ]
+  | inl dash ↦ let e = eqb-true byte 45 dash in grind (arith, nat_tests)
+  | inr small ↦ let above = letter byte small in grind (arith, nat_tests)
+]
 
 -- ---- names
 

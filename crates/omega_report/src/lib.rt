@@ -4,10 +4,10 @@
 //! in the report's format.
 #![tactic(auto)]
 
+mod as_json;
+mod as_text;
 mod claims;
 mod counts;
-mod json;
 mod lines;
 mod page;
-mod text;
 mod words;

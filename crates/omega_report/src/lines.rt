@@ -8,6 +8,8 @@ ghost use Rattle.omega_model.specs.declared.entries.Entry.{Entry};
 
 use crate::counts::Counts;
 use crate::page::Page;
+use crate::words::Word::{Name, Number};
+use crate::words::task_words;
 use omega_model::{Need, NoMemory, TaskKey};
 
 impl Page {
@@ -16,7 +18,7 @@ impl Page {
         ensures format { self.new.format ≡ self.old.format }
         ensures lines { OnOk result (self.new.lines ≡ self.old.lines ++ first_line ∷ []) }
     {
-        Err(NoMemory)
+        self.append(&[Name("omega"), Number(2)])
     }
 
     /// Appends the line of a round that begins.
@@ -24,7 +26,7 @@ impl Page {
         ensures format { self.new.format ≡ self.old.format }
         ensures lines { OnOk result (self.new.lines ≡ self.old.lines ++ entry_lines (Entry.Round number)) }
     {
-        Err(NoMemory)
+        self.append(&[Name("round"), Number(number)])
     }
 
     /// Appends a line for each task with one of these names, which stop since their machine became
@@ -33,7 +35,11 @@ impl Page {
         ensures format { self.new.format ≡ self.old.format }
         ensures lines { OnOk result (self.new.lines ≡ self.old.lines ++ map (stop_line machine) keys.now) }
     {
-        Err(NoMemory)
+        for key in keys {
+            let [job, index, machine] = task_words(*key, machine);
+            self.append(&[Name("displace"), job, index, machine])?;
+        }
+        Ok(())
     }
 
     /// Appends the line of a task that ends.
@@ -41,7 +47,8 @@ impl Page {
         ensures format { self.new.format ≡ self.old.format }
         ensures lines { OnOk result (self.new.lines ≡ self.old.lines ++ end_line key machine ∷ []) }
     {
-        Err(NoMemory)
+        let [job, index, machine] = task_words(key, machine);
+        self.append(&[Name("end"), job, index, machine])
     }
 
     /// Appends the line that says how much is used on the machines that are up, and how much there
@@ -50,7 +57,18 @@ impl Page {
         ensures format { self.new.format ≡ self.old.format }
         ensures lines { OnOk result (self.new.lines ≡ self.old.lines ++ usage_line used capacity ∷ []) }
     {
-        Err(NoMemory)
+        self.append(&[
+            Name("use"),
+            Name("cpu"),
+            Number(used.cpu),
+            Number(capacity.cpu),
+            Name("mem"),
+            Number(used.mem),
+            Number(capacity.mem),
+            Name("disk"),
+            Number(used.disk),
+            Number(capacity.disk),
+        ])
     }
 
     /// Appends the line with the number of entries and that of rounds.
@@ -58,7 +76,12 @@ impl Page {
         ensures format { self.new.format ≡ self.old.format }
         ensures lines { OnOk result (self.new.lines ≡ self.old.lines ++ sizes_line entries rounds ∷ []) }
     {
-        Err(NoMemory)
+        self.append(&[
+            Name("entries"),
+            Number(entries),
+            Name("rounds"),
+            Number(rounds),
+        ])
     }
 
     /// Appends the line of a scheduler with its counts.
@@ -66,7 +89,26 @@ impl Page {
         ensures format { self.new.format ≡ self.old.format }
         ensures lines { OnOk result (self.new.lines ≡ self.old.lines ++ counts_line scheduler (counts_in counts.now) ∷ []) }
     {
-        Err(NoMemory)
+        self.append(&[
+            Name("scheduler"),
+            Number(u64::from(scheduler)),
+            Name("commits"),
+            Number(counts.commits),
+            Name("empty"),
+            Number(counts.empty),
+            Name("placing"),
+            Number(counts.placing),
+            Name("conflicted"),
+            Number(counts.conflicted),
+            Name("placed"),
+            Number(counts.placed),
+            Name("refused"),
+            Number(counts.refused),
+            Name("withdrawn"),
+            Number(counts.withdrawn),
+            Name("evicted"),
+            Number(counts.evicted),
+        ])
     }
 
     /// Appends the line with the number of tasks that wait and that of jobs that are given up.
@@ -74,6 +116,11 @@ impl Page {
         ensures format { self.new.format ≡ self.old.format }
         ensures lines { OnOk result (self.new.lines ≡ self.old.lines ++ unplaced_line tasks jobs ∷ []) }
     {
-        Err(NoMemory)
+        self.append(&[
+            Name("waiting"),
+            Number(tasks),
+            Name("abandoned"),
+            Number(jobs),
+        ])
     }
 }

@@ -6,8 +6,8 @@ ghost use Rattle.omega_model.specs.ReportForms.{in_format, is_plain, json_of};
 ghost use Rattle.omega_report.specs.Pages.{added_bytes, end_of_array, open_json};
 ghost use Rattle.omega_report.specs.Spelling.{are_short, is_plain_line, word_of};
 
-use crate::json::push_json;
-use crate::text::push_text;
+use crate::as_json::push_json;
+use crate::as_text::push_text;
 use crate::words::Word;
 use omega_model::{Bytes, Format, NoMemory, Seq};
 use std::alloc::Global;

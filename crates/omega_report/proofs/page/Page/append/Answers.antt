@@ -1,6 +1,6 @@
-use Rattle.std.proofs.Common.{◌≡◌, ◌++◌, ◌==◌, List, ℕ, length, map, ap, ◌∙◌, sym, subst}
+use Rattle.std.proofs.Common.{◌≡◌, [], ◌∷◌, ◌++◌, map, ap, ◌∙◌}
 use Rattle.std.specs.List.{list_all}
-use Rattle.omega_report.specs.Pages.{IsPage, added_bytes}
+use Rattle.omega_report.specs.Pages.{PageState}
 use Rattle.omega_report.specs.Readings.{lines_read}
 use Rattle.omega_report.specs.Spelling.{word_of}
 use Rattle.omega_report.proofs.Growing.{Grows, page_grows}
@@ -12,4 +12,7 @@ invariant_of-self-2 c =
     (page_grows c.self.inside.format c.self.inside.bytes.items (map word_of c.args.words.now) c.self.invariant c.requires c.in_ok-write_line.ensures.numbers).page
 
 pub returns-clause-ok : goal.returns-clause-ok
-returns-clause-ok c = ?
+returns-clause-ok c =
+    rw (c.in_ok-extend_from_slice.ensures.items, c.as_slice-2.ensures.value, c.in_ok-write_line.ensures.bytes, c.is_empty-is_first.ensures, c.as_slice.ensures.value)
+    ((page_grows c.self.inside.format c.self.inside.bytes.items (map word_of c.args.words.now) c.self.invariant c.requires c.in_ok-write_line.ensures.numbers).lines
+    ∙ ap (λ (p : PageState). p.lines ++ map word_of c.args.words.now ∷ []) c.self.view_is)

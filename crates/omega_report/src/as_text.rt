@@ -1,5 +1,6 @@
 //! A line as text.
 ghost use Rattle.std.specs.Prelude.{◌≡◌, ◌++◌, map, IsTrue, OnOk};
+ghost use Rattle.std.specs.List.{join_with_byte};
 ghost use Rattle.omega_model.specs.Report.{line_text, word_text};
 ghost use Rattle.omega_report.specs.Spelling.{are_short, is_short, more_text, word_of};
 
@@ -11,12 +12,24 @@ pub fn push_text(out: &mut Vec<u8>, words: &[Word]) -> Result<(), NoMemory>
     ensures bytes { OnOk result (out.new.items ≡ out.old.items ++ line_text (map word_of words.now)) }
     ensures numbers { OnOk result (IsTrue (are_short (map word_of words.now))) }
 {
-    if let [first, more @ ..] = words {
-        push_word(out, *first)?;
-        push_more(out, more)?;
-    }
+    push_words(out, words)?;
     out.push(b'\n')?;
     Ok(())
+}
+
+// The words with one space between two of them.
+fn push_words(out: &mut Vec<u8>, words: &[Word]) -> Result<(), NoMemory>
+    ensures bytes { OnOk result (out.new.items ≡ out.old.items ++ join_with_byte 32 (map word_text (map word_of words.now))) }
+    ensures numbers { OnOk result (IsTrue (are_short (map word_of words.now))) }
+{
+    match words.split_first() {
+        None => Ok(()),
+        Some((first, more)) => {
+            push_word(out, *first)?;
+            push_more(out, more)?;
+            Ok(())
+        }
+    }
 }
 
 // Some words, each after a space.
