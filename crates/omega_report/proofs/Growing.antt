@@ -1,5 +1,5 @@
 -- A page with one more line.
-use Rattle.std.proofs.Common.{◌≡◌, ℕ, ◌==◌, Bool, true, false, List, [], ◌∷◌, ◌++◌, length, map, refl, sym, ap, ◌∙◌, subst, append_assoc, arith}
+use Rattle.std.proofs.Common.{◌≡◌, ℕ, ◌==◌, Bool, true, false, List, [], ◌∷◌, ◌++◌, length, sym, ap, ◌∙◌, subst, append_assoc, arith}
 use Rattle.std.specs.Prelude.{fold}
 use Rattle.std.specs.List.{flat_map, list_all}
 use Rattle.std.proofs.lemmas.Bool.{and_parts}
@@ -7,12 +7,11 @@ use Rattle.std.proofs.lemmas.Bool.Decides.{nat_tests}
 use Rattle.std.proofs.lemmas.Grind.{flat_map-append}
 use Rattle.std.proofs.lemmas.List.{append-nil}
 use Rattle.std.proofs.lemmas.List.Sums.{fold-append}
-use Rattle.omega_model.specs.Report.{Line, Word, line_text}
-use Rattle.omega_model.specs.ReportForms.{is_plain, line_json, text_of}
-use Rattle.omega_model.specs.Work.{is_empty}
+use Rattle.omega_model.specs.Report.{Line, line_text}
+use Rattle.omega_model.specs.ReportForms.{is_plain, line_json}
 use Rattle.omega_model.specs.declared.settings.Format.{Format}
 use Rattle.omega_model.specs.declared.settings.Format.TheVariants.{Text, Json}
-use Rattle.omega_report.specs.Pages.{IsPage, added_bytes, more_items, open_form, open_json}
+use Rattle.omega_report.specs.Pages.{IsPage, added_bytes, more_items, open_form}
 use Rattle.omega_report.specs.Readings.{Reading, lines_read, nothing_read, read_byte, whole_lines}
 use Rattle.omega_report.specs.Spelling.{are_short, is_plain_line}
 use Rattle.omega_report.proofs.ReadBack.{read_json, read_text}

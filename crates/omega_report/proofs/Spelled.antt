@@ -1,6 +1,6 @@
 -- The bytes that spell a word, and the word that is read in them.
-use Rattle.std.proofs.Common.{◌≡◌, ℕ, ◌+◌, ◌^◌, ◌<◌, ◌≤◌, ◌==◌, Bool, true, false, List, [], ◌∷◌, ◌++◌, length, refl, sym, ap, ◌∙◌, arith, decimal, inl, inr}
-use Rattle.std.specs.Prelude.{nat_le, ◌&&◌, ◌||◌, not}
+use Rattle.std.proofs.Common.{◌≡◌, ℕ, ◌^◌, ◌<◌, ◌≤◌, ◌==◌, true, false, List, [], ◌∷◌, ◌++◌, length, refl, ap, ◌∙◌, arith, decimal, inl, inr}
+use Rattle.std.specs.Prelude.{nat_le, ◌&&◌, not}
 use Rattle.std.specs.List.{list_all}
 use Rattle.std.specs.Str.Parse.{AllDigits, digits_value}
 use Rattle.std.proofs.lemmas.Bool.{and_parts, or_cases, eqb-true, leb-true, ltb-true}
@@ -11,7 +11,7 @@ use Rattle.omega_model.specs.Report.{Line, Word, Name, Number, word_text}
 use Rattle.omega_model.specs.ReportForms.{is_plain, is_plain_byte}
 use Rattle.omega_model.specs.Work.{is_empty}
 use Rattle.omega_report.specs.Spelling.{are_short, is_short}
-use Rattle.omega_report.specs.Readings.{is_digit, is_end, is_gap, is_mark, word_read, words_read}
+use Rattle.omega_report.specs.Readings.{is_digit, is_end, is_gap, is_mark, words_read}
 
 -- a byte of a word: it marks, parts and ends nothing
 pub record IsSpelled (byte : ℕ) : Type 0 where

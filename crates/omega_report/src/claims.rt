@@ -1,8 +1,9 @@
 //! The lines of commits and their claims.
-ghost use Rattle.std.specs.Prelude.{◌≡◌, ◌∷◌, ◌++◌, [], map, OnOk};
+ghost use Rattle.std.specs.Prelude.{◌≡◌, ◌∷◌, ◌++◌, [], map, IsTrue, OnOk};
 ghost use Rattle.std.specs.List.{flat_map, zip};
-ghost use Rattle.omega_model.specs.Report.{claim_lines, entry_lines, evict_line, place_line, refuse_line};
-ghost use Rattle.omega_report.specs.Lines.{commit_line};
+ghost use Rattle.omega_model.specs.Report.{Name, Number, claim_lines, entry_lines, evict_line, place_line, refuse_line};
+ghost use Rattle.omega_model.specs.ReportForms.{is_plain};
+ghost use Rattle.omega_report.specs.Lines.{refusal_line};
 ghost use Rattle.omega_model.specs.declared.entries.Entry.{Entry};
 
 use crate::page::Page;
@@ -63,11 +64,7 @@ impl Page {
         ensures format { self.new.format ≡ self.old.format }
         ensures lines { OnOk result (self.new.lines ≡ self.old.lines ++ map (evict_line claim.now) keys.now) }
     {
-        for key in keys {
-            let [job, index, machine] = task_words(*key, claim.machine);
-            self.append(&[Name("evict"), job, index, machine])?;
-        }
-        Ok(())
+        self.tasks("evict", keys, claim.machine)
     }
 
     // The line of a placed claim.
@@ -75,8 +72,7 @@ impl Page {
         ensures format { self.new.format ≡ self.old.format }
         ensures lines { OnOk result (self.new.lines ≡ self.old.lines ++ place_line claim.now ∷ []) }
     {
-        let [job, index, machine] = task_words(claim.key, claim.machine);
-        self.append(&[Name("place"), job, index, machine])
+        self.task("place", claim.key, claim.machine)
     }
 
     // The line of a claim that isn't placed, with its reason.
@@ -89,9 +85,7 @@ impl Page {
         match verdict {
             Verdict::Placed => self.append(&[name, job, index, machine]),
             Verdict::NoMachine => self.append(&[name, job, index, machine, Name("no-machine")]),
-            Verdict::AlreadyRunning(on) => {
-                self.append(&[name, job, index, machine, Name("running"), Number(on)])
-            }
+            Verdict::AlreadyRunning(on) => self.refused_with(claim, "running", on),
             Verdict::Changed { now, copy } => self.append(&[
                 name,
                 job,
@@ -101,24 +95,8 @@ impl Page {
                 Number(now),
                 Number(copy),
             ]),
-            Verdict::VictimRank(key) => self.append(&[
-                name,
-                job,
-                index,
-                machine,
-                Name("victim-rank"),
-                Number(key.job),
-                Number(u64::from(key.index)),
-            ]),
-            Verdict::SameJob(key) => self.append(&[
-                name,
-                job,
-                index,
-                machine,
-                Name("same-job"),
-                Number(key.job),
-                Number(u64::from(key.index)),
-            ]),
+            Verdict::VictimRank(key) => self.refused_for(claim, "victim-rank", key),
+            Verdict::SameJob(key) => self.refused_for(claim, "same-job", key),
             Verdict::Full(free) => self.append(&[
                 name,
                 job,
@@ -129,14 +107,52 @@ impl Page {
                 Number(free.mem),
                 Number(free.disk),
             ]),
-            Verdict::Withdrawn(place) => self.append(&[
-                name,
-                job,
-                index,
-                machine,
-                Name("withdrawn"),
-                Number(u64::from(place)),
-            ]),
+            Verdict::Withdrawn(place) => self.refused_with(claim, "withdrawn", u64::from(place)),
         }
+    }
+
+    // The line of a claim that is refused for a task.
+    fn refused_for(
+        &mut self,
+        claim: &Claim,
+        reason: &'static str,
+        key: TaskKey,
+    ) -> Result<(), NoMemory>
+        requires { IsTrue (is_plain (Name reason.now)) }
+        ensures format { self.new.format ≡ self.old.format }
+        ensures lines { OnOk result (self.new.lines ≡ self.old.lines ++ refusal_line claim.now (Name reason.now ∷ Number key.job ∷ Number key.index ∷ []) ∷ []) }
+    {
+        let [job, index, machine] = task_words(claim.key, claim.machine);
+        self.append(&[
+            Name("refuse"),
+            job,
+            index,
+            machine,
+            Name(reason),
+            Number(key.job),
+            Number(u64::from(key.index)),
+        ])
+    }
+
+    // The line of a claim that is refused with a number.
+    fn refused_with(
+        &mut self,
+        claim: &Claim,
+        reason: &'static str,
+        number: u64,
+    ) -> Result<(), NoMemory>
+        requires { IsTrue (is_plain (Name reason.now)) }
+        ensures format { self.new.format ≡ self.old.format }
+        ensures lines { OnOk result (self.new.lines ≡ self.old.lines ++ refusal_line claim.now (Name reason.now ∷ Number number ∷ []) ∷ []) }
+    {
+        let [job, index, machine] = task_words(claim.key, claim.machine);
+        self.append(&[
+            Name("refuse"),
+            job,
+            index,
+            machine,
+            Name(reason),
+            Number(number),
+        ])
     }
 }

@@ -1,6 +1,7 @@
 //! The lines of a report but for those of commits, by the numbers that stand in them.
-ghost use Rattle.std.specs.Prelude.{◌≡◌, ◌∷◌, ◌++◌, [], map, OnOk};
-ghost use Rattle.omega_model.specs.Report.{entry_lines};
+ghost use Rattle.std.specs.Prelude.{◌≡◌, ◌∷◌, ◌++◌, [], map, IsTrue, OnOk};
+ghost use Rattle.omega_model.specs.Report.{Name, entry_lines, task_words};
+ghost use Rattle.omega_model.specs.ReportForms.{is_plain};
 ghost use Rattle.omega_model.specs.ReportLines.{counts_line, first_line};
 ghost use Rattle.omega_report.specs.Counted.{counts_in};
 ghost use Rattle.omega_report.specs.Lines.{end_line, sizes_line, stop_line, unplaced_line, usage_line};
@@ -35,11 +36,7 @@ impl Page {
         ensures format { self.new.format ≡ self.old.format }
         ensures lines { OnOk result (self.new.lines ≡ self.old.lines ++ map (stop_line machine) keys.now) }
     {
-        for key in keys {
-            let [job, index, machine] = task_words(*key, machine);
-            self.append(&[Name("displace"), job, index, machine])?;
-        }
-        Ok(())
+        self.tasks("displace", keys, machine)
     }
 
     /// Appends the line of a task that ends.
@@ -47,8 +44,34 @@ impl Page {
         ensures format { self.new.format ≡ self.old.format }
         ensures lines { OnOk result (self.new.lines ≡ self.old.lines ++ end_line key machine ∷ []) }
     {
+        self.task("end", key, machine)
+    }
+
+    /// Appends the line of a name, a task and the machine that the line speaks of.
+    pub fn task(&mut self, name: &'static str, key: TaskKey, machine: u64) -> Result<(), NoMemory>
+        requires { IsTrue (is_plain (Name name.now)) }
+        ensures format { self.new.format ≡ self.old.format }
+        ensures lines { OnOk result (self.new.lines ≡ self.old.lines ++ (Name name.now ∷ task_words key machine) ∷ []) }
+    {
         let [job, index, machine] = task_words(key, machine);
-        self.append(&[Name("end"), job, index, machine])
+        self.append(&[Name(name), job, index, machine])
+    }
+
+    /// Appends a line for each of these tasks, with the same name and machine.
+    pub fn tasks(
+        &mut self,
+        name: &'static str,
+        keys: &[TaskKey],
+        machine: u64,
+    ) -> Result<(), NoMemory>
+        requires { IsTrue (is_plain (Name name.now)) }
+        ensures format { self.new.format ≡ self.old.format }
+        ensures lines { OnOk result (self.new.lines ≡ self.old.lines ++ map (λ key. Name name.now ∷ task_words key machine) keys.now) }
+    {
+        for key in keys {
+            self.task(name, *key, machine)?;
+        }
+        Ok(())
     }
 
     /// Appends the line that says how much is used on the machines that are up, and how much there

@@ -1,6 +1,5 @@
-use Rattle.std.proofs.Common.{◌≡◌, ◌++◌, map, ap, ◌∙◌, sym, false}
+use Rattle.std.proofs.Common.{◌++◌, map, ap, ◌∙◌}
 use Rattle.serde_json.specs.Written.{compact_text, has_float}
-use Rattle.omega_report.specs.Items.{line_data}
 use Rattle.omega_report.specs.Spelling.{word_of}
 use Rattle.omega_report.proofs.Compact.{line_compact, line_whole}
 use Rattle.omega_report.proofs.as_json.push_json.Goals as goal

@@ -1,4 +1,4 @@
-use Rattle.std.proofs.Common.{◌≡◌, append_assoc}
+use Rattle.std.proofs.Common.{append_assoc}
 use Rattle.std.specs.Prelude.{map}
 use Rattle.omega_model.specs.Report.{word_text}
 use Rattle.omega_report.specs.Spelling.{word_of}

@@ -1,5 +1,3 @@
-use Rattle.std.proofs.Common.{◌≡◌, ap, ◌∙◌, ◌++◌, List, ℕ}
-use Rattle.omega_report.specs.Pages.{end_of_array}
 use Rattle.omega_report.proofs.Closing.{bytes_closed}
 use Rattle.omega_report.proofs.page.close.Goals as goal
 

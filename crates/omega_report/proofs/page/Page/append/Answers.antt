@@ -1,9 +1,7 @@
-use Rattle.std.proofs.Common.{◌≡◌, [], ◌∷◌, ◌++◌, map, ap, ◌∙◌}
-use Rattle.std.specs.List.{list_all}
+use Rattle.std.proofs.Common.{[], ◌∷◌, ◌++◌, map, ap, ◌∙◌}
 use Rattle.omega_report.specs.Pages.{PageState}
-use Rattle.omega_report.specs.Readings.{lines_read}
 use Rattle.omega_report.specs.Spelling.{word_of}
-use Rattle.omega_report.proofs.Growing.{Grows, page_grows}
+use Rattle.omega_report.proofs.Growing.{page_grows}
 use Rattle.omega_report.proofs.page.Page.append.Goals as goal
 
 pub invariant_of-self-2 : goal.invariant_of-self-2
