@@ -10,4 +10,6 @@ mod claims;
 mod counts;
 mod lines;
 mod page;
+#[cfg(test)]
+mod tests;
 mod words;
