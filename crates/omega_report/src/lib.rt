@@ -4,10 +4,14 @@
 //! in the report's format.
 #![tactic(auto)]
 
+mod as_json;
+mod as_text;
 mod claims;
 mod counts;
 mod lines;
 mod page;
+#[cfg(test)]
+mod tests;
 mod words;
 
 mod entry_lines;
