@@ -8,6 +8,7 @@
 
 mod evicting;
 mod planning;
+mod trying;
 
 pub use evicting::victims;
 pub use planning::plan;

@@ -1,0 +1,21 @@
+-- What a machine does with a wish that is tried on it.
+use Rattle.std.specs.Prelude.{◌≡◌, ◌&&◌, ℕ, Bool, [], Option, Some, length, slice_get}
+use Rattle.omega_model.specs.Cell.{Cell}
+use Rattle.omega_model.specs.Plan.{goes_in}
+use Rattle.omega_model.specs.Planning.{suits}
+use Rattle.omega_model.specs.declared.cells.Machine.{Machine}
+use Rattle.omega_model.specs.declared.wishes.Wish.{Wish}
+use Rattle.omega_fit.specs.Round.{IsFirst, positions_from}
+
+-- whether a machine suits a wish and takes it as it is
+abbrev pub takes : Cell → Wish → Machine → Bool
+takes cell wish machine = suits wish machine.attrs && goes_in cell wish [] machine.id
+
+-- what is answered at a position: whether the machine that stands there takes the wish
+abbrev pub Takes : Cell → Wish → ℕ → Bool → Type 0
+Takes cell wish position answer =
+    (machine : Machine) → slice_get cell.machines position ≡ Some machine → takes cell wish machine ≡ answer
+
+-- the first position, round from a start, whose machine takes the wish; none where no machine does
+unfoldable pub IsFirstToTake : Cell → Wish → ℕ → Option ℕ → Type 0
+IsFirstToTake cell wish start found = IsFirst (Takes cell wish) (positions_from start (length cell.machines)) found
