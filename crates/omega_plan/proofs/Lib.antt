@@ -1,2 +1,4 @@
 pub mod Rooms
 pub mod AsIs
+pub mod Candidates
+pub mod Fewest

@@ -1,9 +1,12 @@
 -- What a machine does with a wish that is tried on it.
-use Rattle.std.specs.Prelude.{◌≡◌, ◌&&◌, ℕ, Bool, [], Option, Some, length, slice_get}
-use Rattle.omega_model.specs.Cell.{Cell}
-use Rattle.omega_model.specs.Plan.{goes_in}
+use Rattle.std.specs.Prelude.{◌≡◌, ◌&&◌, ℕ, Bool, false, List, [], Option, Some, length, slice_get}
+use Rattle.std.specs.Option.{option_map_or}
+use Rattle.omega_model.specs.Cell.{Cell, task_at}
+use Rattle.omega_model.specs.Plan.{gives_way, goes_in}
 use Rattle.omega_model.specs.Planning.{suits}
 use Rattle.omega_model.specs.declared.cells.Machine.{Machine}
+use Rattle.omega_model.specs.declared.cells.Task.{Task}
+use Rattle.omega_model.specs.declared.cells.TaskKey.{TaskKey}
 use Rattle.omega_model.specs.declared.wishes.Wish.{Wish}
 use Rattle.omega_fit.specs.Round.{IsFirst, positions_from}
 
@@ -19,3 +22,7 @@ Takes cell wish position answer =
 -- the first position, round from a start, whose machine takes the wish; none where no machine does
 unfoldable pub IsFirstToTake : Cell → Wish → ℕ → Option ℕ → Type 0
 IsFirstToTake cell wish start found = IsFirst (Takes cell wish) (positions_from start (length cell.machines)) found
+
+-- whether the running task of this name gives way to a wish
+abbrev pub yields : List Task → Wish → TaskKey → Bool
+yields tasks wish key = option_map_or (gives_way wish) (task_at tasks key) false
