@@ -43,8 +43,11 @@ put_ranked t (o ∷ tasks) ranked =
     by_answer (goes_before o t)
     (λ h. rw h (each_put (λ y. stands_first o y ≡ true) t tasks (not_from_false _ (rank_strict.asym o t h)) ranked.0, put_ranked t tasks ranked.1))
     (λ h. rw h (
-      (not_from_false _ h, each_map (λ y. stands_first o y ≡ true) (λ y. stands_first t y ≡ true)
-          (λ y first. not_from_false _ (before_neither o t y (not-true _ first) h)) tasks ranked.0),
+      (
+        not_from_false _ h,
+        each_map (λ y. stands_first o y ≡ true) (λ y. stands_first t y ≡ true)
+            (λ y first. not_from_false _ (before_neither o t y (not-true _ first) h)) tasks ranked.0,
+      ),
       ranked,
     ))
 

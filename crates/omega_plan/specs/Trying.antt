@@ -1,12 +1,14 @@
 -- What a machine does with a wish that is tried on it.
-use Rattle.std.specs.Prelude.{◌≡◌, ◌&&◌, ℕ, Bool, false, List, [], Option, Some, length, slice_get}
+use Rattle.std.specs.Prelude.{◌≡◌, ◌&&◌, ℕ, Bool, false, List, [], Option, Some, None, option_map, length, slice_get, if◌then◌else◌}
+use Rattle.std.specs.List.{filter_map}
 use Rattle.std.specs.Option.{option_map_or}
 use Rattle.omega_model.specs.Cell.{Cell, task_at}
-use Rattle.omega_model.specs.Plan.{gives_way, goes_in}
+use Rattle.omega_model.specs.Plan.{claim_of, first_item, gives_way, goes_in, victims}
 use Rattle.omega_model.specs.Planning.{suits}
 use Rattle.omega_model.specs.declared.cells.Machine.{Machine}
 use Rattle.omega_model.specs.declared.cells.Task.{Task}
 use Rattle.omega_model.specs.declared.cells.TaskKey.{TaskKey}
+use Rattle.omega_model.specs.declared.claims.Claim.{Claim}
 use Rattle.omega_model.specs.declared.wishes.Wish.{Wish}
 use Rattle.omega_fit.specs.Round.{IsFirst, positions_from}
 
@@ -26,3 +28,12 @@ IsFirstToTake cell wish start found = IsFirst (Takes cell wish) (positions_from 
 -- whether the running task of this name gives way to a wish
 abbrev pub yields : List Task → Wish → TaskKey → Bool
 yields tasks wish key = option_map_or (gives_way wish) (task_at tasks key) false
+
+-- the claim of a wish on a machine that it suits and on which evictions make room
+abbrev pub claim_on : Cell → Wish → Machine → Option Claim
+claim_on cell wish machine =
+    if suits wish machine.attrs then option_map (λ keys. claim_of wish keys machine.id) (victims cell machine.id wish) else None
+
+-- the first of such claims on some machines
+abbrev pub first_claim : Cell → Wish → List Machine → Option Claim
+first_claim cell wish machines = first_item (filter_map (claim_on cell wish) machines)
