@@ -4,3 +4,6 @@ pub mod Candidates
 pub mod Fewest
 pub mod FirstClaims
 pub mod Trials
+pub mod Elsewhere
+pub mod KindsOf
+pub mod Begins
