@@ -1,0 +1,9 @@
+pub mod Rooms
+pub mod AsIs
+pub mod Candidates
+pub mod Fewest
+pub mod FirstClaims
+pub mod Trials
+pub mod Elsewhere
+pub mod KindsOf
+pub mod Begins

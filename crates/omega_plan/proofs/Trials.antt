@@ -1,0 +1,62 @@
+-- Claims of a plan that are tried on a copy.
+use Rattle.std.proofs.Common.{◌≡◌, ◌<◌, ◌+◌, ◌≤◌, ℕ, Bool, true, false, List, [], ◌∷◌, ◌++◌, drop, length, get_or, Option, Some, None, IsSomeAnd, arith, refl, sym, ap, subst, ◌∙◌, if◌then◌else◌}
+use Rattle.std.specs.List.{cons_option, filter_map, find}
+use Rattle.std.specs.Prelude.{option_map}
+use Rattle.std.proofs.lemmas.List.{drop_more, drop_all, append_assoc, append-nil}
+use Rattle.omega_model.specs.Cell.{Cell}
+use Rattle.omega_model.specs.Judge.{would_be_placed}
+use Rattle.omega_model.specs.Keys.{beginnings}
+use Rattle.omega_model.specs.Plan.{after_planned, and_claims, candidates, claim_of, first_item, goes_in, or_else, victims}
+use Rattle.omega_model.specs.Planning.{claim_as_is, claim_for_wish, claim_with_victims, claims_for_wishes, suiting_from}
+use Rattle.omega_model.specs.declared.cells.Machine.{Machine}
+use Rattle.omega_model.specs.declared.claims.Claim.{Claim}
+use Rattle.omega_model.specs.declared.wishes.Wish.{Wish}
+use Rattle.omega_model.proofs.Lists.{by_answer}
+use Rattle.omega_board.specs.Board.{cell_of}
+use Rattle.omega_copy.specs.Copies.{CopyState, TrialState, after_trial, one_less}
+
+-- a claim, if there is one, would be placed
+abbrev GoesIn : Cell → Option Claim → Type 0
+GoesIn cell None = Unit {0}
+GoesIn cell (Some claim) = would_be_placed cell claim ≡ true
+
+found_goes : {X : Type 0} (cell : Cell) (claim : X → Claim) (xs : List X) → GoesIn cell (option_map claim (find (λ x. would_be_placed cell (claim x)) xs))
+found_goes cell claim [] = tt
+found_goes cell claim (x ∷ xs) = by_answer (would_be_placed cell (claim x)) (λ t. rw t t) (λ f. rw f (found_goes cell claim xs))
+
+first_goes : {X : Type 0} (cell : Cell) (claim : X → Option Claim) → ((x : X) → GoesIn cell (claim x)) → (xs : List X) → GoesIn cell (first_item (filter_map claim xs))
+first_goes cell claim goes [] = tt
+first_goes cell claim goes (x ∷ xs) = by (claim x) (goes x) (first_goes cell claim goes xs)
+  where
+    by : (o : Option Claim) → GoesIn cell o → GoesIn cell (first_item (filter_map claim xs)) → GoesIn cell (first_item (cons_option o (filter_map claim xs)))
+    by None own later = later
+    by (Some c) own later = own
+
+either_goes : (cell : Cell) (one other : Option Claim) → GoesIn cell one → GoesIn cell other → GoesIn cell (or_else one other)
+either_goes cell None other one_goes other_goes = other_goes
+either_goes cell (Some c) other one_goes other_goes = one_goes
+
+-- the claim for a wish would be placed
+claim_goes : (cell : Cell) (start : ℕ) (preempts : Bool) (wish : Wish) → GoesIn cell (claim_for_wish cell start preempts wish)
+claim_goes cell start preempts wish =
+    either_goes cell (claim_as_is cell start wish) (if preempts then claim_with_victims cell start wish else None)
+    (found_goes cell (λ (machine : Machine). claim_of wish [] machine.id) (suiting_from cell.machines wish start))
+    (by preempts)
+  where
+    by : (b : Bool) → GoesIn cell (if b then claim_with_victims cell start wish else None)
+    by false = tt
+    by true =
+        first_goes cell (λ (machine : Machine). option_map (λ keys. claim_of wish keys machine.id) (victims cell machine.id wish))
+        (λ machine. found_goes cell (λ keys. claim_of wish keys machine.id) (beginnings (candidates cell machine.id wish)))
+        (suiting_from cell.machines wish start)
+
+pub planned_goes : (cell : Cell) (start : ℕ) (preempts : Bool) (wish : Wish) (claim : Claim) → Some claim ≡ claim_for_wish cell start preempts wish
+    → would_be_placed cell claim ≡ true
+planned_goes cell start preempts wish claim is = subst (GoesIn cell) (sym is) (claim_goes cell start preempts wish)
+
+-- the claims so far and those of the wishes that remain are those of all, and lead back to where all began
+pub record Planned (copy first : CopyState) (claims : List Claim) (start : ℕ) (preempts : Bool) (wishes : List Wish) (place : ℕ) : Type 0 where
+  pub planned : claims ++ claims_for_wishes (cell_of copy.board) start preempts (drop place wishes) ≡ claims_for_wishes (cell_of first.board) start preempts wishes
+  pub within : start ≤ length copy.board.table
+  pub back : after_trial copy copy.trial ≡ after_trial first first.trial
+  pub room : IsSomeAnd copy.trial (λ trial. length wishes ≤ trial.room + place)

@@ -1,0 +1,107 @@
+//! The plan of a request.
+ghost use Rattle.std.specs.Prelude.{◌≡◌, ◌≤◌, None, length, IfOk, IsSomeAnd};
+ghost use Rattle.omega_board.specs.Board.{cell_of};
+ghost use Rattle.omega_copy.specs.Copies.{after_trial};
+ghost use Rattle.omega_model.specs.Plan.{whole_or_none};
+ghost use Rattle.omega_model.specs.Planning.{claim_for_wish, claims_for_wishes, plan_for};
+
+use crate::evicting::claim_with_victims;
+use crate::trying::claim_as_is;
+use omega_copy::PrivateCopy;
+use omega_model::{Claim, Mode, NoMemory, Policy, Request, Seq, Txn, Wish};
+use std::alloc::Global;
+
+/// The plan of a request on a copy, whose machines are tried from `start` round. Each wish gets the
+/// first machine that suits its constraints and takes it, on the cell after the claims before it:
+/// without victims where that goes, else with them where the policy preempts; a wish without a
+/// machine gets no claim. In mode `Gang` one wish without a machine leaves no claim at all. The
+/// copy is as before in both cases.
+pub fn plan(
+    alloc: Global,
+    copy: &mut PrivateCopy,
+    request: &Request,
+    start: usize,
+    policy: &Policy,
+) -> Result<Txn, NoMemory>
+    requires no_trial { copy.old.trial ≡ None }
+    requires start { start ≤ length copy.old.board.table }
+    ensures job { IfOk result (λ txn. txn.job ≡ request.now.job) }
+    ensures rule { IfOk result (λ txn. txn.rule ≡ policy.now.rule) }
+    ensures mode { IfOk result (λ txn. txn.mode ≡ policy.now.mode) }
+    ensures claims { IfOk result (λ txn. txn.claims ≡ plan_for (cell_of copy.old.board) request.now.wishes start policy.now) }
+    ensures copy { copy.new ≡ copy.old }
+{
+    let wishes = request.wishes.as_slice();
+    copy.scratch_room(alloc, request)?;
+    let claims = claims_for_wishes(alloc, copy, wishes, start, policy.preempt);
+    copy.drop_scratch();
+    Ok(Txn {
+        job: request.job,
+        rule: policy.rule,
+        mode: policy.mode,
+        claims: Seq::of(whole_or_none(policy.mode, wishes.len(), claims?)),
+    })
+}
+
+/// The claims for the wishes in order, each on the copy after the claims before it, for which its
+/// trial has room. The claims stay on the copy until the trial is dropped.
+fn claims_for_wishes(
+    alloc: Global,
+    copy: &mut PrivateCopy,
+    wishes: &[Wish],
+    start: usize,
+    preempts: bool,
+) -> Result<Vec<Claim>, NoMemory>
+    requires start { start ≤ length copy.old.board.table }
+    requires room { IsSomeAnd copy.old.trial (λ trial. length wishes.now ≤ trial.room) }
+    ensures claims { IfOk result (λ claims. claims.items ≡ claims_for_wishes (cell_of copy.old.board) start preempts wishes.now) }
+    ensures back { after_trial copy.new copy.new.trial ≡ after_trial copy.old copy.old.trial }
+{
+    let mut claims = Vec::new(alloc);
+    for wish in wishes {
+        if let Some(claim) = claim_for_wish(alloc, copy, wish, start, preempts)? {
+            copy.claim(alloc, &claim)?;
+            claims.push(claim)?;
+        }
+    }
+    Ok(claims)
+}
+
+/// The claim for one wish: without victims where that goes, else with them if it preempts.
+fn claim_for_wish(
+    alloc: Global,
+    copy: &PrivateCopy,
+    wish: &Wish,
+    start: usize,
+    preempts: bool,
+) -> Result<Option<Claim>, NoMemory>
+    requires { start ≤ length copy.now.board.table }
+    ensures { IfOk result (λ claim. claim ≡ claim_for_wish (cell_of copy.now.board) start preempts wish.now) }
+{
+    match claim_as_is(alloc, copy.board(), copy.free(), wish, start) {
+        Some(claim) => Ok(Some(claim)),
+        None => {
+            if preempts {
+                claim_with_victims(alloc, copy.board(), wish, start)
+            } else {
+                Ok(None)
+            }
+        }
+    }
+}
+
+/// A gang of which one wish found no machine makes no claim.
+fn whole_or_none(mode: Mode, wanted: usize, claims: Vec<Claim>) -> Vec<Claim>
+    ensures { result.items ≡ whole_or_none mode wanted claims.items }
+{
+    let mut kept = claims;
+    match mode {
+        Mode::Incremental => {}
+        Mode::Gang => {
+            if kept.len() != wanted {
+                kept.clear();
+            }
+        }
+    }
+    kept
+}
