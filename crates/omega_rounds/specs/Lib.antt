@@ -7,3 +7,7 @@ pub mod AttemptsLeft
 pub mod InRound
 pub mod Constraints
 pub mod Gangs
+pub mod Stages
+pub mod Seats
+pub mod Keeping
+pub mod Going
