@@ -35,12 +35,13 @@ pub record IsLawful (trace : TraceTables) (stage : Stage) (history : List Entry)
       → IsDeskOf stage.settings trace (rows_begun stage) stage.opened_at history scheduler seat.desk
 
 -- what every world keeps: the settings are in their ranges; the wanted tasks are those after the rows of
--- the rounds that have begun; there is a seat for each scheduler; and all is lawful for each trace in whose
--- run the world is
+-- the rounds that have begun; there is a seat for each scheduler; the world is in the run of some trace, and
+-- all is lawful for each one in whose run it is
 pub record IsWorld (stage : Stage) (tasks : List WantedTask) (history : List Entry) (seats : List Seat) : Type 0 where
   pub range : IsInRange stage.settings
   pub within : stage.begun ≤ length stage.source.rounds
   pub asked : tasks ≡ wanted (rows_begun stage)
   pub count : length seats ≡ schedulers stage.settings
   pub each_seat : (scheduler : ℕ) (seat : Seat) → slice_get seats scheduler ≡ Some seat → IsSeat stage.settings history scheduler seat
+  pub made : (trace : TraceTables) × IsMadeOf stage trace
   pub lawful : (trace : TraceTables) → IsMadeOf stage trace → IsLawful trace stage history seats

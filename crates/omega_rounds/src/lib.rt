@@ -8,6 +8,8 @@
 #![tactic(auto)]
 
 mod laws;
+mod opening;
+mod planned;
 mod seat;
 mod steps;
 mod turns;

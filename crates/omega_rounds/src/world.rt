@@ -1,17 +1,19 @@
 //! Schedulers over one cell, round by round.
-ghost use Rattle.std.specs.Prelude.{◌≡◌, ◌<◌, [], replicate, None, IfOk, OnErr};
+ghost use Rattle.std.specs.Prelude.{◌≡◌, ◌<◌, [], length, IfOk, OnErr};
 ghost use Rattle.omega_model.specs.Legal.{Legal};
 ghost use Rattle.omega_model.specs.Policy.{schedulers};
 ghost use Rattle.omega_model.specs.Ranges.{IsInRange};
 ghost use Rattle.omega_model.specs.Stepping.{LawfulWorld};
 ghost use Rattle.omega_model.specs.declared.rows.TraceTables.{TraceTables};
-ghost use Rattle.omega_rounds.specs.Going.{GoesOn, LeavesToDo, MovesOn, StepsOn};
+ghost use Rattle.omega_rounds.specs.Going.{GoesOn, LeavesToDo, MovesOn, OpensRound, ReachesRound, StepsOn};
+ghost use Rattle.omega_rounds.specs.Opening.{AreNewSeats};
 ghost use Rattle.omega_rounds.specs.Stages.{IsMadeOf, source_of, world_of};
 
+use crate::opening::{begin_all, first_at_work, open};
 use crate::seat::Seat;
 use crate::steps::{RoundStep, Stepped};
 use omega_cell::Cell;
-use omega_feed::Wanted;
+use omega_feed::{Wanted, rounds};
 use omega_model::{Entries, Entry, NoMemory, Rounds, Settings, TraceTables};
 use std::alloc::Global;
 use std::marker::Model;
@@ -58,7 +60,19 @@ impl World {
         ensures trace { IfOk result (λ world. world.stage.source ≡ source_of settings.now tables.now) }
         ensures begun { IfOk result (λ world. world.stage.begun ≡ 0) }
     {
-        Err(NoMemory)
+        let rounds = rounds(alloc, tables, settings.window)?;
+        let wanted = Wanted::new(alloc, tables, settings)?;
+        let seats = new_seats(alloc, settings)?;
+        Ok(World {
+            alloc,
+            settings: *settings,
+            rounds,
+            begun: 0,
+            opened_at: 0,
+            wanted,
+            cell: Cell::new(alloc),
+            seats,
+        })
     }
 
     /// The history: lawful so far for each trace in whose run the world is, with each copy that has
@@ -90,7 +104,52 @@ impl World {
         ensures run { IfOk result (λ next. (trace : TraceTables) → IsMadeOf self.stage trace
             → GoesOn trace self next.0 next.1) }
     {
-        Err(NoMemory)
+        if let Some(scheduler) = first_at_work(self.seats.as_slice()) {
+            return Ok((self, RoundStep::Unfinished(scheduler as u32)));
+        }
+        if self.begun == self.rounds.len() {
+            return Ok((self, RoundStep::Over));
+        }
+        let (world, number) = self.begin_round()?;
+        Ok((world, RoundStep::Begun(number)))
+    }
+
+    // The next round begins. Answers its number.
+    fn begin_round(self) -> Result<(World, u64), NoMemory>
+        requires no_work { self.to_do ≡ 0 }
+        requires more { self.stage.begun < length self.stage.source.rounds }
+        ensures stage { IfOk result (λ next. ReachesRound self next.0 next.1) }
+        ensures run { IfOk result (λ next. (trace : TraceTables) → IsMadeOf self.stage trace
+            → OpensRound trace self next.0) }
+    {
+        let World {
+            alloc,
+            settings,
+            rounds,
+            begun,
+            opened_at: _,
+            mut wanted,
+            mut cell,
+            mut seats,
+        } = self;
+        let Some(round) = rounds.get(begun) else {
+            unreachable!()
+        };
+        let number = round.number;
+        open(alloc, &mut cell, &mut wanted, round)?;
+        let opened_at = cell.history().len();
+        begin_all(alloc, &mut seats, &wanted, &cell)?;
+        let world = World {
+            alloc,
+            settings,
+            rounds,
+            begun: begun + 1,
+            opened_at,
+            wanted,
+            cell,
+            seats,
+        };
+        Ok((world, number))
     }
 
     /// Lets a scheduler do one step. Without work it does nothing, and that costs nothing. With work
@@ -105,7 +164,11 @@ impl World {
         ensures to_do { IfOk result (λ stepped. LeavesToDo self.old self.new stepped) }
         ensures err { OnErr result (self.new ≡ self.old) }
     {
-        Err(NoMemory)
+        let alloc = self.alloc;
+        let settings = self.settings;
+        let seat = &mut self.seats[scheduler as usize];
+        let stepped = seat.step(alloc, &settings, scheduler, &mut self.cell)?;
+        Ok(stepped)
     }
 
     /// How many schedulers there are. Takes no memory.
@@ -114,4 +177,16 @@ impl World {
     {
         self.settings.schedulers()
     }
+}
+
+// A seat for each scheduler.
+fn new_seats(alloc: Global, settings: &Settings) -> Result<Vec<Seat>, NoMemory>
+    requires { IsInRange settings.now }
+    ensures { IfOk result (λ seats. AreNewSeats settings.now (schedulers settings.now) seats.items) }
+{
+    let mut seats = Vec::new(alloc);
+    for scheduler in 0..settings.schedulers() {
+        seats.push(Seat::new(alloc, settings, scheduler))?;
+    }
+    Ok(seats)
 }
