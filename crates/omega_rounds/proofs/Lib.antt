@@ -27,3 +27,5 @@ pub mod Requested
 pub mod Fed
 pub mod Applying
 pub mod NewSeats
+pub mod CommitCounts
+pub mod SeatCommits
