@@ -20,3 +20,12 @@ pub mod RoundFronts
 pub mod EntireGangs
 pub mod WholeGangs
 mod Examples
+pub mod Unconstrained
+pub mod SeatLists
+pub mod Answering
+pub mod Requested
+pub mod Fed
+pub mod Applying
+pub mod NewSeats
+pub mod CommitCounts
+pub mod SeatCommits

@@ -70,7 +70,7 @@ victims_others cell id wish =
     (λ n. each_take (IsOfOther wish.key.job) n keys (candidates_others cell id wish)) (range_with_len 0 (length keys + 1))))
 
 -- the claim for a wish
-claim_is_for : (cell : Cell) (start : ℕ) (preempts : Bool) (wish : Wish) → OfValue (IsFor wish) (claim_for_wish cell start preempts wish)
+pub claim_is_for : (cell : Cell) (start : ℕ) (preempts : Bool) (wish : Wish) → OfValue (IsFor wish) (claim_for_wish cell start preempts wish)
 claim_is_for cell start preempts wish =
     let some : List Machine = suiting_from cell.machines wish start in
     let any : Machine → Type 0 = λ machine. Unit {0} in

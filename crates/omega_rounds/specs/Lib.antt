@@ -7,3 +7,10 @@ pub mod AttemptsLeft
 pub mod InRound
 pub mod Constraints
 pub mod Gangs
+pub mod Stages
+pub mod Seats
+pub mod Keeping
+pub mod Going
+pub mod Planned
+pub mod SeatSteps
+pub mod Opening

@@ -1,12 +1,24 @@
 //! Rounds in which schedulers commit in an order.
 //!
-//! So far these are laws over the definitions alone: what comes next in a round, that nothing else
-//! could, that what is placed is on machines that meet its constraints, and that no gang is split.
+//! A world is a cell that schedulers share, with a desk and a private copy of the cell for each of
+//! them. Whatever steps they do in whatever order, its history is lawful so far; `in_turns` runs it
+//! to the end with the schedulers in turns. The laws say, over the definitions alone, what comes next
+//! in a round, that nothing else could, that what is placed is on machines that meet its constraints,
+//! and that no gang is split.
 #![tactic(auto)]
 
 mod laws;
+mod opening;
+mod planned;
+mod seat;
+mod steps;
+mod turns;
+mod world;
 
 pub use laws::{
     claims_meet_constraints, gangs_of_lawful_histories, lawful_histories_in_turns,
     next_commits_in_turns, rounds_in_any_order,
 };
+pub use steps::{RoundStep, Stepped};
+pub use turns::in_turns;
+pub use world::World;

@@ -1,0 +1,90 @@
+-- What a scheduler is asked to place: requests for its own jobs, none before the first row, and none that
+-- wishes for a task twice.
+use Rattle.std.proofs.Common.{◌≡◌, ◌≤◌, ◌<◌, ◌+◌, ℕ, Bool, true, false, not, ◌&&◌, List, [], ◌∷◌, map, length, Option, Some, None, refl, sym, ap, subst, arith, ◌∙◌, ◌==◌, if◌then◌else◌}
+use Rattle.std.specs.Prelude.{nat_le}
+use Rattle.std.specs.List.{All, filter, filter_map, fold, list_any, AllByRecursion as Each}
+use Rattle.std.proofs.lemmas.Bool.{and_parts, eqb-true, lt-leb}
+use Rattle.std.proofs.lemmas.List.Elements.{All-from_recursion}
+use Rattle.omega_model.specs.Feed.{feed}
+use Rattle.omega_model.specs.OpenRequests.{is_worked_on, open_requests}
+use Rattle.omega_model.specs.Reply.{admits}
+use Rattle.omega_model.specs.Requests.{failed, failed_after, given_up, jobs_in_order, request_of, requests, scheduler_of, wishes_of, works_on}
+use Rattle.omega_model.specs.State.{state}
+use Rattle.omega_model.specs.Wanted.{wanted}
+use Rattle.omega_model.specs.declared.entries.Entry.{Entry}
+use Rattle.omega_model.specs.declared.entries.Entry.TheVariants.{Round, MachineAdd, MachineUpdate, MachineRemove, AttrSet, AttrDelete, End, Commit}
+use Rattle.omega_model.specs.declared.rows.Row.{Row}
+use Rattle.omega_model.specs.declared.rows.TraceTables.{TraceTables}
+use Rattle.omega_model.specs.declared.settings.Settings.{Settings}
+use Rattle.omega_model.specs.declared.wishes.Request.{Request}
+use Rattle.omega_model.specs.declared.wishes.Wish.{Wish}
+use Rattle.omega_model.proofs.Lists.{by_answer, each_map, each_passes}
+use Rattle.omega_model.proofs.OpenRequests.{requests_from_open}
+use Rattle.omega_desk.proofs.Asked.{requests_distinct}
+use Rattle.omega_desk.specs.Walks.{HasDistinctWishes}
+use Rattle.omega_rounds.specs.Seats.{IsRoutedTo}
+use Rattle.omega_rounds.proofs.Suited.{OfValue, each_mapped}
+
+-- the request of a job
+of_job : (settings : Settings) (trace : TraceTables) (scheduler job : ℕ) (wishes : List Wish) → scheduler_of settings trace job ≡ scheduler
+    → OfValue (IsRoutedTo settings trace scheduler) (request_of job wishes)
+of_job settings trace scheduler job [] routed = tt
+of_job settings trace scheduler job (wish ∷ wishes) routed = routed
+
+-- each request of a scheduler is for one of its jobs
+pub requests_own : (settings : Settings) (trace : TraceTables) (rows : List Row) (history : List Entry) (scheduler : ℕ)
+    → All (IsRoutedTo settings trace scheduler) (requests settings trace rows history scheduler)
+requests_own settings trace rows history scheduler =
+    let test : ℕ → Bool = works_on settings trace history scheduler in
+    let own : ℕ → Type 0 = λ job. scheduler_of settings trace job ≡ scheduler in
+    let jobs : List ℕ = filter test (jobs_in_order (feed trace)) in
+    All-from_recursion (IsRoutedTo settings trace scheduler) _
+    (each_mapped own (IsRoutedTo settings trace scheduler) (λ job. request_of job (wishes_of settings trace (state history) (wanted rows) job))
+    (λ job routed. of_job settings trace scheduler job _ routed) jobs
+    (each_map (λ job. test job ≡ true) own (λ job passes. eqb-true _ _ (and_parts _ _ passes).0) jobs (each_passes test (jobs_in_order (feed trace)))))
+
+none_mapped : {X Y : Type 0} (xs : List X) → filter_map {X} {Y} (λ _. None) xs ≡ []
+none_mapped [] = refl
+none_mapped (x ∷ xs) = none_mapped xs
+
+-- before the first row nothing is asked
+pub requests_none : (settings : Settings) (trace : TraceTables) (scheduler : ℕ) → requests settings trace [] [] scheduler ≡ []
+requests_none settings trace scheduler = none_mapped (filter (works_on settings trace [] scheduler) (jobs_in_order (feed trace)))
+
+failed_grows : (job count : ℕ) (entry : Entry) → failed_after job count entry ≤ count + 1
+failed_grows job count (Round number) = omega arith
+failed_grows job count (MachineAdd machine cap) = omega arith
+failed_grows job count (MachineUpdate machine cap) = omega arith
+failed_grows job count (MachineRemove machine) = omega arith
+failed_grows job count (AttrSet machine name value) = omega arith
+failed_grows job count (AttrDelete machine name) = omega arith
+failed_grows job count (End key machine) = omega arith
+failed_grows job count (Commit scheduler seen txn reply) =
+    by_answer (txn.job == job)
+    (λ t. by_answer (list_any admits reply) (λ a. rw (t, a) (omega arith)) (λ b. rw (t, b) (omega arith)))
+    (λ f. rw f (omega arith))
+
+failed_within : (job count : ℕ) (history : List Entry) → fold (failed_after job) count history ≤ count + length history
+failed_within job count [] = omega arith
+failed_within job count (entry ∷ history) =
+    let rest : fold (failed_after job) (failed_after job count entry) history ≤ failed_after job count entry + length history =
+    failed_within job (failed_after job count entry) history in
+    let one : failed_after job count entry ≤ count + 1 = failed_grows job count entry in
+    omega (arith, rest, one)
+
+all_kept : {X : Type 0} (test : X → Bool) → ((x : X) → test x ≡ true) → (xs : List X) → filter test xs ≡ xs
+all_kept test passes [] = refl
+all_kept test passes (x ∷ xs) = rw (passes x) (ap (λ rest. x ∷ rest) (all_kept test passes xs))
+
+-- no request wishes for a task twice, also where jobs that are given up count: they are the requests under
+-- settings that give no job up
+pub open_distinct : (settings : Settings) (trace : TraceTables) (rows : List Row) (history : List Entry) (scheduler : ℕ)
+    → All HasDistinctWishes (open_requests settings trace rows (state history) scheduler)
+open_distinct settings trace rows history scheduler =
+    let patient : Settings = record settings { give_up = length history + 1 } in
+    let all : List Request = open_requests settings trace rows (state history) scheduler in
+    let tried : (request : Request) → is_worked_on patient history request ≡ true =
+    λ request. let few : failed history request.job ≤ 0 + length history = failed_within request.job 0 history in
+    ap not (lt-leb (length history + 1) (failed history request.job) (omega (arith, few))) in
+    subst (All HasDistinctWishes) (requests_from_open patient trace rows history scheduler ∙ all_kept (is_worked_on patient history) tried all)
+    (requests_distinct patient trace rows history scheduler)

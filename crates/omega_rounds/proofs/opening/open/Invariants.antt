@@ -1,0 +1,13 @@
+use Rattle.std.proofs.Common.{◌≡◌, ◌++◌, ◌∷◌, [], List, take}
+use Rattle.std.specs.List.{fold}
+use Rattle.omega_model.specs.Lawful.{Applied, with_row}
+use Rattle.omega_model.specs.Wanted.{wanted, wanted_after}
+use Rattle.omega_model.specs.declared.entries.Entry.TheVariants.{Round}
+use Rattle.omega_model.specs.declared.rows.Row.{Row}
+use Rattle.omega_model.specs.declared.rows.TraceTables.{TraceTables}
+use Rattle.omega_rounds.proofs.Applying.{AreApplied}
+use Rattle.omega_rounds.proofs.opening.open.Given as goal
+
+abbrev pub invariant-loop-row : goal.invariant-loop-row
+invariant-loop-row l =
+    AreApplied l.fn.wanted l.wanted (l.fn.cell.history ++ Round l.round.number ∷ []) l.cell.history (take l.row-index l.row-items)

@@ -1,0 +1,47 @@
+-- What every world keeps.
+use Rattle.std.specs.Prelude.{◌≡◌, ◌⊎◌, ◌+◌, ◌≤◌, ℕ, List, Some, length, map, slice_get}
+use Rattle.omega_model.specs.Policy.{schedulers}
+use Rattle.omega_model.specs.Ranges.{IsInRange}
+use Rattle.omega_model.specs.Stepping.{IsInRound, IsNew, rows_end}
+use Rattle.omega_model.specs.Wanted.{WantedTask, wanted}
+use Rattle.omega_model.specs.World.{World}
+use Rattle.omega_model.specs.declared.entries.Entry.{Entry}
+use Rattle.omega_model.specs.declared.rows.TraceTables.{TraceTables}
+use Rattle.omega_rounds.specs.Seats.{IsDeskOf, IsSeat, synced_of}
+use Rattle.omega_rounds.specs.Stages.{IsMadeOf, Stage, rows_begun, synced_at}
+use Rattle.omega_rounds.specs.declared.seat.Seat.{Seat}
+
+-- no round has begun
+pub record HasNotBegun (stage : Stage) (world : World) : Type 0 where
+  pub is_new : IsNew world
+  pub none : stage.begun ≡ 0
+  pub start : stage.opened_at ≡ 0
+
+-- the last of so many rounds is under way, and its rows end where the stage says
+pub record HasBegun (trace : TraceTables) (stage : Stage) (world : World) : Type 0 where
+  pub in_round : IsInRound stage.settings trace world
+  pub count : stage.begun ≡ in_round.underway.done + 1
+  pub rows : stage.opened_at ≡ rows_end stage.settings trace world.history in_round.underway
+
+-- the history of these entries, and who of these has synced
+abbrev pub world_at : List Entry → List Seat → World
+world_at history seats = record { history = history; synced = synced_at (map synced_of seats) }
+
+-- what a world keeps of a trace in whose run it is: the history is the trace's run up to this stage, and
+-- each desk has what its scheduler has left
+pub record IsLawful (trace : TraceTables) (stage : Stage) (history : List Entry) (seats : List Seat) : Type 0 where
+  pub run : HasNotBegun stage (world_at history seats) ⊎ HasBegun trace stage (world_at history seats)
+  pub desks : (scheduler : ℕ) (seat : Seat) → slice_get seats scheduler ≡ Some seat
+      → IsDeskOf stage.settings trace (rows_begun stage) stage.opened_at history scheduler seat.desk
+
+-- what every world keeps: the settings are in their ranges; the wanted tasks are those after the rows of
+-- the rounds that have begun; there is a seat for each scheduler; the world is in the run of some trace, and
+-- all is lawful for each one in whose run it is
+pub record IsWorld (stage : Stage) (tasks : List WantedTask) (history : List Entry) (seats : List Seat) : Type 0 where
+  pub range : IsInRange stage.settings
+  pub within : stage.begun ≤ length stage.source.rounds
+  pub asked : tasks ≡ wanted (rows_begun stage)
+  pub count : length seats ≡ schedulers stage.settings
+  pub each_seat : (scheduler : ℕ) (seat : Seat) → slice_get seats scheduler ≡ Some seat → IsSeat stage.settings history scheduler seat
+  pub made : (trace : TraceTables) × IsMadeOf stage trace
+  pub lawful : (trace : TraceTables) → IsMadeOf stage trace → IsLawful trace stage history seats

@@ -1,0 +1,64 @@
+-- How a round opens.
+use Rattle.std.specs.Prelude.{◌≡◌, ℕ, Bool, List, [], ◌∷◌, ◌++◌, Some, None, false, is_some, length, slice_get}
+use Rattle.omega_model.specs.Applying.{CapacityIsInRange, EndsRunning}
+use Rattle.omega_model.specs.OpenRequests.{open_requests as all_requests}
+use Rattle.omega_model.specs.State.{state}
+use Rattle.omega_model.specs.Work.{fresh}
+use Rattle.omega_model.specs.declared.entries.Entry.{Entry}
+use Rattle.omega_model.specs.declared.rows.Row.{Row}
+use Rattle.omega_model.specs.declared.rows.TraceTables.{TraceTables}
+use Rattle.omega_model.specs.declared.settings.Settings.{Settings}
+use Rattle.omega_cell.specs.Cells.{is_commit}
+use Rattle.omega_desk.specs.Desks.{IsSameDesk, left_at, open_requests}
+use Rattle.omega_feed.specs.Asked.{Asked, asked_after}
+use Rattle.omega_rounds.specs.Seats.{IsSeat, synced_of}
+use Rattle.omega_rounds.specs.declared.seat.Seat.{Seat}
+
+-- an entry may be fed to the cell of a history, where there is room for its machine
+pub record MayFeed (history : List Entry) (entry : Entry) : Type 0 where
+  pub no_commit : is_commit entry ≡ false
+  pub capacity : CapacityIsInRange entry
+  pub ends : EndsRunning (state history).tasks entry
+
+-- entries may be fed one after the other
+abbrev pub MayFeedAll : List Entry → List Entry → Type 0
+MayFeedAll history [] = Unit {0}
+MayFeedAll history (entry ∷ entries) = MayFeed history entry × MayFeedAll (history ++ entry ∷ []) entries
+
+-- something is what some trace asks for after some of its rows
+pub record IsAsked (asked : Asked) : Type 0 where
+  pub settings : Settings
+  pub trace : TraceTables
+  pub rows : List Row
+  pub asks : asked ≡ asked_after settings trace rows
+
+-- whether a request is left at a seat's desk
+abbrev pub has_work : Seat → Bool
+has_work seat = is_some (slice_get seat.desk.requests 0)
+
+-- none is left at any desk
+abbrev pub HaveNoWork : List Seat → Type 0
+HaveNoWork seats = (number : ℕ) (seat : Seat) → slice_get seats number ≡ Some seat → seat.desk.requests ≡ []
+
+-- a seat begins with what its scheduler is asked to place after this history, but for the jobs that are
+-- given up by the desk's counts; its scheduler hasn't synced
+pub record BeginsSeat (asked : Asked) (history : List Entry) (number : ℕ) (old new : Seat) : Type 0 where
+  pub desk : IsSameDesk old.desk new.desk
+  pub attempts : new.desk.attempts ≡ old.desk.attempts
+  pub left : (settings : Settings) (trace : TraceTables) (rows : List Row) → asked ≡ asked_after settings trace rows
+      → left_at new.desk ≡ fresh (left_at old.desk).failing
+      (open_requests old.desk.settings (left_at old.desk).failing (all_requests settings trace rows (state history) number))
+  pub copy : new.copy ≡ old.copy
+  pub synced : new.synced ≡ false
+
+-- so does each seat
+pub record BeginAll (asked : Asked) (history : List Entry) (old new : List Seat) : Type 0 where
+  pub count : length new ≡ length old
+  pub each : (number : ℕ) (seat : Seat) → slice_get new number ≡ Some seat
+      → (before : Seat) × ((slice_get old number ≡ Some before) × BeginsSeat asked history number before seat)
+
+-- these are the seats of so many schedulers that have done nothing yet
+pub record AreNewSeats (settings : Settings) (schedulers : ℕ) (seats : List Seat) : Type 0 where
+  pub count : length seats ≡ schedulers
+  pub each : (number : ℕ) (seat : Seat) → slice_get seats number ≡ Some seat
+      → IsSeat settings [] number seat × ((synced_of seat ≡ None) × (left_at seat.desk ≡ fresh (λ job. 0) []))

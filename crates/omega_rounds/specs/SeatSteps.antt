@@ -1,0 +1,52 @@
+-- What a seat does in a step of its scheduler.
+use Rattle.std.specs.Prelude.{◌≡◌, ◌≢◌, ℕ, List, [], ◌∷◌, ◌++◌, Some, None, length}
+use Rattle.omega_model.specs.State.{reply_of}
+use Rattle.omega_model.specs.Work.{after_outcomes, outcomes_of}
+use Rattle.omega_model.specs.declared.claims.Outcome.{Outcome}
+use Rattle.omega_model.specs.declared.entries.Entry.{Entry}
+use Rattle.omega_model.specs.declared.settings.Settings.{Settings}
+use Rattle.omega_model.specs.declared.wishes.Request.{Request}
+use Rattle.omega_desk.specs.Desks.{left_at}
+use Rattle.omega_rounds.specs.NextCommit.{attempt, attempt_txn}
+use Rattle.omega_rounds.specs.Seats.{synced_of}
+use Rattle.omega_rounds.specs.declared.seat.Seat.{Seat}
+use Rattle.omega_rounds.specs.declared.steps.Stepped.{Stepped}
+use Rattle.omega_rounds.specs.declared.steps.Stepped.TheVariants.{Synced, Committed, Idle}
+
+-- the outcomes of a scheduler's attempt on a request after these entries
+abbrev pub attempt_outcomes : Settings → List Entry → ℕ → ℕ → Request → List Outcome
+attempt_outcomes settings before scheduler seen request =
+    outcomes_of (attempt_txn settings before scheduler seen request).claims (reply_of before seen (attempt_txn settings before scheduler seen request))
+
+-- no request is left at the desk, and nothing changes
+pub record RestsSeat (before : List Entry) (old : Seat) (after : List Entry) (new : Seat) : Type 0 where
+  pub no_work : old.desk.requests ≡ []
+  pub history : after ≡ before
+  pub seat : new ≡ old
+
+-- a request is left at the desk, and the copy takes over the history for it
+pub record SyncsSeat (before : List Entry) (old : Seat) (after : List Entry) (new : Seat) : Type 0 where
+  pub work : old.desk.requests ≢ []
+  pub first : synced_of old ≡ None
+  pub history : after ≡ before
+  pub seen_all : synced_of new ≡ Some (length before)
+  pub desk : new.desk ≡ old.desk
+
+-- the attempt on the first request that is left at the desk is committed, and the desk moves on by what
+-- came of it
+pub record CommitsFirst (settings : Settings) (scheduler : ℕ) (before : List Entry) (old : Seat) (after : List Entry) (new : Seat) (place : ℕ) : Type 0 where
+  pub request : Request
+  pub rest : List Request
+  pub work : old.desk.requests ≡ request ∷ rest
+  pub synced_before : synced_of old ≡ Some old.copy.seen
+  pub at_end : place ≡ length before
+  pub appended : after ≡ before ++ attempt settings before scheduler old.copy.seen request ∷ []
+  pub spent : synced_of new ≡ None
+  pub moved : after_outcomes settings (left_at old.desk) old.desk.requests (attempt_outcomes settings before scheduler old.copy.seen request)
+      ≡ Some (left_at new.desk)
+
+-- what a seat does in a step, by what it answers
+abbrev pub SeatSteps : Settings → ℕ → List Entry → Seat → List Entry → Seat → Stepped → Type 0
+SeatSteps settings scheduler before old after new Idle = RestsSeat before old after new
+SeatSteps settings scheduler before old after new Synced = SyncsSeat before old after new
+SeatSteps settings scheduler before old after new (Committed place) = CommitsFirst settings scheduler before old after new place

@@ -1,0 +1,51 @@
+-- A scheduler's seat: its desk, and its copy of the cell.
+use Rattle.std.specs.Prelude.{◌≡◌, ◌<◌, ℕ, List, Option, Some, None, All, if◌then◌else◌, length}
+use Rattle.std.specs.List.{sum_by}
+use Rattle.omega_model.specs.Requests.{failed, scheduler_of}
+use Rattle.omega_model.specs.Work.{HasLeft, Standing, commits_of, standing_of}
+use Rattle.omega_model.specs.declared.entries.Entry.{Entry}
+use Rattle.omega_model.specs.declared.rows.Row.{Row}
+use Rattle.omega_model.specs.declared.rows.TraceTables.{TraceTables}
+use Rattle.omega_model.specs.declared.settings.Settings.{Settings}
+use Rattle.omega_model.specs.declared.wishes.Request.{Request}
+use Rattle.omega_copy.specs.Copies.{CopyOf}
+use Rattle.omega_desk.specs.Counts.{count_of}
+use Rattle.omega_desk.specs.Desks.{DeskState, left_at}
+use Rattle.omega_rounds.specs.AttemptsLeft.{attempts_left}
+use Rattle.omega_rounds.specs.declared.seat.Seat.{Seat}
+
+-- how many entries its scheduler had seen, if it has synced since its last commit
+abbrev pub synced_of : Seat → Option ℕ
+synced_of seat = if seat.synced then Some seat.copy.seen else None
+
+-- how many attempts its scheduler can still make in this round
+abbrev pub to_do_of : Seat → ℕ
+to_do_of seat = attempts_left seat.desk.settings (left_at seat.desk)
+
+-- a seat is that of a scheduler beside a history: the desk is the scheduler's, has had as many attempts as
+-- the history has commits of it, and a try left for its first request; the copy stands for a front of the
+-- history, and no trial has begun on it
+pub record IsSeat (chosen : Settings) (history : List Entry) (number : ℕ) (seat : Seat) : Type 0 where
+  pub settings : seat.desk.settings ≡ chosen
+  pub scheduler : seat.desk.scheduler ≡ number
+  pub attempts : seat.desk.attempts ≡ commits_of number history
+  pub tries : seat.desk.taken < chosen.tries
+  pub copy : CopyOf seat.copy history
+  pub no_trial : seat.copy.trial ≡ None
+
+-- a scheduler works on the job of a request
+abbrev pub IsRoutedTo : Settings → TraceTables → ℕ → Request → Type 0
+IsRoutedTo settings trace scheduler request = scheduler_of settings trace request.job ≡ scheduler
+
+-- a scheduler's desk after these entries of a round whose rows end at this place: its requests are those
+-- that the scheduler has left, the first of them has had as many attempts, they are for the scheduler's own
+-- jobs, and each of these jobs has its count of commits in a row that placed nothing
+pub record IsDeskOf (settings : Settings) (trace : TraceTables) (rows : List Row) (opened_at : ℕ) (history : List Entry) (scheduler : ℕ) (desk : DeskState) : Type 0 where
+  pub left : HasLeft settings trace rows opened_at scheduler history desk.requests
+  pub standing : Standing
+  pub stands : standing_of settings trace rows opened_at scheduler history ≡ Some standing
+  pub requests : standing.requests ≡ desk.requests
+  pub taken : standing.taken ≡ desk.taken
+  pub own : All (IsRoutedTo settings trace scheduler) desk.requests
+  pub counts : (job : ℕ) → scheduler_of settings trace job ≡ scheduler → standing.failing job ≡ count_of desk.counts job
+  pub failures : (job : ℕ) → scheduler_of settings trace job ≡ scheduler → failed history job ≡ count_of desk.counts job

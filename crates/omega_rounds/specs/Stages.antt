@@ -1,0 +1,81 @@
+-- Where a world stands in the run of its trace.
+use Rattle.std.specs.Prelude.{◌≡◌, ◌+◌, ℕ, List, Option, map, take, slice_get, option_and_then}
+use Rattle.omega_model.specs.Feed.{feed, rounds}
+use Rattle.omega_model.specs.Fields.{ConstraintFields, DiskFields}
+use Rattle.omega_model.specs.Lawful.{rows_of}
+use Rattle.omega_model.specs.Requests.{jobs_in_order}
+use Rattle.omega_model.specs.World.{World}
+use Rattle.omega_model.specs.declared.entries.Entry.{Entry}
+use Rattle.omega_model.specs.declared.rows.Row.{Row}
+use Rattle.omega_model.specs.declared.rows.Round.{Round}
+use Rattle.omega_model.specs.declared.rows.TraceTables.{TraceTables}
+use Rattle.omega_model.specs.declared.settings.Settings.{Settings}
+use Rattle.omega_feed.specs.Asked.{Asked, routed}
+use Rattle.omega_feed.specs.declared.jobs.RoutedJob.{RoutedJob}
+
+-- what a world has of its trace: the rounds, the jobs with their schedulers, the constraints of tasks and
+-- the disks of machines
+pub record Source : Type 0 where
+  pub rounds : List Round
+  pub jobs : List RoutedJob
+  pub constraints : List ConstraintFields
+  pub disks : List DiskFields
+
+-- what a world has of this trace under these settings
+abbrev pub source_of : Settings → TraceTables → Source
+source_of settings trace = record {
+  rounds = rounds trace settings.window;
+  jobs = map (routed settings trace) (jobs_in_order (feed trace));
+  constraints = trace.constraints;
+  disks = trace.disks;
+}
+
+-- where a world stands in its run: the settings, what it has of its trace, how many rounds have begun, and
+-- the place in the history after the rows of the last of them
+pub record Stage : Type 0 where
+  pub settings : Settings
+  pub source : Source
+  pub begun : ℕ
+  pub opened_at : ℕ
+
+-- the stage of these settings, rounds and requests, with so many rounds begun
+abbrev pub stage_of : Settings → List Round → Asked → ℕ → ℕ → Stage
+stage_of settings all asked begun opened_at = record {
+  settings = settings;
+  source = record { rounds = all; jobs = asked.jobs; constraints = asked.constraints; disks = asked.disks };
+  begun = begun;
+  opened_at = opened_at;
+}
+
+-- a stage is one in the run of this trace
+abbrev pub IsMadeOf : Stage → TraceTables → Type 0
+IsMadeOf stage trace = stage.source ≡ source_of stage.settings trace
+
+-- the rows of the rounds that have begun
+abbrev pub rows_begun : Stage → List Row
+rows_begun stage = rows_of (take stage.begun stage.source.rounds)
+
+-- the stage once one more round has begun, whose rows end here
+abbrev pub next_stage : Stage → ℕ → Stage
+next_stage stage opened_at = record {
+  settings = stage.settings;
+  source = stage.source;
+  begun = stage.begun + 1;
+  opened_at = opened_at;
+}
+
+-- a world as callers see it: its stage, its history, for each scheduler that has synced since its last
+-- commit how many entries it had seen, and how many commits can follow at most in this round
+pub record WorldState : Type 0 where
+  pub stage : Stage
+  pub history : List Entry
+  pub synced : List (Option ℕ)
+  pub to_do : ℕ
+
+-- how many entries a scheduler had seen, if it has synced
+abbrev pub synced_at : List (Option ℕ) → ℕ → Option ℕ
+synced_at synced scheduler = option_and_then (λ seen. seen) (slice_get synced scheduler)
+
+-- the history of a world and who has synced
+abbrev pub world_of : WorldState → World
+world_of state = record { history = state.history; synced = synced_at state.synced }

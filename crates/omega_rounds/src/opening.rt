@@ -1,0 +1,134 @@
+//! The rows of a round, applied to the cell, and the requests that follow from them.
+ghost use Rattle.std.specs.Prelude.{◌≡◌, ◌<◌, ◌^◌, ◌++◌, ◌∷◌, [], List, length, position, IfSome, IsTrue, OnOk};
+ghost use Rattle.std.specs.List.{fold};
+ghost use Rattle.omega_board.specs.Board.{cell_of};
+ghost use Rattle.omega_model.specs.Applying.{ListsOrHasRoom, machine_in};
+ghost use Rattle.omega_model.specs.Lawful.{opened};
+ghost use Rattle.omega_model.specs.State.{state};
+ghost use Rattle.omega_model.specs.Wanted.{row_entries, wanted as wanted_tasks, wanted_after};
+ghost use Rattle.omega_model.specs.declared.rows.Row.{Row};
+ghost use Rattle.omega_model.specs.declared.rows.TraceTables.{TraceTables};
+ghost use Rattle.omega_rounds.specs.Opening.{BeginAll, HaveNoWork, IsAsked, MayFeed, MayFeedAll, has_work};
+
+use crate::seat::Seat;
+use omega_board::Board;
+use omega_cell::Cell;
+use omega_feed::Wanted;
+use omega_model::{Entries, Entry, MOST_MACHINES, NoMemory, Round, Row};
+use std::alloc::Global;
+
+/// Appends a round's entry and those of its rows in order. More machines than a table holds are
+/// answered as want of memory. Costs the rows, and what their entries change.
+pub(crate) fn open(
+    alloc: Global,
+    cell: &mut Cell,
+    wanted: &mut Wanted,
+    round: &Round,
+) -> Result<(), NoMemory>
+    ensures history { (trace : TraceTables) (rows : List Row) → wanted.old.disks ≡ trace.disks
+        → wanted.old.tasks ≡ wanted_tasks rows
+        → OnOk result (cell.new.history ≡ (opened trace rows cell.old.history round.now).history) }
+    ensures wanted { OnOk result (wanted.new
+        ≡ record wanted.old { tasks = fold wanted_after wanted.old.tasks round.now.rows }) }
+{
+    feed(
+        alloc,
+        cell,
+        Entry::Round {
+            number: round.number,
+        },
+    )?;
+    for row in round.rows.as_slice() {
+        wanted.take(row)?;
+        apply_row(alloc, cell, wanted, row)?;
+    }
+    Ok(())
+}
+
+// Appends the entries of the row that was taken last.
+fn apply_row(
+    alloc: Global,
+    cell: &mut Cell,
+    wanted: &Wanted,
+    row: &Row,
+) -> Result<(), NoMemory>
+    ensures { OnOk result (cell.new.history ≡ cell.old.history
+        ++ row_entries wanted.now.disks (state cell.old.history) wanted.now.tasks row.now) }
+{
+    let entries = wanted.entries(alloc, row, cell.board())?;
+    feed_all(alloc, cell, entries)
+}
+
+// Appends entries in order.
+fn feed_all(alloc: Global, cell: &mut Cell, entries: Entries) -> Result<(), NoMemory>
+    requires { MayFeedAll cell.old.history entries }
+    ensures { OnOk result (cell.new.history ≡ cell.old.history ++ entries) }
+{
+    for entry in entries.into_items() {
+        feed(alloc, cell, entry)?;
+    }
+    Ok(())
+}
+
+// Appends an entry.
+fn feed(alloc: Global, cell: &mut Cell, entry: Entry) -> Result<(), NoMemory>
+    requires { MayFeed cell.old.history entry }
+    ensures { OnOk result (cell.new.history ≡ cell.old.history ++ entry ∷ []) }
+{
+    if !has_room(cell.board(), &entry) {
+        return Err(NoMemory);
+    }
+    match cell.feed(alloc, entry) {
+        Ok(()) => Ok(()),
+        Err(_) => Err(NoMemory),
+    }
+}
+
+// Whether a board has the machine of an entry, or room for it.
+fn has_room(board: &Board, entry: &Entry) -> bool
+    ensures { IsTrue result → IfSome (machine_in entry.now) (ListsOrHasRoom (cell_of board.now).machines) }
+{
+    match entry {
+        Entry::MachineAdd { machine, .. }
+        | Entry::MachineUpdate { machine, .. }
+        | Entry::MachineRemove { machine }
+        | Entry::AttrSet { machine, .. }
+        | Entry::AttrDelete { machine, .. } => has_room_for(board, *machine),
+        Entry::Round { .. } | Entry::End { .. } | Entry::Commit { .. } => true,
+    }
+}
+
+// Whether a board has a machine, or room for it.
+fn has_room_for(board: &Board, machine: u64) -> bool
+    ensures { IsTrue result → ListsOrHasRoom (cell_of board.now).machines machine }
+{
+    let machines = board.machines();
+    machines.len() < MOST_MACHINES || machines.position(machine).is_some()
+}
+
+/// Hands each scheduler what it is asked to place on the cell. Costs the wanted tasks that don't run,
+/// and for each scheduler a look at the jobs that have any.
+pub(crate) fn begin_all(
+    alloc: Global,
+    seats: &mut Vec<Seat>,
+    wanted: &Wanted,
+    cell: &Cell,
+) -> Result<(), NoMemory>
+    requires asked { IsAsked wanted.now }
+    requires few { length seats.old.items < 2 ^ 32 }
+    requires no_work { HaveNoWork seats.old.items }
+    ensures { OnOk result (BeginAll wanted.now cell.now.history seats.old.items seats.new.items) }
+{
+    for i in 0..seats.len() {
+        let requests = wanted.requests(alloc, i as u32, cell.board())?;
+        seats[i].begin(requests)?;
+    }
+    Ok(())
+}
+
+/// The first scheduler that has work.
+pub(crate) fn first_at_work(seats: &[Seat]) -> Option<usize>
+    ensures { result ≡ position has_work seats.now }
+{
+    seats.iter().position(|seat| seat.desk.next().is_some())
+}

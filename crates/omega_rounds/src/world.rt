@@ -1,0 +1,192 @@
+//! Schedulers over one cell, round by round.
+ghost use Rattle.std.specs.Prelude.{◌≡◌, ◌<◌, [], length, IfOk, OnErr};
+ghost use Rattle.omega_model.specs.Legal.{Legal};
+ghost use Rattle.omega_model.specs.Policy.{schedulers};
+ghost use Rattle.omega_model.specs.Ranges.{IsInRange};
+ghost use Rattle.omega_model.specs.Stepping.{LawfulWorld};
+ghost use Rattle.omega_model.specs.declared.rows.TraceTables.{TraceTables};
+ghost use Rattle.omega_rounds.specs.Going.{GoesOn, LeavesToDo, MovesOn, OpensRound, ReachesRound, StepsOn};
+ghost use Rattle.omega_rounds.specs.Opening.{AreNewSeats};
+ghost use Rattle.omega_rounds.specs.Stages.{IsMadeOf, source_of, world_of};
+
+use crate::opening::{begin_all, first_at_work, open};
+use crate::seat::Seat;
+use crate::steps::{RoundStep, Stepped};
+use omega_cell::Cell;
+use omega_feed::{Wanted, rounds};
+use omega_model::{Entries, Entry, NoMemory, Rounds, Settings, TraceTables};
+use std::alloc::Global;
+use std::marker::Model;
+
+/// Schedulers that share one cell and work on a trace, round by round, in whatever order they are
+/// let do their steps.
+///
+/// A contract sees at which stage of its trace's run the world is, the history, for each scheduler
+/// that has synced since its last commit how many entries it had seen, and how many commits can
+/// follow at most in the round that is under way. The history is lawful so far at every moment.
+#[derive(Drop)]
+pub struct World {
+    alloc: Global,
+    settings: Settings,
+    rounds: Rounds,
+    begun: usize,
+    opened_at: usize,
+    wanted: Wanted,
+    cell: Cell,
+    seats: Vec<Seat>,
+}
+
+impl Model for World {
+    ghost use Rattle.std.specs.Prelude.{map};
+    ghost use Rattle.std.specs.List.{sum_by};
+    ghost use Rattle.omega_rounds.specs.Keeping.{IsWorld};
+    ghost use Rattle.omega_rounds.specs.Seats.{synced_of, to_do_of};
+    ghost use Rattle.omega_rounds.specs.Stages.{WorldState, stage_of};
+
+    ghost Value = { WorldState };
+
+    ghost view = { λ w. record { stage = stage_of w.settings w.rounds w.wanted w.begun w.opened_at; history = w.cell.history; synced = map synced_of w.seats.items; to_do = sum_by to_do_of w.seats.items } };
+
+    ghost invariant = { λ w. IsWorld (stage_of w.settings w.rounds w.wanted w.begun w.opened_at) w.wanted.tasks w.cell.history w.seats.items };
+}
+
+impl World {
+    /// The world of a trace with the empty history, before its first round. Costs two sorts of the
+    /// rows by time, copies each row once, and keeps the constraints of all tasks.
+    pub fn new(alloc: Global, settings: &Settings, tables: &TraceTables) -> Result<World, NoMemory>
+        requires { IsInRange settings.now }
+        ensures history { IfOk result (λ world. world.history ≡ []) }
+        ensures settings { IfOk result (λ world. world.stage.settings ≡ settings.now) }
+        ensures trace { IfOk result (λ world. world.stage.source ≡ source_of settings.now tables.now) }
+        ensures begun { IfOk result (λ world. world.stage.begun ≡ 0) }
+    {
+        let rounds = rounds(alloc, tables, settings.window)?;
+        let wanted = Wanted::new(alloc, tables, settings)?;
+        let seats = new_seats(alloc, settings)?;
+        Ok(World {
+            alloc,
+            settings: *settings,
+            rounds,
+            begun: 0,
+            opened_at: 0,
+            wanted,
+            cell: Cell::new(alloc),
+            seats,
+        })
+    }
+
+    /// The history: lawful so far for each trace in whose run the world is, with each copy that has
+    /// synced within its bounds, and legal. Takes no memory.
+    pub fn history(&self) -> &[Entry]
+        ensures history { result.now ≡ self.now.history }
+        ensures lawful { (trace : TraceTables) → IsMadeOf self.now.stage trace
+            → LawfulWorld self.now.stage.settings trace (world_of self.now) }
+        ensures legal { Legal self.now.history }
+    {
+        self.cell.history()
+    }
+
+    /// The history itself. Takes no memory.
+    pub fn into_history(self) -> Entries
+        ensures history { result ≡ self.history }
+        ensures legal { Legal self.history }
+    {
+        let World { cell, .. } = self;
+        cell.into_history()
+    }
+
+    /// Goes on to the next round, if nobody has work: appends the entries of its rows, and hands each
+    /// scheduler its requests. Else names the first scheduler that has work, or says that no round is
+    /// left; then the world is as it was. Where memory runs out the world is gone. Costs the rows of
+    /// the round and the requests, and a look at each scheduler.
+    pub fn next_round(self) -> Result<(World, RoundStep), NoMemory>
+        ensures stage { IfOk result (λ next. MovesOn self next.0 next.1) }
+        ensures run { IfOk result (λ next. (trace : TraceTables) → IsMadeOf self.stage trace
+            → GoesOn trace self next.0 next.1) }
+    {
+        if let Some(scheduler) = first_at_work(self.seats.as_slice()) {
+            return Ok((self, RoundStep::Unfinished(scheduler as u32)));
+        }
+        if self.begun == self.rounds.len() {
+            return Ok((self, RoundStep::Over));
+        }
+        let (world, number) = self.begin_round()?;
+        Ok((world, RoundStep::Begun(number)))
+    }
+
+    // The next round begins. Answers its number.
+    fn begin_round(self) -> Result<(World, u64), NoMemory>
+        requires no_work { self.to_do ≡ 0 }
+        requires more { self.stage.begun < length self.stage.source.rounds }
+        ensures stage { IfOk result (λ next. ReachesRound self next.0 next.1) }
+        ensures run { IfOk result (λ next. (trace : TraceTables) → IsMadeOf self.stage trace
+            → OpensRound trace self next.0) }
+    {
+        let World {
+            alloc,
+            settings,
+            rounds,
+            begun,
+            opened_at: _,
+            mut wanted,
+            mut cell,
+            mut seats,
+        } = self;
+        let Some(round) = rounds.get(begun) else {
+            unreachable!()
+        };
+        let number = round.number;
+        open(alloc, &mut cell, &mut wanted, round)?;
+        let opened_at = cell.history().len();
+        begin_all(alloc, &mut seats, &wanted, &cell)?;
+        let world = World {
+            alloc,
+            settings,
+            rounds,
+            begun: begun + 1,
+            opened_at,
+            wanted,
+            cell,
+            seats,
+        };
+        Ok((world, number))
+    }
+
+    /// Lets a scheduler do one step. Without work it does nothing, and that costs nothing. With work
+    /// it takes over the history, if it hasn't since its last commit or the round's rows; that costs
+    /// what is new. Else it commits its plan for the first request that it has left; that costs the
+    /// plan and the commit. Where memory runs out the world is as it was.
+    pub fn step(&mut self, scheduler: u32) -> Result<Stepped, NoMemory>
+        requires { scheduler < schedulers self.old.stage.settings }
+        ensures stage { self.new.stage ≡ self.old.stage }
+        ensures step { IfOk result (λ stepped. (trace : TraceTables) → IsMadeOf self.old.stage trace
+            → StepsOn trace self.old scheduler self.new stepped) }
+        ensures to_do { IfOk result (λ stepped. LeavesToDo self.old self.new stepped) }
+        ensures err { OnErr result (self.new ≡ self.old) }
+    {
+        let alloc = self.alloc;
+        let settings = self.settings;
+        let seat = &mut self.seats[scheduler as usize];
+        let stepped = seat.step(alloc, &settings, scheduler, &mut self.cell)?;
+        Ok(stepped)
+    }
+
+    /// How many schedulers there are. Takes no memory.
+    pub fn schedulers(&self) -> u32
+        ensures { result ≡ schedulers self.now.stage.settings }
+    {
+        self.settings.schedulers()
+    }
+}
+
+// A seat for each scheduler.
+fn new_seats(alloc: Global, settings: &Settings) -> Result<Vec<Seat>, NoMemory>
+    requires { IsInRange settings.now }
+    ensures { IfOk result (λ seats. AreNewSeats settings.now (schedulers settings.now) seats.items) }
+{
+    let mut seats = Vec::new(alloc);
+    for scheduler in 0..settings.schedulers() {
+        seats.push(Seat::new(alloc, settings, scheduler))?;
+    }
+    Ok(seats)
+}
