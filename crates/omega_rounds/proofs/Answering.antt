@@ -3,9 +3,10 @@ use Rattle.std.proofs.Common.{◌≡◌, ℕ, Bool, true, false, List, [], ◌�
 use Rattle.std.proofs.lemmas.Bool.{eq-eqb}
 use Rattle.omega_model.specs.Cell.{Cell}
 use Rattle.omega_model.specs.Keys.{same_key}
-use Rattle.omega_model.specs.Plan.{after_planned, and_claims, claim_for, claims_for, whole_or_none}
+use Rattle.omega_model.specs.Draws.{drawn_start}
+use Rattle.omega_model.specs.Plan.{after_planned, and_claims, whole_or_none}
+use Rattle.omega_model.specs.Planning.{claim_for_wish, claims_for_wishes}
 use Rattle.omega_model.specs.Policy.{policy_of}
-use Rattle.omega_model.specs.Start.{start_of}
 use Rattle.omega_model.specs.State.{state}
 use Rattle.omega_model.specs.Work.{outcomes_of, planned}
 use Rattle.omega_model.specs.declared.cells.TaskKey.{TaskKey}
@@ -55,14 +56,14 @@ more_answers wish wishes (Some claim) claims is answers [] = refl
 more_answers wish wishes (Some claim) claims is answers (judgement ∷ reply) = rw (key_itself claim.key wish.key is.0) (answers reply)
 
 claims_answer : (cell : Cell) (start : ℕ) (preempts : Bool) (wishes : List Wish) (reply : List Judgement)
-    → are_wished (outcomes_of (claims_for cell start preempts wishes) reply) wishes ≡ true
+    → are_wished (outcomes_of (claims_for_wishes cell start preempts wishes) reply) wishes ≡ true
 unfolding are_wished
 claims_answer cell start preempts [] reply = refl
 claims_answer cell start preempts (wish ∷ wishes) reply =
-    more_answers wish wishes (claim_for cell start preempts wish)
-    (claims_for (after_planned cell (claim_for cell start preempts wish)) start preempts wishes)
+    more_answers wish wishes (claim_for_wish cell start preempts wish)
+    (claims_for_wishes (after_planned cell (claim_for_wish cell start preempts wish)) start preempts wishes)
     (claim_is_for cell start preempts wish)
-    (λ told. claims_answer (after_planned cell (claim_for cell start preempts wish)) start preempts wishes told) reply
+    (λ told. claims_answer (after_planned cell (claim_for_wish cell start preempts wish)) start preempts wishes told) reply
 
 whole_answers : (mode : Mode) (wishes : List Wish) (claims : List Claim) (reply : List Judgement)
     → are_wished (outcomes_of claims reply) wishes ≡ true
@@ -75,6 +76,6 @@ whole_answers Gang wishes claims reply answers = by_answer (length claims == len
 pub planned_answers : (settings : Settings) (scheduler attempts : ℕ) (entries : List Entry) (wishes : List Wish) (reply : List Judgement)
     → are_wished (outcomes_of (planned settings scheduler attempts entries wishes) reply) wishes ≡ true
 planned_answers settings scheduler attempts entries wishes reply =
-    let start : ℕ = start_of settings scheduler attempts (length (state entries).machines) in
-    whole_answers (policy_of settings scheduler).mode wishes (claims_for (state entries) start (policy_of settings scheduler).preempt wishes) reply
+    let start : ℕ = drawn_start settings scheduler attempts (length (state entries).machines) in
+    whole_answers (policy_of settings scheduler).mode wishes (claims_for_wishes (state entries) start (policy_of settings scheduler).preempt wishes) reply
     (claims_answer (state entries) start (policy_of settings scheduler).preempt wishes reply)

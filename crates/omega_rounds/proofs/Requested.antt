@@ -8,7 +8,8 @@ use Rattle.std.proofs.lemmas.List.Elements.{All-from_recursion}
 use Rattle.omega_model.specs.Feed.{feed}
 use Rattle.omega_model.specs.OpenRequests.{is_worked_on, open_requests}
 use Rattle.omega_model.specs.Reply.{admits}
-use Rattle.omega_model.specs.Requests.{failed, failed_after, given_up, jobs_in_order, request_of, requests, scheduler_of, wishes_of, works_on}
+use Rattle.omega_model.specs.Requests.{failed, failed_after, given_up, jobs_in_order, request_of, requests, wishes_of, works_on}
+use Rattle.omega_model.specs.Routing.{scheduler_of}
 use Rattle.omega_model.specs.State.{state}
 use Rattle.omega_model.specs.Wanted.{wanted}
 use Rattle.omega_model.specs.declared.entries.Entry.{Entry}

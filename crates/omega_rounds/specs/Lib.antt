@@ -11,6 +11,5 @@ pub mod Stages
 pub mod Seats
 pub mod Keeping
 pub mod Going
-pub mod Planned
 pub mod SeatSteps
 pub mod Opening

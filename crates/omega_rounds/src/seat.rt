@@ -8,9 +8,10 @@ ghost use Rattle.omega_cell.specs.Claiming.{copied_seqs};
 ghost use Rattle.omega_copy.specs.Copies.{CopyOf};
 ghost use Rattle.omega_desk.specs.Desks.{IsSameDesk, left_at, open_requests};
 ghost use Rattle.omega_desk.specs.Walks.{HasDistinctWishes};
+ghost use Rattle.omega_model.specs.Draws.{drawn_start};
 ghost use Rattle.omega_model.specs.Policy.{schedulers};
 ghost use Rattle.omega_model.specs.Ranges.{IsInRange};
-ghost use Rattle.omega_model.specs.Work.{fresh};
+ghost use Rattle.omega_model.specs.Work.{commits_of, fresh};
 ghost use Rattle.omega_rounds.specs.NextCommit.{attempt_txn};
 ghost use Rattle.omega_rounds.specs.Seats.{IsSeat, synced_of};
 ghost use Rattle.omega_rounds.specs.SeatSteps.{CommitsFirst, SeatSteps};
@@ -111,6 +112,14 @@ impl Seat {
         Ok(())
     }
 
+    // The place in the copy's list of machines at which the present attempt begins.
+    fn start(&self) -> usize
+        ensures drawn { result ≡ drawn_start self.now.desk.settings self.now.desk.scheduler self.now.desk.attempts (length self.now.copy.board.table) }
+        ensures within { result ≤ length self.now.copy.board.table }
+    {
+        self.desk.start(self.copy.board().machines().len())
+    }
+
     // Commits the attempt on the first request that is left. Answers the place of the commit. Where
     // memory runs out nothing has changed but the cell's room.
     fn commit(
@@ -130,10 +139,12 @@ impl Seat {
         ensures err { OnErr result (cell.new.history ≡ cell.old.history) }
         ensures desk { OnErr result (self.new ≡ self.old) }
     {
+        let start = self.start();
         let Some(request) = self.desk.next() else {
             unreachable!()
         };
-        let attempt = Attempt::of(alloc, settings, scheduler, &mut self.copy, request, cell)?;
+        let copy = &mut self.copy;
+        let attempt = Attempt::of(alloc, settings, scheduler, copy, request, start, cell)?;
         let Attempt { prepared, seqs } = attempt;
         let reply = cell.commit(scheduler, self.copy.seen(), &seqs, prepared);
         check_few(cell);
@@ -159,12 +170,15 @@ impl Attempt {
         scheduler: u32,
         copy: &mut PrivateCopy,
         request: &Request,
+        start: usize,
         cell: &mut Cell,
     ) -> Result<Attempt, NoMemory>
         requires batch { settings.now.batch ≤ 30 }
         requires known { scheduler < schedulers settings.now }
         requires no_trial { copy.old.trial ≡ None }
         requires stands { CopyOf copy.old cell.old.history }
+        requires start { start ≡ drawn_start settings.now scheduler (commits_of scheduler cell.old.history) (length copy.old.board.table) }
+        requires within { start ≤ length copy.old.board.table }
         ensures copy { copy.new ≡ copy.old }
         ensures history { cell.new.history ≡ cell.old.history }
         ensures txn { IfOk result (λ attempt. attempt.prepared
@@ -173,7 +187,7 @@ impl Attempt {
         ensures seqs { IfOk result (λ attempt. attempt.seqs.items
             ≡ copied_seqs cell.old.history copy.old.seen attempt.prepared.claims) }
     {
-        let txn = planned(alloc, settings, scheduler, copy, request)?;
+        let txn = planned(alloc, settings, scheduler, copy, request, start)?;
         let seqs = seqs_of(alloc, copy, txn.claims.as_slice())?;
         let prepared = reserved(alloc, cell, txn)?;
         Ok(Attempt { prepared, seqs })

@@ -1,8 +1,7 @@
-use Rattle.omega_rounds.proofs.Unconstrained.{planned_is}
+use Rattle.omega_rounds.proofs.Planned.{planned_is}
 use Rattle.omega_rounds.proofs.planned.planned.Goals as goal
 
 pub returns-clause-txn : goal.returns-clause-txn
 returns-clause-txn c =
-    planned_is c.args.settings.now c.args.scheduler c.policy.result c.args.copy.now c.args.request.now c.in_ok-plain.plain c.plan.result
-    c.policy.ensures c.in_ok-plain.ensures.job c.in_ok-plain.ensures.wishes
-    c.plan.ensures.job c.plan.ensures.rule c.plan.ensures.mode c.plan.ensures.claims
+    planned_is c.args.settings.now c.args.scheduler c.policy.result c.args.copy.now c.args.request.now c.args.start c.plan.result
+    c.policy.ensures c.plan.ensures.job c.plan.ensures.rule c.plan.ensures.mode c.plan.ensures.claims

@@ -8,6 +8,7 @@ use Rattle.omega_model.specs.declared.claims.Txn.{Txn}
 use Rattle.omega_model.specs.declared.entries.Entry.{Entry}
 use Rattle.omega_model.specs.declared.entries.Entry.TheVariants.{Commit}
 use Rattle.omega_model.specs.declared.wishes.Request.{Request}
+use Rattle.omega_rounds.proofs.Planned.{start_of_seat}
 use Rattle.omega_rounds.proofs.SeatCommits.{IsCommitting, answers_first, commits_first, first_none, seat_after}
 use Rattle.omega_rounds.proofs.seat.Seat.commit.Goals as goal
 
@@ -15,6 +16,10 @@ pub unreachable-requires : goal.unreachable-requires
 unreachable-requires c =
     c.requires.work (first_none c.args.self.now.desk.requests
     (sym (ap (option_map (λ (r : Bor Request). r.now)) c.in_default.is) ∙ c.next.ensures))
+
+pub of-requires-clause-start : goal.of-requires-clause-start
+of-requires-clause-start c =
+    c.start.ensures.drawn ∙ start_of_seat c.args.settings.now c.args.cell.now.history c.args.scheduler c.args.self.now _ c.requires.seat
 
 pub take-requires-clause-answers : goal.take-requires-clause-answers
 take-requires-clause-answers c =

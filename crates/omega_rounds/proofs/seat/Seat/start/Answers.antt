@@ -1,0 +1,5 @@
+use Rattle.omega_rounds.proofs.Planned.{start_within}
+use Rattle.omega_rounds.proofs.seat.Seat.start.Goals as goal
+
+pub returns-clause-within : goal.returns-clause-within
+returns-clause-within c = start_within _ _ _ _ _ returns-clause-drawn c.start.ensures.below
