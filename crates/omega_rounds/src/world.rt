@@ -1,6 +1,8 @@
 //! Schedulers over one cell, round by round.
-ghost use Rattle.std.specs.Prelude.{◌≡◌, ◌<◌, [], length, IfOk, OnErr};
-ghost use Rattle.omega_model.specs.Legal.{Legal};
+ghost use Rattle.std.specs.Prelude.{◌≡◌, ◌<◌, ℕ, [], length, take, IfOk, OnErr};
+ghost use Rattle.omega_model.specs.Applying.{EachMayApply};
+ghost use Rattle.omega_model.specs.Legal.{Legal, Sound};
+ghost use Rattle.omega_model.specs.State.{state};
 ghost use Rattle.omega_model.specs.Policy.{schedulers};
 ghost use Rattle.omega_model.specs.Ranges.{IsInRange};
 ghost use Rattle.omega_model.specs.Stepping.{LawfulWorld};
@@ -90,6 +92,8 @@ impl World {
     pub fn into_history(self) -> Entries
         ensures history { result ≡ self.history }
         ensures legal { Legal self.history }
+        ensures applied { EachMayApply self.history }
+        ensures sound { (n : ℕ) → Sound (state (take n self.history)) }
     {
         let World { cell, .. } = self;
         cell.into_history()

@@ -1,4 +1,4 @@
 pub mod Completing
-pub mod Lines
 pub mod Refusing
 pub mod SomeRun
+pub mod NoHistory

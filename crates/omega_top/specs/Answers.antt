@@ -7,26 +7,21 @@ use Rattle.omega_model.specs.State.{state}
 use Rattle.omega_model.specs.Turns.{InTurns}
 use Rattle.omega_model.specs.Ranges.{IsInRange}
 use Rattle.omega_model.specs.Refusals.{first_refusal, refusal_before}
-use Rattle.omega_model.specs.declared.claims.Mode.TheVariants.{Incremental}
-use Rattle.omega_model.specs.declared.claims.Rule.TheVariants.{Fine}
 use Rattle.omega_model.specs.declared.entries.Entry.{Entry}
 use Rattle.omega_model.specs.declared.results.Status.{Status}
 use Rattle.omega_model.specs.declared.results.Status.TheVariants.{Done, Usage, ReadFault, TooLong, BadRow, TooMany, WriteFault, NoMemory}
 use Rattle.omega_model.specs.declared.rows.Table.{Table}
 use Rattle.omega_model.specs.declared.rows.TraceTables.{TraceTables}
 use Rattle.omega_model.specs.declared.settings.Command.TheVariants.{Replay}
-use Rattle.omega_model.specs.declared.settings.Format.TheVariants.{Text}
-use Rattle.omega_model.specs.declared.settings.Preempt.TheVariants.{Nobody}
 use Rattle.omega_model.specs.declared.settings.Settings.{Settings}
 use Rattle.omega_model.specs.Limits.{IsWithinLimits}
-use Rattle.omega_model.specs.Report.{report}
+use Rattle.omega_model.specs.ReportForms.{printed_report}
 use Rattle.omega_rounds.specs.Gangs.{GangsAreWhole}
 
 -- the settings are in their ranges, and what isn't built yet has its default
 pub record IsBuilt (settings : Settings) : Type 0 where
   pub ranges : IsInRange settings
   pub command : settings.command ≡ Replay
-  pub format : settings.format ≡ Text
 
 -- after each of its entries the state of the history is sound: no machine is used beyond its capacity,
 -- no task runs twice, and each is on a machine that is up
@@ -123,7 +118,7 @@ pub record IsSomeRun (settings : Settings) (history : List Entry) (status : Stat
   pub trace : TraceTables
   pub within : IsWithinLimits trace
   pub whole : IsWholeRun settings trace history status
-  pub written : Writes (report settings trace history) before now status
+  pub written : Writes (printed_report settings trace history) before now status
 
 -- nothing is written by a run that doesn't reach its report
 abbrev pub WritesNothing : Option (List ℕ) → Option (List ℕ) → Status → Type 0

@@ -2,7 +2,6 @@
 #![tactic(auto)]
 
 mod replay;
-mod reporting;
 mod status;
 mod top;
 

@@ -1,6 +1,7 @@
 //! The replay of a trace.
 ghost use Rattle.std.specs.Prelude.{IfOk};
 ghost use Rattle.omega_cell.specs.Laws.{EvictionsGoDown, NoGangIsSplit};
+ghost use Rattle.omega_model.specs.Applying.{EachMayApply};
 ghost use Rattle.omega_model.specs.Lawful.{Lawful};
 ghost use Rattle.omega_model.specs.Legal.{Legal};
 ghost use Rattle.omega_model.specs.Turns.{InTurns};
@@ -21,6 +22,7 @@ pub fn replayed(
     ensures turns { IfOk result (λ history. InTurns history) }
     ensures only { IfOk result (λ history. IsTheOnly settings.now trace.now history) }
     ensures legal { IfOk result (λ history. Legal history) }
+    ensures applied { IfOk result (λ history. EachMayApply history) }
     ensures sound { IfOk result (λ history. NeverOvercommits history) }
     ensures gangs { IfOk result (λ history. NoGangIsSplit history) }
     ensures evictions { IfOk result (λ history. EvictionsGoDown history) }
