@@ -4,6 +4,3 @@ pub mod Candidates
 pub mod Fewest
 pub mod FirstClaims
 pub mod Trials
-pub mod Elsewhere
-pub mod KindsOf
-pub mod Begins

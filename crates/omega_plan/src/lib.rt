@@ -8,7 +8,6 @@
 
 mod evicting;
 mod planning;
-mod progress;
 mod trying;
 
 pub use evicting::victims;

@@ -20,7 +20,7 @@ pub mod RoundFronts
 pub mod EntireGangs
 pub mod WholeGangs
 mod Examples
-pub mod Planned
+pub mod Attempted
 pub mod SeatLists
 pub mod Answering
 pub mod Requested

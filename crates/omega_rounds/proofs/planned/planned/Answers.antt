@@ -1,4 +1,4 @@
-use Rattle.omega_rounds.proofs.Planned.{planned_is}
+use Rattle.omega_rounds.proofs.Attempted.{planned_is}
 use Rattle.omega_rounds.proofs.planned.planned.Goals as goal
 
 pub returns-clause-txn : goal.returns-clause-txn

@@ -8,7 +8,7 @@ use Rattle.omega_model.specs.declared.claims.Txn.{Txn}
 use Rattle.omega_model.specs.declared.entries.Entry.{Entry}
 use Rattle.omega_model.specs.declared.entries.Entry.TheVariants.{Commit}
 use Rattle.omega_model.specs.declared.wishes.Request.{Request}
-use Rattle.omega_rounds.proofs.Planned.{start_of_seat}
+use Rattle.omega_rounds.proofs.Attempted.{start_of_seat}
 use Rattle.omega_rounds.proofs.SeatCommits.{IsCommitting, answers_first, commits_first, first_none, seat_after}
 use Rattle.omega_rounds.proofs.seat.Seat.commit.Goals as goal
 

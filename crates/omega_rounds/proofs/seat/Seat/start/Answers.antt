@@ -1,4 +1,4 @@
-use Rattle.omega_rounds.proofs.Planned.{start_within}
+use Rattle.omega_rounds.proofs.Attempted.{start_within}
 use Rattle.omega_rounds.proofs.seat.Seat.start.Goals as goal
 
 pub returns-clause-within : goal.returns-clause-within
