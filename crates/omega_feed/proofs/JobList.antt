@@ -116,7 +116,7 @@ found_more places more jobs new n found none end u job place =
           ]
 
 -- one more number at the end, unless it is there
-abbrev add_once : List ℕ → ℕ → List ℕ
+abbrev pub add_once : List ℕ → ℕ → List ℕ
 add_once ns n = cond (list_any (λ m. m == n) ns) ns (ns ++ n ∷ [])
 
 -- whether a number isn't among these
@@ -168,6 +168,10 @@ fold_once acc (n ∷ ns) = by_cases (list_any (λ m. m == n) acc) refl (fold_onc
 all_new : (ms : List ℕ) → filter (is_new []) ms ≡ ms
 all_new [] = refl
 all_new (m ∷ ms) = ap (λ z. m ∷ z) (all_new ms)
+
+-- numbers added once, one after the other
+pub each_added : (ns : List ℕ) → fold add_once [] ns ≡ each_once ns
+each_added ns = fold_once [] ns ∙ all_new (each_once ns)
 
 -- a job with the scheduler for this class
 abbrev pub classed : Settings → Option ℕ → ℕ → RoutedJob

@@ -7,3 +7,4 @@ pub mod Places
 pub mod Listing
 pub mod Lasting
 pub mod Picked
+pub mod AtEnd

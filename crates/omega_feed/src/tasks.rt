@@ -1,13 +1,14 @@
 //! The wanted tasks.
 ghost use Rattle.std.specs.Prelude.{◌≡◌, [], List, not, map, ◌<◌, ◌^◌, IfOk, OnOk, OnErr};
 ghost use Rattle.std.specs.List.{filter, list_any};
+ghost use Rattle.omega_model.specs.ReportCounts.{waits};
 ghost use Rattle.omega_model.specs.Requests.{is_waiting};
-ghost use Rattle.omega_model.specs.Wanted.{with_wanted, is_named};
+ghost use Rattle.omega_model.specs.Wanted.{wanted_after, wanted_after_task, with_wanted, is_named};
 ghost use Rattle.omega_model.specs.declared.cells.Machine.{Machine};
 ghost use Rattle.omega_feed.specs.Asked.{is_task_of};
 ghost use Rattle.omega_feed.specs.Index.{wanted_task};
 
-use omega_model::{NoMemory, Spec, TaskKey};
+use omega_model::{NoMemory, Row, Spec, TaskKey, TaskRow};
 use omega_running::Running;
 use std::alloc::Global;
 use std::collections::BTreeMap;
@@ -72,6 +73,46 @@ impl WantedTasks {
     {
         let (first, last) = keys_of(job);
         self.specs.range(first..=last).next().is_some()
+    }
+
+    /// Applies a row: what it submits, schedules or updates is wanted as it says, and what ends in it
+    /// is not. A refused call leaves the tasks. Costs the logarithm of their number.
+    pub fn take(&mut self, row: &Row) -> Result<(), NoMemory>
+        ensures { OnOk result (self.new ≡ wanted_after self.old row.now) }
+    {
+        match row {
+            Row::Task(row) => self.take_task(row),
+            _ => Ok(()),
+        }
+    }
+
+    fn take_task(&mut self, row: &TaskRow) -> Result<(), NoMemory>
+        ensures { OnOk result (self.new ≡ wanted_after_task self.old row.now) }
+    {
+        match row.code {
+            0 | 1 => self.insert(row.key, row.spec),
+            3..=6 => {
+                self.remove(row.key);
+                Ok(())
+            }
+            7.. if self.contains(row.key) => self.insert(row.key, row.spec),
+            _ => Ok(()),
+        }
+    }
+
+    /// The job of each task that doesn't run, in order of the tasks' keys. Costs the tasks, each times
+    /// the logarithm of the number of those that run.
+    pub fn waiting_jobs(&self, alloc: Global, running: &Running) -> Result<Vec<u64>, NoMemory>
+        ensures { IfOk result (λ jobs. (machines : List Machine) → jobs.items ≡ map (λ task. task.key.job) (filter (waits (record { machines = machines; tasks = running.now.tasks })) self.now)) }
+    {
+        let mut jobs = Vec::new(alloc);
+        for (key, _spec) in self.specs.iter() {
+            if running.get(*key).is_some() {
+                continue;
+            }
+            jobs.push(key.job)?;
+        }
+        Ok(jobs)
     }
 
     /// The tasks of a job that don't run, by index. Costs the job's wanted tasks, each times the
