@@ -29,3 +29,5 @@ pub mod Applying
 pub mod NewSeats
 pub mod CommitCounts
 pub mod SeatCommits
+pub mod DeskCommits
+pub mod WorldSteps

@@ -198,3 +198,22 @@ module _ (settings : Settings) (trace : TraceTables) where
   world_ends world in_round over last =
       subst (λ (some : List Round). Rounds settings trace [] [] some world.history) (take_last (rounds trace settings.window) (suc in_round.underway.done) last)
       (whole_now world in_round over)
+
+  -- a step leads to no other round
+  pub steps_done : (old new : World) (scheduler : ℕ) (answer : StepAnswer) (in_round : IsInRound settings trace old)
+      (known : scheduler < schedulers settings) (step : StepsInRound settings trace old in_round scheduler new answer)
+      → (world_steps old new scheduler answer in_round known step).underway.done ≡ in_round.underway.done
+  unfolding world_steps idle_step sync_step commit_step
+  steps_done old new scheduler Idle in_round known step = refl
+  steps_done old new scheduler Synced in_round known step = refl
+  steps_done old new scheduler (Committed place) in_round known step = refl
+
+  -- whose rows end where they ended
+  pub steps_rows : (old new : World) (scheduler : ℕ) (answer : StepAnswer) (in_round : IsInRound settings trace old)
+      (known : scheduler < schedulers settings) (step : StepsInRound settings trace old in_round scheduler new answer)
+      → rows_end settings trace new.history (world_steps old new scheduler answer in_round known step).underway
+      ≡ rows_end settings trace old.history in_round.underway
+  unfolding world_steps idle_step sync_step commit_step
+  steps_rows old new scheduler Idle in_round known step = refl
+  steps_rows old new scheduler Synced in_round known step = refl
+  steps_rows old new scheduler (Committed place) in_round known step = refl
