@@ -41,6 +41,10 @@ use Rattle.omega_rounds.proofs.SeatCommits.{fewer_left}
 use Rattle.omega_rounds.proofs.SeatLists.{map_set_same, seen-other, seen_at, set-same, set_cases, set_itself, sum_set}
 use Rattle.omega_rounds.proofs.Worlds.{rows_within, steps_done, steps_rows, world_steps}
 
+-- what callers see of a world with these seats
+abbrev pub state_at : Stage → List Entry → List Seat → WorldState
+state_at stage history seats = record { stage = stage; history = history; synced = map synced_of seats; to_do = sum_by to_do_of seats }
+
 -- the rows of one more round
 pub rows_more : (some : List Round) (round : Round) → rows_of (some ++ round ∷ []) ≡ rows_of some ++ round.rows
 rows_more some round =
@@ -307,8 +311,7 @@ module _ (stage : Stage) (tasks : List WantedTask) (before after : List Entry) (
 
   -- is seen as it was
   pub seen_as : after ≡ before → new.desk ≡ old.desk → synced_of new ≡ synced_of old
-      → (let w : WorldState = record { stage = stage; history = after; synced = map synced_of (set seats scheduler new); to_do = sum_by to_do_of (set seats scheduler new) } in w)
-      ≡ record { stage = stage; history = before; synced = map synced_of seats; to_do = sum_by to_do_of seats }
+      → state_at stage after (set seats scheduler new) ≡ state_at stage before seats
   seen_as history desk synced =
       let all : sum_by to_do_of (set seats scheduler new) + to_do_of old ≡ sum_by to_do_of seats + to_do_of new = sum_set to_do_of seats scheduler new old here in
       let same : to_do_of new ≡ to_do_of old = ap (λ (d : DeskState). attempts_left d.settings (left_at d)) desk in

@@ -1,4 +1,4 @@
-use Rattle.std.proofs.Common.{◌≡◌, ◌<◌, ◌∙◌, ℕ, List, length, get_or, Result, Ok, Err, Some, sym, subst}
+use Rattle.std.proofs.Common.{◌≡◌, ◌<◌, ◌∙◌, ℕ, List, length, get_or, set, Result, Ok, Err, Some, sym, subst}
 use Rattle.std.specs.Prelude.{slice_get, OnErr}
 use Rattle.std.proofs.lemmas.Option.{slice_get_read}
 use Rattle.omega_model.specs.Policy.{schedulers}
@@ -8,7 +8,7 @@ use Rattle.omega_rounds.specs.Stages.{IsMadeOf, WorldState, rows_begun, stage_of
 use Rattle.omega_rounds.specs.declared.seat.Seat.{Seat}
 use Rattle.omega_rounds.specs.declared.steps.Stepped.{Stepped}
 use Rattle.omega_rounds.specs.declared.steps.Stepped.TheVariants.{Synced, Committed, Idle}
-use Rattle.omega_rounds.proofs.WorldSteps.{LeavesAt, seen_as, step_is, to_do_after, world_after, world_kept}
+use Rattle.omega_rounds.proofs.WorldSteps.{LeavesAt, seen_as, state_at, step_is, to_do_after, world_after, world_kept}
 use Rattle.omega_rounds.proofs.world.World.step.Goals as goal
 
 knows : (scheduler : ℕ) (one other : WorldState) → one ≡ other → scheduler < schedulers other.stage.settings → scheduler < schedulers one.stage.settings
@@ -64,7 +64,7 @@ returns-clause-step c =
     let known = knows c.args.scheduler _ _ c.self.view_is c.requires in
     let stage = stage_of c.self.inside.settings c.self.inside.rounds c.self.inside.wanted c.self.inside.begun c.self.inside.opened_at in
     let here = stands c.self.inside.seats.items (schedulers c.self.inside.settings) c.args.scheduler c.index_mut-seat.result.now c.self.invariant.count known c.index_mut-seat.ensures.value in
-    subst (λ (w : WorldState). (trace : TraceTables) → IsMadeOf w.stage trace → StepsOn trace w c.args.scheduler _ c.in_ok-stepped.stepped) c.self.view_is
+    subst (λ (w : WorldState). (trace : TraceTables) → IsMadeOf w.stage trace → StepsOn trace w c.args.scheduler (state_at stage c.step.new.cell.history (set c.self.inside.seats.items c.args.scheduler c.step.new.self)) c.in_ok-stepped.stepped) c.self.view_is
     (λ trace made. step_is c.self.inside.settings c.self.inside.cell.history c.step.new.cell.history c.args.scheduler c.index_mut-seat.result.now c.step.new.self
     trace (rows_begun stage) c.self.inside.opened_at c.self.inside.seats.items here c.in_ok-stepped.stepped c.in_ok-stepped.ensures.step
     ((c.self.invariant.lawful trace made).desks c.args.scheduler c.index_mut-seat.result.now here))
@@ -73,8 +73,10 @@ pub returns-clause-to_do : goal.returns-clause-to_do
 returns-clause-to_do c =
     let known = knows c.args.scheduler _ _ c.self.view_is c.requires in
     let here = stands c.self.inside.seats.items (schedulers c.self.inside.settings) c.args.scheduler c.index_mut-seat.result.now c.self.invariant.count known c.index_mut-seat.ensures.value in
-    subst (λ (w : WorldState). LeavesToDo w _ c.in_ok-stepped.stepped) c.self.view_is
-    (leaves _ _ c.in_ok-stepped.stepped
+    let stage = stage_of c.self.inside.settings c.self.inside.rounds c.self.inside.wanted c.self.inside.begun c.self.inside.opened_at in
+    let after = state_at stage c.step.new.cell.history (set c.self.inside.seats.items c.args.scheduler c.step.new.self) in
+    subst (λ (w : WorldState). LeavesToDo w after c.in_ok-stepped.stepped) c.self.view_is
+    (leaves (state_at stage c.self.inside.cell.history c.self.inside.seats.items) after c.in_ok-stepped.stepped
     (to_do_after c.self.inside.settings c.self.inside.cell.history c.step.new.cell.history c.args.scheduler c.index_mut-seat.result.now c.step.new.self
     c.in_ok-stepped.stepped c.self.inside.seats.items here c.self.invariant.range.tries.0
     (c.self.invariant.each_seat c.args.scheduler c.index_mut-seat.result.now here) c.step.ensures.seat c.in_ok-stepped.ensures.step))
