@@ -31,3 +31,6 @@ pub mod CommitCounts
 pub mod SeatCommits
 pub mod DeskCommits
 pub mod WorldSteps
+pub mod Beginning
+pub mod OpenedEntries
+pub mod WorldBegins
