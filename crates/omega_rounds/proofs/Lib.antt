@@ -29,3 +29,8 @@ pub mod Applying
 pub mod NewSeats
 pub mod CommitCounts
 pub mod SeatCommits
+pub mod DeskCommits
+pub mod WorldSteps
+pub mod Beginning
+pub mod OpenedEntries
+pub mod WorldBegins

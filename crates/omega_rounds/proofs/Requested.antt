@@ -44,12 +44,28 @@ requests_own settings trace rows history scheduler =
     (λ job routed. of_job settings trace scheduler job _ routed) jobs
     (each_map (λ job. test job ≡ true) own (λ job passes. eqb-true _ _ (and_parts _ _ passes).0) jobs (each_passes test (jobs_in_order (feed trace)))))
 
-none_mapped : {X Y : Type 0} (xs : List X) → filter_map {X} {Y} (λ _. None) xs ≡ []
+-- so is each that is asked, also where jobs that are given up count
+pub open_own : (settings : Settings) (trace : TraceTables) (rows : List Row) (history : List Entry) (scheduler : ℕ)
+    → Each (IsRoutedTo settings trace scheduler) (open_requests settings trace rows (state history) scheduler)
+open_own settings trace rows history scheduler =
+    let test : ℕ → Bool = λ job. scheduler_of settings trace job == scheduler in
+    let own : ℕ → Type 0 = λ job. scheduler_of settings trace job ≡ scheduler in
+    let jobs : List ℕ = filter test (jobs_in_order (feed trace)) in
+    each_mapped own (IsRoutedTo settings trace scheduler) (λ job. request_of job (wishes_of settings trace (state history) (wanted rows) job))
+    (λ job routed. of_job settings trace scheduler job _ routed) jobs
+    (each_map (λ job. test job ≡ true) own (λ job passes. eqb-true _ _ passes) jobs (each_passes test (jobs_in_order (feed trace))))
+
+nothing : ℕ → Option Request
+nothing job = None
+
+none_mapped : (jobs : List ℕ) → filter_map nothing jobs ≡ []
+unfolding nothing
 none_mapped [] = refl
-none_mapped (x ∷ xs) = none_mapped xs
+none_mapped (job ∷ jobs) = none_mapped jobs
 
 -- before the first row nothing is asked
 pub requests_none : (settings : Settings) (trace : TraceTables) (scheduler : ℕ) → requests settings trace [] [] scheduler ≡ []
+unfolding nothing
 requests_none settings trace scheduler = none_mapped (filter (works_on settings trace [] scheduler) (jobs_in_order (feed trace)))
 
 failed_grows : (job count : ℕ) (entry : Entry) → failed_after job count entry ≤ count + 1

@@ -12,8 +12,9 @@ use Rattle.omega_model.specs.declared.wishes.Request.{Request}
 use Rattle.omega_copy.specs.Copies.{CopyState}
 use Rattle.omega_desk.specs.Desks.{AnswersFirst, DeskState, IsSameDesk, left_at}
 use Rattle.omega_desk.specs.Walks.{are_wished}
+use Rattle.omega_rounds.specs.AttemptsLeft.{attempts_left}
 use Rattle.omega_rounds.specs.NextCommit.{attempt_txn}
-use Rattle.omega_rounds.specs.Seats.{IsSeat, synced_of}
+use Rattle.omega_rounds.specs.Seats.{IsSeat, synced_of, to_do_of}
 use Rattle.omega_rounds.specs.SeatSteps.{CommitsFirst, attempt_outcomes}
 use Rattle.omega_rounds.specs.declared.seat.Seat.{Seat}
 use Rattle.omega_rounds.proofs.Answering.{planned_answers}
@@ -111,3 +112,16 @@ module _ (settings : Settings) (scheduler : ℕ) (before after : List Entry) (ol
         moved = subst (λ (os : List Outcome). after_outcomes settings (left_at old.desk) old.desk.requests os ≡ Some (left_at desk))
             (on.outcome ∙ ap (λ (t : Txn). outcomes_of t.claims (reply_of before old.copy.seen t)) on.is) left_moved;
       }
+
+-- fewer attempts are left after a commit
+pub fewer_left : (settings : Settings) (scheduler : ℕ) (before after : List Entry) (old new : Seat) (place : ℕ) → 1 ≤ settings.tries
+    → IsSeat settings before scheduler old → IsSeat settings after scheduler new
+    → CommitsFirst settings scheduler before old after new place → to_do_of new < to_do_of old
+fewer_left settings scheduler before after old new place tries was is did =
+    let outcomes : List Outcome = attempt_outcomes settings before scheduler old.copy.seen did.request in
+    let next = moved_to settings (left_at old.desk) (left_at new.desk) old.desk.requests did.request did.rest outcomes did.work did.moved in
+    let less = attempt_less settings (left_at old.desk) did.request did.rest outcomes tries did.work was.tries in
+    let fewer : attempts_left settings (left_at new.desk) < attempts_left settings (left_at old.desk) =
+    subst (λ (s : Standing). attempts_left settings s < attempts_left settings (left_at old.desk)) (sym next) less.0 in
+    subst (λ (s : Settings). attempts_left s (left_at new.desk) < attempts_left old.desk.settings (left_at old.desk)) (sym is.settings)
+    (subst (λ (s : Settings). attempts_left settings (left_at new.desk) < attempts_left s (left_at old.desk)) (sym was.settings) fewer)

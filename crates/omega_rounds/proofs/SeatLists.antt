@@ -45,6 +45,18 @@ module _ {X : Type 0} where
   set-other (a ∷ xs) (suc i) x zero apart = refl
   set-other (a ∷ xs) (suc i) x (suc place) apart = set-other xs i x place (λ same. apart (ap (λ (n : ℕ). suc n) same))
 
+  -- an item that is put where it stands
+  pub set_itself : (xs : List X) (i : ℕ) (x : X) → slice_get xs i ≡ Some x → set xs i x ≡ xs
+  set_itself [] i x is = refl
+  set_itself (a ∷ xs) zero x is = let same : a ≡ x = cc in ap (λ (y : X). y ∷ xs) (sym same)
+  set_itself (a ∷ xs) (suc i) x is = ap (λ (ys : List X). a ∷ ys) (set_itself xs i x is)
+
+  -- what is seen of an item that is changed unseen
+  pub map_set_same : {Y : Type 0} (f : X → Y) (xs : List X) (i : ℕ) (x y : X) → slice_get xs i ≡ Some y → f x ≡ f y → map f (set xs i x) ≡ map f xs
+  map_set_same f [] i x y is same = refl
+  map_set_same f (a ∷ xs) zero x y is same = let here : a ≡ y = cc in ap (λ (z : _). z ∷ map f xs) (same ∙ ap f (sym here))
+  map_set_same f (a ∷ xs) (suc i) x y is same = ap (λ (zs : List _). f a ∷ zs) (map_set_same f xs i x y is same)
+
   -- the sum after an item is changed
   pub sum_set : (f : X → ℕ) (xs : List X) (i : ℕ) (x y : X) → slice_get xs i ≡ Some y → sum_by f (set xs i x) + f y ≡ sum_by f xs + f x
   sum_set f xs i x y is =

@@ -198,3 +198,51 @@ module _ (settings : Settings) (trace : TraceTables) where
   world_ends world in_round over last =
       subst (λ (some : List Round). Rounds settings trace [] [] some world.history) (take_last (rounds trace settings.window) (suc in_round.underway.done) last)
       (whole_now world in_round over)
+
+  -- a step leads to no other round
+  pub steps_done : (old new : World) (scheduler : ℕ) (answer : StepAnswer) (in_round : IsInRound settings trace old)
+      (known : scheduler < schedulers settings) (step : StepsInRound settings trace old in_round scheduler new answer)
+      → (world_steps old new scheduler answer in_round known step).underway.done ≡ in_round.underway.done
+  unfolding world_steps idle_step sync_step commit_step
+  steps_done old new scheduler Idle in_round known step = refl
+  steps_done old new scheduler Synced in_round known step = refl
+  steps_done old new scheduler (Committed place) in_round known step = refl
+
+  -- whose rows end where they ended
+  pub steps_rows : (old new : World) (scheduler : ℕ) (answer : StepAnswer) (in_round : IsInRound settings trace old)
+      (known : scheduler < schedulers settings) (step : StepsInRound settings trace old in_round scheduler new answer)
+      → rows_end settings trace new.history (world_steps old new scheduler answer in_round known step).underway
+      ≡ rows_end settings trace old.history in_round.underway
+  unfolding world_steps idle_step sync_step commit_step
+  steps_rows old new scheduler Idle in_round known step = refl
+  steps_rows old new scheduler Synced in_round known step = refl
+  steps_rows old new scheduler (Committed place) in_round known step = refl
+
+  -- the round that begins first is the first
+  pub begins_done : (old new : World) (round : Round) (is_new : IsNew old)
+      (next : slice_get (rounds trace settings.window) 0 ≡ Some round) (begins : BeginsRound trace [] round old new)
+      → (world_begins old new round is_new next begins).underway.done ≡ 0
+  unfolding world_begins
+  begins_done old new round is_new next begins = refl
+
+  pub begins_rows : (old new : World) (round : Round) (is_new : IsNew old)
+      (next : slice_get (rounds trace settings.window) 0 ≡ Some round) (begins : BeginsRound trace [] round old new)
+      → rows_end settings trace new.history (world_begins old new round is_new next begins).underway ≡ length new.history
+  unfolding world_begins
+  begins_rows old new round is_new next begins =
+      sym (ap (λ (h : List Entry). length h) (begins.entries ∙ ap (λ (h : List Entry). (opened trace [] h round).history) is_new.empty))
+
+  -- the round that begins later is the next
+  pub goes_done : (old new : World) (round : Round) (in_round : IsInRound settings trace old) (over : RoundIsOver settings trace old in_round)
+      (next : slice_get (rounds trace settings.window) (suc in_round.underway.done) ≡ Some round)
+      (begins : BeginsRound trace (rows_of (take (suc in_round.underway.done) (rounds trace settings.window))) round old new)
+      → (world_goes_on old new round in_round over next begins).underway.done ≡ suc in_round.underway.done
+  unfolding world_goes_on
+  goes_done old new round in_round over next begins = refl
+
+  pub goes_rows : (old new : World) (round : Round) (in_round : IsInRound settings trace old) (over : RoundIsOver settings trace old in_round)
+      (next : slice_get (rounds trace settings.window) (suc in_round.underway.done) ≡ Some round)
+      (begins : BeginsRound trace (rows_of (take (suc in_round.underway.done) (rounds trace settings.window))) round old new)
+      → rows_end settings trace new.history (world_goes_on old new round in_round over next begins).underway ≡ length new.history
+  unfolding world_goes_on
+  goes_rows old new round in_round over next begins = sym (ap (λ (h : List Entry). length h) begins.entries)

@@ -1,0 +1,234 @@
+-- A world in which a round begins.
+use Rattle.std.proofs.Common.{◌≡◌, ◌≤◌, ◌<◌, ◌+◌, ◌*◌, ◌-◌, ℕ, zero, suc, Bool, true, false, not, List, [], ◌∷◌, ◌++◌, length, map, take, Option, Some, None, refl, sym, ap, ap₂, subst, arith, ◌∙◌, inl, inr, add-one, length-append}
+use Rattle.std.specs.Prelude.{◌⊎◌, nat_le, slice_get, option_map}
+use Rattle.std.specs.List.{All, filter, fold, sum_by, AllByRecursion as Each}
+use Rattle.std.proofs.lemmas.List.Sums.{fold-append}
+use Rattle.std.proofs.lemmas.Option.{slice_get_cases, slice_get_within}
+use Rattle.std.proofs.Math.Seq.{take-length}
+use Rattle.std.proofs.Math.ListN.{drop_of_length-le}
+use Rattle.omega_feed.specs.Asked.{Asked, asked_after}
+use Rattle.omega_model.proofs.Lists.{each_map}
+use Rattle.omega_model.proofs.OpenRequests.{requests_from_open}
+use Rattle.omega_model.specs.Feed.{rounds}
+use Rattle.omega_model.specs.Lawful.{opened, rows_of}
+use Rattle.omega_model.specs.OpenRequests.{is_worked_on, open_requests as all_requests}
+use Rattle.omega_model.specs.Policy.{schedulers}
+use Rattle.omega_model.specs.Requests.{failed, requests, scheduler_of}
+use Rattle.omega_model.specs.State.{state}
+use Rattle.omega_model.specs.Stepping.{BeginsRound, IsInRound}
+use Rattle.omega_model.specs.Wanted.{WantedTask, wanted, wanted_after}
+use Rattle.omega_model.specs.Work.{HasLeft, Standing, commits_of, fresh}
+use Rattle.omega_model.specs.World.{World}
+use Rattle.omega_model.specs.declared.entries.Entry.{Entry}
+use Rattle.omega_model.specs.declared.rows.Row.{Row}
+use Rattle.omega_model.specs.declared.rows.Round.{Round}
+use Rattle.omega_model.specs.declared.rows.TraceTables.{TraceTables}
+use Rattle.omega_model.specs.declared.settings.Settings.{Settings}
+use Rattle.omega_model.specs.declared.wishes.Request.{Request}
+use Rattle.omega_copy.specs.Copies.{CopyOf, CopyState}
+use Rattle.omega_desk.specs.Counts.{count_of}
+use Rattle.omega_desk.specs.Desks.{DeskState, left_at, open_requests}
+use Rattle.omega_rounds.specs.InRound.{RoundIsOver, rows_now}
+use Rattle.omega_rounds.specs.Keeping.{HasBegun, HasNotBegun, IsLawful, IsWorld, world_at}
+use Rattle.omega_rounds.specs.NextCommit.{HasNoWork, NobodyHasWork}
+use Rattle.omega_rounds.specs.Opening.{BeginAll, BeginsSeat, HaveNoWork, IsAsked}
+use Rattle.omega_rounds.specs.Seats.{IsDeskOf, IsRoutedTo, IsSeat, synced_of, to_do_of}
+use Rattle.omega_rounds.specs.Stages.{IsMadeOf, Source, Stage, next_stage, rows_begun, source_of, stage_of}
+use Rattle.omega_rounds.specs.declared.seat.Seat.{Seat}
+use Rattle.omega_rounds.proofs.OpenedEntries.{commits_opened, copy_opened, failed_opened}
+use Rattle.omega_rounds.proofs.Places.{take_next}
+use Rattle.omega_rounds.proofs.Requested.{open_own, requests_own}
+use Rattle.omega_rounds.proofs.RoundGrows.{has_left_opened}
+use Rattle.omega_rounds.proofs.SeatLists.{seen_none}
+use Rattle.omega_rounds.proofs.WorldSteps.{rows_more, rows_same}
+use Rattle.omega_rounds.proofs.Worlds.{begins_done, begins_rows, goes_done, goes_rows, world_begins, world_goes_on}
+
+-- nobody has work where no request is left at any desk
+pub nobody_works : (trace : TraceTables) (stage : Stage) (tasks : List WantedTask) (history : List Entry) (seats : List Seat)
+    → IsWorld stage tasks history seats → HaveNoWork seats → IsMadeOf stage trace
+    → NobodyHasWork stage.settings trace (rows_begun stage) stage.opened_at history
+nobody_works trace stage tasks history seats world idle made scheduler known =
+    elim (slice_get_cases seats scheduler).1 [
+      | inl some ↦
+          ((world.lawful trace made).desks scheduler some.0 some.2).left.remains
+          ∙ ap (λ (l : List Request). Some l) (idle scheduler some.0 some.2)
+      | inr none ↦ let all : length seats ≡ schedulers stage.settings = world.count in absurd (omega (arith, all, none.0, known))
+    ]
+
+-- tests that agree on each item keep the same
+same_kept : {X : Type 0} (p q : X → Bool) (xs : List X) → Each (λ x. p x ≡ q x) xs → filter p xs ≡ filter q xs
+same_kept p q [] each = refl
+same_kept p q (x ∷ xs) each = rw (each.0, same_kept p q xs each.1) refl
+
+-- the desk of a scheduler as a round begins
+module _ (settings : Settings) (trace : TraceTables) (before : List Entry) (rows : List Row) (base : List Entry) (scheduler : ℕ) (old new : DeskState)
+    (failures : (job : ℕ) → scheduler_of settings trace job ≡ scheduler → failed base job ≡ count_of old.counts job)
+    (left : left_at new ≡ fresh (left_at old).failing (open_requests settings (left_at old).failing (all_requests settings trace rows (state base) scheduler))) where
+  begun_requests : requests settings trace rows base scheduler ≡ new.requests
+  begun_requests =
+      let all : List Request = all_requests settings trace rows (state base) scheduler in
+      requests_from_open settings trace rows base scheduler
+      ∙ same_kept (is_worked_on settings base) (λ request. not (nat_le settings.give_up (count_of old.counts request.job))) all
+      (each_map (IsRoutedTo settings trace scheduler) (λ request. is_worked_on settings base request ≡ not (nat_le settings.give_up (count_of old.counts request.job)))
+      (λ request own. ap (λ (n : ℕ). not (nat_le settings.give_up n)) (failures request.job own)) all (open_own settings trace rows base scheduler))
+      ∙ sym (ap (λ (s : Standing). s.requests) left)
+
+  pub desk_begins : IsDeskOf settings trace rows (length base) base scheduler new
+  desk_begins =
+      let asked : requests settings trace rows base scheduler ≡ new.requests = begun_requests in
+      let count : (job : ℕ) → scheduler_of settings trace job ≡ scheduler → failed base job ≡ count_of new.counts job =
+      λ job own. failures job own ∙ sym (ap (λ (s : Standing). s.failing job) left) in
+      record {
+        left = subst (λ (l : List Request). HasLeft settings trace rows (length base) scheduler base l) asked (has_left_opened settings trace rows base scheduler);
+        standing = fresh (failed base) (requests settings trace rows base scheduler);
+        stands = rw (take-length base, drop_of_length-le base {i = length base} (omega arith)) refl;
+        requests = asked;
+        taken = sym (ap (λ (s : Standing). s.taken) left);
+        own = subst (All (IsRoutedTo settings trace scheduler)) asked (requests_own settings trace rows base scheduler);
+        counts = count;
+        failures = count;
+      }
+
+module _ (settings : Settings) (all : List Round) (asked : Asked) (begun old_place : ℕ) (before after : List Entry) (old new : List Seat) (round : Round)
+    (world : IsWorld (stage_of settings all asked begun old_place) asked.tasks before old)
+    (idle : HaveNoWork old)
+    (next : slice_get all begun ≡ Some round)
+    (history : (trace : TraceTables) (rows : List Row) → asked.disks ≡ trace.disks → asked.tasks ≡ wanted rows
+    → after ≡ (opened trace rows before round).history)
+    (begins : BeginAll (record asked { tasks = fold wanted_after asked.tasks round.rows }) after old new) where
+  abbrev stage : Stage
+  stage = stage_of settings all asked begun old_place
+
+  abbrev tasks : List WantedTask
+  tasks = fold wanted_after asked.tasks round.rows
+
+  abbrev later : Stage
+  later = next_stage stage (length after)
+
+  rows_later : rows_begun later ≡ rows_begun stage ++ round.rows
+  rows_later =
+      ap (λ (n : ℕ). rows_of (take n all)) (add-one begun)
+      ∙ ap rows_of (take_next all begun round next)
+      ∙ rows_more (take begun all) round
+
+  tasks_later : tasks ≡ wanted (rows_begun later)
+  tasks_later =
+      ap (λ (ts : List WantedTask). fold wanted_after ts round.rows) world.asked
+      ∙ sym (fold-append wanted_after [] (rows_begun stage) round.rows)
+      ∙ ap wanted (sym rows_later)
+
+  -- the entries of the round's rows
+  pub after_is : (trace : TraceTables) → IsMadeOf stage trace → after ≡ (opened trace (rows_begun stage) before round).history
+  after_is trace made = history trace (rows_begun stage) (ap (λ (s : Source). s.disks) made) world.asked
+
+  -- what is asked then
+  asked_later : (trace : TraceTables) → IsMadeOf stage trace
+      → (let a : Asked = record asked { tasks = tasks } in a) ≡ asked_after settings trace (rows_begun later)
+  asked_later trace made =
+      ap₂ (λ (s : Source) (ts : List WantedTask). let a : Asked = record { jobs = s.jobs; constraints = s.constraints; disks = s.disks; tasks = ts } in a) made tasks_later
+
+  seat_later : (number : ℕ) (was seat : Seat) → IsSeat settings before number was → BeginsSeat (record asked { tasks = tasks }) after number was seat
+      → IsSeat settings after number seat
+  seat_later number was seat is begun_seat =
+      let trace : TraceTables = world.made.0 in
+      let made : IsMadeOf stage trace = world.made.1 in
+      let same = after_is trace made in
+      let left = begun_seat.left settings trace (rows_begun later) (asked_later trace made) in
+      let none : 0 ≡ seat.desk.taken = sym (ap (λ (s : Standing). s.taken) left) in
+      let some : 1 ≤ settings.tries = world.range.tries.0 in
+      record {
+        settings = begun_seat.desk.settings ∙ is.settings;
+        scheduler = begun_seat.desk.scheduler ∙ is.scheduler;
+        attempts = begun_seat.attempts ∙ is.attempts ∙ sym (commits_opened trace (rows_begun stage) before round number)
+            ∙ ap (λ (h : List Entry). commits_of number h) (sym same);
+        tries = omega (arith, none, some);
+        copy = subst (λ (k : CopyState). CopyOf k after) (sym begun_seat.copy)
+            (subst (CopyOf was.copy) (sym same) (copy_opened trace (rows_begun stage) before round was.copy is.copy));
+        no_trial = ap (λ (k : CopyState). k.trial) begun_seat.copy ∙ is.no_trial;
+      }
+
+  -- nobody has synced
+  nobody_later : (number : ℕ) → (world_at after new).synced number ≡ None
+  nobody_later = seen_none synced_of new (λ number seat here. rw ((begins.each number seat here).1.1.synced) refl)
+
+  -- the round of the definition begins
+  pub begins_round : (trace : TraceTables) → IsMadeOf stage trace → BeginsRound trace (rows_begun stage) round (world_at before old) (world_at after new)
+  begins_round trace made = record { entries = after_is trace made; nobody = nobody_later }
+
+  module _ (trace : TraceTables) (made : IsMadeOf stage trace) where
+    abbrev was : IsLawful trace stage before old
+    was = world.lawful trace made
+
+    desk_later : (number : ℕ) (seat : Seat) → slice_get new number ≡ Some seat
+        → IsDeskOf settings trace (rows_begun later) (length after) after number seat.desk
+    desk_later number seat here =
+        let found = begins.each number seat here in
+        let is : IsSeat settings before number found.0 = world.each_seat number found.0 found.1.0 in
+        let desk : IsDeskOf settings trace (rows_begun stage) old_place before number found.0.desk = was.desks number found.0 found.1.0 in
+        let left = found.1.1.left settings trace (rows_begun later) (asked_later trace made) in
+        desk_begins settings trace before (rows_begun later) after number found.0.desk seat.desk
+        (λ job own. ap (λ (h : List Entry). failed h job) (after_is trace made) ∙ failed_opened trace (rows_begun stage) before round job ∙ desk.failures job own)
+        (subst (λ (s : Settings). left_at seat.desk ≡ fresh (left_at found.0.desk).failing
+        (open_requests s (left_at found.0.desk).failing (all_requests settings trace (rows_begun later) (state after) number))) is.settings left)
+
+    first_later : HasNotBegun stage (world_at before old) → HasBegun trace later (world_at after new)
+    first_later none =
+        let one : World = world_at before old in
+        let other : World = world_at after new in
+        let first : slice_get (rounds trace settings.window) 0 ≡ Some round =
+        subst (λ (n : ℕ). slice_get (rounds trace settings.window) n ≡ Some round) none.none
+        (subst (λ (rs : List Round). slice_get rs begun ≡ Some round) (ap (λ (s : Source). s.rounds) made) next) in
+        let rows : rows_begun stage ≡ [] = ap (λ (n : ℕ). rows_of (take n all)) none.none in
+        let opens : BeginsRound trace [] round one other = subst (λ (rs : List Row). BeginsRound trace rs round one other) rows (begins_round trace made) in
+        record {
+          in_round = world_begins settings trace one other round none.is_new first opens;
+          count = ap (λ (n : ℕ). n + 1) (none.none ∙ sym (begins_done settings trace one other round none.is_new first opens));
+          rows = sym (begins_rows settings trace one other round none.is_new first opens);
+        }
+
+    next_later : HasBegun trace stage (world_at before old) → HasBegun trace later (world_at after new)
+    next_later has =
+        let one : World = world_at before old in
+        let other : World = world_at after new in
+        let underway = has.in_round.underway in
+        let place : begun ≡ suc underway.done = has.count ∙ add-one underway.done in
+        let second : slice_get (rounds trace settings.window) (suc underway.done) ≡ Some round =
+        subst (λ (n : ℕ). slice_get (rounds trace settings.window) n ≡ Some round) place
+        (subst (λ (rs : List Round). slice_get rs begun ≡ Some round) (ap (λ (s : Source). s.rounds) made) next) in
+        let rows : rows_begun stage ≡ rows_of (take (suc underway.done) (rounds trace settings.window)) =
+        ap₂ (λ (n : ℕ) (rs : List Round). rows_of (take n rs)) place (ap (λ (s : Source). s.rounds) made) in
+        let opens : BeginsRound trace (rows_of (take (suc underway.done) (rounds trace settings.window))) round one other =
+        subst (λ (rs : List Row). BeginsRound trace rs round one other) rows (begins_round trace made) in
+        let over : RoundIsOver settings trace one has.in_round =
+        subst (λ (n : ℕ). NobodyHasWork settings trace (rows_now settings trace before underway) n before) has.rows
+        (subst (λ (rs : List Row). NobodyHasWork settings trace rs old_place before) (rows_same trace stage one made has)
+        (nobody_works trace stage asked.tasks before old world idle made)) in
+        record {
+          in_round = world_goes_on settings trace one other round has.in_round over second opens;
+          count = ap (λ (n : ℕ). n + 1) (place ∙ sym (goes_done settings trace one other round has.in_round over second opens));
+          rows = sym (goes_rows settings trace one other round has.in_round over second opens);
+        }
+
+    lawful_later : IsLawful trace later after new
+    lawful_later = record {
+      run = inr (elim was.run [ inl none ↦ first_later none | inr has ↦ next_later has ]);
+      desks = desk_later;
+    }
+
+  -- the world once the round has begun
+  pub world_later : IsWorld later tasks after new
+  world_later = record {
+    range = world.range;
+    within = let below : begun < length all = slice_get_within all begun round next in omega (arith, below);
+    asked = tasks_later;
+    count = begins.count ∙ world.count;
+    each_seat = λ number seat here.
+        let found = begins.each number seat here in
+        seat_later number found.0 seat (world.each_seat number found.0 found.1.0) found.1.1;
+    made = world.made;
+    lawful = λ trace made. lawful_later trace made;
+  }
+
+  -- what is asked then is what some trace asks for
+  pub is_asked : IsAsked (record asked { tasks = tasks })
+  is_asked = record { settings = settings; trace = world.made.0; rows = rows_begun later; asks = asked_later world.made.0 world.made.1 }

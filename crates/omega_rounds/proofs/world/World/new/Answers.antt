@@ -1,0 +1,7 @@
+use Rattle.omega_rounds.proofs.NewSeats.{world_new}
+use Rattle.omega_rounds.proofs.world.World.new.Goals as goal
+
+pub invariant_of-result : goal.invariant_of-result
+invariant_of-result c =
+    world_new c.args.settings.now c.args.tables.now c.in_ok-rounds.rounds c.in_ok-wanted.wanted c.new-2.result.history c.in_ok-seats.seats.items c.requires
+    c.in_ok-rounds.ensures c.in_ok-wanted.ensures c.new-2.ensures c.in_ok-seats.ensures

@@ -1,0 +1,82 @@
+use Rattle.std.proofs.Common.{◌≡◌, ◌<◌, ◌∙◌, ℕ, List, length, get_or, set, Result, Ok, Err, Some, sym, subst}
+use Rattle.std.specs.Prelude.{slice_get, OnErr}
+use Rattle.std.proofs.lemmas.Option.{slice_get_read}
+use Rattle.omega_model.specs.Policy.{schedulers}
+use Rattle.omega_model.specs.declared.rows.TraceTables.{TraceTables}
+use Rattle.omega_rounds.specs.Going.{LeavesToDo, StepsOn}
+use Rattle.omega_rounds.specs.Stages.{IsMadeOf, WorldState, rows_begun, stage_of}
+use Rattle.omega_rounds.specs.declared.seat.Seat.{Seat}
+use Rattle.omega_rounds.specs.declared.steps.Stepped.{Stepped}
+use Rattle.omega_rounds.specs.declared.steps.Stepped.TheVariants.{Synced, Committed, Idle}
+use Rattle.omega_rounds.proofs.WorldSteps.{LeavesAt, seen_as, state_at, step_is, to_do_after, world_after, world_kept}
+use Rattle.omega_rounds.proofs.world.World.step.Goals as goal
+
+knows : (scheduler : ℕ) (one other : WorldState) → one ≡ other → scheduler < schedulers other.stage.settings → scheduler < schedulers one.stage.settings
+knows scheduler one other same known = subst (λ (w : WorldState). scheduler < schedulers w.stage.settings) (sym same) known
+
+stands : (seats : List Seat) (count scheduler : ℕ) (seat : Seat) → length seats ≡ count → scheduler < count → seat ≡ get_or seats scheduler seat
+    → slice_get seats scheduler ≡ Some seat
+stands seats count scheduler seat all known is = slice_get_read seats count scheduler seat (sym all) known is
+
+on_err : {T E P : Type 0} → (result : Result T E) → P → OnErr result P
+on_err (Ok value) holds = tt
+on_err (Err error) holds = holds
+
+leaves : (old new : WorldState) (stepped : Stepped) → LeavesAt old.to_do new.to_do stepped → LeavesToDo old new stepped
+leaves old new Synced is = is
+leaves old new (Committed place) is = is
+leaves old new Idle is = is
+
+pub step-requires-clause-seat : goal.step-requires-clause-seat
+step-requires-clause-seat c =
+    let known = knows c.args.scheduler _ _ c.self.view_is c.requires in
+    c.self.invariant.each_seat c.args.scheduler c.index_mut-seat.result.now
+    (stands c.self.inside.seats.items (schedulers c.self.inside.settings) c.args.scheduler c.index_mut-seat.result.now c.self.invariant.count known c.index_mut-seat.ensures.value)
+
+pub invariant_of-self : goal.invariant_of-self
+invariant_of-self c =
+    let known = knows c.args.scheduler _ _ c.self.view_is c.requires in
+    world_kept (stage_of c.self.inside.settings c.self.inside.rounds c.self.inside.wanted c.self.inside.begun c.self.inside.opened_at) c.self.inside.wanted.tasks
+    c.self.inside.cell.history c.step.new.cell.history c.self.inside.seats.items c.args.scheduler c.index_mut-seat.result.now c.step.new.self c.self.invariant
+    (stands c.self.inside.seats.items (schedulers c.self.inside.settings) c.args.scheduler c.index_mut-seat.result.now c.self.invariant.count known c.index_mut-seat.ensures.value)
+    c.in_err-stepped.ensures.err c.in_err-stepped.ensures.desk c.in_err-stepped.ensures.synced c.step.ensures.seat
+
+pub returns-in_err-stepped-clause-err : goal.returns-in_err-stepped-clause-err
+returns-in_err-stepped-clause-err c =
+    let known = knows c.args.scheduler _ _ c.self.view_is c.requires in
+    on_err c.from_residual.result
+    (seen_as (stage_of c.self.inside.settings c.self.inside.rounds c.self.inside.wanted c.self.inside.begun c.self.inside.opened_at) c.self.inside.wanted.tasks
+    c.self.inside.cell.history c.step.new.cell.history c.self.inside.seats.items c.args.scheduler c.index_mut-seat.result.now c.step.new.self c.self.invariant
+    (stands c.self.inside.seats.items (schedulers c.self.inside.settings) c.args.scheduler c.index_mut-seat.result.now c.self.invariant.count known c.index_mut-seat.ensures.value)
+    c.in_err-stepped.ensures.err c.in_err-stepped.ensures.desk c.in_err-stepped.ensures.synced
+    ∙ c.self.view_is)
+
+pub invariant_of-self-2 : goal.invariant_of-self-2
+invariant_of-self-2 c =
+    let known = knows c.args.scheduler _ _ c.self.view_is c.requires in
+    world_after (stage_of c.self.inside.settings c.self.inside.rounds c.self.inside.wanted c.self.inside.begun c.self.inside.opened_at) c.self.inside.wanted.tasks
+    c.self.inside.cell.history c.step.new.cell.history c.self.inside.seats.items c.args.scheduler c.index_mut-seat.result.now c.step.new.self c.self.invariant
+    (stands c.self.inside.seats.items (schedulers c.self.inside.settings) c.args.scheduler c.index_mut-seat.result.now c.self.invariant.count known c.index_mut-seat.ensures.value)
+    c.in_ok-stepped.stepped known c.step.ensures.seat c.in_ok-stepped.ensures.step
+
+pub returns-clause-step : goal.returns-clause-step
+returns-clause-step c =
+    let known = knows c.args.scheduler _ _ c.self.view_is c.requires in
+    let stage = stage_of c.self.inside.settings c.self.inside.rounds c.self.inside.wanted c.self.inside.begun c.self.inside.opened_at in
+    let here = stands c.self.inside.seats.items (schedulers c.self.inside.settings) c.args.scheduler c.index_mut-seat.result.now c.self.invariant.count known c.index_mut-seat.ensures.value in
+    subst (λ (w : WorldState). (trace : TraceTables) → IsMadeOf w.stage trace → StepsOn trace w c.args.scheduler (state_at stage c.step.new.cell.history (set c.self.inside.seats.items c.args.scheduler c.step.new.self)) c.in_ok-stepped.stepped) c.self.view_is
+    (λ trace made. step_is c.self.inside.settings c.self.inside.cell.history c.step.new.cell.history c.args.scheduler c.index_mut-seat.result.now c.step.new.self
+    trace (rows_begun stage) c.self.inside.opened_at c.self.inside.seats.items here c.in_ok-stepped.stepped c.in_ok-stepped.ensures.step
+    ((c.self.invariant.lawful trace made).desks c.args.scheduler c.index_mut-seat.result.now here))
+
+pub returns-clause-to_do : goal.returns-clause-to_do
+returns-clause-to_do c =
+    let known = knows c.args.scheduler _ _ c.self.view_is c.requires in
+    let here = stands c.self.inside.seats.items (schedulers c.self.inside.settings) c.args.scheduler c.index_mut-seat.result.now c.self.invariant.count known c.index_mut-seat.ensures.value in
+    let stage = stage_of c.self.inside.settings c.self.inside.rounds c.self.inside.wanted c.self.inside.begun c.self.inside.opened_at in
+    let after = state_at stage c.step.new.cell.history (set c.self.inside.seats.items c.args.scheduler c.step.new.self) in
+    subst (λ (w : WorldState). LeavesToDo w after c.in_ok-stepped.stepped) c.self.view_is
+    (leaves (state_at stage c.self.inside.cell.history c.self.inside.seats.items) after c.in_ok-stepped.stepped
+    (to_do_after c.self.inside.settings c.self.inside.cell.history c.step.new.cell.history c.args.scheduler c.index_mut-seat.result.now c.step.new.self
+    c.in_ok-stepped.stepped c.self.inside.seats.items here c.self.invariant.range.tries.0
+    (c.self.invariant.each_seat c.args.scheduler c.index_mut-seat.result.now here) c.step.ensures.seat c.in_ok-stepped.ensures.step))
