@@ -250,4 +250,4 @@ pub jobs_noted : (settings : Settings) (trace : TraceTables)
     → fold (note_job settings) [] (feed trace) ≡ map (routed settings trace) (jobs_in_order (feed trace))
 jobs_noted settings trace =
     fold_routed settings (class_of trace) [] (feed trace) (λ job none. refl)
-    ∙ ap (map (routed settings trace)) (fold_once [] (filter_map job_of_row (feed trace)) ∙ all_new _)
+    ∙ ap (map (routed settings trace)) (each_added (filter_map job_of_row (feed trace)))
