@@ -76,6 +76,11 @@ module _ {X : Type 0} where
             (fails_before_first p xs place x (omega (arith, within, past)))
       ]
 
+  -- the first that passes isn't past the end
+  pub first_past : (p : X → Bool) (xs : List X) (first : ℕ) → position p xs ≡ Some first → length xs ≤ first → ⊥
+  first_past p [] first is past = absurd (cc)
+  first_past p (x ∷ xs) first is past = let found = position-Some p (x ∷ xs) first x is in omega (arith, found.0, past)
+
   -- the first item that passes
   pub some_first : (p : X → Bool) (xs : List X) (first : ℕ) (d : X) → position p xs ≡ Some first
       → (first < length xs) × ((p (get_or xs first d) ≡ true) × ((place : ℕ) (x : X) → place < first → slice_get xs place ≡ Some x → p x ≡ false))
