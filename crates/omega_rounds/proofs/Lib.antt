@@ -34,3 +34,4 @@ pub mod WorldSteps
 pub mod Beginning
 pub mod OpenedEntries
 pub mod WorldBegins
+pub mod WorldGoes

@@ -4,7 +4,7 @@ use Rattle.std.specs.Prelude.{◌⊎◌, slice_get, option_map, option_and_then}
 use Rattle.std.specs.List.{position, position_or_len, sum_by}
 use Rattle.std.proofs.lemmas.Bool.{both_ways, le-ltb, lt-ltb, cases_lt}
 use Rattle.std.proofs.lemmas.List.Quantifiers.{position-Some}
-use Rattle.std.proofs.lemmas.List.Sums.{fails_before_first, sum_by-set}
+use Rattle.std.proofs.lemmas.List.Sums.{fails_before_first, sum_by-cons, sum_by-set}
 use Rattle.std.proofs.lemmas.Option.{get_or_from_slice_get, slice_get_within, slice_get-map}
 use Rattle.omega_model.proofs.Lists.{by_answer}
 use Rattle.omega_rounds.specs.Stages.{synced_at}
@@ -76,6 +76,11 @@ module _ {X : Type 0} where
             (fails_before_first p xs place x (omega (arith, within, past)))
       ]
 
+  -- the first that passes isn't past the end
+  pub first_past : (p : X → Bool) (xs : List X) (first : ℕ) → position p xs ≡ Some first → length xs ≤ first → ⊥
+  first_past p [] first is past = absurd (cc)
+  first_past p (x ∷ xs) first is past = let found = position-Some p (x ∷ xs) first x is in omega (arith, found.0, past)
+
   -- the first item that passes
   pub some_first : (p : X → Bool) (xs : List X) (first : ℕ) (d : X) → position p xs ≡ Some first
       → (first < length xs) × ((p (get_or xs first d) ≡ true) × ((place : ℕ) (x : X) → place < first → slice_get xs place ≡ Some x → p x ≡ false))
@@ -99,3 +104,23 @@ module _ {X : Type 0} where
   seen_none f [] none place = refl
   seen_none f (x ∷ xs) none zero = none zero x refl
   seen_none f (x ∷ xs) none (suc place) = seen_none f xs (λ at y is. none (suc at) y is) place
+
+-- where a sum is nothing so is each of its parts
+pub sum_none : {X : Type 0} (f : X → ℕ) (xs : List X) → sum_by f xs ≡ 0 → (place : ℕ) (x : X) → slice_get xs place ≡ Some x → f x ≡ 0
+sum_none f [] none place x is = absurd (cc)
+sum_none f (y ∷ xs) none zero x is =
+    let split : sum_by f (y ∷ xs) ≡ f y + sum_by f xs = sum_by-cons f y xs in
+    let here : y ≡ x = cc in
+    subst (λ (z : _). f z ≡ 0) here (omega (arith, split, none))
+sum_none f (y ∷ xs) none (suc place) x is =
+    let split : sum_by f (y ∷ xs) ≡ f y + sum_by f xs = sum_by-cons f y xs in
+    sum_none f xs (omega (arith, split, none)) place x is
+
+-- and a sum of nothing is nothing
+pub sum_of_none : {X : Type 0} (f : X → ℕ) (xs : List X) → ((place : ℕ) (x : X) → slice_get xs place ≡ Some x → f x ≡ 0) → sum_by f xs ≡ 0
+sum_of_none f [] none = refl
+sum_of_none f (y ∷ xs) none =
+    let split : sum_by f (y ∷ xs) ≡ f y + sum_by f xs = sum_by-cons f y xs in
+    let first : f y ≡ 0 = none zero y refl in
+    let rest : sum_by f xs ≡ 0 = sum_of_none f xs (λ place x is. none (suc place) x is) in
+    omega (arith, split, first, rest)

@@ -28,6 +28,7 @@ use Rattle.omega_model.specs.declared.wishes.Request.{Request}
 use Rattle.omega_copy.specs.Copies.{CopyOf, CopyState}
 use Rattle.omega_desk.specs.Counts.{count_of}
 use Rattle.omega_desk.specs.Desks.{DeskState, left_at, open_requests}
+use Rattle.omega_rounds.specs.AttemptsLeft.{attempts_left}
 use Rattle.omega_rounds.specs.InRound.{RoundIsOver, rows_now}
 use Rattle.omega_rounds.specs.Keeping.{HasBegun, HasNotBegun, IsLawful, IsWorld, world_at}
 use Rattle.omega_rounds.specs.NextCommit.{HasNoWork, NobodyHasWork}
@@ -39,7 +40,7 @@ use Rattle.omega_rounds.proofs.OpenedEntries.{commits_opened, copy_opened, faile
 use Rattle.omega_rounds.proofs.Places.{take_next}
 use Rattle.omega_rounds.proofs.Requested.{open_own, requests_own}
 use Rattle.omega_rounds.proofs.RoundGrows.{has_left_opened}
-use Rattle.omega_rounds.proofs.SeatLists.{seen_none}
+use Rattle.omega_rounds.proofs.SeatLists.{seen_none, sum_none, sum_of_none}
 use Rattle.omega_rounds.proofs.WorldSteps.{rows_more, rows_same}
 use Rattle.omega_rounds.proofs.Worlds.{begins_done, begins_rows, goes_done, goes_rows, world_begins, world_goes_on}
 
@@ -54,6 +55,35 @@ nobody_works trace stage tasks history seats world idle made scheduler known =
           ∙ ap (λ (l : List Request). Some l) (idle scheduler some.0 some.2)
       | inr none ↦ let all : length seats ≡ schedulers stage.settings = world.count in absurd (omega (arith, all, none.0, known))
     ]
+
+-- a desk without attempts has no request left
+none_left : (requests : List Request) (tries taken : ℕ) → taken < tries → length requests * tries - taken ≡ 0 → requests ≡ []
+none_left [] tries taken few none = refl
+none_left (request ∷ rest) tries taken few none =
+    let more : (a t : ℕ) → (suc a) * t ≡ a * t + t = mul_more in
+    let all : (suc (length rest)) * tries ≡ length rest * tries + tries = more (length rest) tries in
+    let here : (suc (length rest)) * tries - taken ≡ 0 = none in
+    absurd (omega (arith, all, here, few))
+      where
+        mul_more : (a t : ℕ) → (suc a) * t ≡ a * t + t
+        mul_more a t = grind (arith)
+
+-- where no commit can follow no request is left at any desk
+pub idle_all : (stage : Stage) (tasks : List WantedTask) (history : List Entry) (seats : List Seat)
+    → IsWorld stage tasks history seats → sum_by to_do_of seats ≡ 0 → HaveNoWork seats
+idle_all stage tasks history seats world none number seat here =
+    let is : IsSeat stage.settings history number seat = world.each_seat number seat here in
+    let own : attempts_left seat.desk.settings (left_at seat.desk) ≡ 0 = sum_none to_do_of seats none number seat here in
+    none_left seat.desk.requests stage.settings.tries seat.desk.taken is.tries
+    (subst (λ (s : Settings). attempts_left s (left_at seat.desk) ≡ 0) is.settings own)
+
+-- and where no request is left no commit can follow
+pub none_to_do : (seats : List Seat) → HaveNoWork seats → sum_by to_do_of seats ≡ 0
+none_to_do seats idle = sum_of_none to_do_of seats (λ number seat here. nothing_left seat (idle number seat here)) where
+  nothing_left : (seat : Seat) → seat.desk.requests ≡ [] → to_do_of seat ≡ 0
+  nothing_left seat none =
+      let all : length seat.desk.requests ≡ 0 = ap (λ (l : List Request). length l) none in
+      subst (λ (n : ℕ). n * seat.desk.settings.tries - seat.desk.taken ≡ 0) (sym all) (omega arith)
 
 -- tests that agree on each item keep the same
 same_kept : {X : Type 0} (p q : X → Bool) (xs : List X) → Each (λ x. p x ≡ q x) xs → filter p xs ≡ filter q xs
@@ -89,146 +119,150 @@ module _ (settings : Settings) (trace : TraceTables) (before : List Entry) (rows
         failures = count;
       }
 
-module _ (settings : Settings) (all : List Round) (asked : Asked) (begun old_place : ℕ) (before after : List Entry) (old new : List Seat) (round : Round)
+module _ (settings : Settings) (all : List Round) (asked : Asked) (begun old_place : ℕ) (before : List Entry) (old : List Seat) (round : Round)
     (world : IsWorld (stage_of settings all asked begun old_place) asked.tasks before old)
-    (idle : HaveNoWork old)
-    (next : slice_get all begun ≡ Some round)
-    (history : (trace : TraceTables) (rows : List Row) → asked.disks ≡ trace.disks → asked.tasks ≡ wanted rows
-    → after ≡ (opened trace rows before round).history)
-    (begins : BeginAll (record asked { tasks = fold wanted_after asked.tasks round.rows }) after old new) where
+    (next : slice_get all begun ≡ Some round) where
   abbrev stage : Stage
   stage = stage_of settings all asked begun old_place
 
   abbrev tasks : List WantedTask
   tasks = fold wanted_after asked.tasks round.rows
 
-  abbrev later : Stage
-  later = next_stage stage (length after)
+  abbrev later_at : ℕ → Stage
+  later_at place = next_stage stage place
 
-  rows_later : rows_begun later ≡ rows_begun stage ++ round.rows
-  rows_later =
+  rows_later : (place : ℕ) → rows_begun (later_at place) ≡ rows_begun stage ++ round.rows
+  rows_later place =
       ap (λ (n : ℕ). rows_of (take n all)) (add-one begun)
       ∙ ap rows_of (take_next all begun round next)
       ∙ rows_more (take begun all) round
 
-  tasks_later : tasks ≡ wanted (rows_begun later)
-  tasks_later =
+  tasks_later : (place : ℕ) → tasks ≡ wanted (rows_begun (later_at place))
+  tasks_later place =
       ap (λ (ts : List WantedTask). fold wanted_after ts round.rows) world.asked
       ∙ sym (fold-append wanted_after [] (rows_begun stage) round.rows)
-      ∙ ap wanted (sym rows_later)
-
-  -- the entries of the round's rows
-  pub after_is : (trace : TraceTables) → IsMadeOf stage trace → after ≡ (opened trace (rows_begun stage) before round).history
-  after_is trace made = history trace (rows_begun stage) (ap (λ (s : Source). s.disks) made) world.asked
+      ∙ ap wanted (sym (rows_later place))
 
   -- what is asked then
-  asked_later : (trace : TraceTables) → IsMadeOf stage trace
-      → (let a : Asked = record asked { tasks = tasks } in a) ≡ asked_after settings trace (rows_begun later)
-  asked_later trace made =
-      ap₂ (λ (s : Source) (ts : List WantedTask). let a : Asked = record { jobs = s.jobs; constraints = s.constraints; disks = s.disks; tasks = ts } in a) made tasks_later
-
-  seat_later : (number : ℕ) (was seat : Seat) → IsSeat settings before number was → BeginsSeat (record asked { tasks = tasks }) after number was seat
-      → IsSeat settings after number seat
-  seat_later number was seat is begun_seat =
-      let trace : TraceTables = world.made.0 in
-      let made : IsMadeOf stage trace = world.made.1 in
-      let same = after_is trace made in
-      let left = begun_seat.left settings trace (rows_begun later) (asked_later trace made) in
-      let none : 0 ≡ seat.desk.taken = sym (ap (λ (s : Standing). s.taken) left) in
-      let some : 1 ≤ settings.tries = world.range.tries.0 in
-      record {
-        settings = begun_seat.desk.settings ∙ is.settings;
-        scheduler = begun_seat.desk.scheduler ∙ is.scheduler;
-        attempts = begun_seat.attempts ∙ is.attempts ∙ sym (commits_opened trace (rows_begun stage) before round number)
-            ∙ ap (λ (h : List Entry). commits_of number h) (sym same);
-        tries = omega (arith, none, some);
-        copy = subst (λ (k : CopyState). CopyOf k after) (sym begun_seat.copy)
-            (subst (CopyOf was.copy) (sym same) (copy_opened trace (rows_begun stage) before round was.copy is.copy));
-        no_trial = ap (λ (k : CopyState). k.trial) begun_seat.copy ∙ is.no_trial;
-      }
-
-  -- nobody has synced
-  nobody_later : (number : ℕ) → (world_at after new).synced number ≡ None
-  nobody_later = seen_none synced_of new (λ number seat here. rw ((begins.each number seat here).1.1.synced) refl)
-
-  -- the round of the definition begins
-  pub begins_round : (trace : TraceTables) → IsMadeOf stage trace → BeginsRound trace (rows_begun stage) round (world_at before old) (world_at after new)
-  begins_round trace made = record { entries = after_is trace made; nobody = nobody_later }
-
-  module _ (trace : TraceTables) (made : IsMadeOf stage trace) where
-    abbrev was : IsLawful trace stage before old
-    was = world.lawful trace made
-
-    desk_later : (number : ℕ) (seat : Seat) → slice_get new number ≡ Some seat
-        → IsDeskOf settings trace (rows_begun later) (length after) after number seat.desk
-    desk_later number seat here =
-        let found = begins.each number seat here in
-        let is : IsSeat settings before number found.0 = world.each_seat number found.0 found.1.0 in
-        let desk : IsDeskOf settings trace (rows_begun stage) old_place before number found.0.desk = was.desks number found.0 found.1.0 in
-        let left = found.1.1.left settings trace (rows_begun later) (asked_later trace made) in
-        desk_begins settings trace before (rows_begun later) after number found.0.desk seat.desk
-        (λ job own. ap (λ (h : List Entry). failed h job) (after_is trace made) ∙ failed_opened trace (rows_begun stage) before round job ∙ desk.failures job own)
-        (subst (λ (s : Settings). left_at seat.desk ≡ fresh (left_at found.0.desk).failing
-        (open_requests s (left_at found.0.desk).failing (all_requests settings trace (rows_begun later) (state after) number))) is.settings left)
-
-    first_later : HasNotBegun stage (world_at before old) → HasBegun trace later (world_at after new)
-    first_later none =
-        let one : World = world_at before old in
-        let other : World = world_at after new in
-        let first : slice_get (rounds trace settings.window) 0 ≡ Some round =
-        subst (λ (n : ℕ). slice_get (rounds trace settings.window) n ≡ Some round) none.none
-        (subst (λ (rs : List Round). slice_get rs begun ≡ Some round) (ap (λ (s : Source). s.rounds) made) next) in
-        let rows : rows_begun stage ≡ [] = ap (λ (n : ℕ). rows_of (take n all)) none.none in
-        let opens : BeginsRound trace [] round one other = subst (λ (rs : List Row). BeginsRound trace rs round one other) rows (begins_round trace made) in
-        record {
-          in_round = world_begins settings trace one other round none.is_new first opens;
-          count = ap (λ (n : ℕ). n + 1) (none.none ∙ sym (begins_done settings trace one other round none.is_new first opens));
-          rows = sym (begins_rows settings trace one other round none.is_new first opens);
-        }
-
-    next_later : HasBegun trace stage (world_at before old) → HasBegun trace later (world_at after new)
-    next_later has =
-        let one : World = world_at before old in
-        let other : World = world_at after new in
-        let underway = has.in_round.underway in
-        let place : begun ≡ suc underway.done = has.count ∙ add-one underway.done in
-        let second : slice_get (rounds trace settings.window) (suc underway.done) ≡ Some round =
-        subst (λ (n : ℕ). slice_get (rounds trace settings.window) n ≡ Some round) place
-        (subst (λ (rs : List Round). slice_get rs begun ≡ Some round) (ap (λ (s : Source). s.rounds) made) next) in
-        let rows : rows_begun stage ≡ rows_of (take (suc underway.done) (rounds trace settings.window)) =
-        ap₂ (λ (n : ℕ) (rs : List Round). rows_of (take n rs)) place (ap (λ (s : Source). s.rounds) made) in
-        let opens : BeginsRound trace (rows_of (take (suc underway.done) (rounds trace settings.window))) round one other =
-        subst (λ (rs : List Row). BeginsRound trace rs round one other) rows (begins_round trace made) in
-        let over : RoundIsOver settings trace one has.in_round =
-        subst (λ (n : ℕ). NobodyHasWork settings trace (rows_now settings trace before underway) n before) has.rows
-        (subst (λ (rs : List Row). NobodyHasWork settings trace rs old_place before) (rows_same trace stage one made has)
-        (nobody_works trace stage asked.tasks before old world idle made)) in
-        record {
-          in_round = world_goes_on settings trace one other round has.in_round over second opens;
-          count = ap (λ (n : ℕ). n + 1) (place ∙ sym (goes_done settings trace one other round has.in_round over second opens));
-          rows = sym (goes_rows settings trace one other round has.in_round over second opens);
-        }
-
-    lawful_later : IsLawful trace later after new
-    lawful_later = record {
-      run = inr (elim was.run [ inl none ↦ first_later none | inr has ↦ next_later has ]);
-      desks = desk_later;
-    }
-
-  -- the world once the round has begun
-  pub world_later : IsWorld later tasks after new
-  world_later = record {
-    range = world.range;
-    within = let below : begun < length all = slice_get_within all begun round next in omega (arith, below);
-    asked = tasks_later;
-    count = begins.count ∙ world.count;
-    each_seat = λ number seat here.
-        let found = begins.each number seat here in
-        seat_later number found.0 seat (world.each_seat number found.0 found.1.0) found.1.1;
-    made = world.made;
-    lawful = λ trace made. lawful_later trace made;
-  }
+  asked_later : (place : ℕ) (trace : TraceTables) → IsMadeOf stage trace
+      → (let a : Asked = record asked { tasks = tasks } in a) ≡ asked_after settings trace (rows_begun (later_at place))
+  asked_later place trace made =
+      ap₂ (λ (s : Source) (ts : List WantedTask). let a : Asked = record { jobs = s.jobs; constraints = s.constraints; disks = s.disks; tasks = ts } in a) made (tasks_later place)
 
   -- what is asked then is what some trace asks for
   pub is_asked : IsAsked (record asked { tasks = tasks })
-  is_asked = record { settings = settings; trace = world.made.0; rows = rows_begun later; asks = asked_later world.made.0 world.made.1 }
+  is_asked = record { settings = settings; trace = world.made.0; rows = rows_begun (later_at 0); asks = asked_later 0 world.made.0 world.made.1 }
+
+  module _ (after : List Entry) (new : List Seat)
+      (idle : HaveNoWork old)
+      (history : (trace : TraceTables) (rows : List Row) → asked.disks ≡ trace.disks → asked.tasks ≡ wanted rows
+      → after ≡ (opened trace rows before round).history)
+      (begins : BeginAll (record asked { tasks = fold wanted_after asked.tasks round.rows }) after old new) where
+    abbrev later : Stage
+    later = next_stage stage (length after)
+
+    -- the entries of the round's rows
+    pub after_is : (trace : TraceTables) → IsMadeOf stage trace → after ≡ (opened trace (rows_begun stage) before round).history
+    after_is trace made = history trace (rows_begun stage) (ap (λ (s : Source). s.disks) made) world.asked
+
+    seat_later : (number : ℕ) (was seat : Seat) → IsSeat settings before number was → BeginsSeat (record asked { tasks = tasks }) after number was seat
+        → IsSeat settings after number seat
+    seat_later number was seat is begun_seat =
+        let trace : TraceTables = world.made.0 in
+        let made : IsMadeOf stage trace = world.made.1 in
+        let same = after_is trace made in
+        let left = begun_seat.left settings trace (rows_begun later) (asked_later (length after) trace made) in
+        let none : 0 ≡ seat.desk.taken = sym (ap (λ (s : Standing). s.taken) left) in
+        let some : 1 ≤ settings.tries = world.range.tries.0 in
+        record {
+          settings = begun_seat.desk.settings ∙ is.settings;
+          scheduler = begun_seat.desk.scheduler ∙ is.scheduler;
+          attempts = begun_seat.attempts ∙ is.attempts ∙ sym (commits_opened trace (rows_begun stage) before round number)
+              ∙ ap (λ (h : List Entry). commits_of number h) (sym same);
+          tries = omega (arith, none, some);
+          copy = subst (λ (k : CopyState). CopyOf k after) (sym begun_seat.copy)
+              (subst (CopyOf was.copy) (sym same) (copy_opened trace (rows_begun stage) before round was.copy is.copy));
+          no_trial = ap (λ (k : CopyState). k.trial) begun_seat.copy ∙ is.no_trial;
+        }
+
+    -- nobody has synced
+    nobody_later : (number : ℕ) → (world_at after new).synced number ≡ None
+    nobody_later = seen_none synced_of new (λ number seat here. rw ((begins.each number seat here).1.1.synced) refl)
+
+    -- the round of the definition begins
+    pub begins_round : (trace : TraceTables) → IsMadeOf stage trace → BeginsRound trace (rows_begun stage) round (world_at before old) (world_at after new)
+    begins_round trace made = record { entries = after_is trace made; nobody = nobody_later }
+
+    module _ (trace : TraceTables) (made : IsMadeOf stage trace) where
+      abbrev was : IsLawful trace stage before old
+      was = world.lawful trace made
+
+      desk_later : (number : ℕ) (seat : Seat) → slice_get new number ≡ Some seat
+          → IsDeskOf settings trace (rows_begun later) (length after) after number seat.desk
+      desk_later number seat here =
+          let found = begins.each number seat here in
+          let is : IsSeat settings before number found.0 = world.each_seat number found.0 found.1.0 in
+          let desk : IsDeskOf settings trace (rows_begun stage) old_place before number found.0.desk = was.desks number found.0 found.1.0 in
+          let left = found.1.1.left settings trace (rows_begun later) (asked_later (length after) trace made) in
+          desk_begins settings trace before (rows_begun later) after number found.0.desk seat.desk
+          (λ job own. ap (λ (h : List Entry). failed h job) (after_is trace made) ∙ failed_opened trace (rows_begun stage) before round job ∙ desk.failures job own)
+          (subst (λ (s : Settings). left_at seat.desk ≡ fresh (left_at found.0.desk).failing
+          (open_requests s (left_at found.0.desk).failing (all_requests settings trace (rows_begun later) (state after) number))) is.settings left)
+
+      first_later : HasNotBegun stage (world_at before old) → HasBegun trace later (world_at after new)
+      first_later none =
+          let one : World = world_at before old in
+          let other : World = world_at after new in
+          let first : slice_get (rounds trace settings.window) 0 ≡ Some round =
+          subst (λ (n : ℕ). slice_get (rounds trace settings.window) n ≡ Some round) none.none
+          (subst (λ (rs : List Round). slice_get rs begun ≡ Some round) (ap (λ (s : Source). s.rounds) made) next) in
+          let rows : rows_begun stage ≡ [] = ap (λ (n : ℕ). rows_of (take n all)) none.none in
+          let opens : BeginsRound trace [] round one other = subst (λ (rs : List Row). BeginsRound trace rs round one other) rows (begins_round trace made) in
+          record {
+            in_round = world_begins settings trace one other round none.is_new first opens;
+            count = ap (λ (n : ℕ). n + 1) (none.none ∙ sym (begins_done settings trace one other round none.is_new first opens));
+            rows = sym (begins_rows settings trace one other round none.is_new first opens);
+          }
+
+      next_later : HasBegun trace stage (world_at before old) → HasBegun trace later (world_at after new)
+      next_later has =
+          let one : World = world_at before old in
+          let other : World = world_at after new in
+          let underway = has.in_round.underway in
+          let place : begun ≡ suc underway.done = has.count ∙ add-one underway.done in
+          let second : slice_get (rounds trace settings.window) (suc underway.done) ≡ Some round =
+          subst (λ (n : ℕ). slice_get (rounds trace settings.window) n ≡ Some round) place
+          (subst (λ (rs : List Round). slice_get rs begun ≡ Some round) (ap (λ (s : Source). s.rounds) made) next) in
+          let rows : rows_begun stage ≡ rows_of (take (suc underway.done) (rounds trace settings.window)) =
+          ap₂ (λ (n : ℕ) (rs : List Round). rows_of (take n rs)) place (ap (λ (s : Source). s.rounds) made) in
+          let opens : BeginsRound trace (rows_of (take (suc underway.done) (rounds trace settings.window))) round one other =
+          subst (λ (rs : List Row). BeginsRound trace rs round one other) rows (begins_round trace made) in
+          let over : RoundIsOver settings trace one has.in_round =
+          subst (λ (n : ℕ). NobodyHasWork settings trace (rows_now settings trace before underway) n before) has.rows
+          (subst (λ (rs : List Row). NobodyHasWork settings trace rs old_place before) (rows_same trace stage one made has)
+          (nobody_works trace stage asked.tasks before old world idle made)) in
+          record {
+            in_round = world_goes_on settings trace one other round has.in_round over second opens;
+            count = ap (λ (n : ℕ). n + 1) (place ∙ sym (goes_done settings trace one other round has.in_round over second opens));
+            rows = sym (goes_rows settings trace one other round has.in_round over second opens);
+          }
+
+      lawful_later : IsLawful trace later after new
+      lawful_later = record {
+        run = inr (elim was.run [ inl none ↦ first_later none | inr has ↦ next_later has ]);
+        desks = desk_later;
+      }
+
+    -- the world once the round has begun
+    pub world_later : IsWorld later tasks after new
+    world_later = record {
+      range = world.range;
+      within = let below : begun < length all = slice_get_within all begun round next in omega (arith, below);
+      asked = tasks_later (length after);
+      count = begins.count ∙ world.count;
+      each_seat = λ number seat here.
+          let found = begins.each number seat here in
+          seat_later number found.0 seat (world.each_seat number found.0 found.1.0) found.1.1;
+      made = world.made;
+      lawful = λ trace made. lawful_later trace made;
+    }
