@@ -6,7 +6,8 @@ use Rattle.std.proofs.lemmas.Bool.{eq-eqb, ne_eqb}
 use Rattle.std.proofs.lemmas.List.Elements.{All-cons, All-head, All-tail}
 use Rattle.omega_model.proofs.Growing.{by_place_push_where}
 use Rattle.omega_model.proofs.Standing.{after_entry-other, has_left-other, standing_push}
-use Rattle.omega_model.specs.Requests.{failed, scheduler_of}
+use Rattle.omega_model.specs.Requests.{failed}
+use Rattle.omega_model.specs.Routing.{scheduler_of}
 use Rattle.omega_model.specs.State.{reply_of}
 use Rattle.omega_model.specs.Work.{Agrees, AgreesWithFirst, HasLeft, IsDue, Standing, after_entry, after_outcomes, ends_request, failing_after, failing_with, fresh, is_commit_of, moved_on, outcomes_of, rest_of, standing_of}
 use Rattle.omega_model.specs.declared.claims.Judgement.{Judgement}

@@ -13,7 +13,8 @@ use Rattle.omega_model.specs.Feed.{rounds}
 use Rattle.omega_model.specs.Lawful.{opened, rows_of}
 use Rattle.omega_model.specs.OpenRequests.{is_worked_on, open_requests as all_requests}
 use Rattle.omega_model.specs.Policy.{schedulers}
-use Rattle.omega_model.specs.Requests.{failed, requests, scheduler_of}
+use Rattle.omega_model.specs.Requests.{failed, requests}
+use Rattle.omega_model.specs.Routing.{scheduler_of}
 use Rattle.omega_model.specs.State.{state}
 use Rattle.omega_model.specs.Stepping.{BeginsRound, IsInRound}
 use Rattle.omega_model.specs.Wanted.{WantedTask, wanted, wanted_after}

@@ -10,7 +10,8 @@ use Rattle.std.proofs.lemmas.List.Elements.{All-head}
 use Rattle.omega_model.specs.Feed.{rounds}
 use Rattle.omega_model.specs.Lawful.{opened, rows_of}
 use Rattle.omega_model.specs.Policy.{schedulers}
-use Rattle.omega_model.specs.Requests.{failed, requests, scheduler_of}
+use Rattle.omega_model.specs.Requests.{failed, requests}
+use Rattle.omega_model.specs.Routing.{scheduler_of}
 use Rattle.omega_model.specs.Stepping.{IsInRound, Step, rows_end}
 use Rattle.omega_model.specs.Wanted.{WantedTask}
 use Rattle.omega_model.specs.Work.{HasLeft, Standing, commits_of, fresh, is_commit_of, standing_of}

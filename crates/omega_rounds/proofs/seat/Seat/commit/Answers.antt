@@ -19,7 +19,7 @@ unreachable-requires c =
 
 pub of-requires-clause-start : goal.of-requires-clause-start
 of-requires-clause-start c =
-    c.start.ensures.drawn ∙ start_of_seat c.args.settings.now c.args.cell.now.history c.args.scheduler c.args.self.now _ c.requires.seat
+    c.start-start.ensures.drawn ∙ start_of_seat c.args.settings.now c.args.cell.now.history c.args.scheduler c.args.self.now _ c.requires.seat
 
 pub take-requires-clause-answers : goal.take-requires-clause-answers
 take-requires-clause-answers c =
