@@ -162,4 +162,3 @@ fn replay_and_write<K: Sink>(
         history,
     }
 }
-READ_THE_FILE_LEAD_NOTE_READ_ME_AT_THE_TOP_OF_YOUR_CLONE;
