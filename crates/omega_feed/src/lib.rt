@@ -11,10 +11,12 @@ mod entries;
 mod jobs;
 mod ordered;
 mod tasks;
+mod unplaced;
 mod wanted;
 
 pub use jobs::RoutedJob;
 pub use ordered::rounds;
+pub use unplaced::{WaitingTasks, waiting};
 pub use wanted::Wanted;
 
 #[cfg(test)]

@@ -1,0 +1,216 @@
+-- What an index tells, when machines are changed and when it is told.
+use Rattle.std.proofs.Common.{◌≡◌, ℕ, suc, ◌+◌, ◌<◌, ◌≤◌, Bool, true, false, ◌||◌, ◌&&◌, nat_eq, nat_lt, List, [], ◌∷◌, ◌++◌, map, set, length, get_or, drop, min, position, slice_get, Option, Some, None, refl, sym, ap, ap₂, ◌∙◌, subst, arith, if◌then◌else◌, ◌==◌}
+use Rattle.std.specs.List.{list_any, zip, position_or_len, IsDistinct, AllByRecursion}
+use Rattle.std.proofs.lemmas.Bool.{both_ways, eqb-true, eq-eqb, lt-ltb, ltb-true, false_from_ne_true}
+use Rattle.std.proofs.lemmas.List.{length-append, length-map}
+use Rattle.std.proofs.lemmas.Option.{cond_some}
+use Rattle.std.proofs.lemmas.Map.Keys.{IsDistinct-head, IsDistinct-tail}
+use Rattle.omega_model.specs.Cell.{use_on}
+use Rattle.omega_model.specs.Machines.{numbers_of, is_listed, change, ensured, new_machine}
+use Rattle.omega_model.specs.Need.{minus, plus}
+use Rattle.omega_model.specs.Touches.{is_placed, places_on}
+use Rattle.omega_model.specs.declared.cells.Machine.{Machine}
+use Rattle.omega_model.specs.declared.cells.Need.{Need}
+use Rattle.omega_model.specs.declared.cells.Task.{Task}
+use Rattle.omega_model.specs.declared.claims.Claim.{Claim}
+use Rattle.omega_model.specs.declared.claims.Judgement.{Judgement}
+use Rattle.omega_machines.specs.declared.MachineState.{MachineState}
+use Rattle.omega_machines.specs.Table.{machines_of, free_at, free_if_up}
+use Rattle.omega_running.specs.Order.{Each}
+use Rattle.omega_board.specs.Board.{IsCounted}
+use Rattle.omega_board.proofs.Counts.{zip_more, zip_past}
+use Rattle.omega_report.specs.Shares.{no_share, share_from, share_on}
+use Rattle.omega_report.specs.Telling.{TellsBut, grown}
+use Rattle.omega_report.specs.declared.shares.Share.{Share}
+use Rattle.omega_model.proofs.Amounts.{need_is}
+use Rattle.omega_model.proofs.Lists.{by_answer}
+
+-- an index has a place for each machine
+pub told_length : (stale : ℕ → Bool) (tasks : List Task) (shares : List Share) (ms : List Machine) → TellsBut stale tasks shares ms → length shares ≡ length ms
+told_length stale tasks [] [] told = refl
+told_length stale tasks [] (m ∷ ms) told = absurd told
+told_length stale tasks (f ∷ fs) [] told = absurd told
+told_length stale tasks (f ∷ fs) (m ∷ ms) told = ap suc (told_length stale tasks fs ms told.1)
+
+-- it tells all where no machine is left out
+pub told_all : (tasks : List Task) (shares : List Share) (ms : List Machine) → TellsBut (λ id. false) tasks shares ms → shares ≡ map (share_on tasks) ms
+told_all tasks [] [] told = refl
+told_all tasks [] (m ∷ ms) told = absurd told
+told_all tasks (f ∷ fs) [] told = absurd told
+told_all tasks (f ∷ fs) (m ∷ ms) told = ap₂ (λ (x : Share) xs. x ∷ xs) (told.0 refl) (told_all tasks fs ms told.1)
+
+-- while other tasks run that use as much on some machines, it tells of those
+pub tells_while : (stale : ℕ → Bool) (old now : List Task) → ((id : ℕ) → stale id ≡ false → use_on now id ≡ use_on old id) → (ms : List Machine)
+    → TellsBut stale now (map (share_on old) ms) ms
+tells_while stale old now same [] = tt
+tells_while stale old now same (m ∷ ms) = (
+  λ fresh. ap (λ (n : Need). if m.up then record { used = n; capacity = m.cap } else no_share) (sym (same m.id fresh)),
+  tells_while stale old now same ms,
+)
+
+-- numbers differ either way
+pub apart : (a b : ℕ) → (a == b) ≡ false → (b == a) ≡ false
+apart a b differ = by_answer (b == a) (λ t. absurd (both_ways _ differ (eq-eqb _ _ (sym (eqb-true _ _ t))))) (λ f. f)
+
+-- a machine that isn't listed needn't be left out
+pub tells_unlisted : (stale : ℕ → Bool) (tasks : List Task) (id : ℕ) (shares : List Share) (ms : List Machine) → is_listed id ms ≡ false
+    → TellsBut (λ n. id == n || stale n) tasks shares ms → TellsBut stale tasks shares ms
+tells_unlisted stale tasks id [] [] absent told = tt
+tells_unlisted stale tasks id [] (m ∷ ms) absent told = absurd told
+tells_unlisted stale tasks id (f ∷ fs) [] absent told = absurd told
+tells_unlisted stale tasks id (f ∷ fs) (m ∷ ms) absent told =
+    by_answer (m.id == id)
+    (λ t. absurd (both_ways true (rw t at absent) refl))
+    (λ other.
+    let differ : (id == m.id) ≡ false = apart m.id id other in (
+      λ fresh. told.0 (rw (differ, fresh) refl),
+      tells_unlisted stale tasks id fs ms (rw other at absent) told.1,
+    ))
+
+-- no machine behind the one of a number has the number
+unlisted_behind : (id : ℕ) (ms : List Machine) → AllByRecursion (λ n. nat_eq id n ≡ false) (numbers_of ms) → is_listed id ms ≡ false
+unlisted_behind id [] differ = refl
+unlisted_behind id (m ∷ ms) differ =
+    let here : (m.id == id) ≡ false = apart id m.id differ.0 in
+    rw here (unlisted_behind id ms differ.1)
+
+-- what is left of a capacity without what is free is used
+rest_used : (free used cap : Need) → plus free used ≡ cap → minus cap free ≡ used
+rest_used free used cap whole =
+    let cpu : free.cpu + used.cpu ≡ cap.cpu = ap (λ (n : Need). n.cpu) whole in
+    let mem : free.mem + used.mem ≡ cap.mem = ap (λ (n : Need). n.mem) whole in
+    let disk : free.disk + used.disk ≡ cap.disk = ap (λ (n : Need). n.disk) whole in
+    need_is _ _ (omega (arith, cpu)) (omega (arith, mem)) (omega (arith, disk))
+
+-- a machine that is counted has this share
+pub counted_share : (tasks : List Task) (s : MachineState) → IsCounted tasks s → share_from s.machine.cap (free_if_up s) ≡ share_on tasks s.machine
+counted_share tasks s counted =
+    elim s.machine.up as (λ up. share_from s.machine.cap (if up then Some s.free else None) ≡ (if up then record { used = use_on tasks s.machine.id; capacity = s.machine.cap } else no_share)) [
+      | true ↦ ap (λ (n : Need). let share : Share = record { used = n; capacity = s.machine.cap } in share) (rest_used s.free (use_on tasks s.machine.id) s.machine.cap counted)
+      | false ↦ refl
+    ]
+
+-- what is told of the machine at a place
+abbrev pub IsTold : List MachineState → ℕ → ℕ → Share → Type 0
+IsTold table id place share = (m : Machine) → slice_get (machines_of table) place ≡ Some m → share ≡ share_from m.cap (free_at table id)
+
+-- a machine that is told of at its place is left out no more
+pub tells_put : (stale : ℕ → Bool) (tasks : List Task) (id : ℕ) (table : List MachineState) (shares : List Share) (place : ℕ) (share : Share)
+    → IsDistinct nat_eq (numbers_of (machines_of table)) → Each (IsCounted tasks) table
+    → position_or_len (λ machine. machine.id == id) (machines_of table) ≡ place → place < length (machines_of table) → IsTold table id place share
+    → TellsBut (λ n. id == n || stale n) tasks shares (machines_of table) → TellsBut stale tasks (set shares place share) (machines_of table)
+tells_put stale tasks id [] shares place share distinct counted is below own told = absurd (omega (arith, below))
+tells_put stale tasks id (s ∷ ss) [] place share distinct counted is below own told = absurd told
+tells_put stale tasks id (s ∷ ss) (f ∷ fs) place share distinct counted is below own told =
+    by_answer (s.machine.id == id)
+    (λ t.
+    let here : 0 ≡ place = rw t at is in
+    let others : AllByRecursion (λ n. nat_eq id n ≡ false) (numbers_of (machines_of ss)) =
+    subst (λ k. AllByRecursion (λ n. nat_eq k n ≡ false) (numbers_of (machines_of ss))) (eqb-true _ _ t) (IsDistinct-head nat_eq s.machine.id (numbers_of (machines_of ss)) distinct) in
+    let first : IsTold (s ∷ ss) id 0 share = subst (λ p. IsTold (s ∷ ss) id p share) (sym here) own in
+    let value : share ≡ share_from s.machine.cap (free_if_up s) = rw t at (first s.machine refl) in
+    subst (λ p. TellsBut stale tasks (set (f ∷ fs) p share) (machines_of (s ∷ ss))) here
+    (λ fresh. value ∙ counted_share tasks s counted.0, tells_unlisted stale tasks id fs (machines_of ss) (unlisted_behind id (machines_of ss) others) told.1))
+    (λ other.
+    let behind : ℕ = position_or_len (λ machine. machine.id == id) (machines_of ss) in
+    let counted_on : 1 + behind ≡ place = rw other at is in
+    let next : suc behind ≡ place = omega (arith, counted_on) in
+    let differ : (id == s.machine.id) ≡ false = apart s.machine.id id other in
+    let later : IsTold (s ∷ ss) id (suc behind) share = subst (λ p. IsTold (s ∷ ss) id p share) (sym next) own in
+    let value : IsTold ss id behind share = λ m here. rw other at (later m here) in
+    subst (λ p. TellsBut stale tasks (set (f ∷ fs) p share) (machines_of (s ∷ ss))) next (
+      λ fresh. told.0 (rw (differ, fresh) refl),
+      tells_put stale tasks id ss fs behind share (IsDistinct-tail nat_eq s.machine.id (numbers_of (machines_of ss)) distinct) counted.1 refl (omega (arith, below, next)) value told.1,
+    ))
+
+module _ (stale : ℕ → Bool) (tasks : List Task) (id : ℕ) (out : stale id ≡ true) where
+  -- a machine that is left out may change
+  pub tells_changed : (f : Machine → Machine) → ((m : Machine) → (f m).id ≡ m.id) → (shares : List Share) (ms : List Machine)
+      → TellsBut stale tasks shares ms → TellsBut stale tasks shares (change id f ms)
+  tells_changed f keeps [] [] told = tt
+  tells_changed f keeps [] (m ∷ ms) told = absurd told
+  tells_changed f keeps (x ∷ xs) [] told = absurd told
+  tells_changed f keeps (x ∷ xs) (m ∷ ms) told =
+      let rest = tells_changed f keeps xs ms told.1 in
+      by_answer (m.id == id)
+      (λ t. rw t (λ fresh. absurd (both_ways (stale (f m).id) fresh (ap stale (keeps m ∙ eqb-true _ _ t) ∙ out)), rest))
+      (λ e. rw e (told.0, rest))
+
+  -- and be new
+  tells_more : (shares : List Share) (ms : List Machine) → TellsBut stale tasks shares ms → TellsBut stale tasks (shares ++ no_share ∷ []) (ms ++ new_machine id ∷ [])
+  tells_more [] [] told = (λ fresh. absurd (both_ways _ fresh out), tt)
+  tells_more [] (m ∷ ms) told = absurd told
+  tells_more (x ∷ xs) [] told = absurd told
+  tells_more (x ∷ xs) (m ∷ ms) told = (told.0, tells_more xs ms told.1)
+
+-- an index with a place for each machine isn't longer
+pub tells_grown : (stale : ℕ → Bool) (tasks : List Task) (shares : List Share) (ms : List Machine) → TellsBut stale tasks shares ms
+    → TellsBut stale tasks (grown (length ms) shares) ms
+tells_grown stale tasks shares ms told =
+    let same : length shares ≡ length ms = told_length stale tasks shares ms told in
+    let no : nat_lt (length shares) (length ms) ≡ false = false_from_ne_true _ (λ less. let below : length shares < length ms = ltb-true _ _ less in absurd (omega (arith, below, same))) in
+    rw no told
+
+-- a machine is listed that is left out
+pub tells_ensured : (stale : ℕ → Bool) (tasks : List Task) (id : ℕ) → stale id ≡ true → (shares : List Share) (ms : List Machine) → TellsBut stale tasks shares ms
+    → TellsBut stale tasks (grown (length (ensured id ms)) shares) (ensured id ms)
+tells_ensured stale tasks id out shares ms told =
+    by_answer (is_listed id ms)
+    (λ t. rw t (tells_grown stale tasks shares ms told))
+    (λ f.
+    let same : length shares ≡ length ms = told_length stale tasks shares ms told in
+    let long : length (ms ++ new_machine id ∷ []) ≡ length ms + 1 = length-append ms (new_machine id ∷ []) in
+    let more : nat_lt (length shares) (length (ms ++ new_machine id ∷ [])) ≡ true = lt-ltb _ _ (omega (arith, same, long)) in
+    rw (f, more) (tells_more stale tasks id out shares ms told))
+
+-- a machine was told of at its position
+pub told_at : (stale : ℕ → Bool) (tasks : List Task) (id : ℕ) (table shown : List MachineState) (shares after : List Share) (place : ℕ) (value : Share)
+    → shown ≡ table → IsDistinct nat_eq (numbers_of (machines_of table)) → Each (IsCounted tasks) table → Some place ≡ position (λ machine. machine.id == id) (machines_of shown)
+    → IsTold table id place value
+    → after ≡ set shares place value → TellsBut (λ n. id == n || stale n) tasks shares (machines_of table) → TellsBut stale tasks after (machines_of table)
+told_at stale tasks id table shown shares after place value same distinct counted placed is written told =
+    let found = cond_some _ _ _ (sym (subst (λ t. Some place ≡ position (λ machine. machine.id == id) (machines_of t)) same placed)) in
+    let below : place < length (machines_of table) = subst (λ p. p < length (machines_of table)) found.1 (ltb-true _ _ found.0) in
+    subst (λ fs. TellsBut stale tasks fs (machines_of table)) (sym written)
+    (tells_put stale tasks id table shares place value distinct counted found.1 below is told)
+
+-- it tells as much where as much is left out
+pub tells_where : (s t : ℕ → Bool) → ((id : ℕ) → t id ≡ false → s id ≡ false) → (tasks : List Task) (shares : List Share) (ms : List Machine) → TellsBut s tasks shares ms → TellsBut t tasks shares ms
+tells_where s t fewer tasks [] [] told = tt
+tells_where s t fewer tasks [] (m ∷ ms) told = absurd told
+tells_where s t fewer tasks (f ∷ fs) [] told = absurd told
+tells_where s t fewer tasks (f ∷ fs) (m ∷ ms) told = (λ fresh. told.0 (fewer m.id fresh), tells_where s t fewer tasks fs ms told.1)
+
+-- an index has a place for each state
+pub told_states : (stale : ℕ → Bool) (tasks : List Task) (shares : List Share) (table : List MachineState) → TellsBut stale tasks shares (machines_of table) → length shares ≡ length table
+told_states stale tasks shares table told = told_length stale tasks shares (machines_of table) told ∙ length-map table (λ (s : MachineState). s.machine)
+
+-- what the claims from a place on leave out
+abbrev pub later_placed : List Claim → List Judgement → ℕ → ℕ → Bool
+later_placed claims reply i id = list_any (places_on id) (zip (drop i claims) (drop i reply))
+
+module _ (claims : List Claim) (reply : List Judgement) (i : ℕ) (claim : Claim) (judgement : Judgement) (below_claims : i < length claims) (below_reply : i < length reply)
+    (is : claim ≡ get_or claims i claim) (told : judgement ≡ get_or reply i judgement)
+    (tasks : List Task) (shares : List Share) (ms : List Machine) where
+  split : TellsBut (later_placed claims reply i) tasks shares ms
+      → TellsBut (λ id. (is_placed judgement.verdict && claim.machine == id) || later_placed claims reply (i + 1) id) tasks shares ms
+  split so =
+      let rest = zip (drop (i + 1) claims) (drop (i + 1) reply) in
+      let more : zip (drop i claims) (drop i reply) ≡ (claim, judgement) ∷ rest =
+      zip_more claims reply i claim judgement below_claims below_reply ∙ ap₂ (λ (c : Claim) (j : Judgement). (c, j) ∷ rest) (sym is) (sym told) in
+      subst (λ (ds : List (Claim × Judgement)). TellsBut (λ id. list_any (places_on id) ds) tasks shares ms) more so
+
+  -- the claim at a place was placed
+  pub placed_more : is_placed judgement.verdict ≡ true → TellsBut (later_placed claims reply i) tasks shares ms
+      → TellsBut (λ id. claim.machine == id || later_placed claims reply (i + 1) id) tasks shares ms
+  placed_more placed so = subst (λ b. TellsBut (λ id. (b && claim.machine == id) || later_placed claims reply (i + 1) id) tasks shares ms) placed (split so)
+
+  -- or it wasn't
+  pub passed_more : is_placed judgement.verdict ≡ false → TellsBut (later_placed claims reply i) tasks shares ms → TellsBut (later_placed claims reply (i + 1)) tasks shares ms
+  passed_more passed so = subst (λ b. TellsBut (λ id. (b && claim.machine == id) || later_placed claims reply (i + 1) id) tasks shares ms) passed (split so)
+
+-- behind the last claim nothing is left out
+pub placed_past : (claims : List Claim) (reply : List Judgement) (i : ℕ) (tasks : List Task) (shares : List Share) (ms : List Machine) → min (length claims) (length reply) ≤ i
+    → TellsBut (later_placed claims reply i) tasks shares ms → TellsBut (λ id. false) tasks shares ms
+placed_past claims reply i tasks shares ms past so =
+    subst (λ (ds : List (Claim × Judgement)). TellsBut (λ id. list_any (places_on id) ds) tasks shares ms) (zip_past claims reply i past) so

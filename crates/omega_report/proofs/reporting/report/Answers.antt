@@ -1,0 +1,23 @@
+use Rattle.std.proofs.Common.{◌≡◌, ℕ, List, refl, ap, ◌∙◌}
+use Rattle.omega_model.specs.Policy.{schedulers}
+use Rattle.omega_model.specs.ReportForms.{in_format, printed_report}
+use Rattle.omega_report.proofs.Summed.{if_ok, length_tallies, report_said}
+use Rattle.omega_report.proofs.reporting.report.Goals as goal
+use Rattle.std.specs.Prelude.{length}
+
+pub summed_up-requires-clause-counted : goal.summed_up-requires-clause-counted
+summed_up-requires-clause-counted c =
+    ap length c.in_ok-pass.ensures.counted ∙ length_tallies (schedulers c.args.settings.now) c.args.history.now
+
+pub returns : goal.returns
+returns c =
+    let settings = c.args.settings.now in
+    let trace = c.args.tables.now in
+    let history = c.args.history.now in
+    let page = c.in_ok-summed_up.field-0 in
+    let whole = c.in_ok-summed_up.ensures _ _ history refl c.in_ok-pass.ensures in
+    let said : in_format page.format page.lines ≡ printed_report settings trace history =
+    report_said settings trace history page c.new-page.result.lines c.first.new.self.lines c.new-page.ensures.lines c.in_ok-first.ensures.lines
+    (whole.0 ∙ c.in_ok-first.ensures.format ∙ c.new-page.ensures.format) whole.1 in
+    if_ok (λ (bytes : List ℕ). bytes ≡ in_format page.format page.lines) (λ (bytes : List ℕ). bytes ≡ printed_report settings trace history) c.finish.result
+    (λ bytes is. is ∙ said) c.finish.ensures

@@ -1,0 +1,19 @@
+use Rattle.std.proofs.Common.{◌≡◌, ◌==◌, ◌||◌, Bool, true, ℕ, false}
+use Rattle.omega_machines.specs.Table.{machines_of}
+use Rattle.omega_report.proofs.Tells.{told_all, told_states, tells_where}
+use Rattle.omega_report.proofs.telling.tell_one.Goals as goal
+
+pub tell-requires : goal.tell-requires
+tell-requires c = told_states _ c.args.board.now.tasks c.args.totals.now.shares c.args.board.now.table c.requires
+
+pub returns : goal.returns
+returns c =
+    let alone : ℕ → Bool = λ id. c.args.machine == id in
+    let either : ℕ → Bool = λ id. c.args.machine == id || false in
+    told_all c.args.board.now.tasks c.tell.new.totals.shares (machines_of c.args.board.now.table)
+    (c.tell.ensures (λ id. false)
+    (tells_where alone either (λ id fresh. or-false_sym (alone id) fresh) c.args.board.now.tasks c.args.totals.now.shares (machines_of c.args.board.now.table) c.requires))
+  where
+    or-false_sym : (b : Bool) → (b || false) ≡ false → b ≡ false
+    or-false_sym false e = e
+    or-false_sym true e = e

@@ -1,0 +1,10 @@
+pub mod Counted
+pub mod Lines
+pub mod Pages
+pub mod Readings
+pub mod Spelling
+pub mod Shares
+pub mod Telling
+pub mod Tallies
+pub mod Failing
+pub mod Passing

@@ -1,0 +1,96 @@
+//! The report of a history.
+ghost use Rattle.std.specs.Prelude.{◌≡◌, ◌++◌, ◌<◌, ◌≤◌, ◌^◌, List, IfOk, OnOk, count_by, length, nat_le};
+ghost use Rattle.omega_model.specs.Applying.{EachMayApply};
+ghost use Rattle.omega_model.specs.Policy.{schedulers};
+ghost use Rattle.omega_model.specs.Report.{Line};
+ghost use Rattle.omega_model.specs.ReportForms.{printed_report};
+ghost use Rattle.omega_model.specs.ReportLines.{final_lines};
+ghost use Rattle.omega_model.specs.declared.entries.Entry.{Entry};
+ghost use Rattle.omega_model.specs.declared.settings.Format.{Format};
+ghost use Rattle.omega_report.specs.Failing.{count_of};
+ghost use Rattle.omega_report.specs.Passing.{lines_of_all, IsAfter};
+
+use crate::counts::Counts;
+use crate::failures::Failures;
+use crate::page::Page;
+use crate::pass::{Pass, passed};
+use omega_feed::{rounds, waiting};
+use omega_model::{Bytes, Entry, NoMemory, Settings, TraceTables};
+use std::alloc::Global;
+
+/// The bytes of the report of a history in the settings' format: the lines of its entries, each on the
+/// state of those before it, what is used at the end of each round, and what the history comes to. For
+/// `generate` there is only the first line and what the history comes to.
+///
+/// Each entry can be applied to the state of those before it, there are at most 30 batch schedulers,
+/// and the window of a round isn't 0.
+///
+/// Costs what the entries change, the lines, and two sorts of the rows by time. No line costs the
+/// machines or the tasks that run.
+pub fn report(
+    alloc: Global,
+    settings: &Settings,
+    tables: &TraceTables,
+    history: &[Entry],
+) -> Result<Bytes, NoMemory>
+    requires batch { settings.now.batch ≤ 30 }
+    requires window { 0 < settings.now.window }
+    requires applied { EachMayApply history.now }
+    ensures { IfOk result (λ bytes. bytes ≡ printed_report settings.now tables.now history.now) }
+{
+    let mut page = Page::new(alloc, settings.format);
+    page.first()?;
+    let pass = passed(alloc, settings, page, history)?;
+    summed_up(alloc, settings, tables, history.len() as u64, pass)?.finish()
+}
+
+// The page of a pass over so many entries, with what they come to.
+fn summed_up(
+    alloc: Global,
+    settings: &Settings,
+    tables: &TraceTables,
+    entries: u64,
+    pass: Pass,
+) -> Result<Page, NoMemory>
+    requires batch { settings.now.batch ≤ 30 }
+    requires window { 0 < settings.now.window }
+    requires counted { length pass.tally ≡ schedulers settings.now }
+    ensures { IfOk result (λ page. (format : Format) (lines : List Line) (history : List Entry)
+        → length history ≡ entries → IsAfter (schedulers settings.now) format lines history pass
+        → (page.format ≡ format) × (page.lines ≡ lines ++ final_lines settings.now tables.now history)) }
+{
+    let rounds = rounds(alloc, tables, settings.window)?.len();
+    let left = waiting(alloc, tables, pass.cell.board())?;
+    let abandoned = count_given_up(left.jobs.as_slice(), settings.give_up, &pass.failures);
+    let Pass {
+        mut page,
+        cell,
+        tally,
+        ..
+    } = pass;
+    page.sizes(entries, rounds as u64)?;
+    push_counts(&mut page, tally.counts())?;
+    page.usage(cell.used(), cell.capacity())?;
+    page.unplaced(left.tasks, abandoned)?;
+    Ok(page)
+}
+
+// Appends the line of each scheduler with its counts.
+fn push_counts(page: &mut Page, counts: &[Counts]) -> Result<(), NoMemory>
+    requires { length counts.now < 2 ^ 32 }
+    ensures format { OnOk result (page.new.format ≡ page.old.format) }
+    ensures lines { OnOk result (page.new.lines ≡ page.old.lines ++ lines_of_all counts.now) }
+{
+    for (scheduler, of_one) in counts.iter().enumerate() {
+        page.counts(scheduler as u32, of_one)?;
+    }
+    Ok(())
+}
+
+// How many of these jobs are given up after so many commits that failed.
+fn count_given_up(jobs: &[u64], give_up: u32, failures: &Failures) -> u64
+    ensures { result ≡ count_by (λ job. nat_le give_up (count_of failures.now job)) jobs.now }
+{
+    let limit = u64::from(give_up);
+    jobs.iter().filter(|job| limit <= failures.of(**job)).count() as u64
+}
