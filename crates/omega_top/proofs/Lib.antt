@@ -3,7 +3,6 @@ pub mod WorkInRounds
 pub mod Attempting
 pub mod Completing
 pub mod Fitting
-pub mod Lines
 pub mod Placing
 pub mod Pushing
 pub mod Refusing

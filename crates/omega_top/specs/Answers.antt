@@ -12,11 +12,10 @@ use Rattle.omega_model.specs.declared.results.Status.TheVariants.{Done, Usage, R
 use Rattle.omega_model.specs.declared.rows.Table.{Table}
 use Rattle.omega_model.specs.declared.rows.TraceTables.{TraceTables}
 use Rattle.omega_model.specs.declared.settings.Command.TheVariants.{Replay}
-use Rattle.omega_model.specs.declared.settings.Format.TheVariants.{Text}
 use Rattle.omega_model.specs.declared.settings.Preempt.TheVariants.{Nobody}
 use Rattle.omega_model.specs.declared.settings.Settings.{Settings}
 use Rattle.omega_model.specs.Limits.{IsWithinLimits}
-use Rattle.omega_model.specs.Report.{report}
+use Rattle.omega_model.specs.ReportForms.{printed_report}
 use Rattle.omega_rounds.specs.Gangs.{GangsAreWhole}
 
 -- the settings are in their ranges, and what isn't built yet has its default
@@ -27,7 +26,6 @@ pub record IsBuilt (settings : Settings) : Type 0 where
   pub rule : settings.rule ≡ Fine
   pub mode : settings.mode ≡ Incremental
   pub preempt : settings.preempt ≡ Nobody
-  pub format : settings.format ≡ Text
 
 -- what may be answered of tables that tell these bytes: the first refusal of theirs, a read that
 -- fails before any of them, or, where there is none, how the run ended
@@ -103,7 +101,7 @@ pub record IsSomeRun (settings : Settings) (history : List Entry) (status : Stat
   pub trace : TraceTables
   pub within : IsWithinLimits trace
   pub whole : IsWholeRun settings trace history status
-  pub written : Writes (report settings trace history) before now status
+  pub written : Writes (printed_report settings trace history) before now status
 
 -- nothing is written by a run that doesn't reach its report
 abbrev pub WritesNothing : Option (List ℕ) → Option (List ℕ) → Status → Type 0

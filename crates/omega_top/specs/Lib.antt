@@ -1,5 +1,4 @@
 pub mod Replays
-pub mod Words
 pub mod Faults
 pub mod Answers
 pub mod Counts

@@ -1,7 +1,7 @@
 -- A history with the board after it and the failed commits in it.
 use Rattle.std.specs.Prelude.{◌≡◌, ℕ, List, [], ◌∷◌, ◌++◌, take}
 use Rattle.omega_board.specs.Board.{BoardState, cell_of}
-use Rattle.omega_model.specs.Applying.{CapacityIsInRange, EndsRunning, PlacesInOrder}
+use Rattle.omega_model.specs.Applying.{CapacityIsInRange, EachMayApply, EndsRunning, PlacesInOrder}
 use Rattle.omega_machines.specs.Table.{seq_at}
 use Rattle.omega_model.specs.Legal.{Follows, Legal, Sound}
 use Rattle.omega_model.specs.Requests.{failed}
@@ -17,12 +17,13 @@ abbrev pub NeverOvercommits : List Entry → Type 0
 NeverOvercommits history = (n : ℕ) → Sound (state (take n history))
 
 -- the board has the state of the history and its sequence numbers, the history is legal and never
--- overcommits, and each job's failed commits are counted
+-- overcommits, each entry could be applied where it stands, and each job's failed commits are counted
 pub record Replays (board : BoardState) (failures : Failures) (history : List Entry) : Type 0 where
   pub current : cell_of board ≡ state history
   pub numbered : (id : ℕ) → seq_at board.table id ≡ seq history id
   pub legal : Legal history
   pub sound : NeverOvercommits history
+  pub applied : EachMayApply history
   pub counted : (job : ℕ) → count_of failures job ≡ failed history job
 
 -- an entry may follow a history and be applied to its state: a capacity is at most the greatest

@@ -7,7 +7,6 @@ mod failures;
 mod planning;
 mod replaying;
 mod replying;
-mod reporting;
 mod rounds;
 mod scratch;
 mod status;

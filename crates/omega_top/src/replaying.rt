@@ -1,7 +1,7 @@
 //! A history that grows entry by entry, with the board after it.
 ghost use Rattle.std.specs.Prelude.{◌≡◌, ◌++◌, ◌∷◌, [], IfOk, IfSome, IsTrue, false, length, ℕ};
 ghost use Rattle.omega_board.specs.Board.{cell_of};
-ghost use Rattle.omega_model.specs.Applying.{ListsOrHasRoom, machine_in};
+ghost use Rattle.omega_model.specs.Applying.{EachMayApply, ListsOrHasRoom, machine_in};
 ghost use Rattle.omega_cell.specs.Laws.{EvictionsGoDown, NoGangIsSplit};
 ghost use Rattle.omega_model.specs.Legal.{Legal, Sound};
 ghost use Rattle.omega_model.specs.Plan.{plan};
@@ -77,6 +77,7 @@ impl Replay {
         ensures history { result ≡ self }
         ensures legal { Legal result }
         ensures sound { NeverOvercommits result }
+        ensures applied { EachMayApply result }
         ensures gangs { NoGangIsSplit result }
         ensures evictions { EvictionsGoDown result }
     {

@@ -6,6 +6,7 @@ ghost use Rattle.std.specs.Prelude.{◌≡◌, ◌++◌, List, IfOk, OnOk};
 ghost use Rattle.std.specs.List.{filter};
 ghost use Rattle.omega_cell.specs.Laws.{EvictionsGoDown, NoGangIsSplit};
 ghost use Rattle.omega_feed.specs.Asked.{asked_after};
+ghost use Rattle.omega_model.specs.Applying.{EachMayApply};
 ghost use Rattle.omega_model.specs.Lawful.{Lawful, opened};
 ghost use Rattle.omega_model.specs.Legal.{Legal};
 ghost use Rattle.omega_model.specs.OpenRequests.{is_worked_on};
@@ -35,6 +36,7 @@ pub fn replayed(
     ensures lawful { IfOk result (λ history. Lawful settings.now trace.now history) }
     ensures legal { IfOk result (λ history. Legal history) }
     ensures sound { IfOk result (λ history. NeverOvercommits history) }
+    ensures applied { IfOk result (λ history. EachMayApply history) }
     ensures gangs { IfOk result (λ history. NoGangIsSplit history) }
     ensures evictions { IfOk result (λ history. EvictionsGoDown history) }
 {

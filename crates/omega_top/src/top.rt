@@ -4,7 +4,7 @@ ghost use Rattle.omega_cell.specs.Laws.{EvictionsGoDown, NoGangIsSplit};
 ghost use Rattle.omega_io.specs.Edge.{Rose, Tells};
 ghost use Rattle.omega_model.specs.Legal.{Legal};
 ghost use Rattle.omega_model.specs.Refusals.{first_refusal};
-ghost use Rattle.omega_model.specs.Report.{report};
+ghost use Rattle.omega_model.specs.ReportForms.{printed_report};
 ghost use Rattle.omega_model.specs.Trace.{trace_of};
 ghost use Rattle.omega_model.specs.declared.results.Status.TheVariants.{Usage, WriteFault, NoMemory};
 ghost use Rattle.omega_model.specs.declared.rows.Table.{Table};
@@ -12,10 +12,10 @@ ghost use Rattle.omega_top.specs.Replays.{NeverOvercommits};
 ghost use Rattle.omega_top.specs.Answers.{Answers, EndsRun, HasHistory, HasReadCause, HasWholeGangs, IsBuilt, IsSomeRun, IsWholeRun, NoneRose, Writes, WritesNothing};
 ghost use Rattle.omega_top.specs.Chosen.{AreChosenBy, AreTaken, EntersChosen};
 
-use crate::reporting::report;
 use crate::rounds::replayed;
 use omega_io::{Gate, Sink, Tables, write_all};
 use omega_model::{Done, Seq, Settings, Status, TraceTables};
+use omega_report::report;
 use omega_tables::read_tables;
 use omega_words::read_words;
 use std::alloc::Global;
@@ -62,7 +62,7 @@ pub fn omega<T: Tables, K: Sink, G: Gate>(
     ensures history { HasHistory result.history result.status }
     ensures written { (bytes : Table → List ℕ) → Tells (T.rest tables.old) bytes
         → IfSome result.settings
-        (λ settings. Writes (report settings (trace_of bytes) result.history) (K.written out.old) (K.written out.new) result.status) }
+        (λ settings. Writes (printed_report settings (trace_of bytes) result.history) (K.written out.old) (K.written out.new) result.status) }
     ensures nothing { WritesNothing (K.written out.old) (K.written out.new) result.status }
     ensures to_end { (bytes : Table → List ℕ) → Tells (T.rest tables.old) bytes → result.status ≡ Status.Done → Tells (T.rest tables.new) (λ table. []) }
 {
@@ -103,7 +103,7 @@ pub fn omega_with<T: Tables, K: Sink, G: Gate>(
     ensures evictions { EvictionsGoDown result.history }
     ensures history { HasHistory result.history result.status }
     ensures written { (bytes : Table → List ℕ) → Tells (T.rest tables.old) bytes
-        → Writes (report settings.now (trace_of bytes) result.history) (K.written out.old) (K.written out.new) result.status }
+        → Writes (printed_report settings.now (trace_of bytes) result.history) (K.written out.old) (K.written out.new) result.status }
     ensures nothing { WritesNothing (K.written out.old) (K.written out.new) result.status }
     ensures to_end { (bytes : Table → List ℕ) → Tells (T.rest tables.old) bytes → result.status ≡ Status.Done → Tells (T.rest tables.new) (λ table. []) }
 {
@@ -144,12 +144,12 @@ fn replay_and_write<K: Sink>(
     ensures gangs { NoGangIsSplit result.history }
     ensures evictions { EvictionsGoDown result.history }
     ensures history { HasHistory result.history result.status }
-    ensures written { Writes (report settings.now trace.now result.history) (K.written out.old) (K.written out.new) result.status }
+    ensures written { Writes (printed_report settings.now trace.now result.history) (K.written out.old) (K.written out.new) result.status }
 {
     let Ok(history) = replayed(alloc, settings, trace) else {
         return refused(alloc, Status::NoMemory, Some(*settings));
     };
-    let Ok(bytes) = report(alloc, history.as_slice()) else {
+    let Ok(bytes) = report(alloc, settings, trace, history.as_slice()) else {
         return refused(alloc, Status::NoMemory, Some(*settings));
     };
     let status = match write_all(out, bytes.as_slice()) {

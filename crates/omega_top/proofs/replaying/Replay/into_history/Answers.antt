@@ -7,3 +7,6 @@ returns-clause-gangs c = rw c.of.ensures (no_gang_is_split _ c.self.invariant.le
 
 pub returns-clause-evictions : goal.returns-clause-evictions
 returns-clause-evictions c = rw c.of.ensures (evictions_go_down _ c.self.invariant.legal)
+
+pub returns-clause-applied : goal.returns-clause-applied
+returns-clause-applied c = rw c.of.ensures c.self.invariant.applied
