@@ -46,10 +46,6 @@ no_extra : has_rule (codes "extra") (rules_built built_words) ≡ false
 unfolding built_words
 no_extra = refl
 
-no_format : has_rule (codes "format") (rules_built built_words) ≡ false
-unfolding built_words
-no_format = refl
-
 no_machines : has_rule (codes "machines") (rules_built built_words) ≡ false
 unfolding built_words
 no_machines = refl
@@ -61,11 +57,11 @@ no_jobs = refl
 -- texts of the one command and of no option that isn't built give the defaults there
 defaults_kept : (texts : Text → Option Text) → command_of (texts (codes "command")) ≡ Replay
     → texts (codes "seed") ≡ None → texts (codes "batch") ≡ None → texts (codes "rule") ≡ None → texts (codes "mode") ≡ None
-    → texts (codes "preempt") ≡ None → texts (codes "extra") ≡ None → texts (codes "format") ≡ None
+    → texts (codes "preempt") ≡ None → texts (codes "extra") ≡ None
     → texts (codes "machines") ≡ None → texts (codes "jobs") ≡ None
     → KeepsDefaults (settings_by texts)
-defaults_kept texts command seed batch rule mode preempt extra format machines jobs =
-    rw (command, seed, batch, rule, mode, preempt, extra, format, machines, jobs) refl
+defaults_kept texts command seed batch rule mode preempt extra machines jobs =
+    rw (command, seed, batch, rule, mode, preempt, extra, machines, jobs) refl
 
 -- so do the texts of the matches
 pub keeps_defaults : (words : List Text) (rows : List Row) → rows ≡ matches_of (app built_words) words
@@ -76,5 +72,5 @@ keeps_defaults words rows are known =
     λ name none. ap (λ (rs : List Row). texts_of rs name) are ∙ text_absent built_words words name none in
     defaults_kept (texts_of rows) (replays (texts_of rows (codes "command")) known)
     (absent (codes "seed") no_seed) (absent (codes "batch") no_batch) (absent (codes "rule") no_rule) (absent (codes "mode") no_mode)
-    (absent (codes "preempt") no_preempt) (absent (codes "extra") no_extra) (absent (codes "format") no_format)
+    (absent (codes "preempt") no_preempt) (absent (codes "extra") no_extra)
     (absent (codes "machines") no_machines) (absent (codes "jobs") no_jobs)

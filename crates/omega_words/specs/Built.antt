@@ -10,7 +10,7 @@ built_commands = codes "replay" ∷ []
 
 -- the options that are built
 abbrev pub built_options : List (List ℕ)
-built_options = codes "tables" ∷ codes "tries" ∷ codes "give-up" ∷ codes "window" ∷ []
+built_options = codes "tables" ∷ codes "tries" ∷ codes "give-up" ∷ codes "window" ∷ codes "format" ∷ []
 
 -- the part of the table with these; it unfolds only where a proof asks for it, since it is long
 unfoldable pub built_words : WordTable
@@ -22,4 +22,5 @@ KeepsDefaults settings = settings ≡ record default_settings {
   tries = settings.tries;
   give_up = settings.give_up;
   window = settings.window;
+  format = settings.format;
 }

@@ -67,7 +67,7 @@ fn make_entry<'a>(name: &'a str, kind: Kind<'a>) -> Entry<'a>
 }
 
 /// The options of the table.
-pub fn table() -> [Entry<'static>; 4]
+pub fn table() -> [Entry<'static>; 5]
     ensures { map choice_of result ≡ built_words.choices }
 {
     [
@@ -75,6 +75,7 @@ pub fn table() -> [Entry<'static>; 4]
         make_entry("tries", Kind::Number(TRIES)),
         make_entry("give-up", Kind::Number(GIVE_UPS)),
         make_entry("window", Kind::Number(WINDOWS)),
+        make_entry("format", Kind::OneOf(&["text", "json"])),
     ]
 }
 

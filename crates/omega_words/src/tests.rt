@@ -1,4 +1,5 @@
 use super::*;
+use omega_model::Format;
 
 /// Words that are taken, with the numbers of tries, of failed commits after which a job is given
 /// up, and of microseconds of a round that they say, and their folder.
@@ -48,7 +49,7 @@ const TAKEN: [(&[&str], u32, u32, u64, &str); 14] = [
 ];
 
 /// Words that are refused.
-const REFUSED: [&[&str]; 43] = [
+const REFUSED: [&[&str]; 45] = [
     &[],
     &[""],
     &["run"],
@@ -73,6 +74,8 @@ const REFUSED: [&[&str]; 43] = [
     &["replay", "--seed=5"],
     &["replay", "--rule", "fine"],
     &["replay", "--machines", "5"],
+    &["replay", "--format", "xml"],
+    &["replay", "--format", "JSON"],
     &["replay", "--jobs", "5"],
     &["replay", "--tries", "1", "--tries", "1"],
     &["replay", "--tries=1", "--tries=2"],
@@ -111,6 +114,9 @@ fn reads_words(rt: HostRuntime) {
         };
         assert_eq!(rt; read, Ok((settings, true)), "{:?}", words);
     }
+    let json = read_words(rt.alloc(), &["replay", "--format=json"]);
+    let read = json.map(|parsed| parsed.settings.format);
+    assert_eq!(rt; read, Ok(Format::Json));
     for words in &REFUSED {
         let read = read_words(rt.alloc(), words).map(|parsed| parsed.settings);
         assert_eq!(rt; read, Err(WordsRefusal::Usage), "{:?}", words);

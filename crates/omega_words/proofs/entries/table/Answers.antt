@@ -8,4 +8,5 @@ returns c =
     ap₂ ◌∷◌ c.make_entry.ensures
     (ap₂ ◌∷◌ c.make_entry-2.ensures
     (ap₂ ◌∷◌ c.make_entry-3.ensures
-    (ap₂ ◌∷◌ c.make_entry-4.ensures refl)))
+    (ap₂ ◌∷◌ c.make_entry-4.ensures
+    (ap₂ ◌∷◌ c.make_entry-5.ensures refl))))
