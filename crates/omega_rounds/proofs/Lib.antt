@@ -35,3 +35,4 @@ pub mod Beginning
 pub mod OpenedEntries
 pub mod WorldBegins
 pub mod WorldGoes
+pub mod PlayedTurns

@@ -240,6 +240,18 @@ module _ (settings : Settings) (trace : TraceTables) (rows : List Row) (start : 
         await = await_commit settings trace all at old new turn next step.left place known committing.taking.within in_turn.0 committing.await did;
       }
 
+  -- in the second pass nobody syncs
+  pub commits_only : (old new : World) (turn next : ℕ) → next < schedulers settings
+      → Committing settings trace rows start round old turn next
+      → Step settings trace (rows ++ round.rows) (length (opened trace rows start round).history) old next new Synced → ⊥
+  commits_only old new turn next known committing step =
+      let all : List Row = rows ++ round.rows in
+      let at : ℕ = length (opened trace rows start round).history in
+      let did : Syncs old next new step.left = step.steps in
+      let works = left_works settings trace all at old.history next step.left step.is_left did.has_work in
+      let clash : None ≡ Some (began old.history turn) = sym did.first ∙ committing.await.have next known (omega arith) works.0 works.1 in
+      cc
+
   -- after the second pass the next turn begins, and nobody has synced
   pub commit_last : (world : World) (turn : ℕ) → Committing settings trace rows start round world turn (schedulers settings)
       → Taking settings trace rows start round world.history (turn + 1) 0 × NobodySynced world

@@ -13,3 +13,4 @@ pub mod Keeping
 pub mod Going
 pub mod SeatSteps
 pub mod Opening
+pub mod Playing

@@ -1,4 +1,5 @@
 //! What the calls of a world answer.
+ghost use Rattle.std.specs.Prelude.{◌≡◌};
 
 /// How a world goes on after a round.
 #[derive(Clone, Copy, Debug, PartialEq, Eq)]
@@ -20,4 +21,15 @@ pub enum Stepped {
     Committed(u64),
     /// It has no work.
     Idle,
+}
+
+impl Stepped {
+    ghost use Rattle.omega_rounds.specs.Playing.{is_committed};
+
+    /// Whether the scheduler committed.
+    pub fn is_committed(self) -> bool
+        ensures { result ≡ is_committed self }
+    {
+        matches!(self, Stepped::Committed(_))
+    }
 }

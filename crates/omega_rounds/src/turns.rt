@@ -1,11 +1,13 @@
 //! A run in which the schedulers take turns.
-ghost use Rattle.std.specs.Prelude.{◌≡◌, [], List, IfOk};
+ghost use Rattle.std.specs.Prelude.{◌≡◌, ◌≤◌, ◌<◌, true, [], List, IfOk, OnOk};
 ghost use Rattle.omega_model.specs.Lawful.{Lawful};
 ghost use Rattle.omega_model.specs.Turns.{InTurns};
 ghost use Rattle.omega_model.specs.declared.entries.Entry.{Entry};
 ghost use Rattle.omega_model.specs.declared.rows.TraceTables.{TraceTables};
+ghost use Rattle.omega_rounds.specs.Playing.{CommitsTurn, PlaysRound, SyncsTurn, TakesTurnFrom};
 ghost use Rattle.omega_rounds.specs.Stages.{IsMadeOf};
 
+use crate::steps::RoundStep;
 use crate::world::World;
 use omega_model::NoMemory;
 
@@ -16,7 +18,7 @@ use omega_model::NoMemory;
 /// The history is the only one that is lawful and in turns for the settings and the trace.
 pub fn in_turns(world: World) -> Result<World, NoMemory>
     requires { world.stage.begun ≡ 0 }
-    ensures same { IfOk result (λ after. after.stage.source ≡ world.stage.source) }
+    ensures source { IfOk result (λ after. after.stage.source ≡ world.stage.source) }
     ensures settings { IfOk result (λ after. after.stage.settings ≡ world.stage.settings) }
     ensures lawful { IfOk result (λ after. (trace : TraceTables) → IsMadeOf world.stage trace
         → Lawful world.stage.settings trace after.history) }
@@ -25,5 +27,65 @@ pub fn in_turns(world: World) -> Result<World, NoMemory>
         → (other : List Entry) → Lawful world.stage.settings trace other → InTurns other
         → other ≡ after.history) }
 {
-    Err(NoMemory)
+    world.check_run();
+    let mut world = world;
+    loop {
+        let (next, step) = world.next_round()?;
+        match step {
+            RoundStep::Begun(_) => world = play_round(next)?,
+            RoundStep::Unfinished(_) => unreachable!(),
+            RoundStep::Over => return Ok(next),
+        }
+    }
+}
+
+// Plays the round that is under way to its end.
+fn play_round(world: World) -> Result<World, NoMemory>
+    ensures stage { IfOk result (λ after. after.stage ≡ world.stage) }
+    ensures plays { IfOk result (λ after. PlaysRound world after) }
+{
+    let mut world = world;
+    loop {
+        if !take_turn(&mut world)? {
+            return Ok(world);
+        }
+    }
+}
+
+// A turn: all that have work sync, and then all commit. Answers whether anybody has committed.
+fn take_turn(world: &mut World) -> Result<bool, NoMemory>
+    ensures stage { OnOk result (world.new.stage ≡ world.old.stage) }
+    ensures turn { IfOk result (λ committed. TakesTurnFrom world.old world.new committed) }
+    ensures fewer { IfOk result (λ committed. committed ≡ true → world.new.to_do < world.old.to_do) }
+{
+    sync_all(world)?;
+    let committed = commit_all(world)?;
+    Ok(committed)
+}
+
+// The first pass of a turn: a step of each scheduler, none of which has synced.
+fn sync_all(world: &mut World) -> Result<(), NoMemory>
+    ensures stage { OnOk result (world.new.stage ≡ world.old.stage) }
+    ensures synced { OnOk result (SyncsTurn world.old world.new) }
+    ensures to_do { OnOk result (world.new.to_do ≤ world.old.to_do) }
+{
+    for scheduler in 0..world.schedulers() {
+        world.step(scheduler)?;
+    }
+    Ok(())
+}
+
+// The second pass of a turn: a step of each scheduler, in order. Answers whether anybody has
+// committed.
+fn commit_all(world: &mut World) -> Result<bool, NoMemory>
+    ensures stage { OnOk result (world.new.stage ≡ world.old.stage) }
+    ensures committed { IfOk result (λ committed. CommitsTurn world.old world.new committed) }
+    ensures fewer { IfOk result (λ committed. committed ≡ true → world.new.to_do < world.old.to_do) }
+{
+    let mut committed = false;
+    for scheduler in 0..world.schedulers() {
+        let stepped = world.step(scheduler)?;
+        committed = stepped.is_committed() || committed;
+    }
+    Ok(committed)
 }

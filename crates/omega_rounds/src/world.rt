@@ -9,6 +9,7 @@ ghost use Rattle.omega_model.specs.Stepping.{LawfulWorld};
 ghost use Rattle.omega_model.specs.declared.rows.TraceTables.{TraceTables};
 ghost use Rattle.omega_rounds.specs.Going.{GoesOn, LeavesToDo, MovesOn, OpensRound, ReachesRound, StepsOn};
 ghost use Rattle.omega_rounds.specs.Opening.{AreNewSeats};
+ghost use Rattle.omega_rounds.specs.Playing.{IsAtStart, IsInSomeRun};
 ghost use Rattle.omega_rounds.specs.Stages.{IsMadeOf, source_of, world_of};
 
 use crate::opening::{begin_all, first_at_work, open};
@@ -173,6 +174,14 @@ impl World {
         let seat = &mut self.seats[scheduler as usize];
         let stepped = seat.step(alloc, &settings, scheduler, &mut self.cell)?;
         Ok(stepped)
+    }
+
+    // What a world keeps by its type.
+    pub(crate) fn check_run(&self)
+        ensures made { IsInSomeRun self.now.stage }
+        ensures start { self.now.stage.begun ≡ 0 → IsAtStart self.now }
+    {
+        let _settings = &self.settings;
     }
 
     /// How many schedulers there are. Takes no memory.

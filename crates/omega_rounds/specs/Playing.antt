@@ -1,0 +1,79 @@
+-- A world in which the schedulers take turns.
+use Rattle.std.specs.Prelude.{◌≡◌, ◌+◌, ◌≤◌, ◌<◌, ℕ, Bool, true, false, List, [], ◌++◌, length}
+use Rattle.omega_model.specs.Lawful.{opened}
+use Rattle.omega_model.specs.Policy.{schedulers}
+use Rattle.omega_model.specs.Turns.{InTurns}
+use Rattle.omega_model.specs.World.{NobodySynced}
+use Rattle.omega_model.specs.declared.entries.Entry.{Entry}
+use Rattle.omega_model.specs.declared.rows.Row.{Row}
+use Rattle.omega_model.specs.declared.rows.Round.{Round}
+use Rattle.omega_model.specs.declared.rows.TraceTables.{TraceTables}
+use Rattle.omega_rounds.specs.Going.{IsRoundOver}
+use Rattle.omega_rounds.specs.Passes.{Committing}
+use Rattle.omega_rounds.specs.Stages.{IsMadeOf, Stage, WorldState, rows_begun, world_of}
+use Rattle.omega_rounds.specs.Taking.{Taking}
+use Rattle.omega_rounds.specs.declared.steps.Stepped.{Stepped}
+use Rattle.omega_rounds.specs.declared.steps.Stepped.TheVariants.{Synced, Committed, Idle}
+
+-- a stage is one in the run of some trace
+abbrev pub IsInSomeRun : Stage → Type 0
+IsInSomeRun stage = (trace : TraceTables) × IsMadeOf stage trace
+
+-- a world before its first round: its history is empty, and nobody has work
+pub record IsAtStart (world : WorldState) : Type 0 where
+  pub empty : world.history ≡ []
+  pub idle : (trace : TraceTables) → IsMadeOf world.stage trace → IsRoundOver trace world
+
+-- whether a step was a commit
+abbrev pub is_committed : Stepped → Bool
+is_committed Synced = false
+is_committed (Committed place) = true
+is_committed Idle = false
+
+-- the round that is under way is this one, which follows these rows and this history in the run of a trace
+pub record IsRoundNow (trace : TraceTables) (before : List Row) (start : List Entry) (round : Round) (stage : Stage) : Type 0 where
+  pub made : IsMadeOf stage trace
+  pub rows : rows_begun stage ≡ before ++ round.rows
+  pub opened : stage.opened_at ≡ length (opened trace before start round).history
+
+-- in the round that is under way a turn begins: the schedulers have taken turns so far, and nobody has synced
+pub record BeginsTurn (trace : TraceTables) (before : List Row) (start : List Entry) (round : Round) (world : WorldState) (turn : ℕ) : Type 0 where
+  pub now : IsRoundNow trace before start round world.stage
+  pub taking : Taking world.stage.settings trace before start round world.history turn 0
+  pub nobody : NobodySynced (world_of world)
+
+-- in this turn the schedulers below one have committed, and the others that have work have synced for it
+pub record CommitsInTurn (trace : TraceTables) (before : List Row) (start : List Entry) (round : Round) (world : WorldState) (turn next : ℕ) : Type 0 where
+  pub now : IsRoundNow trace before start round world.stage
+  pub committing : Committing world.stage.settings trace before start round (world_of world) turn next
+
+-- whenever a turn begins in one world, its commits are due in the other
+abbrev pub SyncsTurn : WorldState → WorldState → Type 0
+SyncsTurn old new =
+    (trace : TraceTables) (before : List Row) (start : List Entry) (round : Round) (turn : ℕ)
+    → BeginsTurn trace before start round old turn → CommitsInTurn trace before start round new turn 0
+
+-- whenever the commits of a turn are due in one world, all are done in the other, and where nobody
+-- committed the round is over
+abbrev pub CommitsTurn : WorldState → WorldState → Bool → Type 0
+CommitsTurn old new committed =
+    (trace : TraceTables) (before : List Row) (start : List Entry) (round : Round) (turn : ℕ)
+    → CommitsInTurn trace before start round old turn 0
+    → CommitsInTurn trace before start round new turn (schedulers new.stage.settings)
+    × (committed ≡ false → IsRoundOver trace new)
+
+-- whenever a turn begins in one world, the next one begins in the other, and where nobody committed the
+-- round is over
+abbrev pub TakesTurnFrom : WorldState → WorldState → Bool → Type 0
+TakesTurnFrom old new committed =
+    (trace : TraceTables) (before : List Row) (start : List Entry) (round : Round) (turn : ℕ)
+    → BeginsTurn trace before start round old turn
+    → BeginsTurn trace before start round new (turn + 1)
+    × (committed ≡ false → IsRoundOver trace new)
+
+-- whenever a round's first turn begins in one world, the other's history is in turns and its round over
+abbrev pub PlaysRound : WorldState → WorldState → Type 0
+PlaysRound old new =
+    (trace : TraceTables) (before : List Row) (start : List Entry) (round : Round)
+    → BeginsTurn trace before start round old 0
+    → InTurns new.history × IsRoundOver trace new
