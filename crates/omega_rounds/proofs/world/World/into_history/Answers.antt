@@ -1,4 +1,4 @@
 use Rattle.omega_rounds.proofs.world.World.into_history.Goals as goal
 
 pub returns-clause-applied : goal.returns-clause-applied
-returns-clause-applied c = c.into_history.ensures.applied
+returns-clause-applied c = rw (← c.self.view_is) c.into_history.ensures.applied
