@@ -1,3 +1,4 @@
+pub mod Closing
 pub mod Empty
 pub mod Tells
 pub mod Untouched
@@ -5,3 +6,8 @@ pub mod Shared
 pub mod Tallying
 pub mod PassGrows
 pub mod Summed
+pub mod Compact
+pub mod Growing
+pub mod Joined
+pub mod ReadBack
+pub mod Spelled

@@ -1,4 +1,5 @@
 pub mod Counted
+pub mod Items
 pub mod Lines
 pub mod Pages
 pub mod Readings

@@ -1,8 +1,9 @@
 -- Lines by the numbers that stand in them.
-use Rattle.std.specs.Prelude.{ℕ, [], ◌∷◌, codes}
+use Rattle.std.specs.Prelude.{ℕ, [], ◌∷◌, ◌++◌, codes}
 use Rattle.omega_model.specs.Report.{Line, Name, Number, task_words}
 use Rattle.omega_model.specs.declared.cells.Need.{Need}
 use Rattle.omega_model.specs.declared.cells.TaskKey.{TaskKey}
+use Rattle.omega_model.specs.declared.claims.Claim.{Claim}
 
 -- the line of a task with this name that stops since its machine became too small for it or went
 abbrev pub stop_line : ℕ → TaskKey → Line
@@ -12,9 +13,9 @@ stop_line machine key = Name (codes "displace") ∷ task_words key machine
 abbrev pub end_line : TaskKey → ℕ → Line
 end_line key machine = Name (codes "end") ∷ task_words key machine
 
--- the line of a commit, before those of its claims
-abbrev pub commit_line : ℕ → ℕ → ℕ → Line
-commit_line scheduler seen job = Name (codes "commit") ∷ Number scheduler ∷ Number seen ∷ Number job ∷ []
+-- the line of a claim that is refused, with the words of its reason
+abbrev pub refusal_line : Claim → Line → Line
+refusal_line claim reason = Name (codes "refuse") ∷ task_words claim.key claim.machine ++ reason
 
 -- the line that says how much is used, and how much there is
 abbrev pub usage_line : Need → Need → Line

@@ -10,9 +10,13 @@ pub record Reading : Type 0 where
   pub words : Line
   pub bytes : List ℕ
 
+-- these lines are read, and no line is under way
+abbrev pub whole_lines : List Line → Reading
+whole_lines lines = record { lines = lines; words = []; bytes = [] }
+
 -- nothing is read yet
 abbrev pub nothing_read : Reading
-nothing_read = record { lines = []; words = []; bytes = [] }
+nothing_read = whole_lines []
 
 -- whether a byte is a decimal digit
 abbrev pub is_digit : ℕ → Bool

@@ -1,6 +1,7 @@
 //! The lines of a report but for those of commits, by the numbers that stand in them.
-ghost use Rattle.std.specs.Prelude.{◌≡◌, ◌∷◌, ◌++◌, [], map, OnOk};
-ghost use Rattle.omega_model.specs.Report.{entry_lines};
+ghost use Rattle.std.specs.Prelude.{◌≡◌, ◌∷◌, ◌++◌, [], map, IsTrue, OnOk};
+ghost use Rattle.omega_model.specs.Report.{Name, entry_lines, task_words};
+ghost use Rattle.omega_model.specs.ReportForms.{is_plain};
 ghost use Rattle.omega_model.specs.ReportLines.{counts_line, first_line};
 ghost use Rattle.omega_report.specs.Counted.{counts_in};
 ghost use Rattle.omega_report.specs.Lines.{end_line, sizes_line, stop_line, unplaced_line, usage_line};
@@ -8,6 +9,8 @@ ghost use Rattle.omega_model.specs.declared.entries.Entry.{Entry};
 
 use crate::counts::Counts;
 use crate::page::Page;
+use crate::words::Word::{Name, Number};
+use crate::words::task_words;
 use omega_model::{Need, NoMemory, TaskKey};
 
 impl Page {
@@ -16,7 +19,7 @@ impl Page {
         ensures format { self.new.format ≡ self.old.format }
         ensures lines { OnOk result (self.new.lines ≡ self.old.lines ++ first_line ∷ []) }
     {
-        Err(NoMemory)
+        self.append(&[Name("omega"), Number(2)])
     }
 
     /// Appends the line of a round that begins.
@@ -24,7 +27,7 @@ impl Page {
         ensures format { self.new.format ≡ self.old.format }
         ensures lines { OnOk result (self.new.lines ≡ self.old.lines ++ entry_lines (Entry.Round number)) }
     {
-        Err(NoMemory)
+        self.append(&[Name("round"), Number(number)])
     }
 
     /// Appends a line for each task with one of these names, which stop since their machine became
@@ -33,7 +36,7 @@ impl Page {
         ensures format { self.new.format ≡ self.old.format }
         ensures lines { OnOk result (self.new.lines ≡ self.old.lines ++ map (stop_line machine) keys.now) }
     {
-        Err(NoMemory)
+        self.tasks("displace", keys, machine)
     }
 
     /// Appends the line of a task that ends.
@@ -41,7 +44,34 @@ impl Page {
         ensures format { self.new.format ≡ self.old.format }
         ensures lines { OnOk result (self.new.lines ≡ self.old.lines ++ end_line key machine ∷ []) }
     {
-        Err(NoMemory)
+        self.task("end", key, machine)
+    }
+
+    /// Appends the line of a name, a task and the machine that the line speaks of.
+    pub fn task(&mut self, name: &'static str, key: TaskKey, machine: u64) -> Result<(), NoMemory>
+        requires { IsTrue (is_plain (Name name.now)) }
+        ensures format { self.new.format ≡ self.old.format }
+        ensures lines { OnOk result (self.new.lines ≡ self.old.lines ++ (Name name.now ∷ task_words key machine) ∷ []) }
+    {
+        let [job, index, machine] = task_words(key, machine);
+        self.append(&[Name(name), job, index, machine])
+    }
+
+    /// Appends a line for each of these tasks, with the same name and machine.
+    pub fn tasks(
+        &mut self,
+        name: &'static str,
+        keys: &[TaskKey],
+        machine: u64,
+    ) -> Result<(), NoMemory>
+        requires { IsTrue (is_plain (Name name.now)) }
+        ensures format { self.new.format ≡ self.old.format }
+        ensures lines { OnOk result (self.new.lines ≡ self.old.lines ++ map (λ key. Name name.now ∷ task_words key machine) keys.now) }
+    {
+        for key in keys {
+            self.task(name, *key, machine)?;
+        }
+        Ok(())
     }
 
     /// Appends the line that says how much is used on the machines that are up, and how much there
@@ -50,7 +80,18 @@ impl Page {
         ensures format { self.new.format ≡ self.old.format }
         ensures lines { OnOk result (self.new.lines ≡ self.old.lines ++ usage_line used capacity ∷ []) }
     {
-        Err(NoMemory)
+        self.append(&[
+            Name("use"),
+            Name("cpu"),
+            Number(used.cpu),
+            Number(capacity.cpu),
+            Name("mem"),
+            Number(used.mem),
+            Number(capacity.mem),
+            Name("disk"),
+            Number(used.disk),
+            Number(capacity.disk),
+        ])
     }
 
     /// Appends the line with the number of entries and that of rounds.
@@ -58,7 +99,12 @@ impl Page {
         ensures format { self.new.format ≡ self.old.format }
         ensures lines { OnOk result (self.new.lines ≡ self.old.lines ++ sizes_line entries rounds ∷ []) }
     {
-        Err(NoMemory)
+        self.append(&[
+            Name("entries"),
+            Number(entries),
+            Name("rounds"),
+            Number(rounds),
+        ])
     }
 
     /// Appends the line of a scheduler with its counts.
@@ -66,7 +112,26 @@ impl Page {
         ensures format { self.new.format ≡ self.old.format }
         ensures lines { OnOk result (self.new.lines ≡ self.old.lines ++ counts_line scheduler (counts_in counts.now) ∷ []) }
     {
-        Err(NoMemory)
+        self.append(&[
+            Name("scheduler"),
+            Number(u64::from(scheduler)),
+            Name("commits"),
+            Number(counts.commits),
+            Name("empty"),
+            Number(counts.empty),
+            Name("placing"),
+            Number(counts.placing),
+            Name("conflicted"),
+            Number(counts.conflicted),
+            Name("placed"),
+            Number(counts.placed),
+            Name("refused"),
+            Number(counts.refused),
+            Name("withdrawn"),
+            Number(counts.withdrawn),
+            Name("evicted"),
+            Number(counts.evicted),
+        ])
     }
 
     /// Appends the line with the number of tasks that wait and that of jobs that are given up.
@@ -74,6 +139,11 @@ impl Page {
         ensures format { self.new.format ≡ self.old.format }
         ensures lines { OnOk result (self.new.lines ≡ self.old.lines ++ unplaced_line tasks jobs ∷ []) }
     {
-        Err(NoMemory)
+        self.append(&[
+            Name("waiting"),
+            Number(tasks),
+            Name("abandoned"),
+            Number(jobs),
+        ])
     }
 }

@@ -1,10 +1,15 @@
 //! A page of lines.
-ghost use Rattle.std.specs.Prelude.{◌≡◌, ◌∷◌, ◌++◌, [], map, IfOk, OnOk, OnErr, IsTrue};
-ghost use Rattle.omega_model.specs.ReportForms.{in_format};
-ghost use Rattle.omega_report.specs.Spelling.{is_plain_line, word_of};
+ghost use Rattle.std.specs.Prelude.{◌≡◌, ◌∷◌, ◌++◌, [], List, map, IfOk, OnOk, OnErr, IsTrue};
+ghost use Rattle.std.specs.List.{list_all};
+ghost use Rattle.omega_model.specs.Report.{Line};
+ghost use Rattle.omega_model.specs.ReportForms.{in_format, is_plain, json_of};
+ghost use Rattle.omega_report.specs.Pages.{added_bytes, end_of_array, open_json};
+ghost use Rattle.omega_report.specs.Spelling.{are_short, is_plain_line, word_of};
 
+use crate::as_json::push_json;
+use crate::as_text::push_text;
 use crate::words::Word;
-use omega_model::{Bytes, Format, NoMemory};
+use omega_model::{Bytes, Format, NoMemory, Seq};
 use std::alloc::Global;
 use std::marker::Model;
 
@@ -13,6 +18,7 @@ use std::marker::Model;
 /// A contract sees the format and the list of the lines. What is held is their bytes alone.
 #[derive(Drop)]
 pub struct Page {
+    alloc: Global,
     format: Format,
     bytes: Vec<u8>,
     line: Vec<u8>,
@@ -36,6 +42,7 @@ impl Page {
         ensures lines { result.lines ≡ [] }
     {
         Page {
+            alloc,
             format,
             bytes: Vec::new(alloc),
             line: Vec::new(alloc),
@@ -50,13 +57,59 @@ impl Page {
         ensures ok { OnOk result (self.new.lines ≡ self.old.lines ++ map word_of words.now ∷ []) }
         ensures err { OnErr result (self.new.lines ≡ self.old.lines) }
     {
-        Err(NoMemory)
+        let is_first = self.bytes.as_slice().is_empty();
+        write_line(self.alloc, self.format, is_first, &mut self.line, words)?;
+        self.bytes.extend_from_slice(self.line.as_slice())?;
+        Ok(())
     }
 
     /// The bytes of all lines in the page's format. Takes no memory but for what ends the last line.
     pub fn finish(self) -> Result<Bytes, NoMemory>
         ensures { IfOk result (λ bytes. bytes ≡ in_format self.format self.lines) }
     {
-        Err(NoMemory)
+        let mut bytes = self.bytes;
+        match self.format {
+            Format::Text => {}
+            Format::Json => close(&mut bytes)?,
+        }
+        Ok(Seq::of(bytes))
     }
+}
+
+// The bytes that a line adds to a page.
+fn write_line(
+    alloc: Global,
+    format: Format,
+    is_first: bool,
+    out: &mut Vec<u8>,
+    words: &[Word],
+) -> Result<(), NoMemory>
+    requires { IsTrue (list_all is_plain (map word_of words.now)) }
+    ensures bytes { OnOk result (out.new.items ≡ added_bytes format is_first (map word_of words.now)) }
+    ensures numbers { OnOk result (IsTrue (are_short (map word_of words.now))) }
+{
+    out.clear();
+    match format {
+        Format::Text => push_text(out, words),
+        Format::Json => {
+            out.push(if is_first { b'[' } else { b',' })?;
+            push_json(alloc, out, words)
+        }
+    }
+}
+
+// Ends the array of the lines.
+fn close(bytes: &mut Vec<u8>) -> Result<(), NoMemory>
+    ensures { OnOk result ((lines : List Line) → bytes.old.items ≡ open_json lines → bytes.new.items ≡ json_of lines) }
+{
+    let end = end_of_array(bytes.as_slice().is_empty());
+    bytes.extend_from_slice(end)?;
+    Ok(())
+}
+
+// What ends the array of the lines, where it may have none.
+fn end_of_array(is_empty: bool) -> &'static [u8]
+    ensures { result.now ≡ end_of_array is_empty }
+{
+    if is_empty { b"[]\n" } else { b"]\n" }
 }
