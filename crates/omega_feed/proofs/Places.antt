@@ -1,11 +1,10 @@
 -- Jobs that have a wanted task, found by their places.
-use Rattle.std.proofs.Common.{◌≡◌, ℕ, Bool, true, false, cond, not, ◌||◌, ◌==◌, List, [], ◌∷◌, Some, refl, ap, sym, ◌∙◌, inl, inr, arith}
-use Rattle.std.specs.BTreeMap.{is_at}
+use Rattle.std.proofs.Common.{◌≡◌, ℕ, Bool, true, false, cond, not, ◌||◌, ◌==◌, List, [], ◌∷◌, Some, refl, ap, sym, ◌∙◌, inl, inr}
 use Rattle.std.specs.BTreeSet as set
 use Rattle.std.specs.BTreeSet.{BTreeSet}
 use Rattle.std.specs.List.{filter, list_any}
 use Rattle.std.specs.Ordering.{nat_cmp}
-use Rattle.std.proofs.lemmas.Bool.{eq-eqb, ne_eqb, eqb-true, lt-ltb, le-ltb, cases_eq, cases_order, both_ways, or_cases, or_left, or_right}
+use Rattle.std.proofs.lemmas.Bool.{eqb-true, cases_eq, both_ways, or_cases, or_left, or_right}
 use Rattle.std.proofs.lemmas.List.Folds.{list_any-append}
 use Rattle.omega_model.specs.Keys.{key_lt}
 use Rattle.omega_model.specs.Wanted.{WantedTask, with_wanted, is_named}

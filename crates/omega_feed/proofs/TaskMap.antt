@@ -10,11 +10,10 @@ use Rattle.std.specs.Ordering.{nat_cmp, match_ordering, is_lt, is_eq, is_le}
 use Rattle.std.specs.declared.cmp.Ordering.{Ordering}
 use Rattle.std.specs.declared.cmp.Ordering.TheVariants.{Less, Equal, Greater}
 use Rattle.std.specs.declared.ops.Bound.TheVariants.{Included}
-use Rattle.std.proofs.lemmas.Bool.{eq-eqb, ne_eqb, le-ltb, lt-ltb, ltb-true, cases_order, cases_Bool}
+use Rattle.std.proofs.lemmas.Bool.{eq-eqb, ne_eqb, le-ltb, lt-ltb, cases_order, cases_Bool}
 use Rattle.std.proofs.lemmas.List.Elements.{All-head, All-tail}
 use Rattle.std.proofs.lemmas.Map.Keys.{sorted_head, sorted_tail}
 use Rattle.omega_running.specs.Order.{Each}
-use Rattle.omega_running.proofs.Lex.{lex_trans, lex_asym, lt_asym}
 use Rattle.omega_running.proofs.Lists.{each_map, filter_none, filter_every, filter_where}
 use Rattle.omega_model.specs.Keys.{same_key, key_lt}
 use Rattle.omega_model.specs.Cell.{task_at}

@@ -1,28 +1,28 @@
 //! The whole report of a history, as text or as JSON.
 //!
 //! A page takes the report's lines one after the other, each as its words, and holds only their bytes
-//! in the report's format.
+//! in the report's format. One pass over the history puts the lines of each entry on it, and what the
+//! history comes to.
 #![tactic(auto)]
 
 mod as_json;
 mod as_text;
 mod claims;
 mod counts;
-mod lines;
-mod page;
-#[cfg(test)]
-mod tests;
-mod words;
-
 mod entry_lines;
 mod failures;
 mod judgements;
+mod lines;
+mod page;
 mod pass;
 mod reporting;
 mod shares;
 mod so_far;
 mod tally;
 mod telling;
+#[cfg(test)]
+mod tests;
 mod totals;
+mod words;
 
 pub use reporting::report;

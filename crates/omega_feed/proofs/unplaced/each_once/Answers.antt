@@ -1,8 +1,7 @@
-use Rattle.std.proofs.Common.{◌≡◌, ◌+◌, ℕ, List, ap, sym, ◌∙◌, subst}
+use Rattle.std.proofs.Common.{◌+◌, ℕ, List, ap, sym, ◌∙◌, subst}
 use Rattle.omega_feed.proofs.AtEnd.{Adds, adds_new, adds_none, adds_old}
 use Rattle.omega_feed.proofs.unplaced.each_once.Goals as goal
 use Rattle.omega_feed.proofs.unplaced.each_once.Goals.{then-branch+in_ok-push, else-branch}
-use Rattle.std.specs.Prelude.{Vec}
 
 pub loop-number-init : goal.loop-number-init
 loop-number-init c = adds_none c.args.numbers.now c.new-seen.result c.new-once.result.items c.new-seen.ensures.empty c.new-once.ensures.items
