@@ -1,9 +1,10 @@
-pub mod Rooms
 pub mod AsIs
-pub mod Candidates
-pub mod Fewest
-pub mod FirstClaims
-pub mod Trials
-pub mod Elsewhere
-pub mod KindsOf
 pub mod Begins
+pub mod Candidates
+pub mod Elsewhere
+pub mod Fewest
+pub mod FirstYields
+pub mod KindsOf
+pub mod Rooms
+pub mod StepsOf
+pub mod Trials

@@ -1,10 +1,10 @@
 //! How far the machines are known to fail for wishes of one kind.
-ghost use Rattle.std.specs.Prelude.{◌≡◌, ◌≤◌, length, IsTrue};
+ghost use Rattle.std.specs.Prelude.{◌≡◌, ◌≤◌, Some, None, length, IsTrue};
 ghost use Rattle.omega_model.specs.Cell.{Cell};
 ghost use Rattle.omega_model.specs.declared.wishes.Wish.{Wish};
 ghost use Rattle.omega_plan.specs.Kinds.{Serves, kind_of};
 
-use omega_model::{Constraint, Wish};
+use omega_model::{Claim, Constraint, Wish};
 
 /// Where searches for one more wish of a kind begin, of which most wishes of a job are.
 ///
@@ -42,6 +42,55 @@ impl Progress {
             Progress::at(self.start)
         }
     }
+
+    /// A wish was placed as it is at this position.
+    pub fn found(self, position: usize) -> Progress
+        ensures { result ≡ record self { as_is = Some position } }
+    {
+        Progress {
+            as_is: Some(position),
+            ..self
+        }
+    }
+
+    /// No machine takes such a wish as it is.
+    pub fn full(self) -> Progress
+        ensures { result ≡ record self { as_is = None } }
+    {
+        Progress {
+            as_is: None,
+            ..self
+        }
+    }
+
+    /// A wish was placed at this position with victims.
+    pub fn evicted(self, position: usize) -> Progress
+        ensures { result ≡ record self { as_is = Some position; evicting = Some position } }
+    {
+        Progress {
+            as_is: Some(position),
+            evicting: Some(position),
+            ..self
+        }
+    }
+
+    /// Evictions make room for such a wish on no machine.
+    pub fn stays_full(self) -> Progress
+        ensures { result ≡ record self { evicting = None } }
+    {
+        Progress {
+            evicting: None,
+            ..self
+        }
+    }
+}
+
+/// What comes of a wish: its claim, if there is one, and how far the machines are known to fail once
+/// that is placed.
+#[derive(Debug, Drop)]
+pub(crate) struct Step {
+    pub claim: Option<Claim>,
+    pub progress: Progress,
 }
 
 /// Whether two wishes are of one kind.

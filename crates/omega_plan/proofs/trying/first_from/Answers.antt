@@ -6,7 +6,7 @@ use Rattle.omega_copy.specs.Telling.{free_on}
 use Rattle.omega_fit.proofs.Found.{of_items}
 use Rattle.omega_plan.specs.Trying.{IsFirstToTake, takes}
 use Rattle.omega_plan.proofs.Rooms.{takes_where_room}
-use Rattle.omega_plan.proofs.trying.first_to_take.Goals as goal
+use Rattle.omega_plan.proofs.trying.first_from.Goals as goal
 
 pub returns-clause-first : goal.returns-clause-first
 unfolding IsFirstToTake
