@@ -11,7 +11,8 @@ use Rattle.omega_model.specs.declared.cells.Machine.{Machine}
 use Rattle.omega_model.specs.declared.wishes.Wish.{Wish}
 use Rattle.omega_model.proofs.Lists.{by_answer}
 use Rattle.omega_fit.proofs.Found.{find_in_round, none_in_round}
-use Rattle.omega_plan.specs.Trying.{IsFirstToYield, claim_on}
+use Rattle.omega_model.specs.declared.cells.TaskKey.{TaskKey}
+use Rattle.omega_plan.specs.Trying.{AreVictimsAt, IsFirstToYield, Yields, claim_on}
 
 -- what comes of what a filter keeps
 mapped_kept : {X Y : Type 0} (f : X → Option Y) (q : X → Bool) (xs : List X) → filter_map f (filter q xs) ≡ filter_map (λ x. if q x then f x else None) xs
@@ -64,3 +65,11 @@ yield_none cell start wish first =
     kept cell start wish
     ∙ none_mapped_first (claim_on cell wish) (round_from start cell.machines)
     (none_in_round (λ (m : Machine). is_some (claim_on cell wish m)) cell.machines start first)
+
+-- evictions make room where there are victims
+pub yields_some : (cell : Cell) (wish : Wish) (place : ℕ) (keys : Option (List TaskKey)) (some : List TaskKey) → AreVictimsAt cell wish place keys → keys ≡ Some some
+    → Yields cell wish place true
+yields_some cell wish place keys some are is machine at = ap is_some (are machine at ∙ ap (option_map (λ v. claim_of wish v machine.id)) is)
+
+pub yields_none : (cell : Cell) (wish : Wish) (place : ℕ) (keys : Option (List TaskKey)) → AreVictimsAt cell wish place keys → keys ≡ None → Yields cell wish place false
+yields_none cell wish place keys are is machine at = ap is_some (are machine at ∙ ap (option_map (λ v. claim_of wish v machine.id)) is)

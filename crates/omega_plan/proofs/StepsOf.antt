@@ -1,5 +1,5 @@
 -- What comes of a wish, by what the searches found.
-use Rattle.std.proofs.Common.{◌≡◌, ◌<◌, ◌≤◌, ℕ, zero, suc, Bool, true, false, ◌&&◌, List, [], ◌∷◌, length, nat_eq, slice_get, Option, Some, None, is_some, arith, refl, sym, ap, subst, ◌∙◌, if◌then◌else◌}
+use Rattle.std.proofs.Common.{Bor, ◌≡◌, ◌<◌, ◌≤◌, ℕ, zero, suc, Bool, true, false, ◌&&◌, List, [], ◌∷◌, length, nat_eq, slice_get, Option, Some, None, is_some, arith, refl, sym, ap, subst, ◌∙◌, if◌then◌else◌}
 use Rattle.std.specs.List.{IsDistinct, filter, find, cons_option, filter_map}
 use Rattle.std.specs.Prelude.{option_map}
 use Rattle.std.proofs.lemmas.Bool.{both_ways, false_from_ne_true}
@@ -179,3 +179,12 @@ module _ (cell : Cell) (wish : Wish) (progress : Progress) (serves : Serves cell
             evicting = begins_where_found (StaysFull after wish) (Yields cell wish) progress.start (length cell.machines) (Some place) same_place still first;
           };
         }
+
+-- a task that was looked up
+pub found_now : (o : Option (Bor Task)) → is_some (option_map (λ (t : Bor Task). t.now) o) ≡ is_some o
+found_now None = refl
+found_now (Some t) = refl
+
+pub absent_now : (o : Option (Bor Task)) → is_some o ≡ false → option_map (λ (t : Bor Task). t.now) o ≡ None
+absent_now None none = refl
+absent_now (Some t) none = absurd (both_ways true none refl)

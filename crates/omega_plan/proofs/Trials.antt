@@ -13,6 +13,8 @@ use Rattle.omega_model.specs.declared.claims.Claim.{Claim}
 use Rattle.omega_model.specs.declared.wishes.Wish.{Wish}
 use Rattle.omega_model.proofs.Lists.{by_answer}
 use Rattle.omega_board.specs.Board.{cell_of}
+use Rattle.omega_plan.specs.Kinds.{Serves}
+use Rattle.omega_plan.specs.declared.progress.Progress.{Progress}
 use Rattle.omega_copy.specs.Copies.{CopyState, TrialState, after_trial, one_less}
 
 -- a claim, if there is one, would be placed
@@ -54,9 +56,11 @@ pub planned_goes : (cell : Cell) (start : ℕ) (preempts : Bool) (wish : Wish) (
     → would_be_placed cell claim ≡ true
 planned_goes cell start preempts wish claim is = subst (GoesIn cell) (sym is) (claim_goes cell start preempts wish)
 
--- the claims so far and those of the wishes that remain are those of all, and lead back to where all began
-pub record Planned (copy first : CopyState) (claims : List Claim) (start : ℕ) (preempts : Bool) (wishes : List Wish) (place : ℕ) : Type 0 where
+-- the claims so far and those of the wishes that remain are those of all, a trial leads back to where all
+-- began, and the progress serves wishes of the kind of the last one
+pub record Planned (copy first : CopyState) (claims : List Claim) (start : ℕ) (preempts : Bool) (wishes : List Wish) (place : ℕ) (kind : Wish) (progress : Progress) : Type 0 where
   pub planned : claims ++ claims_for_wishes (cell_of copy.board) start preempts (drop place wishes) ≡ claims_for_wishes (cell_of first.board) start preempts wishes
-  pub within : start ≤ length copy.board.table
   pub back : after_trial copy copy.trial ≡ after_trial first first.trial
   pub room : IsSomeAnd copy.trial (λ trial. length wishes ≤ trial.room + place)
+  pub began : progress.start ≡ start
+  pub serves : Serves (cell_of copy.board) kind progress

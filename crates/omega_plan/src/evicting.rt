@@ -36,6 +36,7 @@ pub(crate) fn first_to_yield(
     ensures below { IfOk result (λ found. IfSome found (λ f. f.position < length board.now.table)) }
     ensures victims { IfOk result (λ found. IfSome found (λ f. AreVictimsAt (cell_of board.now) wish.now f.position (Some f.victims))) }
 {
+    let _ = board.running();
     match progress.evicting {
         Some(begin) => yielding_from(alloc, board, wish, begin),
         None => Ok(None),

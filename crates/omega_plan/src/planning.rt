@@ -70,13 +70,16 @@ fn claims_for_wishes(
     let mut kind = first;
     let mut progress = Progress::at(start);
     for wish in wishes {
-        let step = claim_for_wish(alloc, copy, wish, preempts, progress.turn(kind, wish))?;
-        if let Some(claim) = step.claim {
+        let Step {
+            claim,
+            progress: next,
+        } = claim_for_wish(alloc, copy, wish, preempts, progress.turn(kind, wish))?;
+        if let Some(claim) = claim {
             copy.claim(alloc, &claim)?;
             claims.push(claim)?;
         }
         kind = wish;
-        progress = step.progress;
+        progress = next;
     }
     Ok(claims)
 }

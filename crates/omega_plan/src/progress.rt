@@ -23,7 +23,8 @@ pub(crate) struct Progress {
 impl Progress {
     /// Nothing is known yet.
     pub fn at(start: usize) -> Progress
-        ensures { (cell : Cell) (wish : Wish) → start ≤ length cell.machines → Serves cell wish result }
+        ensures serves { (cell : Cell) (wish : Wish) → start ≤ length cell.machines → Serves cell wish result }
+        ensures start { result.start ≡ start }
     {
         Progress {
             start,
@@ -34,7 +35,8 @@ impl Progress {
 
     /// Turns from a wish to the next one: what is known stays only if they are of one kind.
     pub fn turn(self, from: &Wish, to: &Wish) -> Progress
-        ensures { (cell : Cell) → Serves cell from.now self → Serves cell to.now result }
+        ensures serves { (cell : Cell) → Serves cell from.now self → Serves cell to.now result }
+        ensures start { result.start ≡ self.start }
     {
         if are_alike(from, to) {
             self
