@@ -1,5 +1,5 @@
 -- Machines other than a claim's are as before once it is placed.
-use Rattle.std.proofs.Common.{◌≡◌, ℕ, suc, Bool, true, false, not, ◌&&◌, ◌||◌, List, [], ◌∷◌, ◌++◌, slice_get, Some, None, refl, sym, ap, ap₂, subst, ◌∙◌, ◌==◌, if◌then◌else◌}
+use Rattle.std.proofs.Common.{◌≡◌, ℕ, suc, Bool, true, false, not, ◌&&◌, ◌||◌, List, [], ◌∷◌, ◌++◌, slice_get, Some, None, refl, sym, ap, subst, ◌∙◌, ◌==◌, if◌then◌else◌}
 use Rattle.std.specs.List.{filter, list_any}
 use Rattle.std.proofs.lemmas.Bool.{and_parts, both_ways, eq-eqb, eqb-true, not_from_false, false_from_ne_true}
 use Rattle.std.proofs.lemmas.List.Elements.{filter-append}
@@ -9,13 +9,10 @@ use Rattle.omega_model.specs.Judge.{capacity_of, judge_fine, makes_room, runs_on
 use Rattle.omega_model.specs.Keys.{is_among, key_lt, same_key}
 use Rattle.omega_model.specs.Need.{fits, minus}
 use Rattle.omega_model.specs.Plan.{candidates, claim_of, gives_way}
-use Rattle.omega_model.specs.Reply.{after_claim, task_of, tasks_after_claim, tasks_placed}
-use Rattle.omega_model.specs.declared.cells.Need.{Need}
+use Rattle.omega_model.specs.Reply.{after_claim, task_of, tasks_placed}
 use Rattle.omega_model.specs.declared.cells.Task.{Task}
 use Rattle.omega_model.specs.declared.cells.TaskKey.{TaskKey}
 use Rattle.omega_model.specs.declared.claims.Claim.{Claim}
-use Rattle.omega_model.specs.declared.claims.Judgement.{Judgement}
-use Rattle.omega_model.specs.declared.claims.Verdict.TheVariants.{Placed}
 use Rattle.omega_model.specs.declared.wishes.Wish.{Wish}
 use Rattle.omega_model.proofs.Amounts.{rest_is}
 use Rattle.omega_model.proofs.InOrder.{key_same}

@@ -1,14 +1,13 @@
 -- What a claim changes for the wishes of its kind.
-use Rattle.std.proofs.Common.{◌≡◌, ◌+◌, ℕ, Bool, true, false, not, ◌&&◌, List, [], ◌∷◌, length, nat_eq, slice_get, take, Option, Some, None, is_some, refl, sym, ap, subst, ◌∙◌, ◌==◌, if◌then◌else◌}
-use Rattle.std.specs.List.{IsDistinct, find, range_with_len}
+use Rattle.std.proofs.Common.{◌≡◌, ◌+◌, ℕ, Bool, true, false, not, ◌&&◌, List, [], length, nat_eq, slice_get, take, Option, Some, None, is_some, refl, sym, ap, subst, ◌∙◌, ◌==◌}
+use Rattle.std.specs.List.{IsDistinct, range_with_len}
 use Rattle.std.specs.Prelude.{option_map}
 use Rattle.std.proofs.lemmas.Bool.{and_from, and_parts, both_ways, eqb-true, false_from_ne_true}
 use Rattle.std.proofs.lemmas.Option.{same_Some}
 use Rattle.omega_model.specs.Cell.{Cell, machine_at, task_at}
 use Rattle.omega_model.specs.Judge.{is_up, judge_fine, makes_room, would_be_placed}
-use Rattle.omega_model.specs.Keys.{beginnings}
 use Rattle.omega_model.specs.Machines.{numbers_of}
-use Rattle.omega_model.specs.Plan.{candidates, claim_of, goes_in, victims}
+use Rattle.omega_model.specs.Plan.{candidates, claim_of, victims}
 use Rattle.omega_model.specs.Planning.{suits}
 use Rattle.omega_model.specs.Reply.{after_claim}
 use Rattle.omega_model.specs.declared.cells.Machine.{Machine}

@@ -1,13 +1,13 @@
 -- What comes of a wish, by what the searches found.
-use Rattle.std.proofs.Common.{Bor, ◌≡◌, ◌<◌, ◌≤◌, ℕ, zero, suc, Bool, true, false, ◌&&◌, List, [], ◌∷◌, length, nat_eq, slice_get, Option, Some, None, is_some, arith, refl, sym, ap, subst, ◌∙◌, if◌then◌else◌}
-use Rattle.std.specs.List.{IsDistinct, filter, find, cons_option, filter_map}
+use Rattle.std.proofs.Common.{Bor, ◌≡◌, ◌<◌, ◌≤◌, ℕ, zero, suc, Bool, true, false, List, [], ◌∷◌, length, nat_eq, slice_get, Option, Some, None, is_some, arith, refl, sym, ap, ◌∙◌, if◌then◌else◌}
+use Rattle.std.specs.List.{IsDistinct, find, cons_option, filter_map}
 use Rattle.std.specs.Prelude.{option_map}
 use Rattle.std.proofs.lemmas.Bool.{both_ways, false_from_ne_true}
 use Rattle.omega_model.specs.Cell.{Cell, task_at}
 use Rattle.omega_model.specs.Judge.{judge_fine, would_be_placed}
 use Rattle.omega_model.specs.Keys.{beginnings}
 use Rattle.omega_model.specs.Machines.{numbers_of}
-use Rattle.omega_model.specs.Plan.{after_planned, candidates, claim_of, first_item, goes_in, or_else, victims}
+use Rattle.omega_model.specs.Plan.{candidates, claim_of, first_item, goes_in, or_else, victims}
 use Rattle.omega_model.specs.Planning.{claim_as_is, claim_for_wish, claim_with_victims, suiting_from}
 use Rattle.omega_model.specs.Reply.{after_claim}
 use Rattle.omega_model.specs.declared.cells.Machine.{Machine}
@@ -63,9 +63,6 @@ module _ (cell : Cell) (wish : Wish) (progress : Progress) (serves : Serves cell
   none_of : (test : List TaskKey → Bool) → ((keys : List TaskKey) → test keys ≡ false) → (xs : List (List TaskKey)) → find test xs ≡ None
   none_of test none [] = refl
   none_of test none (x ∷ xs) = let out : test x ≡ false = none x in rw out (none_of test none xs)
-
-  either : Bool → Option Claim → Option Claim → Option Claim
-  either preempts one other = or_else one (if preempts then other else None)
 
   no_claim : (preempts : Bool) → claim_as_is cell progress.start wish ≡ None → claim_with_victims cell progress.start wish ≡ None
       → claim_for_wish cell progress.start preempts wish ≡ None

@@ -2,11 +2,11 @@
 use Rattle.std.proofs.Common.{◌≡◌, ◌<◌, ◌+◌, ◌-◌, ◌≤◌, ℕ, Bool, true, false, List, [], ◌∷◌, ◌++◌, drop, length, get_or, Option, Some, None, IsSomeAnd, arith, refl, sym, ap, subst, ◌∙◌, if◌then◌else◌}
 use Rattle.std.specs.List.{cons_option, filter_map, find}
 use Rattle.std.specs.Prelude.{option_map}
-use Rattle.std.proofs.lemmas.List.{drop_more, drop_all, append_assoc, append-nil}
+use Rattle.std.proofs.lemmas.List.{drop_more, append_assoc, append-nil}
 use Rattle.omega_model.specs.Cell.{Cell}
 use Rattle.omega_model.specs.Judge.{would_be_placed}
 use Rattle.omega_model.specs.Keys.{beginnings}
-use Rattle.omega_model.specs.Plan.{after_planned, and_claims, candidates, claim_of, first_item, goes_in, or_else, victims}
+use Rattle.omega_model.specs.Plan.{after_planned, and_claims, candidates, claim_of, first_item, or_else, victims}
 use Rattle.omega_model.specs.Planning.{claim_as_is, claim_for_wish, claim_with_victims, claims_for_wishes, suiting_from}
 use Rattle.omega_model.specs.declared.cells.Machine.{Machine}
 use Rattle.omega_model.specs.declared.claims.Claim.{Claim}

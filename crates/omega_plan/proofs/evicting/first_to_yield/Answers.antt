@@ -1,4 +1,4 @@
-use Rattle.std.proofs.Common.{◌≡◌, ℕ, length, Option, Some, None, subst}
+use Rattle.std.proofs.Common.{ℕ, length, Option, Some, None, subst}
 use Rattle.std.specs.Prelude.{option_map}
 use Rattle.std.proofs.lemmas.Result.{IfOk-weaker}
 use Rattle.omega_board.specs.Board.{cell_of}

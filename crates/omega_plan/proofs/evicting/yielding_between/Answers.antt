@@ -1,4 +1,4 @@
-use Rattle.std.proofs.Common.{ℕ, ◌≤◌, ◌<◌, false, true, arith, below_more}
+use Rattle.std.proofs.Common.{ℕ, ◌≤◌, false, arith, below_more}
 use Rattle.omega_board.specs.Board.{cell_of}
 use Rattle.omega_plan.specs.Trying.{Yields}
 use Rattle.omega_plan.proofs.FirstYields.{yields_none, yields_some}

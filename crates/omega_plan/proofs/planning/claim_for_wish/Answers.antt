@@ -1,4 +1,4 @@
-use Rattle.std.proofs.Common.{◌≡◌, ◌<◌, List, [], Option, Some, None, is_some, length, ap, sym, subst, ◌∙◌, true}
+use Rattle.std.proofs.Common.{◌≡◌, ◌<◌, List, [], Some, None, is_some, length, ap, sym, subst, ◌∙◌, true}
 use Rattle.std.proofs.lemmas.List.{length-map}
 use Rattle.omega_machines.specs.declared.MachineState.{MachineState}
 use Rattle.omega_machines.specs.Table.{machines_of}

@@ -1,4 +1,4 @@
-use Rattle.std.proofs.Common.{◌+◌, ◌++◌, [], List, Option, length, append-nil, sym, ap, refl, ◌∙◌}
+use Rattle.std.proofs.Common.{◌+◌, ◌++◌, [], Option, length, append-nil, sym, ap, refl, ◌∙◌}
 use Rattle.omega_model.specs.Plan.{after_planned, and_claims}
 use Rattle.omega_model.specs.declared.claims.Claim.{Claim}
 use Rattle.omega_board.specs.Board.{cell_of}

@@ -1,6 +1,5 @@
 use Rattle.std.proofs.Common.{◌≡◌, length, ap, sym, ◌∙◌, rules}
 use Rattle.std.proofs.lemmas.List.{length-map}
-use Rattle.omega_model.specs.declared.cells.Machine.{Machine}
 use Rattle.omega_board.specs.Board.{cell_of}
 use Rattle.omega_copy.specs.Telling.{free_on}
 use Rattle.omega_fit.proofs.Found.{of_items}

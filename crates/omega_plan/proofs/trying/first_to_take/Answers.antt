@@ -1,4 +1,4 @@
-use Rattle.std.proofs.Common.{◌≡◌, ◌≤◌, ℕ, Option, Some, None, length, sym, subst}
+use Rattle.std.proofs.Common.{ℕ, Option, Some, None, length, subst}
 use Rattle.omega_board.specs.Board.{cell_of}
 use Rattle.omega_plan.specs.Kinds.{IsFull, MayBegin}
 use Rattle.omega_plan.specs.Trying.{IsFirstToTake, Takes}
