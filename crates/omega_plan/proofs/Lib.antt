@@ -7,4 +7,5 @@ pub mod FirstYields
 pub mod KindsOf
 pub mod Rooms
 pub mod StepsOf
+pub mod TooSmall
 pub mod Trials

@@ -83,7 +83,8 @@ fn yielding_between(
     Ok(None)
 }
 
-/// The victims on the machine at a position, if it suits the wish and evictions make room there.
+/// The victims on the machine at a position, if it suits the wish and evictions make room there. A
+/// machine that were too small without any task is passed over at once.
 fn victims_at(
     alloc: Global,
     board: &Board,
@@ -95,6 +96,9 @@ fn victims_at(
     let Some(machine) = board.machines().at(position) else {
         return Ok(None);
     };
+    if !wish.spec.need.fits(machine.cap) {
+        return Ok(None);
+    }
     if !eligible(&wish.constraints, &machine.attrs) {
         return Ok(None);
     }
