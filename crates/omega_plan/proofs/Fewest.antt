@@ -2,12 +2,11 @@
 use Rattle.std.proofs.Common.{◌≡◌, ◌+◌, ℕ, zero, suc, Bool, true, false, not, ◌&&◌, List, [], ◌∷◌, length, map, take, Option, Some, None, is_some, arith, refl, sym, ap, subst, ◌∙◌, if◌then◌else◌, inl, inr}
 use Rattle.std.specs.List.{filter, find, list_any, range_with_len}
 use Rattle.std.specs.Option.{option_map, unwrap_or}
-use Rattle.std.proofs.lemmas.Bool.{and_from, and_left, and_parts, and_right, both_ways, false_from_ne_true, not-true, not_from_false, or_cases, or_from, or_left, or_parts, or_right}
-use Rattle.std.proofs.lemmas.List.{take_all}
+use Rattle.std.proofs.lemmas.Bool.{and_from, and_parts, both_ways, false_from_ne_true, not-true, not_from_false, or_cases, or_from, or_left, or_parts, or_right}
 use Rattle.omega_model.specs.Cell.{Cell, machine_at, rest_on, stays_on, task_at}
 use Rattle.omega_model.specs.Judge.{already_running, capacity_of, evicted_for, first_that_applies, free_without, full, has_rival, is_up, judge_fine, makes_room, no_machine, refusal_if, rival, runs_on, same_job, standing_victims, stays_of_job, verdict_given, victim_rank, withstands, would_be_placed}
 use Rattle.omega_model.specs.Keys.{beginnings, first_mentions, is_among, same_key}
-use Rattle.omega_model.specs.Need.{Fits, fits, minus}
+use Rattle.omega_model.specs.Need.{Fits, minus}
 use Rattle.omega_model.specs.Plan.{candidates, claim_of, goes_in, victims}
 use Rattle.omega_model.specs.Touches.{is_placed}
 use Rattle.omega_model.specs.declared.cells.Need.{Need}
@@ -84,7 +83,7 @@ placed_where cell claim up new rank alone room =
     λ i. is_placed (first_that_applies (up i ∷ new i ∷ None ∷ rank i ∷ alone i ∷ room i ∷ []))
 
 -- a wish goes on a machine when candidates go, exactly where it may go there and they make room
-goes_where_room : (cell : Cell) (id : ℕ) (wish : Wish) (keys : List TaskKey) → AreCandidates cell id wish keys
+pub goes_where_room : (cell : Cell) (id : ℕ) (wish : Wish) (keys : List TaskKey) → AreCandidates cell id wish keys
     → goes_in cell wish keys id ≡ (may_go cell id wish && makes_room cell (claim_of wish keys id) keys)
 goes_where_room cell id wish keys are = same_answer _ _ there back
   where
@@ -155,7 +154,7 @@ any_more p q more (t ∷ tasks) any =
 fits_with_less : (need cap more less : Need) → Fits less more → Fits need (minus cap more) → Fits need (minus cap less)
 fits_with_less need cap more less p q = (omega (arith, p.0, q.0), (omega (arith, p.1.0, q.1.0), omega (arith, p.1.1, q.1.1)))
 
-room_for_all : (cell : Cell) (claim : Claim) (n : ℕ) (keys : List TaskKey) → makes_room cell claim (take n keys) ≡ true → makes_room cell claim keys ≡ true
+pub room_for_all : (cell : Cell) (claim : Claim) (n : ℕ) (keys : List TaskKey) → makes_room cell claim (take n keys) ≡ true → makes_room cell claim keys ≡ true
 room_for_all cell claim n keys room =
     let parts = and_parts _ _ room in
     let cap = capacity_of (machine_at cell.machines claim.machine) in
@@ -176,14 +175,15 @@ find_mapped : {X Y : Type 0} (p q : Y → Bool) (f : X → Y) → ((x : X) → p
 find_mapped p q f same [] = refl
 find_mapped p q f same (x ∷ xs) = λ i. if same x i then Some (f x) else find_mapped p q f same xs i
 
-none_mapped : {X Y : Type 0} (p : Y → Bool) (f : X → Y) → ((x : X) → p (f x) ≡ false) → (xs : List X) → find p (map f xs) ≡ None
+pub none_mapped : {X Y : Type 0} (p : Y → Bool) (f : X → Y) → ((x : X) → p (f x) ≡ false) → (xs : List X) → find p (map f xs) ≡ None
 none_mapped p f none [] = refl
 none_mapped p f none (x ∷ xs) = let out : p (f x) ≡ false = none x in rw out (none_mapped p f none xs)
 
-abbrev goes_with : Cell → ℕ → Wish → List TaskKey → List TaskKey → Bool
+-- whether a wish goes in when some of the candidates go
+abbrev pub goes_with : Cell → ℕ → Wish → List TaskKey → List TaskKey → Bool
 goes_with cell id wish keys some = may_go cell id wish && makes_room cell (claim_of wish keys id) some
 
-victims_by_room : (cell : Cell) (id : ℕ) (wish : Wish) (keys : List TaskKey) → AreCandidates cell id wish keys → keys ≡ candidates cell id wish
+pub victims_by_room : (cell : Cell) (id : ℕ) (wish : Wish) (keys : List TaskKey) → AreCandidates cell id wish keys → keys ≡ candidates cell id wish
     → victims cell id wish ≡ find (goes_with cell id wish keys) (beginnings keys)
 victims_by_room cell id wish keys are is =
     ap (λ ks. find (λ some. goes_in cell wish some id) (beginnings ks)) (sym is)

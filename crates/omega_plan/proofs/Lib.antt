@@ -1,6 +1,11 @@
-pub mod Rooms
 pub mod AsIs
+pub mod Begins
 pub mod Candidates
+pub mod Elsewhere
 pub mod Fewest
-pub mod FirstClaims
+pub mod FirstYields
+pub mod KindsOf
+pub mod Rooms
+pub mod StepsOf
+pub mod TooSmall
 pub mod Trials

@@ -1,9 +1,8 @@
 -- What a machine does with a wish that is tried on it.
-use Rattle.std.specs.Prelude.{◌≡◌, ◌&&◌, ℕ, Bool, false, List, [], Option, Some, None, option_map, length, slice_get, if◌then◌else◌}
-use Rattle.std.specs.List.{filter_map}
+use Rattle.std.specs.Prelude.{◌≡◌, ◌&&◌, ℕ, Bool, false, List, [], Option, Some, None, option_map, is_some, length, slice_get, if◌then◌else◌}
 use Rattle.std.specs.Option.{option_map_or}
 use Rattle.omega_model.specs.Cell.{Cell, task_at}
-use Rattle.omega_model.specs.Plan.{claim_of, first_item, gives_way, goes_in, victims}
+use Rattle.omega_model.specs.Plan.{claim_of, gives_way, goes_in, victims}
 use Rattle.omega_model.specs.Planning.{suits}
 use Rattle.omega_model.specs.declared.cells.Machine.{Machine}
 use Rattle.omega_model.specs.declared.cells.Task.{Task}
@@ -34,6 +33,21 @@ abbrev pub claim_on : Cell → Wish → Machine → Option Claim
 claim_on cell wish machine =
     if suits wish machine.attrs then option_map (λ keys. claim_of wish keys machine.id) (victims cell machine.id wish) else None
 
--- the first of such claims on some machines
-abbrev pub first_claim : Cell → Wish → List Machine → Option Claim
-first_claim cell wish machines = first_item (filter_map (claim_on cell wish) machines)
+-- what is answered at a position: whether evictions make room for the wish on the machine that stands there
+abbrev pub Yields : Cell → Wish → ℕ → Bool → Type 0
+Yields cell wish position answer =
+    (machine : Machine) → slice_get cell.machines position ≡ Some machine → is_some (claim_on cell wish machine) ≡ answer
+
+-- the first position, round from a start, on whose machine evictions make room; none where they do nowhere
+unfoldable pub IsFirstToYield : Cell → Wish → ℕ → Option ℕ → Type 0
+IsFirstToYield cell wish start found = IsFirst (Yields cell wish) (positions_from start (length cell.machines)) found
+
+-- the claim of a wish on the machine at a position, with these victims, is this one
+abbrev pub IsClaimAt : Cell → Wish → ℕ → List TaskKey → Claim → Type 0
+IsClaimAt cell wish position victims claim =
+    (machine : Machine) → slice_get cell.machines position ≡ Some machine → claim ≡ claim_of wish victims machine.id
+
+-- the victims on the machine at a position
+abbrev pub AreVictimsAt : Cell → Wish → ℕ → Option (List TaskKey) → Type 0
+AreVictimsAt cell wish position keys = (machine : Machine) → slice_get cell.machines position ≡ Some machine
+    → claim_on cell wish machine ≡ option_map (λ some. claim_of wish some machine.id) keys

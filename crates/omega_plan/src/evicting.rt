@@ -1,74 +1,108 @@
 //! The tasks that make room for a wish, and the first machine on which they do.
-ghost use Rattle.std.specs.Prelude.{◌≡◌, ◌≤◌, ◌-◌, IfOk, length, take, drop};
+ghost use Rattle.std.specs.Prelude.{◌≡◌, ◌≤◌, ◌<◌, None, Some, IfOk, IfSome, option_map, length};
 ghost use Rattle.omega_board.specs.Board.{cell_of};
+ghost use Rattle.omega_fit.specs.Round.{FirstBetween};
+ghost use Rattle.omega_model.specs.Cell.{task_at};
 ghost use Rattle.omega_model.specs.Plan.{candidates, victims};
-ghost use Rattle.omega_model.specs.Planning.{claim_with_victims};
-ghost use Rattle.omega_plan.specs.Trying.{claim_on, first_claim, yields};
+ghost use Rattle.omega_plan.specs.Kinds.{Serves};
+ghost use Rattle.omega_plan.specs.Trying.{AreVictimsAt, IsFirstToYield, Yields, yields};
 
+use crate::progress::Progress;
 use crate::trying::claim_of;
 use omega_attrs::eligible;
 use omega_board::Board;
-use omega_model::{Claim, Keys, Machine, NoMemory, Seq, TaskKey, Wish};
+use omega_model::{Keys, NoMemory, Seq, TaskKey, Wish};
 use std::alloc::Global;
 
-/// The claim on the first suiting machine, round from `start`, on which evictions make room for the
-/// wish. Looks at the machines in order, up to the one that is answered, and sorts the tasks of each
-/// that suits.
-pub(crate) fn claim_with_victims(
+/// A position, and the victims that make room on the machine that stands there.
+#[derive(Debug, Drop)]
+pub(crate) struct Yielding {
+    pub position: usize,
+    pub victims: Keys,
+}
+
+/// The first position, round from the plan's start, whose machine suits the wish and where evictions
+/// make room, with the victims. Begins where the progress says, and sorts the tasks of each machine
+/// that suits up to the one that is answered.
+pub(crate) fn first_to_yield(
     alloc: Global,
     board: &Board,
     wish: &Wish,
-    start: usize,
-) -> Result<Option<Claim>, NoMemory>
-    requires { start ≤ length board.now.table }
-    ensures { IfOk result (λ claim. claim ≡ claim_with_victims (cell_of board.now) start wish.now) }
+    progress: &Progress,
+) -> Result<Option<Yielding>, NoMemory>
+    requires absent { task_at board.now.tasks wish.now.key ≡ None }
+    requires serves { Serves (cell_of board.now) wish.now progress.now }
+    ensures first { IfOk result (λ found. IsFirstToYield (cell_of board.now) wish.now progress.now.start (option_map (λ f. f.position) found)) }
+    ensures below { IfOk result (λ found. IfSome found (λ f. f.position < length board.now.table)) }
+    ensures victims { IfOk result (λ found. IfSome found (λ f. AreVictimsAt (cell_of board.now) wish.now f.position (Some f.victims))) }
 {
-    let count = board.machines().len();
-    match first_claim(alloc, board, wish, start, count)? {
-        Some(claim) => Ok(Some(claim)),
-        None => first_claim(alloc, board, wish, 0, start),
+    let _ = board.running();
+    match progress.evicting {
+        Some(begin) => yielding_from(alloc, board, wish, begin),
+        None => Ok(None),
     }
 }
 
-/// The first claim with victims on the machines at `from..to`.
-fn first_claim(
+/// The first position, round from `begin`, where evictions make room.
+fn yielding_from(
+    alloc: Global,
+    board: &Board,
+    wish: &Wish,
+    begin: usize,
+) -> Result<Option<Yielding>, NoMemory>
+    requires { begin ≤ length (cell_of board.now).machines }
+    ensures first { IfOk result (λ found. IsFirstToYield (cell_of board.now) wish.now begin (option_map (λ f. f.position) found)) }
+    ensures below { IfOk result (λ found. IfSome found (λ f. f.position < length board.now.table)) }
+    ensures victims { IfOk result (λ found. IfSome found (λ f. AreVictimsAt (cell_of board.now) wish.now f.position (Some f.victims))) }
+{
+    let count = board.machines().len();
+    match yielding_between(alloc, board, wish, begin, count)? {
+        Some(found) => Ok(Some(found)),
+        None => yielding_between(alloc, board, wish, 0, begin),
+    }
+}
+
+/// The first position of `from..to` where evictions make room.
+fn yielding_between(
     alloc: Global,
     board: &Board,
     wish: &Wish,
     from: usize,
     to: usize,
-) -> Result<Option<Claim>, NoMemory>
-    requires order { from ≤ to }
-    requires within { to ≤ length board.now.table }
-    ensures { IfOk result (λ claim. claim ≡ first_claim (cell_of board.now) wish.now (take (to - from) (drop from (cell_of board.now).machines))) }
+) -> Result<Option<Yielding>, NoMemory>
+    requires { to ≤ length (cell_of board.now).machines }
+    ensures first { IfOk result (λ found. FirstBetween (Yields (cell_of board.now) wish.now) from to (option_map (λ f. f.position) found)) }
+    ensures below { IfOk result (λ found. IfSome found (λ f. f.position < length board.now.table)) }
+    ensures victims { IfOk result (λ found. IfSome found (λ f. AreVictimsAt (cell_of board.now) wish.now f.position (Some f.victims))) }
 {
     for position in from..to {
-        let Some(machine) = board.machines().at(position) else {
-            unreachable!()
-        };
-        if let Some(claim) = claim_on(alloc, board, wish, machine)? {
-            return Ok(Some(claim));
+        if let Some(victims) = victims_at(alloc, board, wish, position)? {
+            return Ok(Some(Yielding { position, victims }));
         }
     }
     Ok(None)
 }
 
-/// The claim on a machine, if it suits the wish and evictions make room.
-fn claim_on(
+/// The victims on the machine at a position, if it suits the wish and evictions make room there. A
+/// machine that were too small without any task is passed over at once.
+fn victims_at(
     alloc: Global,
     board: &Board,
     wish: &Wish,
-    machine: &Machine,
-) -> Result<Option<Claim>, NoMemory>
-    ensures { IfOk result (λ claim. claim ≡ claim_on (cell_of board.now) wish.now machine.now) }
+    position: usize,
+) -> Result<Option<Keys>, NoMemory>
+    ensures { IfOk result (λ keys. AreVictimsAt (cell_of board.now) wish.now position keys) }
 {
+    let Some(machine) = board.machines().at(position) else {
+        return Ok(None);
+    };
+    if !wish.spec.need.fits(machine.cap) {
+        return Ok(None);
+    }
     if !eligible(&wish.constraints, &machine.attrs) {
         return Ok(None);
     }
-    match victims(alloc, board, wish, machine.id)? {
-        Some(keys) => Ok(Some(claim_of(wish, keys, machine.id))),
-        None => Ok(None),
-    }
+    victims(alloc, board, wish, machine.id)
 }
 
 /// The fewest tasks on a machine that must go for a fine claim of the wish to be placed there: a

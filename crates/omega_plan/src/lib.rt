@@ -8,6 +8,7 @@
 
 mod evicting;
 mod planning;
+mod progress;
 mod trying;
 
 pub use evicting::victims;

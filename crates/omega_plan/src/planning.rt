@@ -3,10 +3,16 @@ ghost use Rattle.std.specs.Prelude.{◌≡◌, ◌≤◌, None, length, IfOk, Is
 ghost use Rattle.omega_board.specs.Board.{cell_of};
 ghost use Rattle.omega_copy.specs.Copies.{after_trial};
 ghost use Rattle.omega_model.specs.Plan.{whole_or_none};
-ghost use Rattle.omega_model.specs.Planning.{claim_for_wish, claims_for_wishes, plan_for};
+ghost use Rattle.omega_model.specs.Cell.{task_at};
+ghost use Rattle.omega_model.specs.Planning.{claims_for_wishes, plan_for};
+ghost use Rattle.omega_plan.specs.Kinds.{Serves};
+ghost use Rattle.omega_plan.specs.Steps.{IsStep};
+ghost use Rattle.omega_plan.specs.Trying.{IsFirstToTake};
 
-use crate::evicting::claim_with_victims;
-use crate::trying::claim_as_is;
+use crate::evicting::first_to_yield;
+use crate::progress::{Progress, Step};
+use crate::trying::{claim_at, first_to_take};
+use omega_board::Board;
 use omega_copy::PrivateCopy;
 use omega_model::{Claim, Mode, NoMemory, Policy, Request, Seq, Txn, Wish};
 use std::alloc::Global;
@@ -58,35 +64,83 @@ fn claims_for_wishes(
     ensures back { after_trial copy.new copy.new.trial ≡ after_trial copy.old copy.old.trial }
 {
     let mut claims = Vec::new(alloc);
+    let Some(first) = wishes.first() else {
+        return Ok(claims);
+    };
+    let mut kind = first;
+    let mut progress = Progress::at(start);
     for wish in wishes {
-        if let Some(claim) = claim_for_wish(alloc, copy, wish, start, preempts)? {
+        let Step {
+            claim,
+            progress: next,
+        } = claim_for_wish(alloc, copy, wish, preempts, progress.turn(kind, wish))?;
+        if let Some(claim) = claim {
             copy.claim(alloc, &claim)?;
             claims.push(claim)?;
         }
+        kind = wish;
+        progress = next;
     }
     Ok(claims)
 }
 
-/// The claim for one wish: without victims where that goes, else with them if it preempts.
+/// The claim for one wish: without victims where that goes, else with them if it preempts. A wish
+/// whose task runs already gets none.
 fn claim_for_wish(
     alloc: Global,
     copy: &PrivateCopy,
     wish: &Wish,
-    start: usize,
     preempts: bool,
-) -> Result<Option<Claim>, NoMemory>
-    requires { start ≤ length copy.now.board.table }
-    ensures { IfOk result (λ claim. claim ≡ claim_for_wish (cell_of copy.now.board) start preempts wish.now) }
+    progress: Progress,
+) -> Result<Step, NoMemory>
+    requires { Serves (cell_of copy.now.board) wish.now progress }
+    ensures { IfOk result (λ step. IsStep (cell_of copy.now.board) wish.now preempts progress step) }
 {
-    match claim_as_is(alloc, copy.board(), copy.free(), wish, start) {
-        Some(claim) => Ok(Some(claim)),
-        None => {
-            if preempts {
-                claim_with_victims(alloc, copy.board(), wish, start)
-            } else {
-                Ok(None)
-            }
-        }
+    let board = copy.board();
+    if board.running().get(wish.key).is_some() {
+        return Ok(Step {
+            claim: None,
+            progress,
+        });
+    }
+    match first_to_take(alloc, board, copy.free(), wish, &progress) {
+        Some(position) => Ok(Step {
+            claim: Some(claim_at(board, wish, position, Seq::new(alloc))),
+            progress: progress.found(position),
+        }),
+        None => claim_by_evicting(alloc, board, wish, preempts, progress.full()),
+    }
+}
+
+/// The claim for a wish that no machine takes as it is.
+fn claim_by_evicting(
+    alloc: Global,
+    board: &Board,
+    wish: &Wish,
+    preempts: bool,
+    progress: Progress,
+) -> Result<Step, NoMemory>
+    requires absent { task_at board.now.tasks wish.now.key ≡ None }
+    requires full { IsFirstToTake (cell_of board.now) wish.now progress.start None }
+    requires serves { Serves (cell_of board.now) wish.now progress }
+    ensures { IfOk result (λ step. IsStep (cell_of board.now) wish.now preempts progress step) }
+{
+    let _ = board.running();
+    if !preempts {
+        return Ok(Step {
+            claim: None,
+            progress,
+        });
+    }
+    match first_to_yield(alloc, board, wish, &progress)? {
+        Some(found) => Ok(Step {
+            claim: Some(claim_at(board, wish, found.position, found.victims)),
+            progress: progress.evicted(found.position),
+        }),
+        None => Ok(Step {
+            claim: None,
+            progress: progress.stays_full(),
+        }),
     }
 }
 

@@ -1,7 +1,6 @@
-use Rattle.std.proofs.Common.{◌≡◌, Some, List, ap, sym, subst, ◌∙◌}
+use Rattle.std.proofs.Common.{◌≡◌, Some, ap, sym, subst, ◌∙◌}
 use Rattle.omega_model.specs.Judge.{judge_fine}
-use Rattle.omega_model.specs.Plan.{candidates, claim_of}
-use Rattle.omega_model.specs.declared.cells.TaskKey.{TaskKey}
+use Rattle.omega_model.specs.Plan.{claim_of}
 use Rattle.omega_model.specs.declared.claims.Claim.{Claim}
 use Rattle.omega_board.specs.Board.{cell_of}
 use Rattle.omega_plan.proofs.Candidates.{AreCandidates, are_candidates}
