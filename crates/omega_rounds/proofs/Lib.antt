@@ -36,3 +36,4 @@ pub mod OpenedEntries
 pub mod WorldBegins
 pub mod WorldGoes
 pub mod PlayedTurns
+pub mod PlayedRounds

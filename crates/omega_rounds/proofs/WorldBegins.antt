@@ -34,6 +34,7 @@ use Rattle.omega_rounds.specs.InRound.{RoundIsOver, rows_now}
 use Rattle.omega_rounds.specs.Keeping.{HasBegun, HasNotBegun, IsLawful, IsWorld, world_at}
 use Rattle.omega_rounds.specs.NextCommit.{HasNoWork, NobodyHasWork}
 use Rattle.omega_rounds.specs.Opening.{BeginAll, BeginsSeat, HaveNoWork, IsAsked}
+use Rattle.omega_rounds.specs.Playing.{IsAtStart}
 use Rattle.omega_rounds.specs.Seats.{IsDeskOf, IsRoutedTo, IsSeat, synced_of, to_do_of}
 use Rattle.omega_rounds.specs.Stages.{IsMadeOf, Source, Stage, next_stage, rows_begun, source_of, stage_of}
 use Rattle.omega_rounds.specs.declared.seat.Seat.{Seat}
@@ -42,7 +43,7 @@ use Rattle.omega_rounds.proofs.Places.{take_next}
 use Rattle.omega_rounds.proofs.Requested.{open_own, requests_own}
 use Rattle.omega_rounds.proofs.RoundGrows.{has_left_opened}
 use Rattle.omega_rounds.proofs.SeatLists.{seen_none, sum_none, sum_of_none}
-use Rattle.omega_rounds.proofs.WorldSteps.{rows_more, rows_same}
+use Rattle.omega_rounds.proofs.WorldSteps.{new_idle, rows_more, rows_same, state_at}
 use Rattle.omega_rounds.proofs.Worlds.{begins_done, begins_rows, goes_done, goes_rows, world_begins, world_goes_on}
 
 -- nobody has work where no request is left at any desk
@@ -266,4 +267,20 @@ module _ (settings : Settings) (all : List Round) (asked : Asked) (begun old_pla
           seat_later number found.0 seat (world.each_seat number found.0 found.1.0) found.1.1;
       made = world.made;
       lawful = λ trace made. lawful_later trace made;
+    }
+
+-- a world in which no round has begun
+pub world_start : (stage : Stage) (tasks : List WantedTask) (history : List Entry) (seats : List Seat)
+    → IsWorld stage tasks history seats → stage.begun ≡ 0 → IsAtStart (state_at stage history seats)
+world_start stage tasks history seats world start =
+    let not_begun : (trace : TraceTables) → IsMadeOf stage trace → HasNotBegun stage (world_at history seats) =
+    λ trace made. elim (world.lawful trace made).run [
+      | inl none ↦ none
+      | inr has ↦ let count : stage.begun ≡ has.in_round.underway.done + 1 = has.count in absurd (omega (arith, count, start))
+    ] in
+    record {
+      empty = (not_begun world.made.0 world.made.1).is_new.empty;
+      idle = λ trace made. nobody_works trace stage tasks history seats world
+          (λ number seat here. new_idle trace stage history (world_at history seats) number seat.desk (not_begun trace made) refl
+          ((world.lawful trace made).desks number seat here)) made;
     }

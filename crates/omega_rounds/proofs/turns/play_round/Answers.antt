@@ -1,0 +1,15 @@
+use Rattle.std.proofs.Common.{◌≡◌, ◌∙◌, Bool, false, subst}
+use Rattle.omega_rounds.specs.Playing.{TakesTurnFrom}
+use Rattle.omega_rounds.proofs.PlayedTurns.{turns_last, turns_more}
+use Rattle.omega_rounds.proofs.turns.play_round.Goals as goal
+
+pub returns-then-not-branch-clause-plays : goal.returns-then-not-branch-clause-plays
+returns-then-not-branch-clause-plays c =
+    turns_last c.args.world c.loop-world.world c.take_turn.new.world c.loop-world.invariant.1
+    (subst (TakesTurnFrom c.loop-world.world c.take_turn.new.world) c.if-not-branch.true c.in_ok-take_turn.ensures.turn)
+
+pub loop-world-preserved : goal.loop-world-preserved
+loop-world-preserved c = (
+  c.in_ok-take_turn.ensures.stage ∙ c.loop-world.invariant.0,
+  turns_more c.args.world c.loop-world.world c.take_turn.new.world c.in_ok-take_turn.field-0 c.loop-world.invariant.1 c.in_ok-take_turn.ensures.turn,
+)
