@@ -1,5 +1,6 @@
 #!/usr/bin/env bash
-# Has a built program answer each folder beside this script, and tells how many answers are right.
+# Has a built program answer each folder beside this script and each one of examples/ that has words,
+# and tells how many answers are right.
 #
 #     tests/run.sh PROGRAM
 #
@@ -49,8 +50,10 @@ faults_in() {
 
 passed=0
 failed=0
-for folder in */; do
-    name=${folder%/}
+shopt -s nullglob
+for folder in */ ../examples/*/words ../examples/*/*/words; do
+    name=${folder%/words}
+    name=${name%/}
     faults=$(faults_in "$name")
     if [ -z "$faults" ]; then
         passed=$((passed + 1))
