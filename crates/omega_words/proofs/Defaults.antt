@@ -22,26 +22,6 @@ replays (Some text) known = go (bytes_eq (codes "replay") text) refl known
     go false other known = absurd (true≢false (sym known))
 
 -- the options that aren't built are no arguments of the command
-no_seed : has_rule (codes "seed") (rules_built built_words) ≡ false
-unfolding built_words
-no_seed = refl
-
-no_batch : has_rule (codes "batch") (rules_built built_words) ≡ false
-unfolding built_words
-no_batch = refl
-
-no_rule : has_rule (codes "rule") (rules_built built_words) ≡ false
-unfolding built_words
-no_rule = refl
-
-no_mode : has_rule (codes "mode") (rules_built built_words) ≡ false
-unfolding built_words
-no_mode = refl
-
-no_preempt : has_rule (codes "preempt") (rules_built built_words) ≡ false
-unfolding built_words
-no_preempt = refl
-
 no_extra : has_rule (codes "extra") (rules_built built_words) ≡ false
 unfolding built_words
 no_extra = refl
@@ -56,12 +36,14 @@ no_jobs = refl
 
 -- texts of the one command and of no option that isn't built give the defaults there
 defaults_kept : (texts : Text → Option Text) → command_of (texts (codes "command")) ≡ Replay
-    → texts (codes "seed") ≡ None → texts (codes "batch") ≡ None → texts (codes "rule") ≡ None → texts (codes "mode") ≡ None
-    → texts (codes "preempt") ≡ None → texts (codes "extra") ≡ None
-    → texts (codes "machines") ≡ None → texts (codes "jobs") ≡ None
+    → texts (codes "extra") ≡ None → texts (codes "machines") ≡ None → texts (codes "jobs") ≡ None
     → KeepsDefaults (settings_by texts)
-defaults_kept texts command seed batch rule mode preempt extra machines jobs =
-    rw (command, seed, batch, rule, mode, preempt, extra, machines, jobs) refl
+defaults_kept texts command extra machines jobs = record {
+  command = command;
+  extra = rw extra refl;
+  machines = rw machines refl;
+  jobs = rw jobs refl;
+}
 
 -- so do the texts of the matches
 pub keeps_defaults : (words : List Text) (rows : List Row) → rows ≡ matches_of (app built_words) words
@@ -71,6 +53,4 @@ keeps_defaults words rows are known =
     let absent : (name : Text) → has_rule name (rules_built built_words) ≡ false → texts_of rows name ≡ None =
     λ name none. ap (λ (rs : List Row). texts_of rs name) are ∙ text_absent built_words words name none in
     defaults_kept (texts_of rows) (replays (texts_of rows (codes "command")) known)
-    (absent (codes "seed") no_seed) (absent (codes "batch") no_batch) (absent (codes "rule") no_rule) (absent (codes "mode") no_mode)
-    (absent (codes "preempt") no_preempt) (absent (codes "extra") no_extra)
-    (absent (codes "machines") no_machines) (absent (codes "jobs") no_jobs)
+    (absent (codes "extra") no_extra) (absent (codes "machines") no_machines) (absent (codes "jobs") no_jobs)

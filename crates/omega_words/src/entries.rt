@@ -67,11 +67,16 @@ fn make_entry<'a>(name: &'a str, kind: Kind<'a>) -> Entry<'a>
 }
 
 /// The options of the table.
-pub fn table() -> [Entry<'static>; 5]
+pub fn table() -> [Entry<'static>; 10]
     ensures { map choice_of result ≡ built_words.choices }
 {
     [
         make_entry("tables", Kind::Folder),
+        make_entry("seed", Kind::Number(SEEDS)),
+        make_entry("batch", Kind::Number(BATCHES)),
+        make_entry("rule", Kind::OneOf(&["fine", "coarse"])),
+        make_entry("mode", Kind::OneOf(&["incremental", "gang"])),
+        make_entry("preempt", Kind::OneOf(&["none", "service", "all"])),
         make_entry("tries", Kind::Number(TRIES)),
         make_entry("give-up", Kind::Number(GIVE_UPS)),
         make_entry("window", Kind::Number(WINDOWS)),

@@ -9,4 +9,9 @@ returns c =
     (ap₂ ◌∷◌ c.make_entry-2.ensures
     (ap₂ ◌∷◌ c.make_entry-3.ensures
     (ap₂ ◌∷◌ c.make_entry-4.ensures
-    (ap₂ ◌∷◌ c.make_entry-5.ensures refl))))
+    (ap₂ ◌∷◌ c.make_entry-5.ensures
+    (ap₂ ◌∷◌ c.make_entry-6.ensures
+    (ap₂ ◌∷◌ c.make_entry-7.ensures
+    (ap₂ ◌∷◌ c.make_entry-8.ensures
+    (ap₂ ◌∷◌ c.make_entry-9.ensures
+    (ap₂ ◌∷◌ c.make_entry-10.ensures refl)))))))))
