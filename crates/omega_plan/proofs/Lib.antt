@@ -1,0 +1,11 @@
+pub mod AsIs
+pub mod Begins
+pub mod Candidates
+pub mod Elsewhere
+pub mod Fewest
+pub mod FirstYields
+pub mod KindsOf
+pub mod Rooms
+pub mod StepsOf
+pub mod TooSmall
+pub mod Trials

@@ -8,6 +8,8 @@
 
 mod evicting;
 mod planning;
+mod progress;
+mod trying;
 
 pub use evicting::victims;
 pub use planning::plan;

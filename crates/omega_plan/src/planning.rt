@@ -1,10 +1,20 @@
 //! The plan of a request.
-ghost use Rattle.std.specs.Prelude.{◌≡◌, ◌≤◌, None, length, IfOk};
+ghost use Rattle.std.specs.Prelude.{◌≡◌, ◌≤◌, None, length, IfOk, IsSomeAnd};
 ghost use Rattle.omega_board.specs.Board.{cell_of};
-ghost use Rattle.omega_model.specs.Planning.{plan_for};
+ghost use Rattle.omega_copy.specs.Copies.{after_trial};
+ghost use Rattle.omega_model.specs.Plan.{whole_or_none};
+ghost use Rattle.omega_model.specs.Cell.{task_at};
+ghost use Rattle.omega_model.specs.Planning.{claims_for_wishes, plan_for};
+ghost use Rattle.omega_plan.specs.Kinds.{Serves};
+ghost use Rattle.omega_plan.specs.Steps.{IsStep};
+ghost use Rattle.omega_plan.specs.Trying.{IsFirstToTake};
 
+use crate::evicting::first_to_yield;
+use crate::progress::{Progress, Step};
+use crate::trying::{claim_at, first_to_take};
+use omega_board::Board;
 use omega_copy::PrivateCopy;
-use omega_model::{NoMemory, Policy, Request, Txn};
+use omega_model::{Claim, Mode, NoMemory, Policy, Request, Seq, Txn, Wish};
 use std::alloc::Global;
 
 /// The plan of a request on a copy, whose machines are tried from `start` round. Each wish gets the
@@ -27,5 +37,125 @@ pub fn plan(
     ensures claims { IfOk result (λ txn. txn.claims ≡ plan_for (cell_of copy.old.board) request.now.wishes start policy.now) }
     ensures copy { copy.new ≡ copy.old }
 {
-    Err(NoMemory)
+    let wishes = request.wishes.as_slice();
+    copy.scratch_room(alloc, request)?;
+    let claims = claims_for_wishes(alloc, copy, wishes, start, policy.preempt);
+    copy.drop_scratch();
+    Ok(Txn {
+        job: request.job,
+        rule: policy.rule,
+        mode: policy.mode,
+        claims: Seq::of(whole_or_none(policy.mode, wishes.len(), claims?)),
+    })
+}
+
+/// The claims for the wishes in order, each on the copy after the claims before it, for which its
+/// trial has room. The claims stay on the copy until the trial is dropped.
+fn claims_for_wishes(
+    alloc: Global,
+    copy: &mut PrivateCopy,
+    wishes: &[Wish],
+    start: usize,
+    preempts: bool,
+) -> Result<Vec<Claim>, NoMemory>
+    requires start { start ≤ length copy.old.board.table }
+    requires room { IsSomeAnd copy.old.trial (λ trial. length wishes.now ≤ trial.room) }
+    ensures claims { IfOk result (λ claims. claims.items ≡ claims_for_wishes (cell_of copy.old.board) start preempts wishes.now) }
+    ensures back { after_trial copy.new copy.new.trial ≡ after_trial copy.old copy.old.trial }
+{
+    let mut claims = Vec::new(alloc);
+    let Some(first) = wishes.first() else {
+        return Ok(claims);
+    };
+    let mut kind = first;
+    let mut progress = Progress::at(start);
+    for wish in wishes {
+        let Step {
+            claim,
+            progress: next,
+        } = claim_for_wish(alloc, copy, wish, preempts, progress.turn(kind, wish))?;
+        if let Some(claim) = claim {
+            copy.claim(alloc, &claim)?;
+            claims.push(claim)?;
+        }
+        kind = wish;
+        progress = next;
+    }
+    Ok(claims)
+}
+
+/// The claim for one wish: without victims where that goes, else with them if it preempts. A wish
+/// whose task runs already gets none.
+fn claim_for_wish(
+    alloc: Global,
+    copy: &PrivateCopy,
+    wish: &Wish,
+    preempts: bool,
+    progress: Progress,
+) -> Result<Step, NoMemory>
+    requires { Serves (cell_of copy.now.board) wish.now progress }
+    ensures { IfOk result (λ step. IsStep (cell_of copy.now.board) wish.now preempts progress step) }
+{
+    let board = copy.board();
+    if board.running().get(wish.key).is_some() {
+        return Ok(Step {
+            claim: None,
+            progress,
+        });
+    }
+    match first_to_take(alloc, board, copy.free(), wish, &progress) {
+        Some(position) => Ok(Step {
+            claim: Some(claim_at(board, wish, position, Seq::new(alloc))),
+            progress: progress.found(position),
+        }),
+        None => claim_by_evicting(alloc, board, wish, preempts, progress.full()),
+    }
+}
+
+/// The claim for a wish that no machine takes as it is.
+fn claim_by_evicting(
+    alloc: Global,
+    board: &Board,
+    wish: &Wish,
+    preempts: bool,
+    progress: Progress,
+) -> Result<Step, NoMemory>
+    requires absent { task_at board.now.tasks wish.now.key ≡ None }
+    requires full { IsFirstToTake (cell_of board.now) wish.now progress.start None }
+    requires serves { Serves (cell_of board.now) wish.now progress }
+    ensures { IfOk result (λ step. IsStep (cell_of board.now) wish.now preempts progress step) }
+{
+    let _ = board.running();
+    if !preempts {
+        return Ok(Step {
+            claim: None,
+            progress,
+        });
+    }
+    match first_to_yield(alloc, board, wish, &progress)? {
+        Some(found) => Ok(Step {
+            claim: Some(claim_at(board, wish, found.position, found.victims)),
+            progress: progress.evicted(found.position),
+        }),
+        None => Ok(Step {
+            claim: None,
+            progress: progress.stays_full(),
+        }),
+    }
+}
+
+/// A gang of which one wish found no machine makes no claim.
+fn whole_or_none(mode: Mode, wanted: usize, claims: Vec<Claim>) -> Vec<Claim>
+    ensures { result.items ≡ whole_or_none mode wanted claims.items }
+{
+    let mut kept = claims;
+    match mode {
+        Mode::Incremental => {}
+        Mode::Gang => {
+            if kept.len() != wanted {
+                kept.clear();
+            }
+        }
+    }
+    kept
 }

@@ -1,0 +1,135 @@
+-- Claims of a plan that are tried on a copy.
+use Rattle.std.proofs.Common.{◌≡◌, ◌<◌, ◌+◌, ◌-◌, ◌≤◌, ℕ, Bool, true, false, List, [], ◌∷◌, ◌++◌, drop, length, get_or, Option, Some, None, IsSomeAnd, arith, refl, sym, ap, subst, ◌∙◌, if◌then◌else◌}
+use Rattle.std.specs.List.{cons_option, filter_map, find}
+use Rattle.std.specs.Prelude.{option_map}
+use Rattle.std.proofs.lemmas.List.{drop_more, append_assoc, append-nil}
+use Rattle.omega_model.specs.Cell.{Cell}
+use Rattle.omega_model.specs.Judge.{would_be_placed}
+use Rattle.omega_model.specs.Keys.{beginnings}
+use Rattle.omega_model.specs.Plan.{after_planned, and_claims, candidates, claim_of, first_item, or_else, victims}
+use Rattle.omega_model.specs.Planning.{claim_as_is, claim_for_wish, claim_with_victims, claims_for_wishes, suiting_from}
+use Rattle.omega_model.specs.declared.cells.Machine.{Machine}
+use Rattle.omega_model.specs.declared.claims.Claim.{Claim}
+use Rattle.omega_model.specs.declared.wishes.Wish.{Wish}
+use Rattle.omega_model.proofs.Lists.{by_answer}
+use Rattle.omega_board.specs.Board.{cell_of}
+use Rattle.omega_plan.specs.Kinds.{Serves}
+use Rattle.omega_plan.specs.Steps.{IsStep}
+use Rattle.omega_plan.specs.declared.progress.Progress.{Progress}
+use Rattle.omega_plan.specs.declared.progress.Step.{Step}
+use Rattle.omega_copy.specs.Copies.{CopyState, TrialState, after_trial, one_less}
+
+-- a claim, if there is one, would be placed
+abbrev GoesIn : Cell → Option Claim → Type 0
+GoesIn cell None = Unit {0}
+GoesIn cell (Some claim) = would_be_placed cell claim ≡ true
+
+found_goes : {X : Type 0} (cell : Cell) (claim : X → Claim) (xs : List X) → GoesIn cell (option_map claim (find (λ x. would_be_placed cell (claim x)) xs))
+found_goes cell claim [] = tt
+found_goes cell claim (x ∷ xs) = by_answer (would_be_placed cell (claim x)) (λ t. rw t t) (λ f. rw f (found_goes cell claim xs))
+
+first_goes : {X : Type 0} (cell : Cell) (claim : X → Option Claim) → ((x : X) → GoesIn cell (claim x)) → (xs : List X) → GoesIn cell (first_item (filter_map claim xs))
+first_goes cell claim goes [] = tt
+first_goes cell claim goes (x ∷ xs) = by (claim x) (goes x) (first_goes cell claim goes xs)
+  where
+    by : (o : Option Claim) → GoesIn cell o → GoesIn cell (first_item (filter_map claim xs)) → GoesIn cell (first_item (cons_option o (filter_map claim xs)))
+    by None own later = later
+    by (Some c) own later = own
+
+either_goes : (cell : Cell) (one other : Option Claim) → GoesIn cell one → GoesIn cell other → GoesIn cell (or_else one other)
+either_goes cell None other one_goes other_goes = other_goes
+either_goes cell (Some c) other one_goes other_goes = one_goes
+
+-- the claim for a wish would be placed
+claim_goes : (cell : Cell) (start : ℕ) (preempts : Bool) (wish : Wish) → GoesIn cell (claim_for_wish cell start preempts wish)
+claim_goes cell start preempts wish =
+    either_goes cell (claim_as_is cell start wish) (if preempts then claim_with_victims cell start wish else None)
+    (found_goes cell (λ (machine : Machine). claim_of wish [] machine.id) (suiting_from cell.machines wish start))
+    (by preempts)
+  where
+    by : (b : Bool) → GoesIn cell (if b then claim_with_victims cell start wish else None)
+    by false = tt
+    by true =
+        first_goes cell (λ (machine : Machine). option_map (λ keys. claim_of wish keys machine.id) (victims cell machine.id wish))
+        (λ machine. found_goes cell (λ keys. claim_of wish keys machine.id) (beginnings (candidates cell machine.id wish)))
+        (suiting_from cell.machines wish start)
+
+pub planned_goes : (cell : Cell) (start : ℕ) (preempts : Bool) (wish : Wish) (claim : Claim) → Some claim ≡ claim_for_wish cell start preempts wish
+    → would_be_placed cell claim ≡ true
+planned_goes cell start preempts wish claim is = subst (GoesIn cell) (sym is) (claim_goes cell start preempts wish)
+
+-- the claims so far and those of the wishes that remain are those of all, a trial leads back to where all
+-- began, and the progress serves wishes of the kind of the last one
+pub record Planned (copy first : CopyState) (claims : List Claim) (start : ℕ) (preempts : Bool) (wishes : List Wish) (place : ℕ) (kind : Wish) (progress : Progress) : Type 0 where
+  pub planned : claims ++ claims_for_wishes (cell_of copy.board) start preempts (drop place wishes) ≡ claims_for_wishes (cell_of first.board) start preempts wishes
+  pub back : after_trial copy copy.trial ≡ after_trial first first.trial
+  pub room : IsSomeAnd copy.trial (λ trial. length wishes ≤ trial.room + place)
+  pub began : progress.start ≡ start
+  pub serves : Serves (cell_of copy.board) kind progress
+
+next_wish : {X : Type 0} (xs : List X) (place : ℕ) (x : X) → place < length xs → x ≡ get_or xs place x → drop place xs ≡ x ∷ drop (place + 1) xs
+next_wish xs place x below is = drop_more xs place x below ∙ ap (λ y. y ∷ drop (place + 1) xs) (sym is)
+
+joined : (xs ys : List Claim) (o : Option Claim) → (xs ++ and_claims o []) ++ ys ≡ xs ++ and_claims o ys
+joined xs ys None = ap (λ zs. zs ++ ys) (append-nil xs)
+joined xs ys (Some claim) = append_assoc xs (claim ∷ []) ys
+
+-- one more claim leaves where the trial leads back to
+pub still_back : (before after : CopyState) (P : TrialState → Type 0) → after.seen ≡ before.seen → after.trial ≡ option_map one_less before.trial
+    → IsSomeAnd before.trial P → after_trial after after.trial ≡ after_trial before before.trial
+still_back before after P seen trial some = by before.trial refl some
+  where
+    by : (o : Option TrialState) → before.trial ≡ o → IsSomeAnd o P → after_trial after after.trial ≡ after_trial before before.trial
+    by None is has = absurd has
+    by (Some t) is has =
+        ap (after_trial after) (trial ∙ ap (option_map one_less) is)
+        ∙ ap (λ (n : ℕ). record { board = t.before; seen = n; trial = None }) seen
+        ∙ sym (ap (after_trial before) is)
+
+-- and room for the others
+pub still_room : (wanted place : ℕ) (before after : Option TrialState) → place < wanted → after ≡ option_map one_less before
+    → IsSomeAnd before (λ trial. wanted ≤ trial.room + place) → IsSomeAnd after (λ trial. wanted ≤ trial.room + (place + 1))
+still_room wanted place None after below trial some = absurd some
+still_room wanted place (Some t) after below trial some =
+    let room : wanted ≤ (t.room - 1) + (place + 1) = omega (arith, some, below) in
+    subst (λ (o : Option TrialState). IsSomeAnd o (λ trial. wanted ≤ trial.room + (place + 1))) (sym trial) room
+
+pub more_room : (wanted place : ℕ) (trial : Option TrialState) → IsSomeAnd trial (λ t. wanted ≤ t.room + place) → IsSomeAnd trial (λ t. wanted ≤ t.room + (place + 1))
+more_room wanted place None some = absurd some
+more_room wanted place (Some t) some = omega (arith, some)
+
+-- one more wish is planned
+pub planned_more : (copy first after : CopyState) (claims more : List Claim) (start : ℕ) (preempts : Bool) (wishes : List Wish) (place : ℕ) (kind wish : Wish)
+    (progress turned : Progress) (step : Step) → Planned copy first claims start preempts wishes place kind progress
+    → place < length wishes → wish ≡ get_or wishes place wish → turned.start ≡ progress.start → IsStep (cell_of copy.board) wish preempts turned step
+    → cell_of after.board ≡ after_planned (cell_of copy.board) step.claim → more ≡ claims ++ and_claims step.claim []
+    → after_trial after after.trial ≡ after_trial copy copy.trial → IsSomeAnd after.trial (λ trial. length wishes ≤ trial.room + (place + 1))
+    → Planned after first more start preempts wishes (place + 1) wish step.progress
+planned_more copy first after claims more start preempts wishes place kind wish progress turned step so below is turn now cell grown back room =
+    let one = cell_of copy.board in
+    let rest = drop (place + 1) wishes in
+    let began : turned.start ≡ start = turn ∙ so.began in
+    let claim : step.claim ≡ claim_for_wish one start preempts wish = now.claim ∙ ap (λ n. claim_for_wish one n preempts wish) began in
+    record {
+      planned =
+          ap (λ c. more ++ claims_for_wishes c start preempts rest) cell
+          ∙ ap (λ cs. cs ++ claims_for_wishes (after_planned one step.claim) start preempts rest) grown
+          ∙ joined claims (claims_for_wishes (after_planned one step.claim) start preempts rest) step.claim
+          ∙ ap (λ o. claims ++ and_claims o (claims_for_wishes (after_planned one o) start preempts rest)) claim
+          ∙ ap (λ ws. claims ++ claims_for_wishes one start preempts ws) (sym (next_wish wishes place wish below is))
+          ∙ so.planned;
+      back = back ∙ so.back;
+      room = room;
+      began = now.start ∙ began;
+      serves = subst (λ c. Serves c wish step.progress) (sym cell) now.serves;
+    }
+
+-- the same of what is equal
+pub planned_as : (copy was first : CopyState) (claims others : List Claim) (start : ℕ) (preempts : Bool) (wishes : List Wish) (place : ℕ) (kind wish : Wish)
+    (progress next : Progress) → copy ≡ was → claims ≡ others → kind ≡ wish → progress ≡ next
+    → Planned was first others start preempts wishes place wish next → Planned copy first claims start preempts wishes place kind progress
+planned_as copy was first claims others start preempts wishes place kind wish progress next one two three four so =
+    subst (λ c. Planned c first claims start preempts wishes place kind progress) (sym one)
+    (subst (λ cs. Planned was first cs start preempts wishes place kind progress) (sym two)
+    (subst (λ k. Planned was first others start preempts wishes place k progress) (sym three)
+    (subst (λ p. Planned was first others start preempts wishes place wish p) (sym four) so)))

@@ -1,0 +1,53 @@
+-- What a machine does with a wish that is tried on it.
+use Rattle.std.specs.Prelude.{◌≡◌, ◌&&◌, ℕ, Bool, false, List, [], Option, Some, None, option_map, is_some, length, slice_get, if◌then◌else◌}
+use Rattle.std.specs.Option.{option_map_or}
+use Rattle.omega_model.specs.Cell.{Cell, task_at}
+use Rattle.omega_model.specs.Plan.{claim_of, gives_way, goes_in, victims}
+use Rattle.omega_model.specs.Planning.{suits}
+use Rattle.omega_model.specs.declared.cells.Machine.{Machine}
+use Rattle.omega_model.specs.declared.cells.Task.{Task}
+use Rattle.omega_model.specs.declared.cells.TaskKey.{TaskKey}
+use Rattle.omega_model.specs.declared.claims.Claim.{Claim}
+use Rattle.omega_model.specs.declared.wishes.Wish.{Wish}
+use Rattle.omega_fit.specs.Round.{IsFirst, positions_from}
+
+-- whether a machine suits a wish and takes it as it is
+abbrev pub takes : Cell → Wish → Machine → Bool
+takes cell wish machine = suits wish machine.attrs && goes_in cell wish [] machine.id
+
+-- what is answered at a position: whether the machine that stands there takes the wish
+abbrev pub Takes : Cell → Wish → ℕ → Bool → Type 0
+Takes cell wish position answer =
+    (machine : Machine) → slice_get cell.machines position ≡ Some machine → takes cell wish machine ≡ answer
+
+-- the first position, round from a start, whose machine takes the wish; none where no machine does
+unfoldable pub IsFirstToTake : Cell → Wish → ℕ → Option ℕ → Type 0
+IsFirstToTake cell wish start found = IsFirst (Takes cell wish) (positions_from start (length cell.machines)) found
+
+-- whether the running task of this name gives way to a wish
+abbrev pub yields : List Task → Wish → TaskKey → Bool
+yields tasks wish key = option_map_or (gives_way wish) (task_at tasks key) false
+
+-- the claim of a wish on a machine that it suits and on which evictions make room
+abbrev pub claim_on : Cell → Wish → Machine → Option Claim
+claim_on cell wish machine =
+    if suits wish machine.attrs then option_map (λ keys. claim_of wish keys machine.id) (victims cell machine.id wish) else None
+
+-- what is answered at a position: whether evictions make room for the wish on the machine that stands there
+abbrev pub Yields : Cell → Wish → ℕ → Bool → Type 0
+Yields cell wish position answer =
+    (machine : Machine) → slice_get cell.machines position ≡ Some machine → is_some (claim_on cell wish machine) ≡ answer
+
+-- the first position, round from a start, on whose machine evictions make room; none where they do nowhere
+unfoldable pub IsFirstToYield : Cell → Wish → ℕ → Option ℕ → Type 0
+IsFirstToYield cell wish start found = IsFirst (Yields cell wish) (positions_from start (length cell.machines)) found
+
+-- the claim of a wish on the machine at a position, with these victims, is this one
+abbrev pub IsClaimAt : Cell → Wish → ℕ → List TaskKey → Claim → Type 0
+IsClaimAt cell wish position victims claim =
+    (machine : Machine) → slice_get cell.machines position ≡ Some machine → claim ≡ claim_of wish victims machine.id
+
+-- the victims on the machine at a position
+abbrev pub AreVictimsAt : Cell → Wish → ℕ → Option (List TaskKey) → Type 0
+AreVictimsAt cell wish position keys = (machine : Machine) → slice_get cell.machines position ≡ Some machine
+    → claim_on cell wish machine ≡ option_map (λ some. claim_of wish some machine.id) keys

@@ -1,0 +1,100 @@
+//! Wishes that are tried on machines.
+ghost use Rattle.std.specs.Prelude.{◌≡◌, ◌≤◌, ◌<◌, [], None, IfSome, length};
+ghost use Rattle.omega_board.specs.Board.{cell_of};
+ghost use Rattle.omega_copy.specs.Telling.{frees_of};
+ghost use Rattle.omega_model.specs.Cell.{task_at};
+ghost use Rattle.omega_model.specs.Plan.{claim_of, goes_in};
+ghost use Rattle.omega_plan.specs.Kinds.{Serves};
+ghost use Rattle.omega_plan.specs.Trying.{IsClaimAt, IsFirstToTake, Takes};
+
+use crate::progress::Progress;
+use omega_attrs::eligible;
+use omega_board::Board;
+use omega_fit::FitIndex;
+use omega_model::{Claim, Keys, Seq, Wish};
+use std::alloc::Global;
+
+/// The first position, round from the plan's start, whose machine suits the wish and takes it as it
+/// is. Takes no memory. Begins where the progress says; where nowhere is room for the need, looks at
+/// the top of the index alone, and else tries the machines with room in order.
+pub(crate) fn first_to_take(
+    alloc: Global,
+    board: &Board,
+    index: &FitIndex,
+    wish: &Wish,
+    progress: &Progress,
+) -> Option<usize>
+    requires index { index.now.free ≡ frees_of (cell_of board.now) }
+    requires absent { task_at board.now.tasks wish.now.key ≡ None }
+    requires serves { Serves (cell_of board.now) wish.now progress.now }
+    ensures first { IsFirstToTake (cell_of board.now) wish.now progress.now.start result }
+    ensures below { IfSome result (λ position. position < length board.now.table) }
+{
+    match progress.as_is {
+        Some(begin) => first_from(alloc, board, index, wish, begin),
+        None => None,
+    }
+}
+
+/// The first position, round from `begin`, whose machine suits the wish and takes it as it is.
+fn first_from(
+    alloc: Global,
+    board: &Board,
+    index: &FitIndex,
+    wish: &Wish,
+    begin: usize,
+) -> Option<usize>
+    requires index { index.now.free ≡ frees_of (cell_of board.now) }
+    requires begin { begin ≤ length (cell_of board.now).machines }
+    ensures first { IsFirstToTake (cell_of board.now) wish.now begin result }
+    ensures below { IfSome result (λ position. position < length board.now.table) }
+{
+    let _ = board.machines();
+    index.first(begin, wish.spec.need, |position| {
+        takes(alloc, board, wish, position)
+    })
+}
+
+/// Whether the machine at a position suits the wish and takes it as it is.
+fn takes(alloc: Global, board: &Board, wish: &Wish, position: usize) -> bool
+    ensures { Takes (cell_of board.now) wish.now position result }
+{
+    match board.machines().at(position) {
+        Some(machine) => {
+            eligible(&wish.constraints, &machine.attrs) && goes_in(alloc, board, wish, machine.id)
+        }
+        None => false,
+    }
+}
+
+/// Whether a machine takes the wish as it is, whatever its attributes.
+fn goes_in(alloc: Global, board: &Board, wish: &Wish, id: u64) -> bool
+    ensures { result ≡ goes_in (cell_of board.now) wish.now [] id }
+{
+    let claim = claim_of(wish, Seq::new(alloc), id);
+    let mut evicted = Vec::new(alloc);
+    board.judge(&claim, None, &mut evicted).is_placed()
+}
+
+/// The claim of a wish on the machine at a position, with these victims.
+pub(crate) fn claim_at(board: &Board, wish: &Wish, position: usize, victims: Keys) -> Claim
+    requires { position < length board.now.table }
+    ensures { IsClaimAt (cell_of board.now) wish.now position victims result }
+{
+    let Some(machine) = board.machines().at(position) else {
+        unreachable!()
+    };
+    claim_of(wish, victims, machine.id)
+}
+
+/// The claim of a wish on a machine, with these victims.
+pub(crate) fn claim_of(wish: &Wish, victims: Keys, id: u64) -> Claim
+    ensures { result ≡ claim_of wish.now victims id }
+{
+    Claim {
+        key: wish.key,
+        machine: id,
+        spec: wish.spec,
+        victims,
+    }
+}
