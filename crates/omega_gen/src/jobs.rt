@@ -49,12 +49,12 @@ impl Model for Job {
     ghost Value = { MadeJob };
 
     ghost view = { λ job. record {
-        tasks = job.tasks;
-        class = job.class;
-        priority = job.priority;
-        cpu = job.cpu;
-        mem = job.mem;
-        life = job.life;
+      tasks = job.tasks;
+      class = job.class;
+      priority = job.priority;
+      cpu = job.cpu;
+      mem = job.mem;
+      life = job.life;
     } };
 
     ghost invariant = { λ job. (job.cpu < 100) × (job.mem < 100) };
@@ -143,7 +143,10 @@ fn push_task(
 {
     let class = job.class;
     let priority = job.priority;
-    write!(out, "{time},,{number},{index},,{code},g,{class},{priority},")?;
+    write!(
+        out,
+        "{time},,{number},{index},,{code},g,{class},{priority},"
+    )?;
     push_thousandths(out, job.cpu)?;
     out.push(',')?;
     push_thousandths(out, job.mem)?;

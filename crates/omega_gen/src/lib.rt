@@ -10,6 +10,8 @@ ghost use Rattle.omega_gen.specs.Words.{left_after, word_of};
 
 mod jobs;
 mod machines;
+#[cfg(test)]
+mod tests;
 mod words;
 
 use omega_io::{SteadyTables, Tables};

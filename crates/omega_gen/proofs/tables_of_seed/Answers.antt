@@ -11,6 +11,6 @@ pub returns-clause-rests : goal.returns-clause-rests
 returns-clause-rests c =
     subst
     (λ (word : ℕ → ℕ). IfOk c.tables_of.result (λ tables.
-      (table : Table) → Some (at tables.unread table) ≡ Some (made_of word c.args.machines c.args.jobs table)))
+    (table : Table) → Some (at tables.unread table) ≡ Some (made_of word c.args.machines c.args.jobs table)))
     (words_of_generator c.new-words.result ∙ ap word_at c.new-words.ensures)
     c.tables_of.ensures.rests

@@ -14,13 +14,13 @@ loop-place-preserved g c =
     let written = string_bytes c.loop-place.out in
     let all = g.R.Rng.stream c.args.words.now in
     let word : c.next_u32-word.result ≡ word_of all place =
-      ap (λ step. step.0) c.next_u32-word.ensures ∙ ap (λ s. (next_u32 s).0) before.left in
+    ap (λ step. step.0) c.next_u32-word.ensures ∙ ap (λ s. (next_u32 s).0) before.left in
     record {
       rows =
-        rows_more (machine_text (word_of all)) place [] _ _ before.rows
-        (c.in_ok-push_machine.ensures ∙ ap (λ w. written ++ machine_text (λ _. w) place) word);
+          rows_more (machine_text (word_of all)) place [] _ _ before.rows
+          (c.in_ok-push_machine.ensures ∙ ap (λ w. written ++ machine_text (λ _. w) place) word);
       left =
-        ap (λ step. step.1) c.next_u32-word.ensures
-        ∙ ap (λ s. left_after 1 s) before.left
-        ∙ left_later 1 place all;
+          ap (λ step. step.1) c.next_u32-word.ensures
+          ∙ ap (λ s. left_after 1 s) before.left
+          ∙ left_later 1 place all;
     }
