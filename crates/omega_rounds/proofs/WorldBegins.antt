@@ -66,9 +66,9 @@ none_left (request ∷ rest) tries taken few none =
     let all : (suc (length rest)) * tries ≡ length rest * tries + tries = more (length rest) tries in
     let here : (suc (length rest)) * tries - taken ≡ 0 = none in
     absurd (omega (arith, all, here, few))
-      where
-        mul_more : (a t : ℕ) → (suc a) * t ≡ a * t + t
-        mul_more a t = grind (arith)
+  where
+    mul_more : (a t : ℕ) → (suc a) * t ≡ a * t + t
+    mul_more a t = grind (arith)
 
 -- where no commit can follow no request is left at any desk
 pub idle_all : (stage : Stage) (tasks : List WantedTask) (history : List Entry) (seats : List Seat)

@@ -111,6 +111,8 @@ impl World {
     /// left; then the world is as it was. Where memory runs out the world is gone. Costs the rows of
     /// the round and the requests, and a look at each scheduler.
     pub fn next_round(self) -> Result<(World, RoundStep), NoMemory>
+        ensures settings { IfOk result (λ next. next.0.stage.settings ≡ self.stage.settings) }
+        ensures source { IfOk result (λ next. next.0.stage.source ≡ self.stage.source) }
         ensures stage { IfOk result (λ next. MovesOn self next.0 next.1) }
         ensures run { IfOk result (λ next. (trace : TraceTables) → IsInRunOf self.stage trace
             → GoesOn trace self next.0 next.1) }
