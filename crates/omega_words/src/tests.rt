@@ -1,55 +1,168 @@
 use super::*;
-use omega_model::Format;
+use omega_model::{Command, Extra, Format, Mode, Preempt, Rule};
 
-/// Words that are taken, with the numbers of tries, of failed commits after which a job is given
-/// up, and of microseconds of a round that they say, and their folder.
-const TAKEN: [(&[&str], u32, u32, u64, &str); 14] = [
-    (&["replay"], 5, 1000, 300_000_000, "."),
-    (&["replay", "--tries", "100"], 100, 1000, 300_000_000, "."),
-    (&["replay", "--tries=1"], 1, 1000, 300_000_000, "."),
-    (&["replay", "--give-up", "007"], 5, 7, 300_000_000, "."),
+/// The settings where no option is given.
+const DEFAULT: Settings = Settings {
+    command: Command::Replay,
+    seed: 0,
+    batch: 1,
+    rule: Rule::Fine,
+    mode: Mode::Incremental,
+    preempt: Preempt::Nobody,
+    extra: Extra::Relative,
+    tries: 5,
+    give_up: 1_000,
+    window: 300_000_000,
+    format: Format::Text,
+    machines: 64,
+    jobs: 500,
+};
+
+/// Words that are taken, with the folder and the settings that they say.
+const TAKEN: [(&[&str], &str, Settings); 23] = [
+    (&["replay"], ".", DEFAULT),
+    (
+        &["replay", "--tries", "100"],
+        ".",
+        Settings {
+            tries: 100,
+            ..DEFAULT
+        },
+    ),
+    (
+        &["replay", "--tries=1"],
+        ".",
+        Settings {
+            tries: 1,
+            ..DEFAULT
+        },
+    ),
+    (
+        &["replay", "--give-up", "007"],
+        ".",
+        Settings {
+            give_up: 7,
+            ..DEFAULT
+        },
+    ),
     (
         &["replay", "--window", "00000000000000000001099511627776"],
-        5,
-        1000,
-        1_099_511_627_776,
         ".",
+        Settings {
+            window: 1_099_511_627_776,
+            ..DEFAULT
+        },
+    ),
+    (
+        &["replay", "--seed", "18446744073709551615"],
+        ".",
+        Settings {
+            seed: u64::MAX,
+            ..DEFAULT
+        },
+    ),
+    (&["replay", "--seed=0"], ".", DEFAULT),
+    (
+        &["replay", "--batch", "30"],
+        ".",
+        Settings {
+            batch: 30,
+            ..DEFAULT
+        },
+    ),
+    (
+        &["replay", "--rule", "coarse"],
+        ".",
+        Settings {
+            rule: Rule::Coarse,
+            ..DEFAULT
+        },
+    ),
+    (&["replay", "--rule", "fine"], ".", DEFAULT),
+    (
+        &["replay", "--mode=gang"],
+        ".",
+        Settings {
+            mode: Mode::Gang,
+            ..DEFAULT
+        },
+    ),
+    (
+        &["replay", "--preempt", "service"],
+        ".",
+        Settings {
+            preempt: Preempt::Service,
+            ..DEFAULT
+        },
+    ),
+    (
+        &["replay", "--preempt", "all"],
+        ".",
+        Settings {
+            preempt: Preempt::All,
+            ..DEFAULT
+        },
+    ),
+    (
+        &["replay", "--format=json"],
+        ".",
+        Settings {
+            format: Format::Json,
+            ..DEFAULT
+        },
     ),
     (
         &[
             "replay",
-            "--window",
+            "--format",
+            "text",
+            "--preempt",
+            "none",
+            "--mode",
+            "incremental",
+            "--batch",
             "1",
+        ],
+        ".",
+        DEFAULT,
+    ),
+    (
+        &[
+            "--rule=coarse",
+            "--batch=4",
             "--tables",
             "a b",
+            "--window",
+            "1",
+            "replay",
             "--tries",
             "2",
+            "--seed=9",
             "--give-up",
             "3",
         ],
-        2,
-        3,
-        1,
         "a b",
+        Settings {
+            seed: 9,
+            batch: 4,
+            rule: Rule::Coarse,
+            tries: 2,
+            give_up: 3,
+            window: 1,
+            ..DEFAULT
+        },
     ),
-    (
-        &["replay", "--tables", "größe"],
-        5,
-        1000,
-        300_000_000,
-        "größe",
-    ),
-    (&["replay", "--tables", ""], 5, 1000, 300_000_000, ""),
-    (&["replay", "--tables="], 5, 1000, 300_000_000, ""),
-    (&["replay", "--tables", "-"], 5, 1000, 300_000_000, "-"),
-    (&["replay", "--tables=-x"], 5, 1000, 300_000_000, "-x"),
-    (&["replay", "--"], 5, 1000, 300_000_000, "."),
-    (&["--", "replay"], 5, 1000, 300_000_000, "."),
-    (&["--tries", "9", "replay"], 9, 1000, 300_000_000, "."),
+    (&["replay", "--tables", "größe"], "größe", DEFAULT),
+    (&["replay", "--tables", ""], "", DEFAULT),
+    (&["replay", "--tables="], "", DEFAULT),
+    (&["replay", "--tables", "-"], "-", DEFAULT),
+    (&["replay", "--tables=-x"], "-x", DEFAULT),
+    (&["replay", "--"], ".", DEFAULT),
+    (&["--", "replay"], ".", DEFAULT),
 ];
 
 /// Words that are refused.
-const REFUSED: [&[&str]; 45] = [
+const REFUSED: [&[&str]; 53] = [
     &[],
     &[""],
     &["run"],
@@ -70,15 +183,23 @@ const REFUSED: [&[&str]; 45] = [
     &["replay", "--", "--tries", "5"],
     &["replay", "--speed", "5"],
     &["replay", "--trie", "5"],
-    &["replay", "--seed", "5"],
-    &["replay", "--seed=5"],
-    &["replay", "--rule", "fine"],
+    &["replay", "--extra", "max"],
+    &["replay", "--cap", "60"],
     &["replay", "--machines", "5"],
+    &["replay", "--jobs", "5"],
+    &["replay", "--seed", "18446744073709551616"],
+    &["replay", "--seed", "-1"],
+    &["replay", "--batch", "0"],
+    &["replay", "--batch", "31"],
+    &["replay", "--rule", "Fine"],
+    &["replay", "--rule", "gang"],
+    &["replay", "--rule", ""],
+    &["replay", "--mode", "gangs"],
+    &["replay", "--preempt", "nobody"],
     &["replay", "--format", "xml"],
     &["replay", "--format", "JSON"],
-    &["replay", "--jobs", "5"],
     &["replay", "--tries", "1", "--tries", "1"],
-    &["replay", "--tries=1", "--tries=2"],
+    &["replay", "--seed=1", "--seed=2"],
     &["replay", "--tries"],
     &["replay", "--tries", "--window", "3"],
     &["replay", "--tries", ""],
@@ -103,20 +224,11 @@ const REFUSED: [&[&str]; 45] = [
 
 #[test]
 fn reads_words(rt: HostRuntime) {
-    for (words, tries, give_up, window, folder) in &TAKEN {
+    for (words, folder, settings) in &TAKEN {
         let parsed = read_words(rt.alloc(), words);
         let read = parsed.map(|parsed| (parsed.settings, parsed.folder.as_str() == *folder));
-        let settings = Settings {
-            tries: *tries,
-            give_up: *give_up,
-            window: *window,
-            ..Settings::default()
-        };
-        assert_eq!(rt; read, Ok((settings, true)), "{:?}", words);
+        assert_eq!(rt; read, Ok((*settings, true)), "{:?}", words);
     }
-    let json = read_words(rt.alloc(), &["replay", "--format=json"]);
-    let read = json.map(|parsed| parsed.settings.format);
-    assert_eq!(rt; read, Ok(Format::Json));
     for words in &REFUSED {
         let read = read_words(rt.alloc(), words).map(|parsed| parsed.settings);
         assert_eq!(rt; read, Err(WordsRefusal::Usage), "{:?}", words);
