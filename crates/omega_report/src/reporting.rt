@@ -92,5 +92,7 @@ fn count_given_up(jobs: &[u64], give_up: u32, failures: &Failures) -> u64
     ensures { result ≡ count_by (λ job. nat_le give_up (count_of failures.now job)) jobs.now }
 {
     let limit = u64::from(give_up);
-    jobs.iter().filter(|job| limit <= failures.of(**job)).count() as u64
+    jobs.iter()
+        .filter(|job| limit <= failures.of(**job))
+        .count() as u64
 }

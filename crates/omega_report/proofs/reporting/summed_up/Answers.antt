@@ -28,7 +28,7 @@ returns c = λ format lines history long after.
     } in (
       c.in_ok-unplaced.ensures.format ∙ c.in_ok-usage.ensures.format ∙ c.in_ok-push_counts.ensures.format ∙ c.in_ok-sizes.ensures.format ∙ after.form,
       summed_is settings trace history c.args.entries c.len-rounds.result counts c.used.result c.capacity.result c.in_ok-left.left.tasks c.count_given_up-abandoned.result
-      lines c.sizes.new.self.lines c.push_counts.new.page.lines c.usage.new.self.lines c.unplaced.new.self.lines sums
-      (c.in_ok-sizes.ensures.lines ∙ ap (λ ls. ls ++ sizes_line c.args.entries c.len-rounds.result ∷ []) after.printed)
-      c.in_ok-push_counts.ensures.lines c.in_ok-usage.ensures.lines c.in_ok-unplaced.ensures.lines,
+          lines c.sizes.new.self.lines c.push_counts.new.page.lines c.usage.new.self.lines c.unplaced.new.self.lines sums
+          (c.in_ok-sizes.ensures.lines ∙ ap (λ ls. ls ++ sizes_line c.args.entries c.len-rounds.result ∷ []) after.printed)
+          c.in_ok-push_counts.ensures.lines c.in_ok-usage.ensures.lines c.in_ok-unplaced.ensures.lines,
     )
