@@ -9,10 +9,13 @@ ghost use Rattle.omega_io.specs.Edge.{Tells};
 ghost use Rattle.omega_gen.specs.Words.{left_after, word_of};
 
 mod jobs;
+mod laws;
 mod machines;
 #[cfg(test)]
 mod tests;
 mod words;
+
+pub use laws::generated_tables_are_never_refused;
 
 use omega_io::{SteadyTables, Tables};
 use omega_model::{NoMemory, Seq};
