@@ -1,5 +1,5 @@
 -- Generated rows are rows of their tables.
-use Rattle.std.proofs.Common.{◌≡◌, ℕ, ◌+◌, ◌*◌, ◌%◌, ◌<◌, ◌≤◌, ◌^◌, List, [], ◌∷◌, ◌++◌, length, Ok, codes, decimal, refl, sym, ap, ◌∙◌, arith, append_assoc, length-append, ◌==◌, false}
+use Rattle.std.proofs.Common.{◌≡◌, ℕ, ◌+◌, ◌*◌, ◌<◌, ◌≤◌, ◌^◌, List, [], ◌∷◌, ◌++◌, length, Ok, codes, decimal, refl, sym, ap, ◌∙◌, arith, ◌==◌, false}
 use Rattle.std.specs.List.{flat_map, join_with_byte, range_with_len}
 use Rattle.std.proofs.lemmas.Bool.{ne_eqb}
 use Rattle.std.proofs.lemmas.Fmt.{length-decimal-le}
@@ -28,7 +28,7 @@ row_unmarked field next others begins tail =
     let later = join_with_byte 44 (next ∷ others) in
     let rest = ((begins.others ++ 44 ∷ later) ++ 10 ∷ []) ++ tail in
     let whole : row_text (field ∷ next ∷ others) ++ tail ≡ begins.digit ∷ rest =
-      ap (λ front. ((front ++ 44 ∷ later) ++ 10 ∷ []) ++ tail) begins.is in
+    ap (λ front. ((front ++ 44 ∷ later) ++ 10 ∷ []) ++ tail) begins.is in
     ap strip_bom whole ∙ no_mark begins.digit rest begins.small ∙ sym whole
 
 -- the fields of a machine's row
@@ -57,15 +57,15 @@ machine_is_row word place below =
     let read = capacity_read (word place) in
     record {
       reads = plain_row (codes "0") (decimal (place + 1)) (codes "0" ∷ codes "g" ∷ capacity ∷ capacity ∷ [])
-        (refl, (plain_decimal (place + 1) number, (refl, (refl, (plain, (plain, tt))))));
+          (refl, (plain_decimal (place + 1) number, (refl, (refl, (plain, (plain, tt))))));
       unmarked = λ tail. no_mark 48 _ (omega arith);
       short =
-        let id : length (decimal (place + 1)) ≤ 20 = length-decimal-le 20 (place + 1) (omega arith) (omega arith) number in
-        let cap = short_capacity (word place) in
-        let row = row_length (codes "0") (decimal (place + 1) ∷ codes "0" ∷ codes "g" ∷ capacity ∷ capacity ∷ []) in
-        omega (arith, id, cap, row);
+          let id : length (decimal (place + 1)) ≤ 20 = length-decimal-le 20 (place + 1) (omega arith) (omega arith) number in
+          let cap = short_capacity (word place) in
+          let row = row_length (codes "0") (decimal (place + 1) ∷ codes "0" ∷ codes "g" ∷ capacity ∷ capacity ∷ []) in
+          omega (arith, id, cap, row);
       typed = machine_typed (decimal (place + 1)) capacity (place + 1) read.0
-        (bounded_decimal 18446744073709551615 (place + 1) (omega arith) number) read.1;
+          (bounded_decimal 18446744073709551615 (place + 1) (omega arith) number) read.1;
     }
 
 -- the rows of machines
@@ -108,14 +108,16 @@ task_typed : (time number index code class priority amount memory : List ℕ) (t
     → (row : TaskFields)
     × (task_row (time ∷ [] ∷ number ∷ index ∷ [] ∷ code ∷ codes "g" ∷ class ∷ priority ∷ amount ∷ memory ∷ [] ∷ codes "0" ∷ []) ≡ Ok row)
 unfolding ten_to
-task_typed time number index code class priority amount memory t n i e k p c m at job place event kind rank cpu mem =
-    (record {
-      time = t;
-      key = record { job = n; index = i };
-      code = e;
-      class = k;
-      spec = record { need = record { cpu = c; mem = m; disk = 0 }; prec = p; differ = false };
-    }, rw (at, job, place, event, kind, rank, cpu, mem) refl)
+task_typed time number index code class priority amount memory t n i e k p c m at job place event kind rank cpu mem = (
+  record {
+    time = t;
+    key = record { job = n; index = i };
+    code = e;
+    class = k;
+    spec = record { need = record { cpu = c; mem = m; disk = 0 }; prec = p; differ = false };
+  },
+  rw (at, job, place, event, kind, rank, cpu, mem) refl,
+)
 
 digits_20 : (number : ℕ) → number < 2 ^ 64 → length (decimal number) ≤ 20
 digits_20 number small = length-decimal-le 20 number (omega arith) (omega arith) small
@@ -136,26 +138,50 @@ task_is_row job number time code index small few early event low =
     let amount = thousandths_read job.cpu cpu_below in
     let memory = thousandths_read job.mem mem_below in
     let others =
-      decimal number ∷ decimal index ∷ [] ∷ decimal code ∷ codes "g" ∷ decimal job.class ∷ decimal job.priority
-      ∷ thousandths job.cpu ∷ thousandths job.mem ∷ [] ∷ codes "0" ∷ [] in
+    decimal number ∷ decimal index ∷ [] ∷ decimal code ∷ codes "g" ∷ decimal job.class ∷ decimal job.priority
+    ∷ thousandths job.cpu ∷ thousandths job.mem ∷ [] ∷ codes "0" ∷ [] in
     record {
-      reads = plain_row (decimal time) [] others
-        (plain_decimal time at, (refl, (plain_decimal number work, (plain_decimal index place, (refl, (plain_decimal code kind, (refl,
-        (plain_decimal job.class class, (plain_decimal job.priority priority,
-        (plain_thousandths job.cpu (omega arith), (plain_thousandths job.mem (omega arith), (refl, (refl, tt)))))))))))));
+      reads = plain_row (decimal time) [] others (
+        plain_decimal time at,
+        (
+          refl,
+          (
+            plain_decimal number work,
+            (
+              plain_decimal index place,
+              (
+                refl,
+                (
+                  plain_decimal code kind,
+                  (
+                    refl,
+                    (
+                      plain_decimal job.class class,
+                      (
+                        plain_decimal job.priority priority,
+                        (plain_thousandths job.cpu (omega arith), (plain_thousandths job.mem (omega arith), (refl, (refl, tt)))),
+                      ),
+                    ),
+                  ),
+                ),
+              ),
+            ),
+          ),
+        ),
+      );
       unmarked = row_unmarked (decimal time) [] others (first_digit time at);
       short =
-        let row = row_length (decimal time) ([] ∷ others) in
-        omega (arith, row, digits_20 time at, digits_20 number work, digits_20 index place, digits_20 code kind, digits_20 job.class class, digits_20 job.priority priority);
+          let row = row_length (decimal time) ([] ∷ others) in
+          omega (arith, row, digits_20 time at, digits_20 number work, digits_20 index place, digits_20 code kind, digits_20 job.class class, digits_20 job.priority priority);
       typed = task_typed (decimal time) (decimal number) (decimal index) (decimal code) (decimal job.class) (decimal job.priority)
-        (thousandths job.cpu) (thousandths job.mem) time number index code job.class job.priority amount.0 memory.0
-        (bounded_decimal 9223372036854775807 time (omega arith) at)
-        (bounded_decimal 18446744073709551615 number (omega arith) work)
-        (bounded_decimal 2147483647 index (omega arith) place)
-        (bounded_decimal 8 code event kind)
-        (blank_or_decimal 3 job.class class_below class)
-        (blank_or_decimal 255 job.priority priority_below priority)
-        amount.1 memory.1;
+          (thousandths job.cpu) (thousandths job.mem) time number index code job.class job.priority amount.0 memory.0
+          (bounded_decimal 9223372036854775807 time (omega arith) at)
+          (bounded_decimal 18446744073709551615 number (omega arith) work)
+          (bounded_decimal 2147483647 index (omega arith) place)
+          (bounded_decimal 8 code event kind)
+          (blank_or_decimal 3 job.class class_below class)
+          (blank_or_decimal 255 job.priority priority_below priority)
+          amount.1 memory.1;
     }
 
 tasks_are_rows : (job : MadeJob) (number time code : ℕ) → IsSmall job → number ≤ 20000 → time < 2 ^ 63 → code ≤ 8
@@ -165,8 +191,8 @@ tasks_are_rows job number time code small few early event =
     more_rows task_row (tasks_text job number time code) (job.tasks * 1) 8 (omega arith)
     (range_rows task_row (task_text job number time code) 1 0 job.tasks
     (λ index from below.
-      one_row task_row (task_fields job number time code index)
-      (task_is_row job number time code index small few early event (omega arith))))
+    one_row task_row (task_fields job number time code index)
+    (task_is_row job number time code index small few early event (omega arith))))
 
 job_is_rows : (job : MadeJob) (number : ℕ) → IsSmall job → number ≤ 20000 → AreRows task_row (job_text job number) 16
 job_is_rows job number small few =
@@ -182,4 +208,4 @@ pub jobs_are_rows : (word : ℕ → ℕ) (first jobs : ℕ) → jobs ≤ 20000
 jobs_are_rows word first jobs few =
     range_rows task_row (job_at word first) 16 0 jobs
     (λ place from below.
-      job_is_rows (made_job word (first + 6 * place)) (place + 1) (made_small word (first + 6 * place)) (omega arith))
+    job_is_rows (made_job word (first + 6 * place)) (place + 1) (made_small word (first + 6 * place)) (omega arith))

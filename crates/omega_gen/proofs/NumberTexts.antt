@@ -1,5 +1,5 @@
 -- What a reader of tables makes of the numbers that stand in generated rows.
-use Rattle.std.proofs.Common.{◌≡◌, ℕ, zero, suc, ◌+◌, ◌%◌, ◌<◌, ◌≤◌, ◌^◌, Bool, true, false, List, [], ◌∷◌, ◌++◌, length, Some, Ok, Err, decimal, refl, sym, ap, ◌∙◌, inl, inr, arith, ltb, leb}
+use Rattle.std.proofs.Common.{◌≡◌, ℕ, zero, suc, ◌+◌, ◌%◌, ◌<◌, ◌≤◌, ◌^◌, Bool, true, List, [], ◌∷◌, ◌++◌, length, Some, Ok, Err, decimal, refl, sym, ap, ◌∙◌, inl, inr, arith, ltb, leb}
 use Rattle.std.specs.Prelude.{Result}
 use Rattle.std.specs.List.{list_all, range_with_len}
 use Rattle.std.specs.Result.{is_ok}

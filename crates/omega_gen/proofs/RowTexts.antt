@@ -72,9 +72,9 @@ both_rows row_of one other m n first second =
     record {
       fields = first.fields ++ second.fields;
       made =
-        ap (λ text. text ++ other) first.made
-        ∙ ap (λ text. flat_map row_text first.fields ++ text) second.made
-        ∙ sym (flat_map-append row_text first.fields second.fields);
+          ap (λ text. text ++ other) first.made
+          ∙ ap (λ text. flat_map row_text first.fields ++ text) second.made
+          ∙ sym (flat_map-append row_text first.fields second.fields);
       each = each_both (IsRow row_of) first.fields second.fields first.each second.each;
       few = omega arith;
     }

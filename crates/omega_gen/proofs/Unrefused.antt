@@ -1,6 +1,6 @@
 -- No table that is generated is refused.
-use Rattle.std.proofs.Common.{◌≡◌, ℕ, ◌+◌, ◌*◌, ◌<◌, ◌≤◌, Bool, false, List, [], ◌∷◌, ◌++◌, length, Option, Some, None, Ok, map, refl, sym, ap, ◌∙◌, arith, ltb, length-append}
-use Rattle.std.specs.Prelude.{Result, filter, not, ◌==◌}
+use Rattle.std.proofs.Common.{◌≡◌, ℕ, ◌*◌, ◌≤◌, Bool, false, List, [], ◌∷◌, length, Option, None, Ok, map, refl, sym, ap, ◌∙◌, arith, ltb, length-append}
+use Rattle.std.specs.Prelude.{filter, not, ◌==◌}
 use Rattle.std.specs.List.{flat_map, range_with_len}
 use Rattle.std.proofs.lemmas.Bool.{le-ltb}
 use Rattle.std.proofs.lemmas.List.{length-map}
@@ -8,14 +8,14 @@ use Rattle.std.proofs.lemmas.List.Sums.{count_by-le-length, length-filter}
 use Rattle.csv.specs.Machine.{next_record}
 use Rattle.csv.specs.Reading.{records_from, strip_bom}
 use Rattle.omega_model.proofs.FirstRefusal.{rows_last}
-use Rattle.omega_model.specs.Columns.{BadColumn, machine_row, task_row}
+use Rattle.omega_model.specs.Columns.{machine_row, task_row}
 use Rattle.omega_model.specs.Feed.{each_once}
 use Rattle.omega_model.specs.Fields.{MachineFields, TaskFields}
 use Rattle.omega_model.specs.Generated.{job_at, machine_text, made_of}
 use Rattle.omega_model.specs.Limits.{machine_count, named_machines, row_count}
-use Rattle.omega_model.specs.Refusals.{bad_row, first_refusal, first_standing, length_refusal, refusal_among, row_refusal, table_refusal, trace_refusal}
+use Rattle.omega_model.specs.Refusals.{bad_row, first_refusal, first_standing, length_refusal, row_refusal, table_refusal, trace_refusal}
 use Rattle.omega_model.specs.Rows.{rows_or_none}
-use Rattle.omega_model.specs.Trace.{machine_rows, task_rows, tables_in_order, trace_of}
+use Rattle.omega_model.specs.Trace.{machine_rows, task_rows, trace_of}
 use Rattle.omega_model.specs.declared.results.Status.{Status}
 use Rattle.omega_model.specs.declared.rows.Table.{Table}
 use Rattle.omega_model.specs.declared.rows.TraceTables.{TraceTables}
@@ -98,13 +98,13 @@ fine : (machines tasks : List ℕ) (one : List MachineFields) (other : List Task
 fine machines tasks one other first second short long few many =
     rows_last (of_texts machines tasks) None
     (first_of_six (table_refusal MachineEvents machines) (table_refusal MachineAttributes []) (table_refusal TaskEvents tasks)
-      (table_refusal TaskConstraints []) (table_refusal MapreduceJobs []) (table_refusal MachineDisk [])
-      (both_stand (length_refusal MachineEvents machines) (row_refusal MachineEvents machines) (not_long MachineEvents machines short)
-        (ap (λ rows. bad_row MachineEvents rows) first))
-      (empty_fine MachineAttributes)
-      (both_stand (length_refusal TaskEvents tasks) (row_refusal TaskEvents tasks) (not_long TaskEvents tasks long)
-        (ap (λ rows. bad_row TaskEvents rows) second))
-      (empty_fine TaskConstraints) (empty_fine MapreduceJobs) (empty_fine MachineDisk))
+    (table_refusal TaskConstraints []) (table_refusal MapreduceJobs []) (table_refusal MachineDisk [])
+    (both_stand (length_refusal MachineEvents machines) (row_refusal MachineEvents machines) (not_long MachineEvents machines short)
+    (ap (λ rows. bad_row MachineEvents rows) first))
+    (empty_fine MachineAttributes)
+    (both_stand (length_refusal TaskEvents tasks) (row_refusal TaskEvents tasks) (not_long TaskEvents tasks long)
+    (ap (λ rows. bad_row TaskEvents rows) second))
+    (empty_fine TaskConstraints) (empty_fine MapreduceJobs) (empty_fine MachineDisk))
     (ap trace_refusal (trace_is machines tasks one other first second) ∙ few_rows one other few many)
 
 made_is : (word : ℕ → ℕ) (machines jobs : ℕ) (table : Table)
