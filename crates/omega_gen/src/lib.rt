@@ -27,9 +27,9 @@ use std::alloc::Global;
 ///
 /// Machines stand from time 0 on, each with CPU and memory of 0.5, 0.75 or 1. A job has one to eight
 /// tasks that are all alike; jobs come every 10 seconds, and live 5 to 100 minutes. The other four
-/// tables are empty, and no folder is entered. Any numbers are allowed, and the cost is what it
-/// writes: at most 60 bytes for a machine and 1,500 for a job, all of them in memory. Where memory runs out,
-/// some of the words may have been drawn.
+/// tables are empty, and no folder is entered. Any numbers are allowed. Costs what it writes, at most
+/// 30 bytes for a machine and 1,000 for a job, all of it in memory. Where memory runs out, some of
+/// the words may have been drawn.
 pub fn tables_of<R: Rng>(
     alloc: Global,
     words: &mut R,
