@@ -18,7 +18,7 @@ const SUBMIT: u32 = 0;
 /// The code of the event that ends a task as it should.
 const FINISH: u32 = 4;
 
-/// When the first job would come that had the number 0, in microseconds: a trace begins at 600 seconds.
+/// When a job of number 0 would come, in microseconds: a trace begins at 600 seconds.
 const BEGINNING: u64 = 600_000_000;
 
 /// From a job to the next one, in microseconds.

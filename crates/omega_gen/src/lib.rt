@@ -9,11 +9,13 @@ ghost use Rattle.omega_io.specs.Edge.{Tells};
 ghost use Rattle.omega_gen.specs.Words.{left_after, word_of};
 
 mod jobs;
+mod laws;
 mod machines;
 #[cfg(test)]
 mod tests;
 mod words;
 
+pub use laws::generated_tables_are_never_refused;
 use omega_io::{SteadyTables, Tables};
 use omega_model::{NoMemory, Seq};
 use rand_core::Rng;
@@ -23,10 +25,11 @@ use std::alloc::Global;
 /// Tables of so many machines and so many jobs, made of the next words of a generator: one for each
 /// machine, then six for each job.
 ///
-/// Machines stand from time 0 on, each with 0.5, 0.75 or 1 of the greatest CPU and memory. A job has
-/// one to eight equal tasks; jobs come every 10 seconds, and live 5 to 100 minutes. The other four
-/// tables are empty, and no folder is entered. Costs what it writes, which is memory too. Where
-/// memory runs out, some of the words may have been drawn.
+/// Machines stand from time 0 on, each with CPU and memory of 0.5, 0.75 or 1. A job has one to eight
+/// tasks that are all alike; jobs come every 10 seconds, and live 5 to 100 minutes. The other four
+/// tables are empty, and no folder is entered. Any numbers are allowed. Costs what it writes, at most
+/// 30 bytes for a machine and 1,000 for a job, all of it in memory. Where memory runs out, some of
+/// the words may have been drawn.
 pub fn tables_of<R: Rng>(
     alloc: Global,
     words: &mut R,
