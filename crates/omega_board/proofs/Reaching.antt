@@ -149,8 +149,7 @@ starts cell sound order (t ∷ came) found apart =
     let start : MayStart (record cell { tasks = without (t.key ∷ []) left }) t = record {
       absent = gone_absent t.key left;
       sound = subst (λ ts. Sound (record cell { tasks = ts })) (sym back) (sound_fewer cell sound order (λ y. not (is_among y.key keys)));
-    } in
-    (
+    } in (
       subst (λ ts. MayStartAll (record cell { tasks = ts }) (t ∷ came)) (sym fewer)
           (start, subst (λ ts. MayStartAll (record cell { tasks = ts }) came) (sym back) rest.0),
       ap (λ ts. with_tasks_of (with_task t ts) came) fewer ∙ ap (λ ts. with_tasks_of ts came) back ∙ rest.1,

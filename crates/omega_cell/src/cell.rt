@@ -77,7 +77,8 @@ impl Cell {
     /// stay as they were.
     pub fn since(&self, alloc: Global, n: u64) -> Result<Delta, NoMemory>
         requires { n ≤ length self.now.history }
-        ensures { IfOk result (λ delta. Carries delta self.now.history n (length self.now.history)) }
+        ensures carries { IfOk result (λ delta. Carries delta self.now.history n (length self.now.history)) }
+        ensures applied { EachMayApply self.now.history }
     {
         let later = &self.entries.as_slice()[n as usize..];
         let positions = touched_positions(alloc, self.board.machines(), later)?;

@@ -10,9 +10,9 @@ mod deciding;
 mod laws;
 mod prepared;
 mod room;
-mod touched;
 #[cfg(test)]
 mod tests;
+mod touched;
 
 pub use cell::Cell;
 pub use laws::commits_of_legal_histories;

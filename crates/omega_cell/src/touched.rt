@@ -33,11 +33,7 @@ pub(crate) fn touched_positions(
 }
 
 /// The parts of a board at some positions. Costs the machines there and their tasks.
-pub(crate) fn parts_at(
-    alloc: Global,
-    board: &Board,
-    positions: &[usize],
-) -> Result<Parts, NoMemory>
+pub(crate) fn parts_at(alloc: Global, board: &Board, positions: &[usize]) -> Result<Parts, NoMemory>
     requires { All (λ place. place < length board.now.table) positions.now }
     ensures { IfOk result (λ parts. map Some parts ≡ map (part_at board.now) positions.now) }
 {
@@ -90,11 +86,7 @@ fn note_placed(
 }
 
 // Notes the position of a machine, if it is in the list.
-fn note(
-    machines: &MachineTable,
-    machine: u64,
-    positions: &mut Vec<usize>,
-) -> Result<(), NoMemory>
+fn note(machines: &MachineTable, machine: u64, positions: &mut Vec<usize>) -> Result<(), NoMemory>
     requires { IsDistinct nat_eq (numbers_of (machines_of machines.now)) }
     ensures { OnOk result (Adds (is_number machine) (machines_of machines.now) positions.old.items positions.new.items) }
 {

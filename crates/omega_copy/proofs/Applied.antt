@@ -2,7 +2,7 @@
 use Rattle.std.proofs.Common.{◌≡◌, ℕ, zero, suc, ◌+◌, ◌-◌, ◌<◌, ◌≤◌, ◌^◌, ◌⊎◌, inl, inr, Bool, true, false, not, ◌&&◌, List, [], ◌∷◌, ◌++◌, length, map, take, drop, slice_get, Some, IsTrue, refl, sym, ap, ap₂, ◌∙◌, subst, arith, append_assoc, length-append, ◌==◌, if◌then◌else◌}
 use Rattle.std.specs.List.{filter, fold, zip}
 use Rattle.std.proofs.lemmas.Bool.{both_ways}
-use Rattle.std.proofs.lemmas.List.{length-map, take_all}
+use Rattle.std.proofs.lemmas.List.{length-map, take_all, take-append-drop}
 use Rattle.std.proofs.lemmas.List.Sums.{fold-append}
 use Rattle.omega_model.specs.Applying.{EachMayApply, MayApply, MayPlace, MayPlaceAll, ListsOrHasRoom}
 use Rattle.omega_model.specs.Cell.{Cell, empty_cell, without, keys_of}
@@ -31,6 +31,8 @@ use Rattle.omega_running.specs.Order.{Each, IsInOrder, precedes}
 use Rattle.omega_running.proofs.Kept.{rises_filter}
 use Rattle.omega_running.proofs.Lists.{each_map, each_append}
 use Rattle.omega_board.proofs.Tasks.{without_ordered}
+use Rattle.omega_copy.specs.Copies.{CopyState, MayFollow}
+use Rattle.omega_copy.proofs.Follows.{IsFollowing}
 use Rattle.omega_copy.proofs.Untouched.{admitting, claim_local}
 
 -- each of these entries may be applied to the cell after those before it
@@ -237,3 +239,11 @@ held_all cell (entry ∷ later) may held = held_all (step cell entry) later may.
 
 pub applied_held : (history : List Entry) → MayAll empty_cell history → IsHeld (state history)
 applied_held history may = held_all empty_cell history may (record { ordered = tt; few = omega arith; caps = tt })
+
+-- so the tasks of a copy that follows such a history are in order
+pub next_ordered : (start now : CopyState) (later : List Entry) (n : ℕ) → IsFollowing start now later n → MayFollow start later → IsInOrder ByKey now.board.tasks
+next_ordered start now later n so may =
+    let history = may.history in
+    let stands = so.stands history may.stands may.rest in
+    let whole : MayAll empty_cell (take now.seen history ++ drop now.seen history) = subst (MayAll empty_cell) (sym (take-append-drop now.seen history)) (may_all [] history may.applied) in
+    subst (IsInOrder ByKey) (sym stands.tasks) (applied_held (take now.seen history) (may_front empty_cell (take now.seen history) (drop now.seen history) whole)).ordered

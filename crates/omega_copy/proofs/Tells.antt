@@ -19,8 +19,7 @@ use Rattle.omega_machines.specs.Table.{machines_of, free_at, free_if_up, IsTable
 use Rattle.omega_running.specs.Order.{Each}
 use Rattle.omega_board.specs.Board.{IsCounted}
 use Rattle.omega_board.proofs.Boards.{recounted-same}
-use Rattle.omega_board.proofs.Counts.{zip_more, zip_past}
-use Rattle.omega_copy.specs.Telling.{free_on, TellsBut, grown}
+use Rattle.omega_copy.specs.Telling.{free_on, TellsBut, grown, is_this_or, is_claimed}
 use Rattle.omega_model.proofs.Lists.{by_answer}
 
 -- an index has a place for each machine
@@ -166,35 +165,22 @@ tells_where s t fewer tasks (f ∷ fs) (m ∷ ms) told = (λ fresh. told.0 (fewe
 pub told_states : (stale : ℕ → Bool) (tasks : List Task) (frees : List (Option Need)) (table : List MachineState) → TellsBut stale tasks frees (machines_of table) → length frees ≡ length table
 told_states stale tasks frees table told = told_length stale tasks frees (machines_of table) told ∙ length-map table (λ (s : MachineState). s.machine)
 
--- what the claims from a place on leave out
-abbrev pub later_placed : List Claim → List Judgement → ℕ → ℕ → Bool
-later_placed claims reply i id = list_any (places_on id) (zip (drop i claims) (drop i reply))
+-- claims and what was answered to them, with the first ones apart
+pub zipped_more : (claims later : List Claim) (reply rest : List Judgement) (claim : Claim) (judgement : Judgement) → claims ≡ claim ∷ later → reply ≡ judgement ∷ rest → zip claims reply ≡ (claim, judgement) ∷ zip later rest
+zipped_more claims later reply rest claim judgement first second = ap₂ (λ cs js. zip cs js) first second
 
-module _ (claims : List Claim) (reply : List Judgement) (i : ℕ) (claim : Claim) (judgement : Judgement) (below_claims : i < length claims) (below_reply : i < length reply)
-    (is : claim ≡ get_or claims i claim) (told : judgement ≡ get_or reply i judgement)
+module _ (decided later : List (Claim × Judgement)) (claim : Claim) (judgement : Judgement) (more : decided ≡ (claim, judgement) ∷ later)
     (tasks : List Task) (frees : List (Option Need)) (ms : List Machine) where
-  split : TellsBut (later_placed claims reply i) tasks frees ms
-      → TellsBut (λ id. (is_placed judgement.verdict && claim.machine == id) || later_placed claims reply (i + 1) id) tasks frees ms
-  split so =
-      let rest = zip (drop (i + 1) claims) (drop (i + 1) reply) in
-      let more : zip (drop i claims) (drop i reply) ≡ (claim, judgement) ∷ rest =
-      zip_more claims reply i claim judgement below_claims below_reply ∙ ap₂ (λ (c : Claim) (j : Judgement). (c, j) ∷ rest) (sym is) (sym told) in
-      subst (λ (ds : List (Claim × Judgement)). TellsBut (λ id. list_any (places_on id) ds) tasks frees ms) more so
+  split : TellsBut (is_claimed decided) tasks frees ms → TellsBut (λ id. (is_placed judgement.verdict && claim.machine == id) || is_claimed later id) tasks frees ms
+  split so = subst (λ ds. TellsBut (is_claimed ds) tasks frees ms) more so
 
-  -- the claim at a place was placed
-  pub placed_more : is_placed judgement.verdict ≡ true → TellsBut (later_placed claims reply i) tasks frees ms
-      → TellsBut (λ id. claim.machine == id || later_placed claims reply (i + 1) id) tasks frees ms
-  placed_more placed so = subst (λ b. TellsBut (λ id. (b && claim.machine == id) || later_placed claims reply (i + 1) id) tasks frees ms) placed (split so)
+  -- the first claim was placed
+  pub placed_more : is_placed judgement.verdict ≡ true → TellsBut (is_claimed decided) tasks frees ms → TellsBut (is_this_or claim.machine (is_claimed later)) tasks frees ms
+  placed_more placed so = subst (λ b. TellsBut (λ id. (b && claim.machine == id) || is_claimed later id) tasks frees ms) placed (split so)
 
   -- or it wasn't
-  pub passed_more : is_placed judgement.verdict ≡ false → TellsBut (later_placed claims reply i) tasks frees ms → TellsBut (later_placed claims reply (i + 1)) tasks frees ms
-  passed_more passed so = subst (λ b. TellsBut (λ id. (b && claim.machine == id) || later_placed claims reply (i + 1) id) tasks frees ms) passed (split so)
-
--- behind the last claim nothing is left out
-pub placed_past : (claims : List Claim) (reply : List Judgement) (i : ℕ) (tasks : List Task) (frees : List (Option Need)) (ms : List Machine) → min (length claims) (length reply) ≤ i
-    → TellsBut (later_placed claims reply i) tasks frees ms → TellsBut (λ id. false) tasks frees ms
-placed_past claims reply i tasks frees ms past so =
-    subst (λ (ds : List (Claim × Judgement)). TellsBut (λ id. list_any (places_on id) ds) tasks frees ms) (zip_past claims reply i past) so
+  pub passed_more : is_placed judgement.verdict ≡ false → TellsBut (is_claimed decided) tasks frees ms → TellsBut (is_claimed later) tasks frees ms
+  passed_more passed so = subst (λ b. TellsBut (λ id. (b && claim.machine == id) || is_claimed later id) tasks frees ms) passed (split so)
 
 -- one more place behind the others is one that was missing
 pub one_more_place : (frees after : List (Option Need)) (rows : List Machine) → length frees < length rows → after ≡ frees ++ None ∷ []

@@ -8,6 +8,7 @@ ghost use Rattle.omega_model.specs.Reply.{after_claim};
 ghost use Rattle.omega_model.specs.State.{step};
 ghost use Rattle.omega_model.specs.Touches.{touches};
 ghost use Rattle.omega_model.specs.declared.entries.Entry.{Entry};
+ghost use Rattle.omega_running.specs.Kept.{KeysRise};
 ghost use Rattle.omega_board.specs.Board.{cell_of};
 ghost use Rattle.omega_copy.specs.Copies.{CopyOf, MayFollow, MayCatchUp, after_trial, one_less};
 ghost use Rattle.omega_copy.specs.Telling.{frees_of};
@@ -113,6 +114,7 @@ impl PrivateCopy {
     fn take_in(&mut self, alloc: Global, entry: &Entry) -> Result<(), NoMemory>
         requires no_trial { self.old.trial ≡ None }
         requires may { MayApply (cell_of self.old.board) (seq_at self.old.board.table) entry.now }
+        requires ordered { KeysRise self.old.board.tasks }
         requires few { self.old.seen < 2 ^ 64 - 1 }
         ensures cell { OnOk result (cell_of self.new.board ≡ step (cell_of self.old.board) entry.now) }
         ensures seqs { OnOk result ((id : ℕ) → seq_at self.new.board.table id ≡ seq_at self.old.board.table id + (if touches id entry.now then 1 else 0)) }
@@ -121,7 +123,6 @@ impl PrivateCopy {
         ensures err { OnErr result (self.new ≡ self.old) }
     {
         self.index.reserve(1)?;
-        let _ = self.board.running();
         self.board.apply_entry(alloc, entry)?;
         grow(&mut self.index, &self.board);
         tell_touched(&mut self.index, &self.board, entry);

@@ -71,10 +71,9 @@ fn tell_placed(index: &mut FitIndex, board: &Board, claims: &[Claim], reply: &[J
     requires { TellsBut (is_claimed (zip claims.now reply.now)) board.now.tasks index.old.free (machines_of board.now.table) }
     ensures { index.new.free ≡ frees_of (cell_of board.now) }
 {
-    let count = claims.len().min(reply.len());
-    for i in 0..count {
-        if reply[i].verdict.is_placed() {
-            tell(index, board, claims[i].machine);
+    for (claim, judgement) in claims.iter().zip(reply) {
+        if judgement.verdict.is_placed() {
+            tell(index, board, claim.machine);
         }
     }
 }

@@ -8,3 +8,4 @@ pub mod Listing
 pub mod Lasting
 pub mod Picked
 pub mod AtEnd
+pub mod TaskRows

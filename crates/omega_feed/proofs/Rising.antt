@@ -139,7 +139,7 @@ rise_by_time : (rows : List Row) → Rise time_of (by_time rows)
 rise_by_time [] = tt
 rise_by_time (row ∷ rows) = rise_put row (by_time rows) (rise_by_time rows)
 
-filter_by_time : (n : ℕ) (rows : List Row) → filter (at time_of n) (by_time rows) ≡ filter (at time_of n) rows
+pub filter_by_time : (n : ℕ) (rows : List Row) → filter (at time_of n) (by_time rows) ≡ filter (at time_of n) rows
 filter_by_time n [] = refl
 filter_by_time n (row ∷ rows) =
     filter_put n row (by_time rows) ∙ ap (λ z. cond (at time_of n row) (row ∷ z) z) (filter_by_time n rows)

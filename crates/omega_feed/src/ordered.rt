@@ -1,6 +1,6 @@
 //! The rows of the events in order of time, cut into rounds.
 ghost use Rattle.std.specs.Prelude.{◌≡◌, ◌<◌, ◌/◌, ◌++◌, ◌∷◌, [], map, IfOk, OnOk};
-ghost use Rattle.omega_model.specs.Feed.{time_of, event_rows, feed, rounds, round_number};
+ghost use Rattle.omega_model.specs.Feed.{by_time, time_of, event_rows, feed, rounds, round_number};
 ghost use Rattle.omega_model.specs.declared.rows.Row.TheVariants.{Machine, Attr, Task};
 ghost use Rattle.omega_feed.specs.Cut.{closed};
 
@@ -46,7 +46,23 @@ fn close(done: &mut Rounds, number: u64, rows: Rows) -> Result<(), NoMemory>
 pub fn feed(alloc: Global, tables: &TraceTables) -> Result<Vec<Row>, NoMemory>
     ensures { IfOk result (λ rows. rows.items ≡ feed tables.now) }
 {
-    let mut rows = event_rows(alloc, tables)?;
+    let rows = event_rows(alloc, tables)?;
+    in_order(rows)
+}
+
+/// The rows of the tasks in order of time, then of row. Copies each once.
+pub fn task_feed(alloc: Global, tables: &TraceTables) -> Result<Vec<Row>, NoMemory>
+    ensures { IfOk result (λ rows. rows.items ≡ by_time (map (λ row. Task row) tables.now.tasks)) }
+{
+    let mut rows = Vec::new(alloc);
+    push_tasks(&mut rows, tables.tasks.as_slice())?;
+    in_order(rows)
+}
+
+/// These rows in order of time; those of one time stay in the order in which they stand.
+fn in_order(mut rows: Vec<Row>) -> Result<Vec<Row>, NoMemory>
+    ensures { IfOk result (λ sorted. sorted.items ≡ by_time rows.items) }
+{
     rows.sort_by_key(|row| time_of(row))?;
     Ok(rows)
 }

@@ -5,7 +5,7 @@ ghost use Rattle.omega_model.specs.ReportCounts.{jobs_of, waiting};
 ghost use Rattle.omega_model.specs.Wanted.{wanted};
 ghost use Rattle.omega_board.specs.Board.{cell_of};
 
-use crate::ordered::feed;
+use crate::ordered::task_feed;
 use crate::tasks::WantedTasks;
 use omega_board::Board;
 use omega_model::{NoMemory, Seq, TraceTables};
@@ -21,8 +21,8 @@ pub struct WaitingTasks {
     pub jobs: Seq<u64>,
 }
 
-/// The tasks that a trace asks for after all its rows and that don't run on a board. Copies each row
-/// once, and costs a sort of them by time and the logarithm of the tasks for each task row.
+/// The tasks that a trace asks for after all its rows and that don't run on a board. Copies each
+/// task row once, and costs a sort of them by time and the logarithm of the tasks for each.
 pub fn waiting(alloc: Global, tables: &TraceTables, board: &Board) -> Result<WaitingTasks, NoMemory>
     ensures tasks { IfOk result (λ found. found.tasks ≡ length (waiting tables.now (cell_of board.now))) }
     ensures jobs { IfOk result (λ found. found.jobs ≡ jobs_of (waiting tables.now (cell_of board.now))) }
@@ -40,7 +40,7 @@ fn wanted_at_end(alloc: Global, tables: &TraceTables) -> Result<WantedTasks, NoM
     ensures { IfOk result (λ tasks. tasks ≡ wanted (feed tables.now)) }
 {
     let mut tasks = WantedTasks::new(alloc);
-    for row in feed(alloc, tables)? {
+    for row in task_feed(alloc, tables)? {
         tasks.take(&row)?;
     }
     Ok(tasks)

@@ -1,5 +1,5 @@
 -- The tasks of a machine that may be evicted for a wish.
-use Rattle.std.proofs.Common.{◌≡◌, ℕ, Bool, true, false, not, List, [], ◌∷◌, nat_le, ◌<◌, ◌≤◌, Option, Some, None, arith, refl, sym, ap, subst, ◌∙◌, ◌==◌, inl, inr}
+use Rattle.std.proofs.Common.{nat_lt, ◌≡◌, ℕ, Bool, true, false, not, List, [], ◌∷◌, nat_le, ◌<◌, ◌≤◌, Option, Some, None, arith, refl, sym, ap, subst, ◌∙◌, ◌==◌, inl, inr}
 use Rattle.std.specs.List.{filter}
 use Rattle.std.specs.Option.{option_map_or}
 use Rattle.std.proofs.lemmas.Bool.{and_parts, both_ways, false_from_ne_true, leb-true, ltb-true, not-true, not_from_false, or_cases}
@@ -152,8 +152,8 @@ yields_lower tasks wish key order yielded = withstands_is tasks wish.spec.prec k
     by : (o : Option Task) → option_map_or (gives_way wish) o false ≡ true → option_map_or (λ task. nat_le wish.spec.prec task.spec.prec) o false ≡ false
     by None yielded = refl
     by (Some t) yielded =
-        let less : t.spec.prec < wish.spec.prec = ltb-true _ _ (and_parts _ _ yielded).1 in
-        false_from_ne_true _ (λ h. let more : wish.spec.prec ≤ t.spec.prec = leb-true _ _ h in absurd (omega (arith, less, more)))
+        let less : t.spec.prec < wish.spec.prec = ltb-true t.spec.prec wish.spec.prec (and_parts (not (t.key.job == wish.key.job)) (nat_lt t.spec.prec wish.spec.prec) yielded).1 in
+        false_from_ne_true _ (λ h. let more : wish.spec.prec ≤ t.spec.prec = leb-true wish.spec.prec t.spec.prec h in absurd (omega (arith, less, more)))
 
 pub are_candidates : (cell : Cell) (id : ℕ) (wish : Wish) → IsInOrder ByKey cell.tasks → AreCandidates cell id wish (candidates cell id wish)
 are_candidates cell id wish order =

@@ -1,5 +1,5 @@
 //! How far the machines are known to fail for wishes of one kind.
-ghost use Rattle.std.specs.Prelude.{◌≡◌, ◌≤◌, Some, None, length, IsTrue};
+ghost use Rattle.std.specs.Prelude.{◌≡◌, ◌≤◌, ◌↔◌, Some, None, length, IsTrue};
 ghost use Rattle.omega_model.specs.Cell.{Cell};
 ghost use Rattle.omega_model.specs.declared.wishes.Wish.{Wish};
 ghost use Rattle.omega_plan.specs.Kinds.{Serves, kind_of};
@@ -97,7 +97,7 @@ pub(crate) struct Step {
 
 /// Whether two wishes are of one kind.
 fn are_alike(a: &Wish, b: &Wish) -> bool
-    ensures { IsTrue result → kind_of a.now ≡ kind_of b.now }
+    ensures { IsTrue result ↔ (kind_of a.now ≡ kind_of b.now) }
 {
     a.key.job == b.key.job
         && a.spec == b.spec
@@ -106,7 +106,7 @@ fn are_alike(a: &Wish, b: &Wish) -> bool
 
 /// Whether two lists of constraints are equal.
 fn are_equal(a: &[Constraint], b: &[Constraint]) -> bool
-    ensures { IsTrue result → a.now ≡ b.now }
+    ensures { IsTrue result ↔ (a.now ≡ b.now) }
 {
     if a.len() != b.len() {
         return false;
@@ -120,7 +120,7 @@ fn are_equal(a: &[Constraint], b: &[Constraint]) -> bool
 }
 
 fn is_equal(a: &Constraint, b: &Constraint) -> bool
-    ensures { IsTrue result → a.now ≡ b.now }
+    ensures { IsTrue result ↔ (a.now ≡ b.now) }
 {
     a.op == b.op
         && a.name.as_slice() == b.name.as_slice()

@@ -6,6 +6,9 @@ pub mod Shared
 pub mod Tallying
 pub mod PassGrows
 pub mod Summed
+pub mod RoundsCounted
+pub mod Naming
+pub mod LawfulApplies
 pub mod Compact
 pub mod Growing
 pub mod Joined

@@ -9,3 +9,4 @@ pub mod Telling
 pub mod Tallies
 pub mod Failing
 pub mod Passing
+pub mod Ranging

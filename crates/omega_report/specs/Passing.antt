@@ -10,6 +10,7 @@ use Rattle.omega_model.specs.Requests.{failed}
 use Rattle.omega_model.specs.State.{state}
 use Rattle.omega_model.specs.Touches.{seq}
 use Rattle.omega_model.specs.declared.entries.Entry.{Entry}
+use Rattle.omega_model.specs.declared.entries.Entry.TheVariants.{Round}
 use Rattle.omega_model.specs.declared.settings.Command.{Command}
 use Rattle.omega_model.specs.declared.settings.Command.TheVariants.{Replay, Run, Generate}
 use Rattle.omega_model.specs.declared.settings.Format.{Format}
@@ -24,6 +25,11 @@ abbrev pub prints_rounds : Command → Bool
 prints_rounds Replay = true
 prints_rounds Run = true
 prints_rounds Generate = false
+
+-- whether an entry begins a round
+abbrev pub begins_round : Entry → Bool
+begins_round (Round number) = true
+begins_round _ = false
 
 -- lines, if they are printed
 abbrev pub if_printed : Bool → List Line → List Line

@@ -12,6 +12,7 @@ mod counts;
 mod entry_lines;
 mod failures;
 mod judgements;
+mod laws;
 mod lines;
 mod page;
 mod pass;
@@ -25,4 +26,5 @@ mod tests;
 mod totals;
 mod words;
 
+pub use laws::lawful_histories_apply;
 pub use reporting::report;

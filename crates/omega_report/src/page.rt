@@ -15,12 +15,15 @@ use std::marker::Model;
 
 /// The lines of a report that is under way, in one format.
 ///
-/// A contract sees the format and the list of the lines. What is held is their bytes alone.
+/// A contract sees the format and the list of the lines. What is held is their bytes alone. Each call
+/// that appends costs the bytes of its lines. Where it answers `NoMemory`, the page has those of its
+/// lines for which there was memory, each as a whole.
 #[derive(Drop)]
 pub struct Page {
     alloc: Global,
     format: Format,
     bytes: Vec<u8>,
+    // The bytes of the line that is appended, so that it is added as a whole or not at all.
     line: Vec<u8>,
 }
 
@@ -49,8 +52,7 @@ impl Page {
         }
     }
 
-    /// Appends the line of these words. Where memory runs out the page stays as it was. Costs the
-    /// bytes of the line.
+    /// Appends the line of these words. Where memory runs out the page stays as it was.
     pub fn append(&mut self, words: &[Word]) -> Result<(), NoMemory>
         requires { IsTrue (is_plain_line (map word_of words.now)) }
         ensures format { self.new.format ≡ self.old.format }
@@ -63,7 +65,8 @@ impl Page {
         Ok(())
     }
 
-    /// The bytes of all lines in the page's format. Takes no memory but for what ends the last line.
+    /// The bytes of all lines in the page's format. As text it takes no memory, as JSON that of what
+    /// ends the array.
     pub fn finish(self) -> Result<Bytes, NoMemory>
         ensures { IfOk result (λ bytes. bytes ≡ in_format self.format self.lines) }
     {

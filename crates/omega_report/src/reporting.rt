@@ -1,6 +1,7 @@
 //! The report of a history.
 ghost use Rattle.std.specs.Prelude.{◌≡◌, ◌++◌, ◌<◌, ◌≤◌, ◌^◌, List, IfOk, OnOk, count_by, length, nat_le};
 ghost use Rattle.omega_model.specs.Applying.{EachMayApply};
+ghost use Rattle.omega_model.specs.Lawful.{Lawful};
 ghost use Rattle.omega_model.specs.Policy.{schedulers};
 ghost use Rattle.omega_model.specs.Report.{Line};
 ghost use Rattle.omega_model.specs.ReportForms.{printed_report};
@@ -8,13 +9,13 @@ ghost use Rattle.omega_model.specs.ReportLines.{final_lines};
 ghost use Rattle.omega_model.specs.declared.entries.Entry.{Entry};
 ghost use Rattle.omega_model.specs.declared.settings.Format.{Format};
 ghost use Rattle.omega_report.specs.Failing.{count_of};
-ghost use Rattle.omega_report.specs.Passing.{lines_of_all, IsAfter};
+ghost use Rattle.omega_report.specs.Passing.{begins_round, lines_of_all, IsAfter};
 
 use crate::counts::Counts;
 use crate::failures::Failures;
 use crate::page::Page;
 use crate::pass::{Pass, passed};
-use omega_feed::{rounds, waiting};
+use omega_feed::waiting;
 use omega_model::{Bytes, Entry, NoMemory, Settings, TraceTables};
 use std::alloc::Global;
 
@@ -22,10 +23,10 @@ use std::alloc::Global;
 /// state of those before it, what is used at the end of each round, and what the history comes to. For
 /// `generate` there is only the first line and what the history comes to.
 ///
-/// Each entry can be applied to the state of those before it, there are at most 30 batch schedulers,
-/// and the window of a round isn't 0.
+/// The history is a whole run of the tables under these settings, each of its entries can be applied to
+/// the state of those before it, and there are at most 30 batch schedulers.
 ///
-/// Costs what the entries change, the lines, and two sorts of the rows by time. No line costs the
+/// Costs what the entries change, the lines, and a sort of the task rows by time. No line costs the
 /// machines or the tasks that run.
 pub fn report(
     alloc: Global,
@@ -34,32 +35,30 @@ pub fn report(
     history: &[Entry],
 ) -> Result<Bytes, NoMemory>
     requires batch { settings.now.batch ≤ 30 }
-    requires window { 0 < settings.now.window }
+    requires lawful { Lawful settings.now tables.now history.now }
     requires applied { EachMayApply history.now }
     ensures { IfOk result (λ bytes. bytes ≡ printed_report settings.now tables.now history.now) }
 {
     let mut page = Page::new(alloc, settings.format);
     page.first()?;
     let pass = passed(alloc, settings, page, history)?;
-    summed_up(alloc, settings, tables, history.len() as u64, pass)?.finish()
+    summed_up(alloc, settings, tables, history, pass)?.finish()
 }
 
-// The page of a pass over so many entries, with what they come to.
+// The page of a pass over a history, with what it comes to.
 fn summed_up(
     alloc: Global,
     settings: &Settings,
     tables: &TraceTables,
-    entries: u64,
+    history: &[Entry],
     pass: Pass,
 ) -> Result<Page, NoMemory>
     requires batch { settings.now.batch ≤ 30 }
-    requires window { 0 < settings.now.window }
     requires counted { length pass.tally ≡ schedulers settings.now }
-    ensures { IfOk result (λ page. (format : Format) (lines : List Line) (history : List Entry)
-        → length history ≡ entries → IsAfter (schedulers settings.now) format lines history pass
-        → (page.format ≡ format) × (page.lines ≡ lines ++ final_lines settings.now tables.now history)) }
+    ensures { IfOk result (λ page. (format : Format) (lines : List Line)
+        → Lawful settings.now tables.now history.now → IsAfter (schedulers settings.now) format lines history.now pass
+        → (page.format ≡ format) × (page.lines ≡ lines ++ final_lines settings.now tables.now history.now)) }
 {
-    let rounds = rounds(alloc, tables, settings.window)?.len();
     let left = waiting(alloc, tables, pass.cell.board())?;
     let abandoned = count_given_up(left.jobs.as_slice(), settings.give_up, &pass.failures);
     let Pass {
@@ -68,11 +67,24 @@ fn summed_up(
         tally,
         ..
     } = pass;
-    page.sizes(entries, rounds as u64)?;
+    page.sizes(history.len() as u64, count_rounds(history))?;
     push_counts(&mut page, tally.counts())?;
     page.usage(cell.used(), cell.capacity())?;
     page.unplaced(left.tasks, abandoned)?;
     Ok(page)
+}
+
+// How many rounds a history begins.
+fn count_rounds(history: &[Entry]) -> u64
+    ensures { result ≡ count_by begins_round history.now }
+{
+    history.iter().filter(|entry| begins_round(entry)).count() as u64
+}
+
+fn begins_round(entry: &Entry) -> bool
+    ensures { result ≡ begins_round entry.now }
+{
+    matches!(entry, Entry::Round { .. })
 }
 
 // Appends the line of each scheduler with its counts.
@@ -92,5 +104,7 @@ fn count_given_up(jobs: &[u64], give_up: u32, failures: &Failures) -> u64
     ensures { result ≡ count_by (λ job. nat_le give_up (count_of failures.now job)) jobs.now }
 {
     let limit = u64::from(give_up);
-    jobs.iter().filter(|job| limit <= failures.of(**job)).count() as u64
+    jobs.iter()
+        .filter(|job| limit <= failures.of(**job))
+        .count() as u64
 }

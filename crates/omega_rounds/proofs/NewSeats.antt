@@ -1,13 +1,14 @@
 -- A world before its first round, and its seats.
 use Rattle.std.proofs.Common.{◌≡◌, ◌+◌, ℕ, List, [], ◌∷◌, ◌++◌, length, Some, None, refl, sym, ap, ap₂, subst, arith, ◌∙◌, inl, inr, length-append}
 use Rattle.std.specs.Prelude.{slice_get, option_map}
-use Rattle.std.specs.List.{All}
+use Rattle.std.specs.List.{All, sum_by}
 use Rattle.std.proofs.lemmas.List.Elements.{All-nil}
 use Rattle.omega_feed.specs.Asked.{Asked, asked_after}
 use Rattle.omega_model.specs.Feed.{rounds}
 use Rattle.omega_model.specs.Policy.{schedulers}
 use Rattle.omega_model.specs.Ranges.{IsInRange}
 use Rattle.omega_model.specs.Requests.{failed, requests}
+use Rattle.omega_model.specs.Stepping.{IsNew}
 use Rattle.omega_model.specs.Work.{Standing, fresh}
 use Rattle.omega_model.specs.declared.entries.Entry.{Entry}
 use Rattle.omega_model.specs.declared.rows.Row.{Row}
@@ -17,13 +18,14 @@ use Rattle.omega_model.specs.declared.settings.Settings.{Settings}
 use Rattle.omega_model.specs.declared.wishes.Request.{Request}
 use Rattle.omega_desk.specs.Counts.{count_of}
 use Rattle.omega_desk.specs.Desks.{DeskState, left_at}
-use Rattle.omega_rounds.specs.Keeping.{IsWorld}
+use Rattle.omega_rounds.specs.Keeping.{IsWorld, world_at}
 use Rattle.omega_rounds.specs.Opening.{AreNewSeats}
-use Rattle.omega_rounds.specs.Seats.{IsDeskOf, IsRoutedTo, IsSeat, synced_of}
-use Rattle.omega_rounds.specs.Stages.{IsMadeOf, Source, stage_of}
+use Rattle.omega_rounds.specs.Seats.{IsDeskOf, IsRoutedTo, IsSeat, synced_of, to_do_of}
+use Rattle.omega_rounds.specs.Stages.{IsInRunOf, Source, stage_of}
 use Rattle.omega_rounds.specs.declared.seat.Seat.{Seat}
 use Rattle.omega_rounds.proofs.Requested.{requests_none}
 use Rattle.omega_rounds.proofs.SeatLists.{push_cases, seen_none}
+use Rattle.omega_rounds.proofs.WorldBegins.{none_to_do}
 
 -- a seat is that of a scheduler that has done nothing yet
 abbrev IsNewSeat : Settings → ℕ → Seat → Type 0
@@ -46,7 +48,7 @@ seats_more settings count seats seat are is synced left = record {
 -- what a world has of a trace
 pub made_of : (settings : Settings) (trace : TraceTables) (all : List Round) (asked : Asked) (rows : List Row)
     → all ≡ rounds trace settings.window → asked ≡ asked_after settings trace rows
-    → (begun opened_at : ℕ) → IsMadeOf (stage_of settings all asked begun opened_at) trace
+    → (begun opened_at : ℕ) → IsInRunOf (stage_of settings all asked begun opened_at) trace
 made_of settings trace all asked rows rounds_are asks begun opened_at =
     ap₂ (λ (rs : List Round) (a : Asked). let s : Source = record { rounds = rs; jobs = a.jobs; constraints = a.constraints; disks = a.disks } in s) rounds_are asks
 
@@ -93,3 +95,15 @@ world_new settings trace all asked history seats range rounds_are asks none are 
         desks = λ number seat here. desk_new settings other number seat.desk (are.each number seat here).1.1;
       };
     })
+
+-- the world of these seats is new, and no commit can follow
+pub is_new : (settings : Settings) (count : ℕ) (history : List Entry) (seats : List Seat) → history ≡ [] → AreNewSeats settings count seats
+    → IsNew (world_at history seats)
+is_new settings count history seats none are = record {
+  empty = none;
+  nobody = seen_none synced_of seats (λ number seat here. (are.each number seat here).1.0);
+}
+
+pub nothing_to_do : (settings : Settings) (count : ℕ) (seats : List Seat) → AreNewSeats settings count seats → sum_by to_do_of seats ≡ 0
+nothing_to_do settings count seats are =
+    none_to_do seats (λ number seat here. ap (λ (s : Standing). s.requests) (are.each number seat here).1.1)

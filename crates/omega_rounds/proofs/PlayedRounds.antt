@@ -12,7 +12,7 @@ use Rattle.omega_model.specs.declared.rows.TraceTables.{TraceTables}
 use Rattle.omega_model.specs.declared.settings.Settings.{Settings}
 use Rattle.omega_rounds.specs.Going.{IsFirstAtWork, IsRoundOver, OpensRound, ReachesRound}
 use Rattle.omega_rounds.specs.Playing.{BeginsTurn, IsAtStart, IsInSomeRun, IsRoundNow, PlaysRound}
-use Rattle.omega_rounds.specs.Stages.{IsMadeOf, Stage, WorldState, next_stage, rows_begun, source_of, world_of}
+use Rattle.omega_rounds.specs.Stages.{IsInRunOf, Stage, WorldState, next_stage, rows_begun, source_of, world_of}
 use Rattle.omega_rounds.specs.Taking.{Taking}
 use Rattle.omega_rounds.proofs.Agreeing.{works_or_idle}
 use Rattle.omega_rounds.proofs.Places.{take_next}
@@ -24,7 +24,7 @@ pub record HasPlayed (start now : WorldState) : Type 0 where
   pub settings : now.stage.settings ≡ start.stage.settings
   pub source : now.stage.source ≡ start.stage.source
   pub turns : InTurns now.history
-  pub over : (trace : TraceTables) → IsMadeOf now.stage trace → IsRoundOver trace now
+  pub over : (trace : TraceTables) → IsInRunOf now.stage trace → IsRoundOver trace now
   pub made : IsInSomeRun now.stage
 
 -- none has begun
@@ -39,7 +39,7 @@ played_none world start made = record {
 
 -- the first turn of the next round begins
 begins_turn : (now next : WorldState) (number : ℕ) → InTurns now.history → (reaches : ReachesRound now next number)
-    → (trace : TraceTables) → IsMadeOf now.stage trace → OpensRound trace now next
+    → (trace : TraceTables) → IsInRunOf now.stage trace → OpensRound trace now next
     → BeginsTurn trace (rows_begun now.stage) now.history reaches.round next 0
 begins_turn now next number turns reaches trace made opens =
     let round : Round = reaches.round in
@@ -62,19 +62,19 @@ begins_turn now next number turns reaches trace made opens =
 
 -- one more round is played
 pub played_more : (start now next after : WorldState) (number : ℕ) → HasPlayed start now → ReachesRound now next number
-    → ((trace : TraceTables) → IsMadeOf now.stage trace → OpensRound trace now next)
+    → ((trace : TraceTables) → IsInRunOf now.stage trace → OpensRound trace now next)
     → after.stage ≡ next.stage → PlaysRound next after
     → HasPlayed start after
 played_more start now next after number has reaches opens stage plays =
     let there : after.stage ≡ next_stage now.stage (length next.history) = stage ∙ reaches.stage in
-    let played : (trace : TraceTables) → IsMadeOf now.stage trace → InTurns after.history × IsRoundOver trace after =
+    let played : (trace : TraceTables) → IsInRunOf now.stage trace → InTurns after.history × IsRoundOver trace after =
     λ trace made. plays trace (rows_begun now.stage) now.history reaches.round (begins_turn now next number has.turns reaches trace made (opens trace made)) in
     record {
       settings = ap (λ (s : Stage). s.settings) there ∙ has.settings;
       source = ap (λ (s : Stage). s.source) there ∙ has.source;
       turns = (played has.made.0 has.made.1).0;
-      over = λ trace made. (played trace (subst (λ (s : Stage). IsMadeOf s trace) there made)).1;
-      made = (has.made.0, subst (λ (s : Stage). IsMadeOf s has.made.0) (sym there) has.made.1);
+      over = λ trace made. (played trace (subst (λ (s : Stage). IsInRunOf s trace) there made)).1;
+      made = (has.made.0, subst (λ (s : Stage). IsInRunOf s has.made.0) (sym there) has.made.1);
     }
 
 -- fewer rounds remain
@@ -87,7 +87,7 @@ fewer_rounds now next after number reaches stage =
 
 -- nobody has work then
 pub played_idle : (start now : WorldState) (scheduler : ℕ) → HasPlayed start now
-    → ((trace : TraceTables) → IsMadeOf now.stage trace → IsFirstAtWork trace now scheduler) → ⊥
+    → ((trace : TraceTables) → IsInRunOf now.stage trace → IsFirstAtWork trace now scheduler) → ⊥
 played_idle start now scheduler has works =
     let trace : TraceTables = has.made.0 in
     let first = works trace has.made.1 in
@@ -95,6 +95,6 @@ played_idle start now scheduler has works =
     (has.over trace has.made.1 scheduler first.known)
 
 -- a stage is in the run of the traces in whose run it was at the start
-pub same_run : (start now : WorldState) → HasPlayed start now → (trace : TraceTables) → IsMadeOf start.stage trace → IsMadeOf now.stage trace
+pub same_run : (start now : WorldState) → HasPlayed start now → (trace : TraceTables) → IsInRunOf start.stage trace → IsInRunOf now.stage trace
 same_run start now has trace made =
     has.source ∙ made ∙ ap (λ (s : Settings). source_of s trace) (sym has.settings)

@@ -15,7 +15,7 @@ use Rattle.omega_rounds.specs.Going.{IsRoundOver, LeavesToDo, StepsOn, answer_of
 use Rattle.omega_rounds.specs.NextCommit.{NobodyHasWork}
 use Rattle.omega_rounds.specs.Passes.{Committing, IdleBelow, Syncing}
 use Rattle.omega_rounds.specs.Playing.{BeginsTurn, CommitsInTurn, CommitsTurn, IsRoundNow, PlaysRound, SyncsTurn, TakesTurnFrom, is_committed}
-use Rattle.omega_rounds.specs.Stages.{IsMadeOf, Stage, WorldState, next_stage, rows_begun, world_of}
+use Rattle.omega_rounds.specs.Stages.{IsInRunOf, Stage, WorldState, next_stage, rows_begun, world_of}
 use Rattle.omega_rounds.specs.Taking.{Taking}
 use Rattle.omega_rounds.specs.declared.steps.Stepped.{Stepped}
 use Rattle.omega_rounds.specs.declared.steps.Stepped.TheVariants.{Synced, Committed, Idle}
@@ -24,7 +24,7 @@ use Rattle.omega_rounds.proofs.TwoPasses.{commit_last, commit_step, commits_only
 -- a step in the run of each trace in whose run a stage is
 abbrev pub StepsFrom : Stage → WorldState → ℕ → WorldState → Stepped → Type 0
 StepsFrom stage old scheduler new stepped =
-    (trace : TraceTables) → IsMadeOf stage trace
+    (trace : TraceTables) → IsInRunOf stage trace
     → Step stage.settings trace (rows_begun stage) stage.opened_at (world_of old) scheduler (world_of new) (answer_of stepped)
 
 -- it is one in the round that is under way

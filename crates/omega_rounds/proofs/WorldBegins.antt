@@ -36,7 +36,7 @@ use Rattle.omega_rounds.specs.NextCommit.{HasNoWork, NobodyHasWork}
 use Rattle.omega_rounds.specs.Opening.{BeginAll, BeginsSeat, HaveNoWork, IsAsked}
 use Rattle.omega_rounds.specs.Playing.{IsAtStart}
 use Rattle.omega_rounds.specs.Seats.{IsDeskOf, IsRoutedTo, IsSeat, synced_of, to_do_of}
-use Rattle.omega_rounds.specs.Stages.{IsMadeOf, Source, Stage, next_stage, rows_begun, source_of, stage_of}
+use Rattle.omega_rounds.specs.Stages.{IsInRunOf, Source, Stage, next_stage, rows_begun, source_of, stage_of}
 use Rattle.omega_rounds.specs.declared.seat.Seat.{Seat}
 use Rattle.omega_rounds.proofs.OpenedEntries.{commits_opened, copy_opened, failed_opened}
 use Rattle.omega_rounds.proofs.Places.{take_next}
@@ -48,7 +48,7 @@ use Rattle.omega_rounds.proofs.Worlds.{begins_done, begins_rows, goes_done, goes
 
 -- nobody has work where no request is left at any desk
 pub nobody_works : (trace : TraceTables) (stage : Stage) (tasks : List WantedTask) (history : List Entry) (seats : List Seat)
-    → IsWorld stage tasks history seats → HaveNoWork seats → IsMadeOf stage trace
+    → IsWorld stage tasks history seats → HaveNoWork seats → IsInRunOf stage trace
     → NobodyHasWork stage.settings trace (rows_begun stage) stage.opened_at history
 nobody_works trace stage tasks history seats world idle made scheduler known =
     elim (slice_get_cases seats scheduler).1 [
@@ -66,9 +66,9 @@ none_left (request ∷ rest) tries taken few none =
     let all : (suc (length rest)) * tries ≡ length rest * tries + tries = more (length rest) tries in
     let here : (suc (length rest)) * tries - taken ≡ 0 = none in
     absurd (omega (arith, all, here, few))
-      where
-        mul_more : (a t : ℕ) → (suc a) * t ≡ a * t + t
-        mul_more a t = grind (arith)
+  where
+    mul_more : (a t : ℕ) → (suc a) * t ≡ a * t + t
+    mul_more a t = grind (arith)
 
 -- where no commit can follow no request is left at any desk
 pub idle_all : (stage : Stage) (tasks : List WantedTask) (history : List Entry) (seats : List Seat)
@@ -146,7 +146,7 @@ module _ (settings : Settings) (all : List Round) (asked : Asked) (begun old_pla
       ∙ ap wanted (sym (rows_later place))
 
   -- what is asked then
-  asked_later : (place : ℕ) (trace : TraceTables) → IsMadeOf stage trace
+  asked_later : (place : ℕ) (trace : TraceTables) → IsInRunOf stage trace
       → (let a : Asked = record asked { tasks = tasks } in a) ≡ asked_after settings trace (rows_begun (later_at place))
   asked_later place trace made =
       ap₂ (λ (s : Source) (ts : List WantedTask). let a : Asked = record { jobs = s.jobs; constraints = s.constraints; disks = s.disks; tasks = ts } in a) made (tasks_later place)
@@ -164,14 +164,14 @@ module _ (settings : Settings) (all : List Round) (asked : Asked) (begun old_pla
     later = next_stage stage (length after)
 
     -- the entries of the round's rows
-    pub after_is : (trace : TraceTables) → IsMadeOf stage trace → after ≡ (opened trace (rows_begun stage) before round).history
+    pub after_is : (trace : TraceTables) → IsInRunOf stage trace → after ≡ (opened trace (rows_begun stage) before round).history
     after_is trace made = history trace (rows_begun stage) (ap (λ (s : Source). s.disks) made) world.asked
 
     seat_later : (number : ℕ) (was seat : Seat) → IsSeat settings before number was → BeginsSeat (record asked { tasks = tasks }) after number was seat
         → IsSeat settings after number seat
     seat_later number was seat is begun_seat =
         let trace : TraceTables = world.made.0 in
-        let made : IsMadeOf stage trace = world.made.1 in
+        let made : IsInRunOf stage trace = world.made.1 in
         let same = after_is trace made in
         let left = begun_seat.left settings trace (rows_begun later) (asked_later (length after) trace made) in
         let none : 0 ≡ seat.desk.taken = sym (ap (λ (s : Standing). s.taken) left) in
@@ -192,10 +192,10 @@ module _ (settings : Settings) (all : List Round) (asked : Asked) (begun old_pla
     nobody_later = seen_none synced_of new (λ number seat here. rw ((begins.each number seat here).1.1.synced) refl)
 
     -- the round of the definition begins
-    pub begins_round : (trace : TraceTables) → IsMadeOf stage trace → BeginsRound trace (rows_begun stage) round (world_at before old) (world_at after new)
+    pub begins_round : (trace : TraceTables) → IsInRunOf stage trace → BeginsRound trace (rows_begun stage) round (world_at before old) (world_at after new)
     begins_round trace made = record { entries = after_is trace made; nobody = nobody_later }
 
-    module _ (trace : TraceTables) (made : IsMadeOf stage trace) where
+    module _ (trace : TraceTables) (made : IsInRunOf stage trace) where
       abbrev was : IsLawful trace stage before old
       was = world.lawful trace made
 
@@ -273,7 +273,7 @@ module _ (settings : Settings) (all : List Round) (asked : Asked) (begun old_pla
 pub world_start : (stage : Stage) (tasks : List WantedTask) (history : List Entry) (seats : List Seat)
     → IsWorld stage tasks history seats → stage.begun ≡ 0 → IsAtStart (state_at stage history seats)
 world_start stage tasks history seats world start =
-    let not_begun : (trace : TraceTables) → IsMadeOf stage trace → HasNotBegun stage (world_at history seats) =
+    let not_begun : (trace : TraceTables) → IsInRunOf stage trace → HasNotBegun stage (world_at history seats) =
     λ trace made. elim (world.lawful trace made).run [
       | inl none ↦ none
       | inr has ↦ let count : stage.begun ≡ has.in_round.underway.done + 1 = has.count in absurd (omega (arith, count, start))

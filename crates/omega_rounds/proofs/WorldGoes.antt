@@ -19,7 +19,7 @@ use Rattle.omega_rounds.specs.InRound.{RoundIsOver, rows_now}
 use Rattle.omega_rounds.specs.Keeping.{HasBegun, HasNotBegun, IsWorld, world_at}
 use Rattle.omega_rounds.specs.NextCommit.{NobodyHasWork}
 use Rattle.omega_rounds.specs.Opening.{HaveNoWork, has_work}
-use Rattle.omega_rounds.specs.Stages.{IsMadeOf, Source, Stage, rows_begun}
+use Rattle.omega_rounds.specs.Stages.{IsInRunOf, Source, Stage, rows_begun}
 use Rattle.omega_rounds.specs.declared.seat.Seat.{Seat}
 use Rattle.omega_rounds.proofs.SeatLists.{first_past, none_first, some_first}
 use Rattle.omega_rounds.proofs.WorldBegins.{nobody_works}
@@ -41,7 +41,7 @@ pub idle_first : (seats : List Seat) → position has_work seats ≡ None → Ha
 idle_first seats none number seat here = not_first seat.desk.requests (none_first has_work seats none number seat here)
 
 module _ (trace : TraceTables) (stage : Stage) (tasks : List WantedTask) (history : List Entry) (seats : List Seat)
-    (world : IsWorld stage tasks history seats) (made : IsMadeOf stage trace) where
+    (world : IsWorld stage tasks history seats) (made : IsInRunOf stage trace) where
   -- the first seat that has work
   pub first_works : (first : ℕ) → position has_work seats ≡ Some first → IsFirstAtWork trace (state_at stage history seats) first
   first_works first is =

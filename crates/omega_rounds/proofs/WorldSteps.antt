@@ -30,7 +30,7 @@ use Rattle.omega_rounds.specs.Keeping.{HasBegun, HasNotBegun, IsLawful, IsWorld,
 use Rattle.omega_rounds.specs.NextCommit.{attempt, attempt_txn}
 use Rattle.omega_rounds.specs.Seats.{IsDeskOf, IsRoutedTo, IsSeat, synced_of, to_do_of}
 use Rattle.omega_rounds.specs.SeatSteps.{CommitsFirst, RestsSeat, SeatSteps, SyncsSeat}
-use Rattle.omega_rounds.specs.Stages.{IsMadeOf, Source, Stage, WorldState, rows_begun, source_of, synced_at}
+use Rattle.omega_rounds.specs.Stages.{IsInRunOf, Source, Stage, WorldState, rows_begun, source_of, synced_at}
 use Rattle.omega_rounds.specs.declared.seat.Seat.{Seat}
 use Rattle.omega_rounds.specs.declared.steps.Stepped.{Stepped}
 use Rattle.omega_rounds.specs.declared.steps.Stepped.TheVariants.{Synced, Committed, Idle}
@@ -52,7 +52,7 @@ rows_more some round =
     flat_map-append (λ (r : Round). r.rows) some (round ∷ []) ∙ ap (λ (rows : List Row). rows_of some ++ rows) (append-nil round.rows)
 
 -- the rows of the rounds that have begun are those of the round that is under way and of the rounds before it
-pub rows_same : (trace : TraceTables) (stage : Stage) (world : World) → IsMadeOf stage trace → (begun : HasBegun trace stage world)
+pub rows_same : (trace : TraceTables) (stage : Stage) (world : World) → IsInRunOf stage trace → (begun : HasBegun trace stage world)
     → rows_begun stage ≡ rows_now stage.settings trace world.history begun.in_round.underway
 rows_same trace stage world made begun =
     let underway = begun.in_round.underway in
@@ -217,7 +217,7 @@ module _ (settings : Settings) (before after : List Entry) (scheduler : ℕ) (ol
       omega (arith, all, less)
 
 module _ (trace : TraceTables) (stage : Stage) (before after : List Entry) (seats : List Seat) (scheduler : ℕ) (old new : Seat)
-    (here : slice_get seats scheduler ≡ Some old) (made : IsMadeOf stage trace) (was : IsLawful trace stage before seats) where
+    (here : slice_get seats scheduler ≡ Some old) (made : IsInRunOf stage trace) (was : IsLawful trace stage before seats) where
   -- the run before its first round
   lawful_new : (stepped : Stepped) → SeatSteps stage.settings scheduler before old after new stepped
       → HasNotBegun stage (world_at before seats) → IsLawful trace stage after (set seats scheduler new)

@@ -8,7 +8,7 @@ use Rattle.omega_model.specs.World.{World}
 use Rattle.omega_model.specs.declared.entries.Entry.{Entry}
 use Rattle.omega_model.specs.declared.rows.TraceTables.{TraceTables}
 use Rattle.omega_rounds.specs.Seats.{IsDeskOf, IsSeat, synced_of}
-use Rattle.omega_rounds.specs.Stages.{IsMadeOf, Stage, rows_begun, synced_at}
+use Rattle.omega_rounds.specs.Stages.{IsInRunOf, Stage, rows_begun, synced_at}
 use Rattle.omega_rounds.specs.declared.seat.Seat.{Seat}
 
 -- no round has begun
@@ -43,5 +43,5 @@ pub record IsWorld (stage : Stage) (tasks : List WantedTask) (history : List Ent
   pub asked : tasks ≡ wanted (rows_begun stage)
   pub count : length seats ≡ schedulers stage.settings
   pub each_seat : (scheduler : ℕ) (seat : Seat) → slice_get seats scheduler ≡ Some seat → IsSeat stage.settings history scheduler seat
-  pub made : (trace : TraceTables) × IsMadeOf stage trace
-  pub lawful : (trace : TraceTables) → IsMadeOf stage trace → IsLawful trace stage history seats
+  pub made : (trace : TraceTables) × IsInRunOf stage trace
+  pub lawful : (trace : TraceTables) → IsInRunOf stage trace → IsLawful trace stage history seats

@@ -10,19 +10,19 @@ use Rattle.omega_model.specs.declared.rows.Round.{Round}
 use Rattle.omega_model.specs.declared.rows.TraceTables.{TraceTables}
 use Rattle.omega_rounds.specs.Going.{IsRoundOver}
 use Rattle.omega_rounds.specs.Passes.{Committing}
-use Rattle.omega_rounds.specs.Stages.{IsMadeOf, Stage, WorldState, rows_begun, world_of}
+use Rattle.omega_rounds.specs.Stages.{IsInRunOf, Stage, WorldState, rows_begun, world_of}
 use Rattle.omega_rounds.specs.Taking.{Taking}
 use Rattle.omega_rounds.specs.declared.steps.Stepped.{Stepped}
 use Rattle.omega_rounds.specs.declared.steps.Stepped.TheVariants.{Synced, Committed, Idle}
 
 -- a stage is one in the run of some trace
 abbrev pub IsInSomeRun : Stage → Type 0
-IsInSomeRun stage = (trace : TraceTables) × IsMadeOf stage trace
+IsInSomeRun stage = (trace : TraceTables) × IsInRunOf stage trace
 
 -- a world before its first round: its history is empty, and nobody has work
 pub record IsAtStart (world : WorldState) : Type 0 where
   pub empty : world.history ≡ []
-  pub idle : (trace : TraceTables) → IsMadeOf world.stage trace → IsRoundOver trace world
+  pub idle : (trace : TraceTables) → IsInRunOf world.stage trace → IsRoundOver trace world
 
 -- whether a step was a commit
 abbrev pub is_committed : Stepped → Bool
@@ -32,7 +32,7 @@ is_committed Idle = false
 
 -- the round that is under way is this one, which follows these rows and this history in the run of a trace
 pub record IsRoundNow (trace : TraceTables) (before : List Row) (start : List Entry) (round : Round) (stage : Stage) : Type 0 where
-  pub made : IsMadeOf stage trace
+  pub made : IsInRunOf stage trace
   pub rows : rows_begun stage ≡ before ++ round.rows
   pub opened : stage.opened_at ≡ length (opened trace before start round).history
 

@@ -47,9 +47,13 @@ stage_of settings all asked begun opened_at = record {
   opened_at = opened_at;
 }
 
+-- the stage of a world in which no round of this trace has begun
+abbrev pub first_stage : Settings → TraceTables → Stage
+first_stage settings trace = record { settings = settings; source = source_of settings trace; begun = 0; opened_at = 0 }
+
 -- a stage is one in the run of this trace
-abbrev pub IsMadeOf : Stage → TraceTables → Type 0
-IsMadeOf stage trace = stage.source ≡ source_of stage.settings trace
+abbrev pub IsInRunOf : Stage → TraceTables → Type 0
+IsInRunOf stage trace = stage.source ≡ source_of stage.settings trace
 
 -- the rows of the rounds that have begun
 abbrev pub rows_begun : Stage → List Row

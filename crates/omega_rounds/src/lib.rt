@@ -22,3 +22,6 @@ pub use laws::{
 pub use steps::{RoundStep, Stepped};
 pub use turns::in_turns;
 pub use world::World;
+
+#[cfg(test)]
+mod tests;

@@ -46,12 +46,7 @@ pub(crate) fn open(
 }
 
 // Appends the entries of the row that was taken last.
-fn apply_row(
-    alloc: Global,
-    cell: &mut Cell,
-    wanted: &Wanted,
-    row: &Row,
-) -> Result<(), NoMemory>
+fn apply_row(alloc: Global, cell: &mut Cell, wanted: &Wanted, row: &Row) -> Result<(), NoMemory>
     ensures { OnOk result (cell.new.history ≡ cell.old.history
         ++ row_entries wanted.now.disks (state cell.old.history) wanted.now.tasks row.now) }
 {

@@ -1,16 +1,17 @@
 //! Schedulers over one cell, round by round.
-ghost use Rattle.std.specs.Prelude.{◌≡◌, ◌<◌, ℕ, [], length, take, IfOk, OnErr};
+ghost use Rattle.std.specs.Prelude.{◌≡◌, ◌<◌, ℕ, length, take, IfOk, OnErr};
 ghost use Rattle.omega_model.specs.Applying.{EachMayApply};
+ghost use Rattle.omega_model.specs.Lawful.{LawfulSoFar};
 ghost use Rattle.omega_model.specs.Legal.{Legal, Sound};
-ghost use Rattle.omega_model.specs.State.{state};
 ghost use Rattle.omega_model.specs.Policy.{schedulers};
 ghost use Rattle.omega_model.specs.Ranges.{IsInRange};
-ghost use Rattle.omega_model.specs.Stepping.{LawfulWorld};
+ghost use Rattle.omega_model.specs.State.{state};
+ghost use Rattle.omega_model.specs.Stepping.{IsNew, LawfulWorld};
 ghost use Rattle.omega_model.specs.declared.rows.TraceTables.{TraceTables};
 ghost use Rattle.omega_rounds.specs.Going.{GoesOn, LeavesToDo, MovesOn, OpensRound, ReachesRound, StepsOn};
 ghost use Rattle.omega_rounds.specs.Opening.{AreNewSeats};
 ghost use Rattle.omega_rounds.specs.Playing.{IsAtStart, IsInSomeRun};
-ghost use Rattle.omega_rounds.specs.Stages.{IsMadeOf, source_of, world_of};
+ghost use Rattle.omega_rounds.specs.Stages.{IsInRunOf, first_stage, world_of};
 
 use crate::opening::{begin_all, first_at_work, open};
 use crate::seat::Seat;
@@ -31,8 +32,10 @@ use std::marker::Model;
 pub struct World {
     alloc: Global,
     settings: Settings,
+    /// All rounds of the trace, and how many of them have begun.
     rounds: Rounds,
     begun: usize,
+    /// The place in the history after the rows of the last round that has begun.
     opened_at: usize,
     wanted: Wanted,
     cell: Cell,
@@ -55,13 +58,12 @@ impl Model for World {
 
 impl World {
     /// The world of a trace with the empty history, before its first round. Costs two sorts of the
-    /// rows by time, copies each row once, and keeps the constraints of all tasks.
+    /// rows by time, and copies each row and each constraint; the tables aren't needed any more.
     pub fn new(alloc: Global, settings: &Settings, tables: &TraceTables) -> Result<World, NoMemory>
         requires { IsInRange settings.now }
-        ensures history { IfOk result (λ world. world.history ≡ []) }
-        ensures settings { IfOk result (λ world. world.stage.settings ≡ settings.now) }
-        ensures trace { IfOk result (λ world. world.stage.source ≡ source_of settings.now tables.now) }
-        ensures begun { IfOk result (λ world. world.stage.begun ≡ 0) }
+        ensures stage { IfOk result (λ world. world.stage ≡ first_stage settings.now tables.now) }
+        ensures is_new { IfOk result (λ world. IsNew (world_of world)) }
+        ensures to_do { IfOk result (λ world. world.to_do ≡ 0) }
     {
         let rounds = rounds(alloc, tables, settings.window)?;
         let wanted = Wanted::new(alloc, tables, settings)?;
@@ -79,12 +81,14 @@ impl World {
     }
 
     /// The history: lawful so far for each trace in whose run the world is, with each copy that has
-    /// synced within its bounds, and legal. Takes no memory.
+    /// synced within its bounds; legal, and with no state on the way that is overcommitted. Takes no
+    /// memory.
     pub fn history(&self) -> &[Entry]
         ensures history { result.now ≡ self.now.history }
-        ensures lawful { (trace : TraceTables) → IsMadeOf self.now.stage trace
+        ensures lawful { (trace : TraceTables) → IsInRunOf self.now.stage trace
             → LawfulWorld self.now.stage.settings trace (world_of self.now) }
         ensures legal { Legal self.now.history }
+        ensures sound { (n : ℕ) → Sound (state (take n self.now.history)) }
     {
         self.cell.history()
     }
@@ -92,6 +96,8 @@ impl World {
     /// The history itself. Takes no memory.
     pub fn into_history(self) -> Entries
         ensures history { result ≡ self.history }
+        ensures lawful { (trace : TraceTables) → IsInRunOf self.stage trace
+            → LawfulSoFar self.stage.settings trace self.history }
         ensures legal { Legal self.history }
         ensures applied { EachMayApply self.history }
         ensures sound { (n : ℕ) → Sound (state (take n self.history)) }
@@ -105,8 +111,10 @@ impl World {
     /// left; then the world is as it was. Where memory runs out the world is gone. Costs the rows of
     /// the round and the requests, and a look at each scheduler.
     pub fn next_round(self) -> Result<(World, RoundStep), NoMemory>
+        ensures settings { IfOk result (λ next. next.0.stage.settings ≡ self.stage.settings) }
+        ensures source { IfOk result (λ next. next.0.stage.source ≡ self.stage.source) }
         ensures stage { IfOk result (λ next. MovesOn self next.0 next.1) }
-        ensures run { IfOk result (λ next. (trace : TraceTables) → IsMadeOf self.stage trace
+        ensures run { IfOk result (λ next. (trace : TraceTables) → IsInRunOf self.stage trace
             → GoesOn trace self next.0 next.1) }
     {
         if let Some(scheduler) = first_at_work(self.seats.as_slice()) {
@@ -124,7 +132,7 @@ impl World {
         requires no_work { self.to_do ≡ 0 }
         requires more { self.stage.begun < length self.stage.source.rounds }
         ensures stage { IfOk result (λ next. ReachesRound self next.0 next.1) }
-        ensures run { IfOk result (λ next. (trace : TraceTables) → IsMadeOf self.stage trace
+        ensures run { IfOk result (λ next. (trace : TraceTables) → IsInRunOf self.stage trace
             → OpensRound trace self next.0) }
     {
         let World {
@@ -164,7 +172,7 @@ impl World {
     pub fn step(&mut self, scheduler: u32) -> Result<Stepped, NoMemory>
         requires { scheduler < schedulers self.old.stage.settings }
         ensures stage { self.new.stage ≡ self.old.stage }
-        ensures step { IfOk result (λ stepped. (trace : TraceTables) → IsMadeOf self.old.stage trace
+        ensures step { IfOk result (λ stepped. (trace : TraceTables) → IsInRunOf self.old.stage trace
             → StepsOn trace self.old scheduler self.new stepped) }
         ensures to_do { IfOk result (λ stepped. LeavesToDo self.old self.new stepped) }
         ensures err { OnErr result (self.new ≡ self.old) }

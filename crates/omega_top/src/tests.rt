@@ -16,7 +16,18 @@ const MACHINE: &str = "0,1,0,p,0.5,0.5\n";
 
 const TASK: &str = "0,,10,0,,0,u,0,1,0.25,0.25,0.001,0\n";
 
-const REPORT: &str = "omega 2\nround 0\ncommit 1 2 10\nplace 10 0 1\n";
+const REPORT: &str = "omega 2
+round 0
+commit 1 2 10
+place 10 0 1
+use cpu 250000000 500000000 mem 250000000 500000000 disk 1000000 1000000000000
+entries 3 rounds 1
+scheduler 0 commits 0 empty 0 placing 0 conflicted 0 placed 0 refused 0 withdrawn 0 evicted 0
+scheduler 1 commits 1 empty 0 placing 1 conflicted 0 placed 1 refused 0 withdrawn 0 evicted 0
+scheduler 2 commits 0 empty 0 placing 0 conflicted 0 placed 0 refused 0 withdrawn 0 evicted 0
+use cpu 250000000 500000000 mem 250000000 500000000 disk 1000000 1000000000000
+waiting 0 abandoned 0
+";
 
 // What came of a run.
 #[derive(Drop)]
@@ -112,7 +123,7 @@ fn each_read_fails(rt: HostRuntime) -> Result<(), Fail> {
 #[test]
 fn each_size_of_sink(rt: HostRuntime) -> Result<(), Fail> {
     let whole = REPORT.len();
-    for room in 0..46 {
+    for room in 0..526 {
         let mut tables = tables_of(rt.alloc(), MACHINE, TASK)?.cut(1);
         let ran = run(rt.alloc(), &["replay"], &mut tables, room)?;
         let written = whole.min(room as usize);

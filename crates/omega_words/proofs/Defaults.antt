@@ -22,10 +22,6 @@ replays (Some text) known = go (bytes_eq (codes "replay") text) refl known
     go false other known = absurd (true≢false (sym known))
 
 -- the options that aren't built are no arguments of the command
-no_extra : has_rule (codes "extra") (rules_built built_words) ≡ false
-unfolding built_words
-no_extra = refl
-
 no_machines : has_rule (codes "machines") (rules_built built_words) ≡ false
 unfolding built_words
 no_machines = refl
@@ -36,11 +32,10 @@ no_jobs = refl
 
 -- texts of the one command and of no option that isn't built give the defaults there
 defaults_kept : (texts : Text → Option Text) → command_of (texts (codes "command")) ≡ Replay
-    → texts (codes "extra") ≡ None → texts (codes "machines") ≡ None → texts (codes "jobs") ≡ None
+    → texts (codes "machines") ≡ None → texts (codes "jobs") ≡ None
     → KeepsDefaults (settings_by texts)
-defaults_kept texts command extra machines jobs = record {
+defaults_kept texts command machines jobs = record {
   command = command;
-  extra = rw extra refl;
   machines = rw machines refl;
   jobs = rw jobs refl;
 }
@@ -53,4 +48,4 @@ keeps_defaults words rows are known =
     let absent : (name : Text) → has_rule name (rules_built built_words) ≡ false → texts_of rows name ≡ None =
     λ name none. ap (λ (rs : List Row). texts_of rs name) are ∙ text_absent built_words words name none in
     defaults_kept (texts_of rows) (replays (texts_of rows (codes "command")) known)
-    (absent (codes "extra") no_extra) (absent (codes "machines") no_machines) (absent (codes "jobs") no_jobs)
+    (absent (codes "machines") no_machines) (absent (codes "jobs") no_jobs)

@@ -21,9 +21,9 @@ machines_are_not_built : is_plain built_words (codes "replay" ∷ codes "--machi
 unfolding built_words
 machines_are_not_built = refl
 
-caps_are_not_built : is_plain built_words (codes "replay" ∷ codes "--cap" ∷ codes "5" ∷ []) ≡ false
+sizes_are_not_built : is_plain built_words (codes "replay" ∷ codes "--jobs" ∷ codes "5" ∷ []) ≡ false
 unfolding built_words
-caps_are_not_built = refl
+sizes_are_not_built = refl
 
 run_is_refused : is_taken built_words (codes "run" ∷ []) ≡ false
 unfolding built_words clap_on_literals
@@ -33,9 +33,9 @@ machines_are_refused : is_taken built_words (codes "replay" ∷ codes "--machine
 unfolding built_words clap_on_literals
 machines_are_refused = refl
 
-caps_are_refused : is_taken built_words (codes "replay" ∷ codes "--cap" ∷ codes "5" ∷ []) ≡ false
+sizes_are_refused : is_taken built_words (codes "replay" ∷ codes "--jobs" ∷ codes "5" ∷ []) ≡ false
 unfolding built_words clap_on_literals
-caps_are_refused = refl
+sizes_are_refused = refl
 
 -- ---- words that are taken, though they aren't plain
 

@@ -67,7 +67,7 @@ fn make_entry<'a>(name: &'a str, kind: Kind<'a>) -> Entry<'a>
 }
 
 /// The options of the table.
-pub fn table() -> [Entry<'static>; 10]
+pub fn table() -> [Entry<'static>; 12]
     ensures { map choice_of result ≡ built_words.choices }
 {
     [
@@ -77,6 +77,8 @@ pub fn table() -> [Entry<'static>; 10]
         make_entry("rule", Kind::OneOf(&["fine", "coarse"])),
         make_entry("mode", Kind::OneOf(&["incremental", "gang"])),
         make_entry("preempt", Kind::OneOf(&["none", "service", "all"])),
+        make_entry("extra", Kind::OneOf(&["max", "cap", "relative"])),
+        make_entry("cap", Kind::Number(CAPS)),
         make_entry("tries", Kind::Number(TRIES)),
         make_entry("give-up", Kind::Number(GIVE_UPS)),
         make_entry("window", Kind::Number(WINDOWS)),

@@ -162,7 +162,7 @@ const TAKEN: [(&[&str], &str, Settings); 23] = [
 ];
 
 /// Words that are refused.
-const REFUSED: [&[&str]; 53] = [
+const REFUSED: [&[&str]; 51] = [
     &[],
     &[""],
     &["run"],
@@ -183,8 +183,6 @@ const REFUSED: [&[&str]; 53] = [
     &["replay", "--", "--tries", "5"],
     &["replay", "--speed", "5"],
     &["replay", "--trie", "5"],
-    &["replay", "--extra", "max"],
-    &["replay", "--cap", "60"],
     &["replay", "--machines", "5"],
     &["replay", "--jobs", "5"],
     &["replay", "--seed", "18446744073709551616"],

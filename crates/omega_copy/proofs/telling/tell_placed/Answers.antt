@@ -1,43 +1,54 @@
-use Rattle.std.proofs.Common.{◌≡◌, ◌<◌, ◌≤◌, ◌+◌, List, Option, length, min, sym, ap, ◌∙◌, subst, arith}
+use Rattle.std.proofs.Common.{◌≡◌, List, [], ◌∷◌, sym, ap, ◌∙◌, subst, rules}
+use Rattle.std.specs.List.{zip}
+use Rattle.std.specs.Iterator.Adapters.{zip_first, zip_second}
+use Rattle.std.specs.Slice.Iter.{iter_rest}
+use Rattle.std.proofs.lemmas.Slice.Zip.{Zip-more, either_empty_from_Zip}
 use Rattle.omega_model.specs.Touches.{is_placed}
 use Rattle.omega_model.specs.declared.claims.Claim.{Claim}
 use Rattle.omega_model.specs.declared.claims.Judgement.{Judgement}
 use Rattle.omega_machines.specs.Table.{machines_of}
-use Rattle.omega_board.proofs.Commits.{claim_at}
-use Rattle.omega_fit.specs.Positions.{Positions}
-use Rattle.omega_copy.specs.Telling.{TellsBut, is_this_or}
-use Rattle.omega_copy.proofs.Tells.{told_all, told_states, later_placed, placed_more, passed_more, placed_past}
+use Rattle.omega_cell.proofs.Touching.{zipped_out}
+use Rattle.omega_copy.specs.Telling.{TellsBut, is_claimed}
+use Rattle.omega_copy.proofs.Tells.{told_all, told_states, zipped_more, placed_more, passed_more}
 use Rattle.omega_copy.proofs.telling.tell_placed.Goals as goal
-use Rattle.omega_copy.proofs.telling.tell_placed.Goals.{then-is_placed, else-is_placed}
+
+pub loop-claim-init : goal.loop-claim-init
+loop-claim-init c =
+    let all = c.into_iter-claim-iterator.result in
+    let first : iter_rest (zip_first all) ≡ c.args.claims.now = search rules in
+    let second : iter_rest (zip_second all) ≡ c.args.reply.now = search rules in
+    subst (λ (decided : List (Claim × Judgement)). TellsBut (is_claimed decided) c.args.board.now.tasks c.args.index.now.free (machines_of c.args.board.now.table))
+    (sym (λ i. zip (first i) (second i))) c.requires
 
 pub tell-requires : goal.tell-requires
-tell-requires c = told_states _ c.args.board.now.tasks c.loop-i.index.free c.args.board.now.table c.loop-i.invariant
+tell-requires c = told_states _ c.args.board.now.tasks c.loop-claim.index.free c.args.board.now.table c.loop-claim.invariant
 
-pub loop-i-preserved : goal.loop-i-preserved
-loop-i-preserved c =
-    let claims = c.args.claims.now in
-    let reply = c.args.reply.now in
-    let i = c.loop-i.i in
-    let tasks = c.args.board.now.tasks in
-    let ms = machines_of c.args.board.now.table in
-    let below_claims : i < length claims = omega (arith, c.loop-i-test.true, c.min-count.ensures) in
-    let below_reply : i < length reply = omega (arith, c.loop-i-test.true, c.min-count.ensures) in
-    let P : Positions → Type 0 = λ index. TellsBut (later_placed claims reply (i + 1)) tasks index.free ms in
-    elim c.if-is_placed.branch [
-      | then-is_placed w ↦
-          subst P (sym w.index-is)
-          (w.tell.ensures (later_placed claims reply (i + 1))
-          (subst (λ (claim : Claim). TellsBut (is_this_or claim.machine (later_placed claims reply (i + 1))) tasks c.loop-i.index.free ms) w.index-claims-i.is
-          (placed_more claims reply i w.index-claims-i.result c.index-reply-i.result below_claims below_reply w.index-claims-i.is c.index-reply-i.is tasks c.loop-i.index.free ms
-          (ap (λ (j : Judgement). is_placed j.verdict) c.index-reply-i.is ∙ sym w.if-is_placed.ensures) c.loop-i.invariant)))
-      | else-is_placed w ↦
-          subst P (sym w.index-is)
-          (passed_more claims reply i (claim_at claims i below_claims).0 c.index-reply-i.result below_claims below_reply (claim_at claims i below_claims).1 c.index-reply-i.is tasks c.loop-i.index.free ms
-          (ap (λ (j : Judgement). is_placed j.verdict) c.index-reply-i.is ∙ sym w.if-is_placed.ensures) c.loop-i.invariant)
-    ]
+pub loop-claim-preserved-then-is_placed : goal.loop-claim-preserved-then-is_placed
+loop-claim-preserved-then-is_placed c =
+    let left = c.loop-claim.claim-iterator in
+    let rest = c.next.new.self in
+    let claim : Claim = c.in-Some.claim.now in
+    let judgement : Judgement = c.in-Some.judgement.now in
+    let later : List (Claim × Judgement) = zip (iter_rest (zip_first rest)) (iter_rest (zip_second rest)) in
+    let more = Zip-more left rest c.next.result (c.in-Some.claim, c.in-Some.judgement) c.in-Some.is c.next.ensures.steps in
+    c.tell.ensures (is_claimed later)
+    (placed_more (zip (iter_rest (zip_first left)) (iter_rest (zip_second left))) later claim judgement (zipped_more _ _ _ _ claim judgement more.0 more.1)
+    c.args.board.now.tasks c.loop-claim.index.free (machines_of c.args.board.now.table) (sym c.if-is_placed.ensures) c.loop-claim.invariant)
+
+pub loop-claim-preserved : goal.loop-claim-preserved
+loop-claim-preserved c =
+    let left = c.loop-claim.claim-iterator in
+    let rest = c.next.new.self in
+    let claim : Claim = c.in-Some.claim.now in
+    let judgement : Judgement = c.in-Some.judgement.now in
+    let later : List (Claim × Judgement) = zip (iter_rest (zip_first rest)) (iter_rest (zip_second rest)) in
+    let more = Zip-more left rest c.next.result (c.in-Some.claim, c.in-Some.judgement) c.in-Some.is c.next.ensures.steps in
+    passed_more (zip (iter_rest (zip_first left)) (iter_rest (zip_second left))) later claim judgement (zipped_more _ _ _ _ claim judgement more.0 more.1)
+    c.args.board.now.tasks c.loop-claim.index.free (machines_of c.args.board.now.table) (sym c.if-is_placed.ensures) c.loop-claim.invariant
 
 pub returns : goal.returns
 returns c =
-    let past : min (length c.args.claims.now) (length c.args.reply.now) ≤ c.loop-i.i = omega (arith, c.loop-i-test.false, c.min-count.ensures) in
-    told_all c.args.board.now.tasks c.loop-i.index.free (machines_of c.args.board.now.table)
-    (placed_past c.args.claims.now c.args.reply.now c.loop-i.i c.args.board.now.tasks c.loop-i.index.free (machines_of c.args.board.now.table) past c.loop-i.invariant)
+    let left = c.loop-claim.claim-iterator in
+    let none = zipped_out (iter_rest (zip_first left)) (iter_rest (zip_second left)) (either_empty_from_Zip left c.next.new.self c.next.result c.in-None.is c.next.ensures.steps) in
+    told_all c.args.board.now.tasks c.loop-claim.index.free (machines_of c.args.board.now.table)
+    (subst (λ (decided : List (Claim × Judgement)). TellsBut (is_claimed decided) c.args.board.now.tasks c.loop-claim.index.free (machines_of c.args.board.now.table)) none c.loop-claim.invariant)

@@ -1,10 +1,11 @@
-use Rattle.std.proofs.Common.{drop}
 use Rattle.std.specs.List.{list_any, zip}
+use Rattle.std.specs.Iterator.Adapters.{zip_first, zip_second}
+use Rattle.std.specs.Slice.Iter.{iter_rest}
 use Rattle.omega_machines.specs.Table.{machines_of}
 use Rattle.omega_model.specs.Touches.{places_on}
 use Rattle.omega_copy.specs.Telling.{TellsBut}
 use Rattle.omega_copy.proofs.telling.tell_placed.Given as goal
 
-abbrev pub invariant-loop-i : goal.invariant-loop-i
-invariant-loop-i l =
-    TellsBut (λ id. list_any (places_on id) (zip (drop l.i l.claims) (drop l.i l.reply))) l.fn.board.tasks l.index.free (machines_of l.fn.board.table)
+abbrev pub invariant-loop-claim : goal.invariant-loop-claim
+invariant-loop-claim l =
+    TellsBut (λ id. list_any (places_on id) (zip (iter_rest (zip_first l.claim-iterator)) (iter_rest (zip_second l.claim-iterator)))) l.fn.board.tasks l.index.free (machines_of l.fn.board.table)

@@ -6,5 +6,5 @@ pub loop-scheduler-preserved : goal.loop-scheduler-preserved
 loop-scheduler-preserved c = (
   c.in_ok-counts.ensures.format ∙ c.loop-scheduler.invariant.0,
   counts_more c.args.counts.now c.loop-scheduler.scheduler _ c.loop-scheduler.page.lines c.counts.new.self.lines c.loop-scheduler-test.true c.in_ok-counts.ensures.lines
-  ∙ c.loop-scheduler.invariant.1,
+      ∙ c.loop-scheduler.invariant.1,
 )

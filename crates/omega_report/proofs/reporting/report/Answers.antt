@@ -1,4 +1,4 @@
-use Rattle.std.proofs.Common.{◌≡◌, ℕ, List, refl, ap, ◌∙◌}
+use Rattle.std.proofs.Common.{◌≡◌, ℕ, List, ap, ◌∙◌}
 use Rattle.omega_model.specs.Policy.{schedulers}
 use Rattle.omega_model.specs.ReportForms.{in_format, printed_report}
 use Rattle.omega_report.proofs.Summed.{if_ok, length_tallies, report_said}
@@ -15,7 +15,7 @@ returns c =
     let trace = c.args.tables.now in
     let history = c.args.history.now in
     let page = c.in_ok-summed_up.field-0 in
-    let whole = c.in_ok-summed_up.ensures _ _ history refl c.in_ok-pass.ensures in
+    let whole = c.in_ok-summed_up.ensures _ _ c.requires.lawful c.in_ok-pass.ensures in
     let said : in_format page.format page.lines ≡ printed_report settings trace history =
     report_said settings trace history page c.new-page.result.lines c.first.new.self.lines c.new-page.ensures.lines c.in_ok-first.ensures.lines
     (whole.0 ∙ c.in_ok-first.ensures.format ∙ c.new-page.ensures.format) whole.1 in

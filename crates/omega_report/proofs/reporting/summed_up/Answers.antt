@@ -1,4 +1,4 @@
-use Rattle.std.proofs.Common.{◌≡◌, ◌∷◌, ◌++◌, [], length, ap, sym, ◌∙◌}
+use Rattle.std.proofs.Common.{◌≡◌, ◌∷◌, ◌++◌, [], length, refl, ap, ◌∙◌}
 use Rattle.omega_board.specs.Board.{cell_of}
 use Rattle.omega_model.specs.Cell.{Cell}
 use Rattle.omega_model.specs.ExtraTasks.{capacity_in_all, used_in}
@@ -6,18 +6,20 @@ use Rattle.omega_model.specs.ReportCounts.{jobs_of, waiting}
 use Rattle.omega_model.specs.State.{state}
 use Rattle.omega_report.specs.Failing.{count_of}
 use Rattle.omega_report.specs.Lines.{sizes_line}
+use Rattle.omega_report.proofs.RoundsCounted.{rounds_counted}
 use Rattle.omega_report.proofs.Summed.{abandoned_is, summed_is, Sums}
 use Rattle.omega_report.proofs.reporting.summed_up.Goals as goal
 
 pub returns : goal.returns
-returns c = λ format lines history long after.
+returns c = λ format lines lawful after.
     let settings = c.args.settings.now in
     let trace = c.args.tables.now in
+    let history = c.args.history.now in
     let counts = c.counts.result.now in
     let cell = c.board.ensures ∙ after.current in
-    let sums : Sums settings trace history c.args.entries c.len-rounds.result counts c.used.result c.capacity.result c.in_ok-left.left.tasks c.count_given_up-abandoned.result = record {
-      all_entries = sym long;
-      all_rounds = c.len-rounds.ensures ∙ ap length c.in_ok-rounds.ensures;
+    let sums : Sums settings trace history (length history) c.count_rounds.result counts c.used.result c.capacity.result c.in_ok-left.left.tasks c.count_given_up-abandoned.result = record {
+      all_entries = refl;
+      all_rounds = c.count_rounds.ensures ∙ rounds_counted settings trace history lawful;
       all_counts = c.counts.ensures ∙ after.counted;
       all_used = c.used.ensures ∙ ap used_in after.current;
       all_capacity = c.capacity.ensures ∙ ap capacity_in_all after.current;
@@ -27,8 +29,8 @@ returns c = λ format lines history long after.
           (c.as_slice.ensures ∙ c.in_ok-left.ensures.jobs ∙ ap (λ (now : Cell). jobs_of (waiting trace now)) cell);
     } in (
       c.in_ok-unplaced.ensures.format ∙ c.in_ok-usage.ensures.format ∙ c.in_ok-push_counts.ensures.format ∙ c.in_ok-sizes.ensures.format ∙ after.form,
-      summed_is settings trace history c.args.entries c.len-rounds.result counts c.used.result c.capacity.result c.in_ok-left.left.tasks c.count_given_up-abandoned.result
-      lines c.sizes.new.self.lines c.push_counts.new.page.lines c.usage.new.self.lines c.unplaced.new.self.lines sums
-      (c.in_ok-sizes.ensures.lines ∙ ap (λ ls. ls ++ sizes_line c.args.entries c.len-rounds.result ∷ []) after.printed)
-      c.in_ok-push_counts.ensures.lines c.in_ok-usage.ensures.lines c.in_ok-unplaced.ensures.lines,
+      summed_is settings trace history (length history) c.count_rounds.result counts c.used.result c.capacity.result c.in_ok-left.left.tasks c.count_given_up-abandoned.result
+          lines c.sizes.new.self.lines c.push_counts.new.page.lines c.usage.new.self.lines c.unplaced.new.self.lines sums
+          (c.in_ok-sizes.ensures.lines ∙ ap (λ ls. ls ++ sizes_line (length history) c.count_rounds.result ∷ []) after.printed)
+          c.in_ok-push_counts.ensures.lines c.in_ok-usage.ensures.lines c.in_ok-unplaced.ensures.lines,
     )

@@ -5,7 +5,7 @@ use Rattle.omega_model.specs.declared.entries.Entry.{Entry}
 use Rattle.omega_model.specs.declared.rows.TraceTables.{TraceTables}
 use Rattle.omega_model.specs.declared.settings.Settings.{Settings}
 use Rattle.omega_rounds.specs.Going.{GoesOn, MovesOn, ReachesRound}
-use Rattle.omega_rounds.specs.Stages.{IsMadeOf, WorldState}
+use Rattle.omega_rounds.specs.Stages.{IsInRunOf, WorldState}
 use Rattle.omega_rounds.specs.declared.steps.RoundStep.{RoundStep}
 use Rattle.omega_rounds.proofs.PlayedRounds.{fewer_rounds, played_more, played_none, same_run}
 use Rattle.omega_rounds.proofs.TurnOrder.{only_history}
@@ -20,7 +20,7 @@ loop-next-preserved c =
     let next = c.in_ok-next.next in
     played_more c.args.world now next c.in_ok-world-in-Begun.world c.in-Begun.field-0 c.loop-next.invariant
     (subst (MovesOn now next) c.in-Begun.is c.in_ok-next.ensures.stage)
-    (subst (λ (step : RoundStep). (trace : TraceTables) → IsMadeOf now.stage trace → GoesOn trace now next step) c.in-Begun.is c.in_ok-next.ensures.run)
+    (subst (λ (step : RoundStep). (trace : TraceTables) → IsInRunOf now.stage trace → GoesOn trace now next step) c.in-Begun.is c.in_ok-next.ensures.run)
     c.in_ok-world-in-Begun.ensures.stage c.in_ok-world-in-Begun.ensures.plays
 
 pub returns-in-Over-clause-only : goal.returns-in-Over-clause-only
@@ -29,7 +29,7 @@ returns-in-Over-clause-only c trace made other lawful turns =
     let next = c.in_ok-next.next in
     let same = subst (MovesOn now next) c.in-Over.is c.in_ok-next.ensures.stage in
     let here = same_run c.args.world now c.loop-next.invariant trace made in
-    let whole = subst (λ (step : RoundStep). (trace : TraceTables) → IsMadeOf now.stage trace → GoesOn trace now next step) c.in-Over.is c.in_ok-next.ensures.run trace here in
+    let whole = subst (λ (step : RoundStep). (trace : TraceTables) → IsInRunOf now.stage trace → GoesOn trace now next step) c.in-Over.is c.in_ok-next.ensures.run trace here in
     only_history c.args.world.stage.settings trace other next.history lawful turns
     (subst (λ (s : Settings). Lawful s trace next.history) c.loop-next.invariant.settings
     (subst (λ (w : WorldState). Lawful now.stage.settings trace w.history) (sym same) whole))

@@ -26,3 +26,11 @@ returns-clause-whole_gangs g c bytes told =
 
 pub returns-then-is_err-clause-some_run : goal.returns-then-is_err-clause-some_run
 returns-then-is_err-clause-some_run g c = rw c.refused-then-is_err.ensures.answer (no_memory_run c.in-Ok.parsed.settings _ _ refl)
+
+pub returns-clause-only : goal.returns-clause-only
+returns-clause-only g c bytes told =
+    rw c.omega_with.ensures.settings (c.omega_with.ensures.only bytes (λ table. c.enter.ensures.rests table ∙ told table))
+
+pub returns-clause-written : goal.returns-clause-written
+returns-clause-written g c bytes told =
+    rw c.omega_with.ensures.settings (c.omega_with.ensures.written bytes (λ table. c.enter.ensures.rests table ∙ told table))

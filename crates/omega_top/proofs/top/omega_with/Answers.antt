@@ -1,4 +1,7 @@
-use Rattle.std.proofs.Common.{refl}
+use Rattle.std.proofs.Common.{refl, subst}
+use Rattle.omega_model.specs.ReportForms.{printed_report}
+use Rattle.omega_model.specs.declared.rows.TraceTables.{TraceTables}
+use Rattle.omega_top.specs.Answers.{Writes}
 use Rattle.omega_top.proofs.Refusing.{answers_refusal}
 use Rattle.omega_top.proofs.SomeRun.{refused_run, whole_gangs}
 use Rattle.omega_top.proofs.top.omega_with.Goals as goal
@@ -15,3 +18,11 @@ returns-in-Err-clause-first g c bytes told =
 pub returns-in-Err-clause-some_run : goal.returns-in-Err-clause-some_run
 returns-in-Err-clause-some_run g c =
     rw (c.refused.ensures.answer, c.from.ensures) (refused_run c.args.settings.now c.in-Err.refusal _ _ refl)
+
+pub returns-in-Ok-clause-written : goal.returns-in-Ok-clause-written
+returns-in-Ok-clause-written g c bytes told =
+    let run = c.replay_and_write.result in
+    subst
+    (λ (trace : TraceTables). Writes (printed_report c.args.settings.now trace run.history) (g.K.Sink.written c.args.out.now)
+    (g.K.Sink.written c.replay_and_write.new.out) run.status)
+    (c.in-Ok.ensures.trace bytes told) c.replay_and_write.ensures.written

@@ -14,4 +14,6 @@ returns c =
     (ap₂ ◌∷◌ c.make_entry-7.ensures
     (ap₂ ◌∷◌ c.make_entry-8.ensures
     (ap₂ ◌∷◌ c.make_entry-9.ensures
-    (ap₂ ◌∷◌ c.make_entry-10.ensures refl)))))))))
+    (ap₂ ◌∷◌ c.make_entry-10.ensures
+    (ap₂ ◌∷◌ c.make_entry-11.ensures
+    (ap₂ ◌∷◌ c.make_entry-12.ensures refl)))))))))))

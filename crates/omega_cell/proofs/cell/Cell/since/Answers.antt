@@ -3,6 +3,7 @@ use Rattle.std.specs.List.{All}
 use Rattle.std.proofs.lemmas.List.{take_rest}
 use Rattle.omega_machines.specs.declared.MachineState.{MachineState}
 use Rattle.omega_machines.specs.Table.{machines_of}
+use Rattle.omega_model.specs.Applying.{EachMayApply}
 use Rattle.omega_model.specs.Copy.{Carries}
 use Rattle.omega_model.specs.declared.entries.Entry.{Entry}
 use Rattle.omega_board.specs.Parts.{part_at}
@@ -24,8 +25,8 @@ of-requires-clause-positions c =
     positions_rise c.self.inside.board c.in_ok-positions.positions.items c.in_ok-parts.parts
     (c.in_ok-parts.ensures ∙ ap (map (part_at c.self.inside.board)) c.deref.ensures.value) c.in_ok-positions.ensures.rises
 
-pub returns : goal.returns
-returns c =
+pub returns-clause-carries : goal.returns-clause-carries
+returns-clause-carries c =
     let entries : List Entry = c.as_slice.result.now in
     let later : List Entry = take (length entries - c.args.n) (drop c.args.n entries) in
     let history = c.self.inside.entries.items in
@@ -37,3 +38,12 @@ returns c =
     (c.in_ok-positions.ensures.places ∙ ap (λ (table : List MachineState). touched_places (machines_of table) later) c.machines.ensures.table)
     (c.in_ok-parts.ensures ∙ ap (map (part_at c.self.inside.board)) c.deref.ensures.value)
     (c.of.ensures ∙ (let until : c.len.result ≡ length history = search rules in ap (λ (n : ℕ). record { from = c.args.n; to = n; parts = c.in_ok-parts.parts }) until)))
+
+pub returns-clause-applied : goal.returns-clause-applied
+returns-clause-applied c = subst (λ (cell : CellState). EachMayApply cell.history) c.self.view_is c.self.invariant.applied
+
+pub returns-in_err-positions-clause-applied : goal.returns-in_err-positions-clause-applied
+returns-in_err-positions-clause-applied c = subst (λ (cell : CellState). EachMayApply cell.history) c.self.view_is c.self.invariant.applied
+
+pub returns-in_err-parts-clause-applied : goal.returns-in_err-parts-clause-applied
+returns-in_err-parts-clause-applied c = subst (λ (cell : CellState). EachMayApply cell.history) c.self.view_is c.self.invariant.applied

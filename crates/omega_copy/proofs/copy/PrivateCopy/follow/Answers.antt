@@ -1,3 +1,4 @@
+use Rattle.omega_copy.proofs.Applied.{next_ordered}
 use Rattle.omega_copy.proofs.Follows.{next_may, follows_more}
 use Rattle.omega_copy.proofs.copy.PrivateCopy.follow.Goals as goal
 
@@ -9,3 +10,7 @@ pub loop-entry-preserved : goal.loop-entry-preserved
 loop-entry-preserved c =
     follows_more c.args.self.now c.loop-entry.self c.args.later.now c.loop-entry.entry-index c.entry-item.result c.loop-entry.invariant c.loop-entry-test.true c.entry-item.is
     c.take_in.new.self c.take_in.ensures.no_trial c.in_ok-take_in.ensures.seen c.in_ok-take_in.ensures.cell c.in_ok-take_in.ensures.seqs
+
+pub take_in-requires-clause-ordered : goal.take_in-requires-clause-ordered
+take_in-requires-clause-ordered c =
+    next_ordered c.args.self.now c.loop-entry.self c.args.later.now c.loop-entry.entry-index c.loop-entry.invariant c.requires.history

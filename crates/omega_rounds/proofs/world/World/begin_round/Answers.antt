@@ -10,7 +10,7 @@ use Rattle.omega_model.specs.declared.rows.TraceTables.{TraceTables}
 use Rattle.omega_rounds.specs.Going.{OpensRound}
 use Rattle.omega_rounds.specs.Keeping.{IsWorld, world_at}
 use Rattle.omega_rounds.specs.Opening.{BeginAll, HaveNoWork, IsAsked}
-use Rattle.omega_rounds.specs.Stages.{IsMadeOf, WorldState, rows_begun, stage_of}
+use Rattle.omega_rounds.specs.Stages.{IsInRunOf, WorldState, rows_begun, stage_of}
 use Rattle.omega_rounds.proofs.WorldBegins.{begins_round, idle_all, is_asked, nobody_works, world_later}
 use Rattle.omega_rounds.proofs.WorldSteps.{state_at}
 use Rattle.omega_rounds.proofs.world.World.begin_round.Goals as goal
@@ -56,7 +56,7 @@ returns-clause-run c =
     subst (λ (a : Asked). BeginAll a c.open.new.cell.history c.self.inside.seats.items c.begin_all.new.seats.items) c.in_ok-open.ensures.wanted c.in_ok-begin_all.ensures in
     let after : WorldState =
     state_at (stage_of c.self.inside.settings c.self.inside.rounds c.open.new.wanted (c.self.inside.begun + 1) (length c.history-opened_at.result.now)) c.open.new.cell.history c.begin_all.new.seats.items in
-    subst (λ (w : WorldState). (trace : TraceTables) → IsMadeOf w.stage trace → OpensRound trace w after) c.self.view_is
+    subst (λ (w : WorldState). (trace : TraceTables) → IsInRunOf w.stage trace → OpensRound trace w after) c.self.view_is
     (λ trace made. record {
       over = nobody_works trace stage c.self.inside.wanted.tasks c.self.inside.cell.history c.self.inside.seats.items c.self.invariant idle made;
       begins = λ other is.

@@ -4,7 +4,7 @@ use Rattle.omega_model.specs.Lawful.{Lawful}
 use Rattle.omega_model.specs.declared.rows.TraceTables.{TraceTables}
 use Rattle.omega_rounds.specs.Going.{IsFirstAtWork}
 use Rattle.omega_rounds.specs.Opening.{HaveNoWork, has_work}
-use Rattle.omega_rounds.specs.Stages.{IsMadeOf, WorldState, stage_of}
+use Rattle.omega_rounds.specs.Stages.{IsInRunOf, WorldState, stage_of}
 use Rattle.omega_rounds.specs.declared.seat.Seat.{Seat}
 use Rattle.omega_rounds.proofs.WorldBegins.{none_to_do}
 use Rattle.omega_rounds.proofs.WorldGoes.{first_works, idle_first, run_over}
@@ -12,7 +12,7 @@ use Rattle.omega_rounds.proofs.world.World.next_round.Goals as goal
 
 pub returns-in-Some-clause-run : goal.returns-in-Some-clause-run
 returns-in-Some-clause-run c =
-    subst (λ (w : WorldState). (trace : TraceTables) → IsMadeOf w.stage trace → IsFirstAtWork trace w c.in-Some.scheduler) c.self.view_is
+    subst (λ (w : WorldState). (trace : TraceTables) → IsInRunOf w.stage trace → IsFirstAtWork trace w c.in-Some.scheduler) c.self.view_is
     (λ trace made. first_works trace (stage_of c.self.inside.settings c.self.inside.rounds c.self.inside.wanted c.self.inside.begun c.self.inside.opened_at) c.self.inside.wanted.tasks
     c.self.inside.cell.history c.self.inside.seats.items c.self.invariant made c.in-Some.scheduler
     (ap (λ (seats : List Seat). position has_work seats) (sym c.as_slice.ensures.value) ∙ sym c.first_at_work.ensures ∙ c.in-Some.is))
@@ -22,7 +22,7 @@ returns-then-self-len-clause-run c =
     let idle : HaveNoWork c.self.inside.seats.items =
     idle_first c.self.inside.seats.items (ap (λ (seats : List Seat). position has_work seats) (sym c.as_slice.ensures.value) ∙ sym c.first_at_work.ensures ∙ c.in_default.is) in
     let last : c.self.inside.begun ≡ length c.self.inside.rounds = c.if-self-len.true ∙ c.len.ensures in
-    subst (λ (w : WorldState). (trace : TraceTables) → IsMadeOf w.stage trace → Lawful w.stage.settings trace w.history) c.self.view_is
+    subst (λ (w : WorldState). (trace : TraceTables) → IsInRunOf w.stage trace → Lawful w.stage.settings trace w.history) c.self.view_is
     (λ trace made. run_over trace (stage_of c.self.inside.settings c.self.inside.rounds c.self.inside.wanted c.self.inside.begun c.self.inside.opened_at) c.self.inside.wanted.tasks
     c.self.inside.cell.history c.self.inside.seats.items c.self.invariant made idle last)
 

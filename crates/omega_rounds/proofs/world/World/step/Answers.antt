@@ -4,7 +4,7 @@ use Rattle.std.proofs.lemmas.Option.{slice_get_read}
 use Rattle.omega_model.specs.Policy.{schedulers}
 use Rattle.omega_model.specs.declared.rows.TraceTables.{TraceTables}
 use Rattle.omega_rounds.specs.Going.{LeavesToDo, StepsOn}
-use Rattle.omega_rounds.specs.Stages.{IsMadeOf, WorldState, rows_begun, stage_of}
+use Rattle.omega_rounds.specs.Stages.{IsInRunOf, WorldState, rows_begun, stage_of}
 use Rattle.omega_rounds.specs.declared.seat.Seat.{Seat}
 use Rattle.omega_rounds.specs.declared.steps.Stepped.{Stepped}
 use Rattle.omega_rounds.specs.declared.steps.Stepped.TheVariants.{Synced, Committed, Idle}
@@ -64,7 +64,7 @@ returns-clause-step c =
     let known = knows c.args.scheduler _ _ c.self.view_is c.requires in
     let stage = stage_of c.self.inside.settings c.self.inside.rounds c.self.inside.wanted c.self.inside.begun c.self.inside.opened_at in
     let here = stands c.self.inside.seats.items (schedulers c.self.inside.settings) c.args.scheduler c.index_mut-seat.result.now c.self.invariant.count known c.index_mut-seat.ensures.value in
-    subst (λ (w : WorldState). (trace : TraceTables) → IsMadeOf w.stage trace → StepsOn trace w c.args.scheduler (state_at stage c.step.new.cell.history (set c.self.inside.seats.items c.args.scheduler c.step.new.self)) c.in_ok-stepped.stepped) c.self.view_is
+    subst (λ (w : WorldState). (trace : TraceTables) → IsInRunOf w.stage trace → StepsOn trace w c.args.scheduler (state_at stage c.step.new.cell.history (set c.self.inside.seats.items c.args.scheduler c.step.new.self)) c.in_ok-stepped.stepped) c.self.view_is
     (λ trace made. step_is c.self.inside.settings c.self.inside.cell.history c.step.new.cell.history c.args.scheduler c.index_mut-seat.result.now c.step.new.self
     trace (rows_begun stage) c.self.inside.opened_at c.self.inside.seats.items here c.in_ok-stepped.stepped c.in_ok-stepped.ensures.step
     ((c.self.invariant.lawful trace made).desks c.args.scheduler c.index_mut-seat.result.now here))

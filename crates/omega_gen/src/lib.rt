@@ -1,0 +1,69 @@
+//! The tables of `generate`: nobody brings them, they are made of the words of a generator.
+//!
+//! The first words go to the machines, one to each, and then come six for each job.
+#![tactic(auto)]
+
+ghost use Rattle.std.specs.Prelude.{◌≡◌, ◌+◌, ◌*◌, None, Some, IfOk, OnOk};
+ghost use Rattle.omega_model.specs.Generated.{generated, made_of};
+ghost use Rattle.omega_io.specs.Edge.{Tells};
+ghost use Rattle.omega_gen.specs.Words.{left_after, word_of};
+
+mod jobs;
+mod laws;
+mod machines;
+#[cfg(test)]
+mod tests;
+mod words;
+
+pub use laws::generated_tables_are_never_refused;
+use omega_io::{SteadyTables, Tables};
+use omega_model::{NoMemory, Seq};
+use rand_core::Rng;
+use rand_pcg::Lcg64Xsh32;
+use std::alloc::Global;
+
+/// Tables of so many machines and so many jobs, made of the next words of a generator: one for each
+/// machine, then six for each job.
+///
+/// Machines stand from time 0 on, each with CPU and memory of 0.5, 0.75 or 1. A job has one to eight
+/// tasks that are all alike; jobs come every 10 seconds, and live 5 to 100 minutes. The other four
+/// tables are empty, and no folder is entered. Any numbers are allowed. Costs what it writes, at most
+/// 30 bytes for a machine and 1,000 for a job, all of it in memory. Where memory runs out, some of
+/// the words may have been drawn.
+pub fn tables_of<R: Rng>(
+    alloc: Global,
+    words: &mut R,
+    machines: u32,
+    jobs: u32,
+) -> Result<SteadyTables, NoMemory>
+    ensures rests { IfOk result (λ tables. Tells (⟦<SteadyTables as Tables>⟧.rest tables) (made_of (word_of (R.stream words.old)) machines jobs)) }
+    ensures folder { IfOk result (λ tables. ⟦<SteadyTables as Tables>⟧.entered tables ≡ Some None) }
+    ensures left { OnOk result (R.stream words.new ≡ left_after (machines + 6 * jobs) (R.stream words.old)) }
+{
+    let machine_events = machines::machine_events(alloc, words, machines)?;
+    let task_events = jobs::task_events(alloc, words, jobs)?;
+    let tables = [
+        machine_events,
+        Seq::new(alloc),
+        task_events,
+        Seq::new(alloc),
+        Seq::new(alloc),
+        Seq::new(alloc),
+    ];
+    Ok(SteadyTables::new(alloc, tables))
+}
+
+/// The tables of a seed, with so many machines and so many jobs: `tables_of` on the words of
+/// `Lcg64Xsh32` from this seed, stream 0.
+pub fn tables_of_seed(
+    alloc: Global,
+    seed: u64,
+    machines: u32,
+    jobs: u32,
+) -> Result<SteadyTables, NoMemory>
+    ensures rests { IfOk result (λ tables. Tells (⟦<SteadyTables as Tables>⟧.rest tables) (generated seed machines jobs)) }
+    ensures folder { IfOk result (λ tables. ⟦<SteadyTables as Tables>⟧.entered tables ≡ Some None) }
+{
+    let mut words = Lcg64Xsh32::new(seed, 0);
+    tables_of(alloc, &mut words, machines, jobs)
+}
