@@ -49,23 +49,28 @@ fn an_empty_machine_needs_no_victims(rt: HostRuntime) -> Result<(), NoMemory> {
     Ok(())
 }
 
-#[test]
-fn a_wish_is_planned_after_those_before_it(rt: HostRuntime) -> Result<(), NoMemory> {
-    let alloc = rt.alloc();
+// How many claims are planned for two wishes, of which one machine takes one.
+fn planned(alloc: Global, mode: Mode) -> Result<usize, NoMemory> {
     let mut copy = one_machine(alloc)?;
     let wishes = vec![in alloc; wish(alloc, 0, 6), wish(alloc, 1, 6)]?;
     let request = Request {
         job: 7,
         wishes: Seq::of(wishes),
     };
+    let policy = Policy {
+        rule: Rule::Fine,
+        mode,
+        preempt: true,
+    };
+    let txn = plan(alloc, &mut copy, &request, 0, &policy)?;
+    Ok(txn.claims.len())
+}
+
+#[test]
+fn a_wish_is_planned_after_those_before_it(rt: HostRuntime) -> Result<(), NoMemory> {
+    let alloc = rt.alloc();
     for (mode, claims) in [(Mode::Incremental, 1), (Mode::Gang, 0)] {
-        let policy = Policy {
-            rule: Rule::Fine,
-            mode,
-            preempt: true,
-        };
-        let txn = plan(alloc, &mut copy, &request, 0, &policy)?;
-        assert_eq!(rt; txn.claims.len(), claims);
+        assert_eq!(rt; planned(alloc, mode)?, claims);
     }
     Ok(())
 }
