@@ -1,8 +1,8 @@
 //! The shared cell.
-ghost use Rattle.std.specs.Prelude.{◌≡◌, ℕ, ◌<◌, ◌≤◌, ◌+◌, ◌^◌, List, [], Some, None, length, drop, map, All, Any, IfOk, IfErr, OnOk, OnErr, slice_get, vec_capacity};
+ghost use Rattle.std.specs.Prelude.{◌≡◌, ℕ, ◌<◌, ◌≤◌, ◌+◌, ◌^◌, List, [], Some, None, true, length, drop, map, All, Any, IfOk, IfErr, OnOk, OnErr, slice_get, vec_capacity};
 ghost use Rattle.omega_cell.specs.Claiming.{copied_seqs};
 ghost use Rattle.omega_copy.specs.Copies.{CopyOf};
-ghost use Rattle.omega_lock.specs.Seats.{SeatState};
+ghost use Rattle.omega_lock.specs.Lists.{StartsWith};
 ghost use Rattle.omega_model.specs.Applying.{EachMayApply};
 ghost use Rattle.omega_model.specs.Copy.{Carries};
 ghost use Rattle.omega_model.specs.Work.{is_commit_of};
@@ -142,9 +142,12 @@ impl SharedCell {
     pub fn close(self, passes: Vec<Pass>) -> Cell
         requires all { length passes.items ≡ self.callers }
         requires of { All (λ pass. pass.of ≡ self.of) passes.items }
-        ensures seen { All (λ pass. GoesOnWithout pass.number pass.seen result.history) passes.items }
+        ensures begins { StartsWith result.history self.first }
+        ensures seen { All (λ pass. StartsWith result.history pass.seen) passes.items }
         ensures own { All (λ pass. pass.own
             ≡ commits_since (length self.first) pass.number result.history) passes.items }
+        ensures others { All (λ pass. pass.first_length ≡ length self.first
+            → GoesOnWithout pass.number pass.seen result.history) passes.items }
         ensures commits { All (λ entry. Any (λ pass. is_commit_of pass.number entry ≡ true) passes.items)
             (drop (length self.first) result.history) }
     {
