@@ -1,3 +1,5 @@
+pub mod Touching
+pub mod Delivered
 pub mod Cells
 pub mod Shortest
 pub mod Replies

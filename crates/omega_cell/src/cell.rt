@@ -3,6 +3,7 @@ ghost use Rattle.std.specs.Prelude.{◌≡◌, ◌≤◌, ◌<◌, ◌^◌, ◌+
 ghost use Rattle.omega_board.specs.Board.{cell_of};
 ghost use Rattle.omega_machines.specs.Table.{seq_at};
 ghost use Rattle.omega_model.specs.Applying.{capacity_in, machine_in, EndsRunning, EachMayApply, ListsOrHasRoom};
+ghost use Rattle.omega_model.specs.Copy.{Carries};
 ghost use Rattle.omega_model.specs.Fields.{greatest};
 ghost use Rattle.omega_model.specs.Legal.{Legal, Sound};
 ghost use Rattle.omega_model.specs.Need.{Fits};
@@ -15,8 +16,9 @@ ghost use Rattle.omega_cell.specs.Claiming.{copied_seqs};
 use crate::deciding::{decide, outcomes_of};
 use crate::prepared::Prepared;
 use crate::room::AnswerRoom;
+use crate::touched::{parts_at, touched_positions};
 use omega_board::Board;
-use omega_model::{Entries, Entry, NoMemory, Reply, Seq, Txn};
+use omega_model::{Delta, Entries, Entry, NoMemory, Reply, Seq, Txn};
 use std::alloc::Global;
 use std::marker::Model;
 
@@ -68,6 +70,19 @@ impl Cell {
         ensures sound { (n : ℕ) → Sound (state (take n self.now.history)) }
     {
         self.entries.as_slice()
+    }
+
+    /// What brings a copy that has seen the first `n` entries up to this cell: the machines that the
+    /// entries since then touch, as they are now. Costs these entries and machines, and not those that
+    /// stay as they were.
+    pub fn since(&self, alloc: Global, n: u64) -> Result<Delta, NoMemory>
+        requires { n ≤ length self.now.history }
+        ensures { IfOk result (λ delta. Carries delta self.now.history n (length self.now.history)) }
+    {
+        let later = &self.entries.as_slice()[n as usize..];
+        let positions = touched_positions(alloc, self.board.machines(), later)?;
+        let parts = parts_at(alloc, &self.board, &positions)?;
+        Ok(Delta::of(n, self.entries.len() as u64, parts))
     }
 
     /// The history itself. Takes no memory.

@@ -10,6 +10,7 @@ mod deciding;
 mod laws;
 mod prepared;
 mod room;
+mod touched;
 #[cfg(test)]
 mod tests;
 

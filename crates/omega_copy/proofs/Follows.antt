@@ -1,19 +1,20 @@
 -- A copy that follows a history.
 use Rattle.std.proofs.Common.{◌≡◌, ℕ, zero, suc, ◌+◌, ◌<◌, ◌≤◌, List, [], ◌∷◌, ◌++◌, length, get_or, take, drop, slice_get, Option, Some, None, refl, sym, ap, ◌∙◌, subst, arith, if◌then◌else◌}
-use Rattle.std.proofs.lemmas.List.{take_more}
+use Rattle.std.proofs.lemmas.List.{take_more, take-append-le, length-append}
 use Rattle.std.proofs.lemmas.Option.{slice_get_within, get_or_from_slice_get}
-use Rattle.omega_model.specs.Applying.{MayApply}
+use Rattle.omega_model.specs.Applying.{MayApply, EachMayApply}
 use Rattle.omega_model.specs.Cell.{Cell}
-use Rattle.omega_model.specs.Copy.{StandsFor}
+use Rattle.omega_model.specs.Copy.{StandsFor, Carries}
+use Rattle.omega_model.specs.Parts.{DeltaState}
 use Rattle.omega_model.specs.State.{state, step}
 use Rattle.omega_model.specs.Touches.{seq, touches}
 use Rattle.omega_model.specs.declared.entries.Entry.{Entry}
 use Rattle.omega_model.proofs.Growing.{state_push}
-use Rattle.omega_machines.specs.Table.{seq_at}
-use Rattle.omega_board.specs.Board.{cell_of}
+use Rattle.omega_machines.specs.Table.{machines_of, seq_at}
+use Rattle.omega_board.specs.Board.{BoardState, cell_of}
 use Rattle.omega_board.proofs.Commits.{cell_is}
 use Rattle.omega_board.proofs.Histories.{seq_push, may_apply}
-use Rattle.omega_copy.specs.Copies.{CopyState, TrialState, CopyOf, MayFollow}
+use Rattle.omega_copy.specs.Copies.{CopyState, TrialState, CopyOf, MayFollow, MayCatchUp}
 
 -- the entries up to a place and the one there
 taken_more : (history : List Entry) (n : ℕ) (entry : Entry) → slice_get history n ≡ Some entry → take (n + 1) history ≡ take n history ++ entry ∷ []
@@ -86,3 +87,42 @@ module _ (start now : CopyState) (later : List Entry) (n : ℕ) (entry : Entry) 
         (stands_next (cell_of now.board) (cell_of after.board) (seq_at now.board.table) (seq_at after.board.table) now.seen history entry (so.stands history stands rest)
         (next_entry start now later n entry so here history rest) stepped numbered);
   }
+
+-- a copy that stands for a history stands for it when it has grown
+pub stands_longer : (cell : Cell) (seqs : ℕ → ℕ) (seen : ℕ) (history later : List Entry) → StandsFor cell seqs seen history → StandsFor cell seqs seen (history ++ later)
+stands_longer cell seqs seen history later stands =
+    let within : seen ≤ length history = stands.within in
+    let same : take seen history ≡ take seen (history ++ later) = sym (take-append-le seen history later within) in
+    record {
+      within = omega (arith, within, length-append history later);
+      machines = stands.machines ∙ ap (λ (h : List Entry). (state h).machines) same;
+      tasks = stands.tasks ∙ ap (λ (h : List Entry). (state h).tasks) same;
+      numbers = λ id. stands.numbers id ∙ ap (λ (h : List Entry). seq h id) same;
+    }
+
+-- the copy that has seen nothing stands for every history
+pub stands_new : (copy : CopyState) (history : List Entry) → copy.board ≡ record { table = []; tasks = []; spare = 0 } → copy.seen ≡ 0 → CopyOf copy history
+stands_new copy history board seen = record {
+  within = omega (arith, seen);
+  machines = ap (λ (b : BoardState). machines_of b.table) board ∙ ap (λ (n : ℕ). (state (take n history)).machines) (sym seen);
+  tasks = ap (λ (b : BoardState). b.tasks) board ∙ ap (λ (n : ℕ). (state (take n history)).tasks) (sym seen);
+  numbers = λ id. ap (λ (b : BoardState). seq_at b.table id) board ∙ ap (λ (n : ℕ). seq (take n history) id) (sym seen);
+}
+
+-- so it may follow one from its first entry on
+pub may_follow_new : (copy : CopyState) (history later : List Entry) → copy.board ≡ record { table = []; tasks = []; spare = 0 } → copy.seen ≡ 0 → EachMayApply history → later ≡ history → MayFollow copy later
+may_follow_new copy history later board seen applied is = record {
+  history = history;
+  stands = stands_new copy history board seen;
+  applied = applied;
+  rest = is ∙ ap (λ (n : ℕ). drop n history) (sym seen);
+}
+
+-- a copy may catch up by a delta that carries the history from where it is to its end
+pub may_catch_up : (copy : CopyState) (delta : DeltaState) (history : List Entry) → CopyOf copy history → Carries delta history copy.seen (length history) → EachMayApply history → MayCatchUp copy delta
+may_catch_up copy delta history stands carries applied = record {
+  history = history;
+  stands = stands;
+  carries = subst (λ n. Carries delta history copy.seen n) (sym carries.ends) carries;
+  applied = applied;
+}

@@ -195,3 +195,14 @@ pub placed_past : (claims : List Claim) (reply : List Judgement) (i : ℕ) (task
     → TellsBut (later_placed claims reply i) tasks frees ms → TellsBut (λ id. false) tasks frees ms
 placed_past claims reply i tasks frees ms past so =
     subst (λ (ds : List (Claim × Judgement)). TellsBut (λ id. list_any (places_on id) ds) tasks frees ms) (zip_past claims reply i past) so
+
+-- one more place behind the others is one that was missing
+pub one_more_place : (frees after : List (Option Need)) (rows : List Machine) → length frees < length rows → after ≡ frees ++ None ∷ []
+    → after ++ map (λ _. None) (drop (length after) rows) ≡ frees ++ map (λ _. None) (drop (length frees) rows)
+one_more_place frees after rows below is = ap (λ fs. fs ++ map (λ _. None) (drop (length fs) rows)) is ∙ pushed frees rows below
+  where
+    pushed : (fs : List (Option Need)) (rs : List Machine) → length fs < length rs → (fs ++ None ∷ []) ++ map (λ _. None) (drop (length (fs ++ None ∷ [])) rs) ≡ fs ++ map (λ _. None) (drop (length fs) rs)
+    pushed [] [] less = absurd (omega arith)
+    pushed [] (r ∷ rs) less = refl
+    pushed (f ∷ fs) [] less = absurd (omega arith)
+    pushed (f ∷ fs) (r ∷ rs) less = ap (λ xs. f ∷ xs) (pushed fs rs (omega arith))

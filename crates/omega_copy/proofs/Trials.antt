@@ -5,7 +5,7 @@ use Rattle.std.proofs.lemmas.Bool.{or_parts}
 use Rattle.std.proofs.lemmas.List.{length-map}
 use Rattle.std.proofs.lemmas.List.Folds.{list_any-append}
 use Rattle.omega_model.specs.Applying.{PlacesInOrder}
-use Rattle.omega_model.specs.Cell.{Cell, use_on}
+use Rattle.omega_model.specs.Cell.{Cell, total, use_on}
 use Rattle.omega_model.specs.Judge.{judge_fine, would_be_placed}
 use Rattle.omega_model.specs.Reply.{tasks_placed, tasks_after_claim, after_claim}
 use Rattle.omega_model.specs.State.{step}
@@ -65,7 +65,7 @@ module _ (before after : BoardState) (claim : Claim) (evicted : List TaskKey)
 
   -- what other machines use
   pub claimed_elsewhere : IsInOrder ByKey before.tasks → (id : ℕ) → (claim.machine == id) ≡ false → use_on after.tasks id ≡ use_on before.tasks id
-  claimed_elsewhere order id other = ap (λ ts. use_on ts id) tasks ∙ (claim_local (cell_of before) claim evicted order judged).elsewhere id other
+  claimed_elsewhere order id other = ap (λ ts. use_on ts id) tasks ∙ ap total ((claim_local (cell_of before) claim evicted order judged).elsewhere id other)
 
   -- a trial with one more claim
   pub trial_claimed : (undo noted : UndoState) (changed : List ℕ) (spare left : ℕ) → IsInOrder ByKey before.tasks → IsTrialOf before undo changed spare

@@ -1,14 +1,15 @@
 -- What an entry doesn't touch.
-use Rattle.std.proofs.Common.{◌≡◌, ℕ, suc, Bool, true, false, ◌&&◌, not, List, [], ◌∷◌, map, length, slice_get, Option, Some, None, refl, sym, ap, ◌∙◌, subst, ◌==◌, IsTrue}
+use Rattle.std.proofs.Common.{◌≡◌, ℕ, suc, Bool, true, false, ◌&&◌, not, List, [], ◌∷◌, ◌++◌, map, length, slice_get, Option, Some, None, refl, sym, ap, ◌∙◌, subst, ◌==◌, IsTrue}
 use Rattle.std.specs.List.{filter, fold, list_any, zip}
 use Rattle.std.specs.Option.{option_map_or}
 use Rattle.std.proofs.lemmas.Bool.{both_ways, eqb-true, eq-eqb, not_from_false}
 use Rattle.std.proofs.lemmas.List.{length-map}
+use Rattle.std.proofs.lemmas.List.Elements.{filter-append}
 use Rattle.std.proofs.lemmas.Option.{same_Some}
 use Rattle.omega_model.specs.Applying.{MayPlaceAll, PlacesInOrder}
-use Rattle.omega_model.specs.Cell.{Cell, task_at, without, total, is_on, use_on, keys_of}
+use Rattle.omega_model.specs.Cell.{Cell, task_at, with_task, without, total, is_on, use_on, keys_of}
 use Rattle.omega_model.specs.Judge.{judge_fine, runs_on}
-use Rattle.omega_model.specs.Keys.{same_key, is_among}
+use Rattle.omega_model.specs.Keys.{same_key, key_lt, is_among}
 use Rattle.omega_model.specs.Machines.{change, ensured, added, updated, removed, attr_set, attr_deleted}
 use Rattle.omega_model.specs.Need.{nothing, plus}
 use Rattle.omega_model.specs.Reply.{task_of, tasks_placed, tasks_after_claim, after_claim}
@@ -31,20 +32,19 @@ use Rattle.omega_board.proofs.Claims.{absent_still}
 use Rattle.omega_board.proofs.Parts.{runs_on_is, found_on}
 use Rattle.omega_board.proofs.Placed.{placed_so, is_placed-Placed}
 use Rattle.omega_board.proofs.Ranks.{each_here, each_rank, excess_first}
-use Rattle.omega_board.proofs.Tasks.{each_filter, each_passes, filter_and, with_ordered, without_ordered}
-use Rattle.omega_board.proofs.Uses.{total-with}
+use Rattle.omega_board.proofs.Tasks.{each_filter, each_passes, parted, filter_and, with_ordered, without_ordered}
 use Rattle.omega_copy.specs.Telling.{frees_of, TellsBut, grown}
 use Rattle.omega_copy.proofs.Tells.{apart, tells_while, tells_changed, tells_grown, tells_ensured}
 use Rattle.omega_model.proofs.InOrder.{key_same}
 use Rattle.omega_model.proofs.Amounts.{plus-nothing}
 use Rattle.omega_model.proofs.Lists.{by_answer}
 
--- where the tasks on a machine stay, it uses as much
-use_kept : (tasks : List Task) (id : ℕ) (p : Task → Bool) → Each (λ t. is_on id t ≡ true → p t ≡ true) tasks → use_on (filter p tasks) id ≡ use_on tasks id
-use_kept tasks id p stay =
-    ap total (filter_and (is_on id) p tasks ∙ filter_where (λ t. is_on id t && p t) (is_on id) tasks
+-- where the tasks on a machine stay, they are the same
+on_kept : (tasks : List Task) (id : ℕ) (p : Task → Bool) → Each (λ t. is_on id t ≡ true → p t ≡ true) tasks → filter (is_on id) (filter p tasks) ≡ filter (is_on id) tasks
+on_kept tasks id p stay =
+    filter_and (is_on id) p tasks ∙ filter_where (λ t. is_on id t && p t) (is_on id) tasks
     (each_map (λ t. is_on id t ≡ true → p t ≡ true) (λ t. (is_on id t && p t) ≡ is_on id t)
-    (λ t stays. by_answer (is_on id t) (λ on. let stayed = stays on in rw (on, stayed) refl) (λ off. rw off refl)) tasks stay))
+    (λ t stays. by_answer (is_on id t) (λ on. let stayed = stays on in rw (on, stayed) refl) (λ off. rw off refl)) tasks stay)
 
 -- what holds of each name holds of one among them
 among_each : (P : TaskKey → Type 0) (key : TaskKey) (keys : List TaskKey) → Each P keys → is_among key keys ≡ true → P key
@@ -54,11 +54,11 @@ among_each P key (k ∷ keys) each among =
     (λ t. subst P (sym (key_same key k t)) each.0)
     (λ f. among_each P key keys each.1 (rw f at among))
 
--- where tasks of one machine stop, another uses as much
-use_without : (tasks : List Task) (machine id : ℕ) (keys : List TaskKey) → IsInOrder ByKey tasks → (machine == id) ≡ false → Each (λ k. runs_on tasks machine k ≡ true) keys
-    → use_on (without keys tasks) id ≡ use_on tasks id
-use_without tasks machine id keys order differ run =
-    use_kept tasks id (λ t. not (is_among t.key keys))
+-- where tasks of one machine stop, another has the same
+on_without : (tasks : List Task) (machine id : ℕ) (keys : List TaskKey) → IsInOrder ByKey tasks → (machine == id) ≡ false → Each (λ k. runs_on tasks machine k ≡ true) keys
+    → filter (is_on id) (without keys tasks) ≡ filter (is_on id) tasks
+on_without tasks machine id keys order differ run =
+    on_kept tasks id (λ t. not (is_among t.key keys))
     (each_map (λ t. task_at tasks t.key ≡ Some t) (λ t. is_on id t ≡ true → not (is_among t.key keys) ≡ true)
     (λ t here on. not_from_false _ (by_answer (is_among t.key keys) (λ among. absurd (elsewhere t here on among)) (λ f. f))) tasks (each_here tasks order))
   where
@@ -93,10 +93,19 @@ each_place : (P : TaskKey → Type 0) (keys : List TaskKey) → ((place : ℕ) (
 each_place P [] at = tt
 each_place P (k ∷ keys) at = (at 0 k refl, each_place P keys (λ place key is. at (suc place) key is))
 
--- a placed claim leaves the tasks in order, and changes what its own machine uses alone
+-- a task of another machine changes nothing on this one
+on_with : (task : Task) (tasks : List Task) (id : ℕ) → task_at tasks task.key ≡ None → IsInOrder ByKey tasks → is_on id task ≡ false → filter (is_on id) (with_task task tasks) ≡ filter (is_on id) tasks
+on_with task tasks id absent order away =
+    let front = filter (λ o. key_lt o.key task.key) tasks in
+    let back = filter (λ o. key_lt task.key o.key) tasks in
+    filter-append (is_on id) front (task ∷ back)
+    ∙ ap (λ ts. filter (is_on id) front ++ ts) (rw away refl)
+    ∙ sym (filter-append (is_on id) front back) ∙ ap (filter (is_on id)) (parted task tasks absent order)
+
+-- a placed claim leaves the tasks in order, and changes the tasks of its own machine alone
 pub record IsLocal (tasks after : List Task) (machine : ℕ) : Type 0 where
   pub ordered : IsInOrder ByKey after
-  pub elsewhere : (id : ℕ) → (machine == id) ≡ false → use_on after id ≡ use_on tasks id
+  pub elsewhere : (id : ℕ) → (machine == id) ≡ false → filter (is_on id) after ≡ filter (is_on id) tasks
 
 pub claim_local : (cell : Cell) (claim : Claim) (evicted : List TaskKey) → IsInOrder ByKey cell.tasks → judge_fine cell claim ≡ record { verdict = Placed; evicted = evicted }
     → IsLocal cell.tasks (tasks_placed cell.tasks claim evicted) claim.machine
@@ -108,11 +117,8 @@ claim_local cell claim evicted order judged =
     record {
       ordered = with_ordered (task_of claim) left absent left_order;
       elsewhere = λ id differ.
-          let away : is_on id (task_of claim) ≡ false = differ in
-          let sum : use_on (tasks_placed cell.tasks claim evicted) id ≡ plus nothing (use_on left id) =
-          rw away at (total-with (is_on id) (task_of claim) left absent left_order) in
-          sum ∙ plus-nothing (use_on left id)
-          ∙ use_without cell.tasks claim.machine id evicted order differ
+          on_with (task_of claim) left id absent left_order differ
+          ∙ on_without cell.tasks claim.machine id evicted order differ
           (each_place (λ k. runs_on cell.tasks claim.machine k ≡ true) evicted (λ place key is. (known.stand place key is).0));
     }
 
@@ -120,9 +126,9 @@ claim_local cell claim evicted order judged =
 pub admitting : (judgement : Judgement) → is_placed judgement.verdict ≡ true → judgement ≡ record { verdict = Placed; evicted = judgement.evicted }
 admitting judgement placed = let is = is_placed-Placed judgement.verdict placed in λ i. record { verdict = is i; evicted = judgement.evicted }
 
--- placed claims change what their machines use alone
+-- placed claims change the tasks of their machines alone
 claims_elsewhere : (cell : Cell) (decided : List (Claim × Judgement)) (id : ℕ) → IsInOrder ByKey cell.tasks → MayPlaceAll cell decided → list_any (places_on id) decided ≡ false
-    → use_on (fold tasks_after_claim cell.tasks decided) id ≡ use_on cell.tasks id
+    → filter (is_on id) (fold tasks_after_claim cell.tasks decided) ≡ filter (is_on id) cell.tasks
 claims_elsewhere cell [] id order places none = refl
 claims_elsewhere cell ((claim, judgement) ∷ decided) id order places none =
     by_answer (is_placed judgement.verdict)
@@ -133,11 +139,11 @@ claims_elsewhere cell ((claim, judgement) ∷ decided) id order places none =
     (λ here. absurd (both_ways true (rw (t, here) at none) refl))
     (λ other.
     claims_elsewhere (after_claim cell (claim, judgement)) decided id (subst (IsInOrder ByKey) (sym one) local.ordered) places.1 (rw (t, other) at none)
-    ∙ ap (λ ts. use_on ts id) one ∙ local.elsewhere id other))
+    ∙ ap (filter (is_on id)) one ∙ local.elsewhere id other))
     (λ f.
     let one : tasks_after_claim cell.tasks (claim, judgement) ≡ cell.tasks = rw f refl in
     claims_elsewhere (after_claim cell (claim, judgement)) decided id (subst (IsInOrder ByKey) (sym one) order) places.1 (rw f at none)
-    ∙ ap (λ ts. use_on ts id) one)
+    ∙ ap (filter (is_on id)) one)
 
 -- a task of another machine goes on where one ends
 goes_on_elsewhere : (key : TaskKey) (machine id : ℕ) → (machine == id) ≡ false → (t : Task) → is_on id t ≡ true → goes_on key machine t ≡ true
@@ -146,22 +152,27 @@ goes_on_elsewhere key machine id differ t on =
     (λ here. absurd (both_ways _ differ (eq-eqb _ _ (sym (eqb-true _ _ here) ∙ eqb-true _ _ on)))) (λ f. f) in
     by_answer (same_key t.key key) (λ t. rw (t, away) refl) (λ f. rw f refl)
 
--- a machine that an entry doesn't touch uses as much as before
+-- a machine that an entry doesn't touch has the tasks that it had
+pub tasks_untouched : (cell : Cell) (entry : Entry) → IsInOrder ByKey cell.tasks → PlacesInOrder cell entry → (id : ℕ) → touches id entry ≡ false
+    → filter (is_on id) (tasks_after cell.tasks entry) ≡ filter (is_on id) cell.tasks
+tasks_untouched cell (Round number) order places id away = refl
+tasks_untouched cell (MachineAdd machine cap) order places id away =
+    on_without cell.tasks machine id (keys_of (excess cap (ranked_on machine cell.tasks))) order away (excess_run cell.tasks machine cap order)
+tasks_untouched cell (MachineUpdate machine cap) order places id away =
+    on_without cell.tasks machine id (keys_of (excess cap (ranked_on machine cell.tasks))) order away (excess_run cell.tasks machine cap order)
+tasks_untouched cell (MachineRemove machine) order places id away =
+    on_without cell.tasks machine id (keys_of (ranked_on machine cell.tasks)) order away
+    (each_keys (λ k. runs_on cell.tasks machine k ≡ true) (ranked_on machine cell.tasks) (ranked_run cell.tasks machine order))
+tasks_untouched cell (AttrSet machine name value) order places id away = refl
+tasks_untouched cell (AttrDelete machine name) order places id away = refl
+tasks_untouched cell (End key machine) order places id away =
+    on_kept cell.tasks id (goes_on key machine) (each_of _ (goes_on_elsewhere key machine id away) cell.tasks)
+tasks_untouched cell (Commit scheduler seen txn reply) order places id away = claims_elsewhere cell (zip txn.claims reply) id order places away
+
+-- so it uses as much
 use_untouched : (cell : Cell) (entry : Entry) → IsInOrder ByKey cell.tasks → PlacesInOrder cell entry → (id : ℕ) → touches id entry ≡ false
     → use_on (tasks_after cell.tasks entry) id ≡ use_on cell.tasks id
-use_untouched cell (Round number) order places id away = refl
-use_untouched cell (MachineAdd machine cap) order places id away =
-    use_without cell.tasks machine id (keys_of (excess cap (ranked_on machine cell.tasks))) order away (excess_run cell.tasks machine cap order)
-use_untouched cell (MachineUpdate machine cap) order places id away =
-    use_without cell.tasks machine id (keys_of (excess cap (ranked_on machine cell.tasks))) order away (excess_run cell.tasks machine cap order)
-use_untouched cell (MachineRemove machine) order places id away =
-    use_without cell.tasks machine id (keys_of (ranked_on machine cell.tasks)) order away
-    (each_keys (λ k. runs_on cell.tasks machine k ≡ true) (ranked_on machine cell.tasks) (ranked_run cell.tasks machine order))
-use_untouched cell (AttrSet machine name value) order places id away = refl
-use_untouched cell (AttrDelete machine name) order places id away = refl
-use_untouched cell (End key machine) order places id away =
-    use_kept cell.tasks id (goes_on key machine) (each_of _ (goes_on_elsewhere key machine id away) cell.tasks)
-use_untouched cell (Commit scheduler seen txn reply) order places id away = claims_elsewhere cell (zip txn.claims reply) id order places away
+use_untouched cell entry order places id away = ap total (tasks_untouched cell entry order places id away)
 
 -- the machines after an entry, with a place for a new one
 rows_changed : (tasks : List Task) (entry : Entry) (machine : ℕ) (f : Machine → Machine) → ((m : Machine) → (f m).id ≡ m.id) → touches machine entry ≡ true

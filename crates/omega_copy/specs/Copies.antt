@@ -3,7 +3,8 @@ use Rattle.std.specs.Prelude.{◌≡◌, ◌≤◌, ◌+◌, ◌-◌, ℕ, false
 use Rattle.std.specs.List.{list_any}
 use Rattle.omega_model.specs.Applying.{EachMayApply}
 use Rattle.omega_model.specs.Cell.{use_on}
-use Rattle.omega_model.specs.Copy.{StandsFor}
+use Rattle.omega_model.specs.Copy.{StandsFor, Carries}
+use Rattle.omega_model.specs.Parts.{DeltaState}
 use Rattle.omega_model.specs.declared.entries.Entry.{Entry}
 use Rattle.omega_machines.specs.Table.{seq_at}
 use Rattle.omega_board.specs.Board.{BoardState, cell_of}
@@ -50,6 +51,14 @@ pub record MayFollow (copy : CopyState) (later : List Entry) : Type 0 where
   pub stands : CopyOf copy history
   pub applied : EachMayApply history
   pub rest : later ≡ drop copy.seen history
+
+-- a copy may catch up by a delta: it stands for a history that the delta carries from where the copy is,
+-- each of whose entries could be applied to the state before it
+pub record MayCatchUp (copy : CopyState) (delta : DeltaState) : Type 0 where
+  pub history : List Entry
+  pub stands : CopyOf copy history
+  pub carries : Carries delta history copy.seen delta.to
+  pub applied : EachMayApply history
 
 -- what a trial keeps: its undo is one of the board, its machines use what they used before, but those of
 -- these numbers, and there is room for the numbers of as many more

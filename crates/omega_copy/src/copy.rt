@@ -1,21 +1,22 @@
 //! The private copy.
-ghost use Rattle.std.specs.Prelude.{◌≡◌, ◌+◌, ◌-◌, ◌<◌, ◌≤◌, ◌^◌, ℕ, List, [], None, Some, length, drop, option_map, OnOk, OnErr, IsTrue, IsSomeAnd, if◌then◌else◌};
+ghost use Rattle.std.specs.Prelude.{◌≡◌, ◌+◌, ◌-◌, ◌<◌, ◌≤◌, ◌^◌, ℕ, List, [], None, Some, length, map, drop, option_map, IfOk, OnOk, OnErr, IsTrue, IsSomeAnd, if◌then◌else◌};
 ghost use Rattle.omega_machines.specs.Table.{seq_at};
-ghost use Rattle.omega_model.specs.Applying.{MayApply};
+ghost use Rattle.omega_model.specs.Applying.{MayApply, EachMayApply};
+ghost use Rattle.omega_model.specs.Copy.{Carries};
 ghost use Rattle.omega_model.specs.Judge.{judge_fine, would_be_placed};
 ghost use Rattle.omega_model.specs.Reply.{after_claim};
 ghost use Rattle.omega_model.specs.State.{step};
 ghost use Rattle.omega_model.specs.Touches.{touches};
 ghost use Rattle.omega_model.specs.declared.entries.Entry.{Entry};
 ghost use Rattle.omega_board.specs.Board.{cell_of};
-ghost use Rattle.omega_copy.specs.Copies.{CopyOf, MayFollow, after_trial, one_less};
+ghost use Rattle.omega_copy.specs.Copies.{CopyOf, MayFollow, MayCatchUp, after_trial, one_less};
 ghost use Rattle.omega_copy.specs.Telling.{frees_of};
 
-use crate::telling::{grow, tell_all, tell_one, tell_touched};
+use crate::telling::{grow, grow_to, tell_all, tell_one, tell_touched};
 use crate::trial::Trial;
 use omega_board::Board;
 use omega_fit::FitIndex;
-use omega_model::{Claim, Entry, NoMemory, Request};
+use omega_model::{Claim, Delta, Entry, NoMemory, Part, Request};
 use std::alloc::Global;
 use std::marker::Model;
 
@@ -128,6 +129,28 @@ impl PrivateCopy {
         Ok(())
     }
 
+    /// Takes in what changed between the entries that it has seen and a later place of a history for
+    /// which it stands. The index is told. Where memory runs out, the copy is as before. Costs the parts
+    /// of the delta, whatever number of entries it leads over, and on the board what differs.
+    pub fn catch_up(&mut self, alloc: Global, delta: Delta) -> Result<(), NoMemory>
+        requires no_trial { self.old.trial ≡ None }
+        requires history { MayCatchUp self.old delta }
+        ensures stands { OnOk result ((history : List Entry) → CopyOf self.old history → Carries delta history self.old.seen delta.to → EachMayApply history → CopyOf self.new history) }
+        ensures seen { OnOk result (self.new.seen ≡ delta.to) }
+        ensures no_trial { self.new.trial ≡ None }
+        ensures err { OnErr result (self.new ≡ self.old) }
+    {
+        let to = delta.to();
+        let parts = delta.into_parts();
+        let machines = numbers_of(alloc, parts.as_slice())?;
+        self.index.reserve(parts.len())?;
+        self.board.put_parts(alloc, parts)?;
+        grow_to(&mut self.index, &self.board);
+        tell_all(&mut self.index, &self.board, &machines);
+        self.seen = to;
+        Ok(())
+    }
+
     /// Begins a trial with room for a claim on each wish of a request. Where memory runs out, none
     /// has begun.
     pub fn scratch_room(&mut self, alloc: Global, request: &Request) -> Result<(), NoMemory>
@@ -173,4 +196,15 @@ impl PrivateCopy {
             tell_all(&mut self.index, &self.board, &trial.machines);
         }
     }
+}
+
+// The numbers of the machines of some parts.
+fn numbers_of(alloc: Global, parts: &[Part]) -> Result<Vec<u64>, NoMemory>
+    ensures { IfOk result (λ numbers. numbers.items ≡ map (λ part. part.machine.id) parts.now) }
+{
+    let mut numbers = Vec::new(alloc);
+    for part in parts {
+        numbers.push(part.machine.id)?;
+    }
+    Ok(numbers)
 }

@@ -1,5 +1,5 @@
 //! What changed on a board, told to the index of what is free on its machines.
-ghost use Rattle.std.specs.Prelude.{◌≡◌, ◌<◌, ℕ, Bool, length};
+ghost use Rattle.std.specs.Prelude.{◌≡◌, ◌<◌, ◌≤◌, ◌+◌, ◌++◌, ℕ, Bool, None, length, map, drop};
 ghost use Rattle.std.specs.List.{zip};
 ghost use Rattle.omega_machines.specs.Table.{machines_of};
 ghost use Rattle.omega_board.specs.Board.{cell_of};
@@ -15,6 +15,16 @@ pub(crate) fn grow(index: &mut FitIndex, board: &Board)
     ensures { index.new.free ≡ grown (length board.now.table) index.old.free }
 {
     if index.len() < board.machines().len() {
+        index.push_reserved(None);
+    }
+}
+
+/// Puts a place behind the others for each further machine that the board has, for which room was made.
+pub(crate) fn grow_to(index: &mut FitIndex, board: &Board)
+    requires { length (machines_of board.now.table) ≤ length index.old.free + index.old.spare }
+    ensures { index.new.free ≡ index.old.free ++ map (λ _. None) (drop (length index.old.free) (machines_of board.now.table)) }
+{
+    while index.len() < board.machines().len() {
         index.push_reserved(None);
     }
 }
