@@ -1,6 +1,7 @@
 -- A seat's turn at the lock, as a turn of its pass.
-use Rattle.std.proofs.Common.{◌≡◌, ◌≤◌, ◌+◌, ℕ, false, List, [], ◌∷◌, ◌++◌, length, refl, sym, ap, ap₂, subst, ◌∙◌, arith, inl, inr}
-use Rattle.std.specs.Prelude.{Result, Ok, Err, OnOk, OnErr, IfOk}
+use Rattle.std.proofs.Common.{◌≡◌, ◌≤◌, ◌+◌, ℕ, false, List, [], ◌∷◌, ◌++◌, length, refl, sym, ap, ap₂, subst, ◌∙◌, arith, inl, inr, ⊎_elim}
+use Rattle.std.specs.Prelude.{Result, Ok, Err, OnOk, OnErr, IfOk, Some, ◌⊎◌}
+use Rattle.std.proofs.lemmas.List.{append-nil}
 use Rattle.omega_lock.specs.Lists.{StartsWith}
 use Rattle.omega_lock.specs.Seats.{AddsAtMostOne, IsSameSeat, OwnIsSeen as LockOwnIsSeen, SeatState}
 use Rattle.omega_lock.proofs.Entries.{starts_length, starts_trans}
@@ -60,22 +61,46 @@ module _ (old held new : SeatState Entry) (before after : List Entry) where
         first = omega (arith, longer, first, seen, began);
       }
 
+  -- where the history stayed, all that is new is none of its own
+  pub sees_others_after : {V F : Type 0} (result : Result V F) → OnErr result (after ≡ before) → IsPassSeat old → TakesTurn old held before → GivesBack held new after
+      → OnErr result (GoesOnWithout old.number old.seen new.seen)
+  sees_others_after (Ok value) stays seat takes gives = tt
+  sees_others_after (Err refused) stays seat takes gives =
+      subst (GoesOnWithout old.number old.seen) (sym (gives.seen ∙ stays)) (sees_others seat takes)
+
+  -- and its own commits stay
+  pub own_stays_after : {V F : Type 0} (result : Result V F) → OnErr result (after ≡ before) → TakesTurn old held before
+      → (after ≡ held.seen → new.own ≡ held.own) → OnErr result (new.own ≡ old.own)
+  own_stays_after (Ok value) stays takes same = tt
+  own_stays_after (Err refused) stays takes same = same (stays ∙ sym takes.seen) ∙ takes.own
+
   -- one commit more, which is answered on what was there before it
-  pub commits : (seen : ℕ) (txn : Txn) (reply : Reply) → IsPassSeat old → TakesTurn old held before → GivesBack held new after
-      → after ≡ before ++ commit_after before old.number seen txn ∷ []
-      → new.own ≡ held.own ++ commit_after before old.number seen txn ∷ []
-      → Answers before seen txn reply → Commits (pass_at old) (pass_at new) seen txn reply
-  commits seen txn reply seat takes gives grown own answers = record {
-    before = before;
-    others = sees_others seat takes;
-    commit_seen = gives.seen ∙ grown;
-    own = own ∙ ap (λ (l : List Entry). l ++ commit_after before old.number seen txn ∷ []) takes.own;
-    answers = answers;
-  }
+  pub commits_after : {F : Type 0} (n seen : ℕ) (txn : Txn) (result : Result Reply F) → n ≡ old.number
+      → OnOk result (after ≡ before ++ commit_after before n seen txn ∷ []) → IfOk result (Answers before seen txn)
+      → IsPassSeat old → TakesTurn old held before → GivesBack held new after
+      → ((entry : Entry) → after ≡ held.seen ++ entry ∷ [] → new.own ≡ held.own ++ entry ∷ [])
+      → IfOk result (Commits (pass_at old) (pass_at new) seen txn)
+  commits_after n seen txn (Err refused) number grown answers seat takes gives more = tt
+  commits_after n seen txn (Ok reply) number grown answers seat takes gives more =
+      let entry : Entry = commit_after before old.number seen txn in
+      let grows : after ≡ before ++ entry ∷ [] = grown ∙ ap (λ (by : ℕ). before ++ commit_after before by seen txn ∷ []) number in
+      let gains : new.own ≡ held.own ++ entry ∷ [] = more entry (grows ∙ ap (λ (h : List Entry). h ++ entry ∷ []) (sym takes.seen)) in record {
+        before = before;
+        others = sees_others seat takes;
+        commit_seen = gives.seen ∙ grows;
+        own = gains ∙ ap (λ (own : List Entry). own ++ entry ∷ []) takes.own;
+        answers = answers;
+      }
 
 -- a history that a commit was appended to, or that stayed, has at most one entry more
-pub adds_at_most_one : {F : Type 0} (n : ℕ) (before after : List Entry) (seen : ℕ) (txn : Txn) (result : Result Reply F)
-    → OnOk result (after ≡ before ++ commit_after before n seen txn ∷ []) → OnErr result (after ≡ before)
+pub adds_at_most_one : {F : Type 0} (n by : ℕ) (seen : ℕ) (before after : List Entry) (txn : Txn) (result : Result Reply F) → by ≡ n
+    → OnOk result (after ≡ before ++ commit_after before by seen txn ∷ []) → OnErr result (after ≡ before)
     → AddsAtMostOne committer_of n before after
-adds_at_most_one n before after seen txn (Ok reply) grown stays = inr (commit_after before n seen txn, grown, refl)
-adds_at_most_one n before after seen txn (Err refused) grown stays = inl stays
+adds_at_most_one n by seen before after txn (Ok reply) same grown stays = inr (commit_after before by seen txn, grown, ap Some same)
+adds_at_most_one n by seen before after txn (Err refused) same grown stays = inl stays
+
+-- a list with at most one entry more goes on from what it was
+pub adds_goes_on : (n : ℕ) (before after : List Entry) → AddsAtMostOne committer_of n before after → StartsWith after before
+adds_goes_on n before after adds =
+    ⊎_elim (λ (same : after ≡ before). ([], same ∙ sym (append-nil before)))
+    (λ (more : (entry : Entry) × (after ≡ before ++ entry ∷ []) × (committer_of entry ≡ Some n)). (more.0 ∷ [], more.1)) adds

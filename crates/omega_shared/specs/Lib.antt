@@ -1,4 +1,3 @@
 pub mod Commits
 pub mod Passes
 pub mod Turns
-pub mod Changes

@@ -6,7 +6,6 @@ ghost use Rattle.omega_model.specs.Copy.{Carries};
 ghost use Rattle.omega_shared.specs.Commits.{commit_after};
 ghost use Rattle.omega_shared.specs.Turns.{Answers};
 
-use crate::changes::since;
 use omega_cell::Cell;
 use omega_lock::Counted;
 use omega_model::{Delta, Entry, NoMemory, Reply, Txn};
@@ -41,7 +40,7 @@ impl Held {
         ensures applied { EachMayApply self.now.cell.history }
     {
         let _history = self.cell.history();
-        since(&self.cell, alloc, n)
+        self.cell.since(alloc, n)
     }
 
     /// Makes room for a commit and appends it. `seqs` has for each claim the sequence number of its

@@ -14,7 +14,6 @@
 //! Nothing is said of time: not who comes first, nor that a turn comes soon, nor that it comes.
 #![tactic(auto)]
 
-mod changes;
 mod held;
 mod pass;
 mod shared;

@@ -11,7 +11,6 @@ ghost use Rattle.omega_shared.specs.Commits.{GoesOnWithout, commits_since};
 ghost use Rattle.omega_shared.specs.Passes.{IsPassSeat, new_pass, new_passes, pass_at};
 ghost use Rattle.omega_shared.specs.Turns.{Commits, SpendsTurn};
 
-use crate::changes::catch_up;
 use crate::held::Held;
 use crate::pass::Pass;
 use omega_cell::Cell;
@@ -105,7 +104,7 @@ impl SharedCell {
         ensures err { OnErr result (copy.new ≡ copy.old) }
     {
         let delta = self.news(rt, alloc, &mut pass.seat, copy.seen())?;
-        catch_up(copy, alloc, delta)
+        copy.catch_up(alloc, delta)
     }
 
     /// Takes a turn, and commits a transaction that was planned on a copy. Answers the place of the
