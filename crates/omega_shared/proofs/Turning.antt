@@ -1,4 +1,4 @@
--- A seat's turn at the lock, as a turn of its pass.
+-- What a seat has seen after its turn at the lock.
 use Rattle.std.proofs.Common.{◌≡◌, ◌≤◌, ◌+◌, ℕ, false, List, [], ◌∷◌, ◌++◌, length, refl, sym, ap, ap₂, subst, ◌∙◌, arith, inl, inr, ⊎_elim}
 use Rattle.std.specs.Prelude.{Result, Ok, Err, OnOk, OnErr, IfOk, Some, ◌⊎◌}
 use Rattle.std.proofs.lemmas.List.{append-nil}
@@ -10,7 +10,7 @@ use Rattle.omega_model.specs.declared.claims.Txn.{Txn}
 use Rattle.omega_model.specs.declared.entries.Entry.{Entry}
 use Rattle.omega_shared.specs.Commits.{GoesOnWithout, commit_after, commits_since, committer_of}
 use Rattle.omega_shared.specs.Passes.{IsPassSeat, pass_at}
-use Rattle.omega_shared.specs.Turns.{Answers, Commits, SpendsTurn}
+use Rattle.omega_shared.specs.Turns.{Answers, Commits}
 use Rattle.omega_shared.proofs.Owning.{entries_are_commits, goes_on_without}
 
 -- a seat was handed the turn, with this history
@@ -31,14 +31,6 @@ pub record GivesBack (held new : SeatState Entry) (history : List Entry) : Type 
   pub own_seen : LockOwnIsSeen committer_of new
 
 module _ (old held new : SeatState Entry) (before after : List Entry) where
-  pub spends_turn : TakesTurn old held before → GivesBack held new after → SpendsTurn (pass_at old) (pass_at new)
-  spends_turn takes gives = record {
-    of = gives.same.of ∙ takes.same.of;
-    number = gives.same.number ∙ takes.same.number;
-    first_length = gives.same.first_length ∙ takes.same.first_length;
-    turns = ap (λ n. n + 1) gives.turns ∙ takes.turns;
-  }
-
   -- what the seat sees in its turn that it hadn't seen is none of its own
   pub sees_others : IsPassSeat old → TakesTurn old held before → GoesOnWithout old.number old.seen before
   sees_others seat takes =
@@ -67,12 +59,6 @@ module _ (old held new : SeatState Entry) (before after : List Entry) where
   sees_others_after (Ok value) stays seat takes gives = tt
   sees_others_after (Err refused) stays seat takes gives =
       subst (GoesOnWithout old.number old.seen) (sym (gives.seen ∙ stays)) (sees_others seat takes)
-
-  -- and its own commits stay
-  pub own_stays_after : {V F : Type 0} (result : Result V F) → OnErr result (after ≡ before) → TakesTurn old held before
-      → (after ≡ held.seen → new.own ≡ held.own) → OnErr result (new.own ≡ old.own)
-  own_stays_after (Ok value) stays takes same = tt
-  own_stays_after (Err refused) stays takes same = same (stays ∙ sym takes.seen) ∙ takes.own
 
   -- one commit more, which is answered on what was there before it
   pub commits_after : {F : Type 0} (n seen : ℕ) (txn : Txn) (result : Result Reply F) → n ≡ old.number
