@@ -1,5 +1,5 @@
 -- What a seat has seen after its turn at the lock.
-use Rattle.std.proofs.Common.{◌≡◌, ◌≤◌, ◌+◌, ℕ, false, List, [], ◌∷◌, ◌++◌, length, refl, sym, ap, ap₂, subst, ◌∙◌, arith, inl, inr, ⊎_elim}
+use Rattle.std.proofs.Common.{◌≡◌, ◌≤◌, ℕ, false, List, [], ◌∷◌, ◌++◌, length, refl, sym, ap, ap₂, subst, ◌∙◌, arith, inl, inr, ⊎_elim}
 use Rattle.std.specs.Prelude.{Result, Ok, Err, OnOk, OnErr, IfOk, Some, ◌⊎◌}
 use Rattle.std.proofs.lemmas.List.{append-nil}
 use Rattle.omega_lock.specs.Lists.{StartsWith}
@@ -16,7 +16,6 @@ use Rattle.omega_shared.proofs.Owning.{entries_are_commits, goes_on_without}
 -- a seat was handed the turn, with this history
 pub record TakesTurn (old held : SeatState Entry) (history : List Entry) : Type 0 where
   pub same : IsSameSeat old held
-  pub turns : held.turns + 1 ≡ old.turns
   pub seen : held.seen ≡ history
   pub extends : StartsWith held.seen old.seen
   pub own : held.own ≡ old.own
@@ -26,7 +25,6 @@ pub record TakesTurn (old held : SeatState Entry) (history : List Entry) : Type 
 pub record GivesBack (held new : SeatState Entry) (history : List Entry) : Type 0 where
   pub same : IsSameSeat held new
   pub free : new.holds ≡ false
-  pub turns : new.turns ≡ held.turns
   pub seen : new.seen ≡ history
   pub own_seen : LockOwnIsSeen committer_of new
 
@@ -40,17 +38,21 @@ module _ (old held new : SeatState Entry) (before after : List Entry) where
       subst (GoesOnWithout old.number old.seen) takes.seen
       (goes_on_without old.first_length old.number old.seen held.seen old.own seat.first takes.extends seat.own own)
 
-  -- the seat is that of a pass again, where the history only grew
+  -- what the seat has seen goes on from what it had seen, where the history only grew
+  pub extends_seen : TakesTurn old held before → GivesBack held new after → StartsWith after before → StartsWith new.seen old.seen
+  extends_seen takes gives grows =
+      let all : StartsWith before old.seen = subst (λ h. StartsWith h old.seen) takes.seen takes.extends in
+      subst (λ h. StartsWith h old.seen) (sym gives.seen) (starts_trans after before old.seen grows all)
+
+  -- and the seat is that of a pass again
   pub is_pass_seat : IsPassSeat old → TakesTurn old held before → GivesBack held new after → StartsWith after before → IsPassSeat new
   is_pass_seat seat takes gives grows =
-      let all : StartsWith before old.seen = subst (λ h. StartsWith h old.seen) takes.seen takes.extends in
-      let longer : length old.seen ≤ length after = starts_length after old.seen (starts_trans after before old.seen grows all) in
+      let longer : length old.seen ≤ length new.seen = starts_length new.seen old.seen (extends_seen takes gives grows) in
       let first : new.first_length ≡ old.first_length = gives.same.first_length ∙ takes.same.first_length in
-      let seen : length new.seen ≡ length after = ap length gives.seen in
       let began = seat.first in record {
         free = gives.free;
         own = gives.own_seen ∙ entries_are_commits new.first_length new.number new.seen;
-        first = omega (arith, longer, first, seen, began);
+        first = omega (arith, longer, first, began);
       }
 
   -- where the history stayed, all that is new is none of its own

@@ -129,6 +129,7 @@ impl SharedCell {
         ensures commits { IfOk result (Commits pass.old pass.new copy.now.seen txn) }
         ensures seen { OnErr result (GoesOnWithout pass.old.number pass.old.seen pass.new.seen) }
         ensures own { OnErr result (pass.new.own ≡ pass.old.own) }
+        ensures stands { CopyOf copy.now pass.new.seen }
         ensures back { IfErr result (λ refused. refused.0 ≡ txn) }
     {
         let seqs = seqs_of(alloc, copy, txn.claims.as_slice());
@@ -198,6 +199,7 @@ impl SharedCell {
         requires few { length txn.claims < 2 ^ 32 }
         ensures turn { SpendsTurn (pass_at seat.old) (pass_at seat.new) }
         ensures pass { IsPassSeat seat.new }
+        ensures extends { StartsWith seat.new.seen seat.old.seen }
         ensures commits { IfOk result (Commits (pass_at seat.old) (pass_at seat.new) seen txn) }
         ensures seen { OnErr result (GoesOnWithout seat.old.number seat.old.seen seat.new.seen) }
         ensures own { OnErr result (seat.new.own ≡ seat.old.own) }

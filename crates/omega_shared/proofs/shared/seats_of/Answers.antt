@@ -12,8 +12,8 @@ loop-pass-preserved c =
     let steps : into_iter_items c.loop-pass.pass-iterator ≡ c.in-Some.pass ∷ into_iter_items c.next.new.self = c.in-Some.ensures.steps.0 in (
       append_assoc c.loop-pass.yielded (c.in-Some.pass ∷ []) (into_iter_items c.next.new.self) ∙ rw (← steps) kept.0,
       ap (map pass_at) c.push_reserved.ensures.items ∙ map-append pass_at c.loop-pass.seats.items (seat ∷ [])
-      ∙ ap₂ (λ (l : List PassState) (p : PassState). l ++ p ∷ []) kept.1 c.pass.view_is,
+          ∙ ap₂ (λ (l : List PassState) (p : PassState). l ++ p ∷ []) kept.1 c.pass.view_is,
       All-same IsPassSeat c.push_reserved.new.self.items (c.loop-pass.seats.items ++ seat ∷ []) c.push_reserved.ensures.items
-      (All-push IsPassSeat c.loop-pass.seats.items seat kept.2 c.pass.invariant),
+          (All-push IsPassSeat c.loop-pass.seats.items seat kept.2 c.pass.invariant),
       c.push_reserved.ensures.capacity ∙ kept.3,
     )

@@ -10,8 +10,8 @@ returns-clause-pass g c =
     let turn = c.turn-held.ensures in
     let back = c.release.ensures in
     is_pass_seat c.args.seat.now c.turn-held.new.seat c.release.new.seat c.turn-held.result.cell.history c.turn-held.result.cell.history c.requires.pass
-    record { same = turn.seat; turns = turn.turns; seen = turn.seen; extends = turn.extends; own = turn.own; own_seen = turn.own_seen }
-    record { same = back.seat; free = back.free; turns = back.turns; seen = back.seen; own_seen = back.own_seen }
+    record { same = turn.seat; seen = turn.seen; extends = turn.extends; own = turn.own; own_seen = turn.own_seen }
+    record { same = back.seat; free = back.free; seen = back.seen; own_seen = back.own_seen }
     (starts_self c.turn-held.result.cell.history)
 
 pub returns-clause-seen : goal.returns-clause-seen
@@ -20,7 +20,7 @@ returns-clause-seen g c =
     let back = c.release.ensures in
     subst (GoesOnWithout c.args.seat.now.number c.args.seat.now.seen) (sym back.seen)
     (sees_others c.args.seat.now c.turn-held.new.seat c.release.new.seat c.turn-held.result.cell.history c.turn-held.result.cell.history c.requires.pass
-    record { same = turn.seat; turns = turn.turns; seen = turn.seen; extends = turn.extends; own = turn.own; own_seen = turn.own_seen })
+    record { same = turn.seat; seen = turn.seen; extends = turn.extends; own = turn.own; own_seen = turn.own_seen })
 
 pub returns-clause-applied : goal.returns-clause-applied
 returns-clause-applied g c = subst EachMayApply (sym c.release.ensures.seen) c.since-delta.ensures.applied
