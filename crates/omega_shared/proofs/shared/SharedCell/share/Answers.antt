@@ -1,4 +1,4 @@
-use Rattle.std.proofs.Common.{◌≡◌, ◌∙◌, List, ap, map, sym}
+use Rattle.std.proofs.Common.{◌≡◌, ◌∙◌, List, rules, ap, map}
 use Rattle.std.specs.Prelude.{slice_get}
 use Rattle.std.proofs.lemmas.List.Elements.{All-same}
 use Rattle.omega_lock.specs.Seats.{new_seats}
@@ -8,15 +8,16 @@ use Rattle.omega_shared.proofs.shared.SharedCell.share.Goals as goal
 
 pub passes_of-passes-requires-clause-seats : goal.passes_of-passes-requires-clause-seats
 passes_of-passes-requires-clause-seats g c =
-    let history = c.args.cell.history in
-    let of = c.in-Ok-begin.lock.of in
-    All-same IsPassSeat c.in-Ok-begin.seats.items (new_seats of c.args.turns history c.args.callers) c.in-Ok-begin.ensures.seats
-    (are_new of c.args.turns history c.args.callers)
+    let seats : c.in-Ok-begin.seats.items ≡ new_seats c.in-Ok-begin.lock.of c.args.turns c.args.cell.history c.args.callers =
+    search (rules, c.in-Ok-begin.ensures.seats) in
+    All-same IsPassSeat c.in-Ok-begin.seats.items (new_seats c.in-Ok-begin.lock.of c.args.turns c.args.cell.history c.args.callers) seats
+    (are_new c.in-Ok-begin.lock.of c.args.turns c.args.cell.history c.args.callers)
 
 pub returns-in-Ok-begin-clause-passes : goal.returns-in-Ok-begin-clause-passes
 returns-in-Ok-begin-clause-passes g c =
-    c.passes_of-passes.ensures ∙ ap (map pass_at) c.in-Ok-begin.ensures.seats
-    ∙ at_new c.in-Ok-begin.lock.of c.args.turns c.args.cell.history c.args.callers
+    let seats : c.in-Ok-begin.seats.items ≡ new_seats c.in-Ok-begin.lock.of c.args.turns c.args.cell.history c.args.callers =
+    search (rules, c.in-Ok-begin.ensures.seats) in
+    c.passes_of-passes.ensures ∙ ap (map pass_at) seats ∙ at_new c.in-Ok-begin.lock.of c.args.turns c.args.cell.history c.args.callers
 
 pub returns-in-Ok-begin-clause-pass : goal.returns-in-Ok-begin-clause-pass
 returns-in-Ok-begin-clause-pass g c = λ i within.
