@@ -1,0 +1,5 @@
+pub mod Owning
+pub mod Turning
+pub mod Standing
+pub mod NewPasses
+pub mod Closing

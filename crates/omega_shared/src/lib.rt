@@ -1,0 +1,24 @@
+//! A cell that schedulers share on threads of their own.
+//!
+//! The cell lies behind a lock whose turns go by tickets. Each scheduler has a pass. With it a
+//! scheduler syncs, which takes its private copy up to the history, and commits a transaction that it
+//! has planned on its copy. Both take one turn. Under the turn a sync only puts together what is new,
+//! and the copy takes it in after the turn; a commit makes room, is judged and appended. Nothing is
+//! planned under a turn.
+//!
+//! Whatever the order of turns, what a pass has seen goes on from all that it had seen, its own commits
+//! stand in it, each once and in order, and each of them has the reply that is due on exactly the
+//! entries before it. In the end the cell's history goes on from what every pass had seen, with no
+//! other commit of its number.
+//!
+//! Nothing is said of time: not who comes first, nor that a turn comes soon, nor that it comes.
+#![tactic(auto)]
+
+mod held;
+mod pass;
+mod shared;
+#[cfg(test)]
+mod tests;
+
+pub use pass::Pass;
+pub use shared::SharedCell;
