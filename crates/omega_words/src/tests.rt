@@ -19,7 +19,7 @@ const DEFAULT: Settings = Settings {
 };
 
 /// Words that are taken, with the folder and the settings that they say.
-const TAKEN: [(&[&str], &str, Settings); 23] = [
+const TAKEN: [(&[&str], &str, Settings); 27] = [
     (&["replay"], ".", DEFAULT),
     (
         &["replay", "--tries", "100"],
@@ -104,6 +104,35 @@ const TAKEN: [(&[&str], &str, Settings); 23] = [
         },
     ),
     (
+        &["replay", "--extra", "max"],
+        ".",
+        Settings {
+            extra: Extra::Max,
+            ..DEFAULT
+        },
+    ),
+    (
+        &["replay", "--extra=cap"],
+        ".",
+        Settings {
+            extra: Extra::Cap(60),
+            ..DEFAULT
+        },
+    ),
+    (
+        &["replay", "--cap", "0", "--extra", "cap"],
+        ".",
+        Settings {
+            extra: Extra::Cap(0),
+            ..DEFAULT
+        },
+    ),
+    (
+        &["replay", "--extra", "relative", "--cap=100"],
+        ".",
+        DEFAULT,
+    ),
+    (
         &["replay", "--format=json"],
         ".",
         Settings {
@@ -162,7 +191,7 @@ const TAKEN: [(&[&str], &str, Settings); 23] = [
 ];
 
 /// Words that are refused.
-const REFUSED: [&[&str]; 51] = [
+const REFUSED: [&[&str]; 53] = [
     &[],
     &[""],
     &["run"],
@@ -183,6 +212,8 @@ const REFUSED: [&[&str]; 51] = [
     &["replay", "--", "--tries", "5"],
     &["replay", "--speed", "5"],
     &["replay", "--trie", "5"],
+    &["replay", "--extra", "all"],
+    &["replay", "--cap", "101"],
     &["replay", "--machines", "5"],
     &["replay", "--jobs", "5"],
     &["replay", "--seed", "18446744073709551616"],
