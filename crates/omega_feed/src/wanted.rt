@@ -2,6 +2,7 @@
 ghost use Rattle.std.specs.Prelude.{◌≡◌, ◌++◌, ◌∷◌, [], All, List, map, not, IfOk, OnOk, OnErr};
 ghost use Rattle.std.specs.List.{filter};
 ghost use Rattle.omega_model.specs.Applying.{CapacityIsInRange};
+ghost use Rattle.omega_model.specs.ExtraTasks.{HasLowIndex};
 ghost use Rattle.omega_model.specs.OpenRequests.{open_requests};
 ghost use Rattle.omega_model.specs.Ranges.{IsInRange};
 ghost use Rattle.omega_model.specs.Requests.{is_waiting};
@@ -147,6 +148,14 @@ impl Wanted {
             → requests ≡ open_requests settings trace rows (cell_of board.now) scheduler) }
     {
         self.requests_beside(alloc, scheduler, board.running())
+    }
+
+    /// No wanted task has the index of an extra, by the type of the rows. Does nothing: the contract is
+    /// what a caller learns.
+    pub fn check_low(&self)
+        ensures { All HasLowIndex self.now.tasks }
+    {
+        unreachable!()
     }
 
     /// The requests of a scheduler, where these tasks run.
