@@ -8,7 +8,8 @@ use Rattle.omega_model.specs.Cell.{Cell}
 use Rattle.omega_model.specs.Feed.{feed}
 use Rattle.omega_model.specs.Fields.{TaskFields}
 use Rattle.omega_model.specs.Keys.{same_key, key_lt}
-use Rattle.omega_model.specs.Requests.{jobs_in_order, request_of, requests, is_waiting, wish_of, wishes_of, works_on}
+use Rattle.omega_model.specs.Requests.{jobs_in_order, request_of, requests, is_waiting, wishes_of, works_on}
+use Rattle.omega_model.specs.Wishes.{wish_of}
 use Rattle.omega_model.specs.State.{state}
 use Rattle.omega_model.specs.Wanted.{WantedTask, is_named, submits, ends, updates, wanted, wanted_after, wanted_after_task, with_wanted}
 use Rattle.omega_model.specs.declared.cells.Spec.{Spec}

@@ -6,7 +6,8 @@ use Rattle.std.proofs.lemmas.Grind.{common_steps}
 use Rattle.omega_model.specs.Cell.{Cell}
 use Rattle.omega_model.specs.Feed.{feed}
 use Rattle.omega_model.specs.OpenRequests.{open_requests}
-use Rattle.omega_model.specs.Requests.{jobs_in_order, request_of, wishes_of, wish_of, is_waiting}
+use Rattle.omega_model.specs.Requests.{jobs_in_order, request_of, wishes_of, is_waiting}
+use Rattle.omega_model.specs.Wishes.{wish_of}
 use Rattle.omega_model.specs.Routing.{scheduler_of}
 use Rattle.omega_model.specs.Wanted.{wanted, wanted_after}
 use Rattle.omega_model.specs.declared.rows.Row.{Row}

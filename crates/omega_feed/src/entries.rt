@@ -2,7 +2,8 @@
 ghost use Rattle.std.specs.Prelude.{◌≡◌, ◌++◌, All, List, IfOk, IfSome};
 ghost use Rattle.std.specs.Option.{option_to_list};
 ghost use Rattle.omega_model.specs.Applying.{CapacityIsInRange};
-ghost use Rattle.omega_model.specs.Wanted.{WantedTask, machine_entry, attr_entry, row_entries, task_entries};
+ghost use Rattle.omega_model.specs.RowEntries.{row_entries, task_entries};
+ghost use Rattle.omega_model.specs.Wanted.{WantedTask, machine_entry, attr_entry};
 ghost use Rattle.omega_model.specs.declared.cells.Machine.{Machine};
 
 use crate::disks::MachineDisks;

@@ -1,11 +1,12 @@
 -- Worked answers: which scheduler works on a job, and the extra tasks of MapReduce jobs.
 use Rattle.std.proofs.Common.{◌≡◌, ℕ, true, false, List, [], ◌∷◌, ◌++◌, refl}
-use Rattle.omega_model.specs.Assigned.{assigned, entries_of}
 use Rattle.omega_model.specs.ExtraTasks.{free_indexes, used_in, capacity_in_all}
 use Rattle.omega_model.specs.Fields.{TaskFields, ActivityFields}
 use Rattle.omega_model.specs.Planning.{plan_for}
 use Rattle.omega_model.specs.Policy.{policy_of}
-use Rattle.omega_model.specs.Routing.{routed_to}
+use Rattle.omega_model.specs.Requests.{requests}
+use Rattle.omega_model.specs.Routing.{scheduler_of}
+use Rattle.omega_model.specs.RowEntries.{row_entries}
 use Rattle.omega_model.specs.State.{state}
 use Rattle.omega_model.specs.Wanted.{WantedTask, wanted}
 use Rattle.omega_model.specs.declared.cells.Need.{Need}
@@ -80,33 +81,33 @@ many = record {
 }
 
 -- classes 2 and 3 go to scheduler 0
-service_2 : routed_to (settings 3 Max) many 5 ≡ 0
+service_2 : scheduler_of (settings 3 Max) many 5 ≡ 0
 unfolding task_key settings spec task_row many
 service_2 = refl
 
-service_3 : routed_to (settings 3 Max) many 6 ≡ 0
+service_3 : scheduler_of (settings 3 Max) many 6 ≡ 0
 unfolding task_key settings spec task_row many
 service_3 = refl
 
 -- the others by their number; the class of the first row counts, also where the row's code asks for nothing
-batch_of_7 : routed_to (settings 3 Max) many 7 ≡ 2
+batch_of_7 : scheduler_of (settings 3 Max) many 7 ≡ 2
 unfolding task_key settings spec task_row many
 batch_of_7 = refl
 
-batch_of_8 : routed_to (settings 3 Max) many 8 ≡ 3
+batch_of_8 : scheduler_of (settings 3 Max) many 8 ≡ 3
 unfolding task_key settings spec task_row many
 batch_of_8 = refl
 
-batch_of_4 : routed_to (settings 3 Max) many 4 ≡ 2
+batch_of_4 : scheduler_of (settings 3 Max) many 4 ≡ 2
 unfolding task_key settings spec task_row many
 batch_of_4 = refl
 
-only_batch : routed_to (settings 1 Max) many 8 ≡ 1
+only_batch : scheduler_of (settings 1 Max) many 8 ≡ 1
 unfolding task_key settings spec task_row many
 only_batch = refl
 
 -- a job in the table of activities goes to the last scheduler, whatever its class and its activities
-mapreduce : routed_to (settings 3 Max) many 20 ≡ 4
+mapreduce : scheduler_of (settings 3 Max) many 20 ≡ 4
 unfolding task_key settings spec task_row many
 mapreduce = refl
 
@@ -157,13 +158,13 @@ unfoldable extra : ℕ → Wish
 extra index = record { key = task_key 20 index; spec = record { need = amount 100000000; prec = 0; differ = false }; constraints = likes ∷ [] }
 
 -- four times the one task are 4, so there are three extras
-relative : assigned (settings 1 Relative) (job_20 six) rows begun 2 ≡
+relative : requests (settings 1 Relative) (job_20 six) rows begun 2 ≡
     record { job = 20; wishes = own_wish ∷ extra 2147483648 ∷ extra 2147483649 ∷ extra 2147483650 ∷ [] } ∷ []
 unfolding amount room task_key settings likes alone_spec row_at job_20 six begun rows own_wish extra
 relative = refl
 
 -- six activities without a bound: five extras
-unbounded : assigned (settings 1 Max) (job_20 six) rows begun 2 ≡
+unbounded : requests (settings 1 Max) (job_20 six) rows begun 2 ≡
     record {
       job = 20;
       wishes = own_wish ∷ extra 2147483648 ∷ extra 2147483649 ∷ extra 2147483650 ∷ extra 2147483651 ∷ extra 2147483652 ∷ [];
@@ -172,18 +173,18 @@ unfolding amount room task_key settings likes alone_spec row_at job_20 six begun
 unbounded = refl
 
 -- within 30 percent of the capacity: three; the disk that nobody needs bounds nothing
-capped : assigned (settings 1 (Cap 30)) (job_20 six) rows begun 2 ≡
+capped : requests (settings 1 (Cap 30)) (job_20 six) rows begun 2 ≡
     record { job = 20; wishes = own_wish ∷ extra 2147483648 ∷ extra 2147483649 ∷ extra 2147483650 ∷ [] } ∷ []
 unfolding amount room task_key settings likes alone_spec row_at job_20 six begun rows own_wish extra
 capped = refl
 
 -- the other schedulers are asked for nothing
-not_batch : assigned (settings 1 Max) (job_20 six) rows begun 1 ≡ []
+not_batch : requests (settings 1 Max) (job_20 six) rows begun 1 ≡ []
 unfolding amount room task_key settings likes alone_spec row_at job_20 six begun rows
 not_batch = refl
 
 -- a job without a row of activities has no extras and goes to a batch scheduler
-no_activities : assigned (settings 1 Max) (job_20 []) rows begun 1 ≡ record { job = 20; wishes = own_wish ∷ [] } ∷ []
+no_activities : requests (settings 1 Max) (job_20 []) rows begun 1 ≡ record { job = 20; wishes = own_wish ∷ [] } ∷ []
 unfolding amount room task_key settings likes alone_spec row_at job_20 begun rows own_wish
 no_activities = refl
 
@@ -207,23 +208,23 @@ unfoldable running : List Entry
 running = begun ++ Commit 2 2 (asks (claim 0 2 ∷ claim 2147483648 0 ∷ claim 2147483649 0 ∷ claim 2147483650 0 ∷ [])) (placed ∷ placed ∷ placed ∷ placed ∷ []) ∷ []
 
 -- the end of the task ends them all, the extras by index
-all_end : entries_of [] (state running) (wanted (rows ++ Task (row_at 300000000 4) ∷ [])) (Task (row_at 300000000 4)) ≡
+all_end : row_entries [] (state running) (wanted (rows ++ Task (row_at 300000000 4) ∷ [])) (Task (row_at 300000000 4)) ≡
     End (task_key 20 0) 1 ∷ End (task_key 20 2147483648) 1 ∷ End (task_key 20 2147483649) 1 ∷ End (task_key 20 2147483650) 1 ∷ []
 unfolding amount room task_key alone_spec row_at begun rows claim placed asks running
 all_end = refl
 
 -- then nothing is asked for
-nothing_more : assigned (settings 1 Relative) (job_20 six) (rows ++ Task (row_at 300000000 4) ∷ []) running 2 ≡ []
+nothing_more : requests (settings 1 Relative) (job_20 six) (rows ++ Task (row_at 300000000 4) ∷ []) running 2 ≡ []
 unfolding amount room task_key settings likes alone_spec row_at job_20 six begun rows claim placed asks running
 nothing_more = refl
 
 -- while they run, and the task is wanted, there is nothing to ask for either
-nothing_else : assigned (settings 1 Relative) (job_20 six) rows running 2 ≡ []
+nothing_else : requests (settings 1 Relative) (job_20 six) rows running 2 ≡ []
 unfolding amount room task_key settings likes alone_spec row_at job_20 six begun rows claim placed asks running
 nothing_else = refl
 
 -- an extra that stopped is asked for again, under the least index that is free
-one_again : assigned (settings 1 Relative) (job_20 six) rows (running ++ End (task_key 20 2147483649) 1 ∷ []) 2 ≡
+one_again : requests (settings 1 Relative) (job_20 six) rows (running ++ End (task_key 20 2147483649) 1 ∷ []) 2 ≡
     record { job = 20; wishes = extra 2147483649 ∷ [] } ∷ []
 unfolding amount room task_key settings likes alone_spec row_at job_20 six begun rows claim placed asks running extra
 one_again = refl
@@ -232,18 +233,18 @@ one_again = refl
 unfoldable other_wanted : List WantedTask
 other_wanted = record { key = task_key 20 1; spec = alone_spec } ∷ []
 
-some_stay : entries_of [] (state running) other_wanted (Task (row_at 300000000 4)) ≡ End (task_key 20 0) 1 ∷ []
+some_stay : row_entries [] (state running) other_wanted (Task (row_at 300000000 4)) ≡ End (task_key 20 0) 1 ∷ []
 unfolding amount room task_key alone_spec row_at begun claim placed asks running other_wanted
 some_stay = refl
 
 -- a row that ends a task which doesn't run ends the extras all the same
-late_end : entries_of [] (state (running ++ End (task_key 20 0) 1 ∷ [])) [] (Task (row_at 300000000 5)) ≡
+late_end : row_entries [] (state (running ++ End (task_key 20 0) 1 ∷ [])) [] (Task (row_at 300000000 5)) ≡
     End (task_key 20 2147483648) 1 ∷ End (task_key 20 2147483649) 1 ∷ End (task_key 20 2147483650) 1 ∷ []
 unfolding amount room task_key alone_spec row_at begun claim placed asks running
 late_end = refl
 
 -- another code ends nothing
-no_end : entries_of [] (state running) [] (Task (row_at 300000000 2)) ≡ []
+no_end : row_entries [] (state running) [] (Task (row_at 300000000 2)) ≡ []
 unfolding amount room task_key alone_spec row_at begun claim placed asks running
 no_end = refl
 

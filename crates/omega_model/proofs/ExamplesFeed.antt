@@ -3,7 +3,8 @@ use Rattle.std.proofs.Common.{◌≡◌, ℕ, Bool, true, false, List, [], ◌�
 use Rattle.omega_model.specs.Fields.{MachineFields, AttrFields, TaskFields, DiskFields}
 use Rattle.omega_model.specs.Cell.{Cell, empty_cell}
 use Rattle.omega_model.specs.Feed.{feed, rounds, each_once}
-use Rattle.omega_model.specs.Wanted.{WantedTask, wanted, row_entries}
+use Rattle.omega_model.specs.RowEntries.{row_entries}
+use Rattle.omega_model.specs.Wanted.{WantedTask, wanted}
 use Rattle.omega_model.specs.State.{state}
 use Rattle.omega_model.specs.declared.cells.Need.{Need}
 use Rattle.omega_model.specs.declared.cells.Spec.{Spec}

@@ -26,6 +26,8 @@ pub mod Standing
 pub mod Remaining
 pub mod RoundsInOrder
 pub mod OpenRequests
+pub mod ExtraWishes
+pub mod RowEnds
 pub mod WordRanges
 mod ExamplesWords
 mod ExamplesReport

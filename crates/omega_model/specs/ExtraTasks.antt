@@ -1,11 +1,11 @@
 -- The extra tasks of MapReduce jobs: which are asked for, and when they end.
-use Rattle.std.specs.Prelude.{ℕ, Bool, List, [], ◌∷◌, Option, Some, None, ◌+◌, ◌^◌, ◌==◌, ◌&&◌, not, nat_lt, nat_le, length, map, take, if◌then◌else◌, false}
+use Rattle.std.specs.Prelude.{ℕ, Bool, List, [], ◌∷◌, Option, Some, None, ◌+◌, ◌^◌, ◌<◌, ◌==◌, ◌&&◌, not, nat_lt, nat_le, length, map, take, if◌then◌else◌, false}
 use Rattle.std.specs.List.{filter, last_or, list_any, range_with_len}
 use Rattle.omega_model.specs.Cell.{Cell, use_on}
 use Rattle.omega_model.specs.Extras.{extras}
 use Rattle.omega_model.specs.Need.{nothing, plus}
-use Rattle.omega_model.specs.Requests.{constraints_of}
 use Rattle.omega_model.specs.Wanted.{WantedTask}
+use Rattle.omega_model.specs.Wishes.{constraints_of}
 use Rattle.omega_model.specs.declared.cells.Machine.{Machine}
 use Rattle.omega_model.specs.declared.cells.Need.{Need}
 use Rattle.omega_model.specs.declared.cells.Task.{Task}
@@ -18,6 +18,10 @@ use Rattle.omega_model.specs.declared.wishes.Wish.{Wish}
 -- the first index of extra tasks; the tasks of the trace have lower ones
 abbrev pub first_extra : ℕ
 first_extra = 2 ^ 31
+
+-- a wanted task is none of the extras: its index is lower than theirs
+abbrev pub HasLowIndex : WantedTask → Type 0
+HasLowIndex task = task.key.index < first_extra
 
 -- the activities of a job, by the last row for it; nothing where there is no row
 abbrev pub activities_of : TraceTables → ℕ → Option ℕ

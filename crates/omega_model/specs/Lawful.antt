@@ -3,8 +3,9 @@ use Rattle.std.specs.Prelude.{◌≡◌, ℕ, List, [], ◌∷◌, ◌++◌, Som
 use Rattle.std.specs.List.{fold, flat_map}
 use Rattle.omega_model.specs.Feed.{rounds}
 use Rattle.omega_model.specs.Policy.{schedulers}
+use Rattle.omega_model.specs.RowEntries.{row_entries}
 use Rattle.omega_model.specs.State.{state, reply_of}
-use Rattle.omega_model.specs.Wanted.{wanted, row_entries}
+use Rattle.omega_model.specs.Wanted.{wanted}
 use Rattle.omega_model.specs.Work.{HasLeft}
 use Rattle.omega_model.specs.declared.claims.Txn.{Txn}
 use Rattle.omega_model.specs.declared.claims.Judgement.{Judgement}

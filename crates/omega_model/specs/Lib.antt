@@ -13,6 +13,8 @@ pub mod Plan
 pub mod Report
 pub mod Feed
 pub mod Wanted
+pub mod Wishes
+pub mod RowEntries
 pub mod Requests
 pub mod Work
 pub mod Lawful
@@ -39,7 +41,6 @@ pub mod Draws
 pub mod Planning
 pub mod Routing
 pub mod ExtraTasks
-pub mod Assigned
 pub mod ReportCounts
 pub mod ReportLines
 pub mod ReportForms

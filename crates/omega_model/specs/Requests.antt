@@ -1,13 +1,14 @@
 -- What each scheduler is asked to place in a round.
 use Rattle.std.specs.Prelude.{ℕ, Bool, true, false, List, [], ◌∷◌, ◌++◌, Option, Some, None, ◌+◌, ◌==◌, ◌&&◌, not, nat_le, map, if◌then◌else◌}
 use Rattle.std.specs.List.{filter, filter_map, fold, list_any}
-use Rattle.omega_model.specs.Keys.{same_key}
 use Rattle.omega_model.specs.Cell.{Cell, task_at}
-use Rattle.omega_model.specs.Reply.{admits}
+use Rattle.omega_model.specs.ExtraTasks.{wishes_for_extras}
 use Rattle.omega_model.specs.Feed.{feed, each_once}
+use Rattle.omega_model.specs.Reply.{admits}
 use Rattle.omega_model.specs.Routing.{scheduler_of}
 use Rattle.omega_model.specs.State.{state}
 use Rattle.omega_model.specs.Wanted.{WantedTask, wanted}
+use Rattle.omega_model.specs.Wishes.{wish_of}
 use Rattle.omega_model.specs.declared.cells.Task.{Task}
 use Rattle.omega_model.specs.declared.entries.Entry.{Entry}
 use Rattle.omega_model.specs.declared.entries.Entry.TheVariants.{Commit}
@@ -15,7 +16,6 @@ use Rattle.omega_model.specs.declared.rows.Row.{Row}
 use Rattle.omega_model.specs.declared.rows.Row.TheVariants.{Task as TaskEvent}
 use Rattle.omega_model.specs.declared.rows.TraceTables.{TraceTables}
 use Rattle.omega_model.specs.declared.settings.Settings.{Settings}
-use Rattle.omega_model.specs.declared.wishes.Constraint.{Constraint}
 use Rattle.omega_model.specs.declared.wishes.Request.{Request}
 use Rattle.omega_model.specs.declared.wishes.Wish.{Wish}
 
@@ -28,14 +28,6 @@ job_of_row _ = None
 abbrev pub jobs_in_order : List Row → List ℕ
 jobs_in_order rows = each_once (filter_map job_of_row rows)
 
--- the constraints of a task: those of all rows for it, whatever their times
-abbrev pub constraints_of : TraceTables → WantedTask → List Constraint
-constraints_of trace task = map (λ row. row.constraint) (filter (λ row. same_key row.key task.key) trace.constraints)
-
--- the wish of a wanted task
-abbrev pub wish_of : TraceTables → WantedTask → Wish
-wish_of trace task = record { key = task.key; spec = task.spec; constraints = constraints_of trace task }
-
 -- whether there is a task
 abbrev pub is_running : Option Task → Bool
 is_running None = false
@@ -45,14 +37,10 @@ is_running (Some task) = true
 abbrev pub is_waiting : Cell → ℕ → WantedTask → Bool
 is_waiting cell job task = task.key.job == job && not (is_running (task_at cell.tasks task.key))
 
--- the wishes for a job's extra tasks: for now there are none
-abbrev pub extra_wishes : Settings → TraceTables → Cell → List WantedTask → ℕ → List Wish
-extra_wishes settings trace cell asked job = []
-
 -- the wishes of a job: its wanted tasks that don't run, by index, and then its extras
 abbrev pub wishes_of : Settings → TraceTables → Cell → List WantedTask → ℕ → List Wish
 wishes_of settings trace cell asked job =
-    map (wish_of trace) (filter (is_waiting cell job) asked) ++ extra_wishes settings trace cell asked job
+    map (wish_of trace) (filter (is_waiting cell job) asked) ++ wishes_for_extras settings trace cell asked job
 
 -- how many commits for a job in a row placed nothing, when there were so many before this entry
 abbrev pub failed_after : ℕ → ℕ → Entry → ℕ
@@ -73,7 +61,7 @@ abbrev pub request_of : ℕ → List Wish → Option Request
 request_of job [] = None
 request_of job (wish ∷ wishes) = Some (record { job = job; wishes = wish ∷ wishes })
 
--- whether a scheduler works on a job: it is routed there, for now by its class alone, and not given up
+-- whether a scheduler works on a job: it is routed there and not given up
 abbrev pub works_on : Settings → TraceTables → List Entry → ℕ → ℕ → Bool
 works_on settings trace history scheduler job =
     scheduler_of settings trace job == scheduler && not (given_up settings history job)

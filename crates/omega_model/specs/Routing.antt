@@ -35,9 +35,10 @@ abbrev pub scheduler_for : Settings → Option ℕ → ℕ → ℕ
 scheduler_for settings class job = if is_service class then 0 else batch_scheduler settings job
 
 -- the scheduler of a job by its class alone
-abbrev pub scheduler_of : Settings → TraceTables → ℕ → ℕ
-scheduler_of settings trace job = scheduler_for settings (class_of trace job) job
+abbrev pub scheduler_by_class : Settings → TraceTables → ℕ → ℕ
+scheduler_by_class settings trace job = scheduler_for settings (class_of trace job) job
 
 -- the scheduler of a job: the last one for MapReduce, else that of its class
-abbrev pub routed_to : Settings → TraceTables → ℕ → ℕ
-routed_to settings trace job = if is_mapreduce trace job then settings.batch + 1 else scheduler_of settings trace job
+abbrev pub scheduler_of : Settings → TraceTables → ℕ → ℕ
+scheduler_of settings trace job =
+    if is_mapreduce trace job then settings.batch + 1 else scheduler_by_class settings trace job

@@ -1,9 +1,8 @@
--- Which tasks are wanted after some rows, and which entries a row gives.
+-- Which tasks are wanted after some rows, and the single entries that rows give.
 use Rattle.std.specs.Prelude.{ℕ, Bool, List, [], ◌∷◌, ◌++◌, Option, Some, None, ◌==◌, ◌&&◌, not, nat_le, map, unwrap_or, if◌then◌else◌}
 use Rattle.std.specs.List.{filter, fold, last_or, list_any}
 use Rattle.omega_model.specs.Fields.{MachineFields, AttrFields, TaskFields, DiskFields, greatest_quantity}
 use Rattle.omega_model.specs.Keys.{same_key, key_lt}
-use Rattle.omega_model.specs.Cell.{Cell, task_at}
 use Rattle.omega_model.specs.declared.cells.Need.{Need}
 use Rattle.omega_model.specs.declared.cells.Spec.{Spec}
 use Rattle.omega_model.specs.declared.cells.Task.{Task}
@@ -79,18 +78,3 @@ attr_entry row = if row.deleted then AttrDelete row.machine row.name else AttrSe
 abbrev pub end_of : Option Task → List Entry
 end_of None = []
 end_of (Some task) = End task.key task.machine ∷ []
-
--- the ends of a job's extra tasks, when nothing of the job is wanted any more: for now there are none
-abbrev pub extra_ends : Cell → List WantedTask → ℕ → List Entry
-extra_ends cell left job = []
-
--- the entries of a task row on a cell, where the row leaves these tasks wanted
-abbrev pub task_entries : Cell → List WantedTask → TaskFields → List Entry
-task_entries cell left row =
-    if ends row.code then end_of (task_at cell.tasks row.key) ++ extra_ends cell left row.key.job else []
-
--- the entries of a row on a cell, where machines have these disks and the row leaves these tasks wanted
-abbrev pub row_entries : List DiskFields → Cell → List WantedTask → Row → List Entry
-row_entries disks cell left (Machine row) = machine_entry disks row ∷ []
-row_entries disks cell left (AttrEvent row) = attr_entry row ∷ []
-row_entries disks cell left (TaskEvent row) = task_entries cell left row

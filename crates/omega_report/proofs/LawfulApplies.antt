@@ -24,7 +24,8 @@ use Rattle.omega_model.specs.Machines.{added, attr_deleted, attr_set, change, en
 use Rattle.omega_model.specs.Need.{Fits}
 use Rattle.omega_model.specs.State.{machines_after, reply_of, state}
 use Rattle.omega_model.specs.Touches.{seq, touches}
-use Rattle.omega_model.specs.Wanted.{WantedTask, attr_entry, capacity_from, disk_of, end_of, ends, machine_entry, row_entries, wanted}
+use Rattle.omega_model.specs.RowEntries.{row_entries}
+use Rattle.omega_model.specs.Wanted.{WantedTask, attr_entry, capacity_from, disk_of, end_of, ends, machine_entry, wanted}
 use Rattle.omega_model.specs.declared.cells.Machine.{Machine}
 use Rattle.omega_model.specs.declared.cells.Task.{Task}
 use Rattle.omega_model.specs.declared.cells.TaskKey.{TaskKey}

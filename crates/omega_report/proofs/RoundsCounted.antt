@@ -9,7 +9,8 @@ use Rattle.omega_model.specs.Feed.{rounds}
 use Rattle.omega_model.specs.Fields.{AttrFields, DiskFields, MachineFields}
 use Rattle.omega_model.specs.Lawful.{Applied, IsCommitOfRound, Lawful, RoundOf, RoundSoFar, Rounds, opened, with_row}
 use Rattle.omega_model.specs.State.{state}
-use Rattle.omega_model.specs.Wanted.{WantedTask, attr_entry, capacity_from, end_of, ends, machine_entry, row_entries, wanted}
+use Rattle.omega_model.specs.RowEntries.{row_entries}
+use Rattle.omega_model.specs.Wanted.{WantedTask, attr_entry, capacity_from, end_of, ends, machine_entry, wanted}
 use Rattle.omega_model.specs.declared.cells.Task.{Task}
 use Rattle.omega_model.specs.declared.entries.Entry.{Entry}
 use Rattle.omega_model.specs.declared.entries.Entry.TheVariants.{Round as RoundEntry, MachineAdd, MachineUpdate, MachineRemove, AttrSet, AttrDelete, End, Commit}

@@ -6,7 +6,8 @@ use Rattle.omega_feed.specs.Asked.{Asked}
 use Rattle.omega_model.specs.Fields.{DiskFields}
 use Rattle.omega_model.specs.Lawful.{Applied, with_row}
 use Rattle.omega_model.specs.State.{state}
-use Rattle.omega_model.specs.Wanted.{WantedTask, row_entries, wanted, wanted_after}
+use Rattle.omega_model.specs.RowEntries.{row_entries}
+use Rattle.omega_model.specs.Wanted.{WantedTask, wanted, wanted_after}
 use Rattle.omega_model.specs.declared.entries.Entry.{Entry}
 use Rattle.omega_model.specs.declared.rows.Row.{Row}
 use Rattle.omega_model.specs.declared.rows.TraceTables.{TraceTables}

@@ -9,7 +9,8 @@ use Rattle.std.proofs.lemmas.List.Sums.{fold-append, sum_by-cons}
 use Rattle.omega_model.specs.Lawful.{Applied, IsCommitOfRound, RoundSoFar, opened, with_row}
 use Rattle.omega_model.specs.State.{state}
 use Rattle.omega_model.specs.Turns.{Reading, next_turn, read_entry, round_commits}
-use Rattle.omega_model.specs.Wanted.{row_entries, wanted}
+use Rattle.omega_model.specs.RowEntries.{row_entries}
+use Rattle.omega_model.specs.Wanted.{wanted}
 use Rattle.omega_model.specs.Work.{commits_of, is_commit_of}
 use Rattle.omega_model.specs.declared.claims.Judgement.{Judgement}
 use Rattle.omega_model.specs.declared.claims.Txn.{Txn}

@@ -7,7 +7,8 @@ use Rattle.omega_model.specs.Cell.{Cell, task_at}
 use Rattle.omega_model.specs.Fields.{MachineFields, AttrFields, DiskFields}
 use Rattle.omega_model.specs.Keys.{same_key}
 use Rattle.omega_model.specs.State.{state}
-use Rattle.omega_model.specs.Wanted.{WantedTask, attr_entry, capacity_from, end_of, ends, machine_entry, row_entries}
+use Rattle.omega_model.specs.RowEntries.{row_entries}
+use Rattle.omega_model.specs.Wanted.{WantedTask, attr_entry, capacity_from, end_of, ends, machine_entry}
 use Rattle.omega_model.specs.declared.cells.Task.{Task}
 use Rattle.omega_model.specs.declared.cells.TaskKey.{TaskKey}
 use Rattle.omega_model.specs.declared.entries.Entry.{Entry}

@@ -6,7 +6,9 @@ use Rattle.std.proofs.lemmas.Bool.{eqb-true}
 use Rattle.omega_model.specs.Cell.{Cell}
 use Rattle.omega_model.specs.Draws.{drawn_start}
 use Rattle.omega_model.specs.Feed.{feed}
-use Rattle.omega_model.specs.Requests.{extra_wishes, failed, is_waiting, jobs_in_order, request_of, requests, wish_of, wishes_of, works_on}
+use Rattle.omega_model.specs.ExtraTasks.{wishes_for_extras}
+use Rattle.omega_model.specs.Requests.{failed, is_waiting, jobs_in_order, request_of, requests, wishes_of, works_on}
+use Rattle.omega_model.specs.Wishes.{wish_of}
 use Rattle.omega_model.specs.Policy.{policy_of}
 use Rattle.omega_model.specs.State.{state}
 use Rattle.omega_model.specs.Wanted.{WantedTask, wanted}
@@ -41,13 +43,13 @@ waiting_of_job cell job task waits =
     (λ f. let none : false ≡ true = rw f at waits in absurd (cc))
 
 module _ (settings : Settings) (trace : TraceTables) where
-  extras_of_job : (cell : Cell) (asked : List WantedTask) (job : ℕ) → Each (IsOfJob job) (extra_wishes settings trace cell asked job)
+  extras_of_job : (cell : Cell) (asked : List WantedTask) (job : ℕ) → Each (IsOfJob job) (wishes_for_extras settings trace cell asked job)
   extras_of_job cell asked job = tt
 
   wishes_of_job : (cell : Cell) (asked : List WantedTask) (job : ℕ) → Each (IsOfJob job) (wishes_of settings trace cell asked job)
   wishes_of_job cell asked job =
       let waiting : List WantedTask = filter (is_waiting cell job) asked in
-      each_append (IsOfJob job) (map (wish_of trace) waiting) (extra_wishes settings trace cell asked job)
+      each_append (IsOfJob job) (map (wish_of trace) waiting) (wishes_for_extras settings trace cell asked job)
       (each_image (IsOfJob job) (wish_of trace) waiting
       (each_map (λ task. is_waiting cell job task ≡ true) (λ task. IsOfJob job (wish_of trace task)) (waiting_of_job cell job) waiting
       (each_passes (is_waiting cell job) asked)))

@@ -8,7 +8,8 @@ use Rattle.omega_model.proofs.Standing.{failed_push}
 use Rattle.omega_model.specs.Lawful.{Applied, opened, with_row}
 use Rattle.omega_model.specs.Requests.{failed, failed_after}
 use Rattle.omega_model.specs.State.{state}
-use Rattle.omega_model.specs.Wanted.{row_entries, wanted}
+use Rattle.omega_model.specs.RowEntries.{row_entries}
+use Rattle.omega_model.specs.Wanted.{wanted}
 use Rattle.omega_model.specs.Work.{commits_of, is_commit_of}
 use Rattle.omega_model.specs.declared.entries.Entry.{Entry}
 use Rattle.omega_model.specs.declared.entries.Entry.TheVariants.{Round as RoundEntry, MachineAdd, MachineUpdate, MachineRemove, AttrSet, AttrDelete, End, Commit}

@@ -4,7 +4,9 @@ use Rattle.std.specs.Prelude.{◌==◌, All, if◌then◌else◌}
 use Rattle.std.proofs.lemmas.List.Elements.{All-append, All-cons, All-nil}
 use Rattle.omega_model.specs.Cell.{Cell, task_at}
 use Rattle.omega_model.specs.Fields.{MachineFields, AttrFields, TaskFields, DiskFields}
-use Rattle.omega_model.specs.Wanted.{WantedTask, attr_entry, capacity_from, end_of, ends, extra_ends, machine_entry, row_entries, task_entries}
+use Rattle.omega_model.specs.ExtraTasks.{ends_of_extras}
+use Rattle.omega_model.specs.RowEntries.{row_entries, task_entries}
+use Rattle.omega_model.specs.Wanted.{WantedTask, attr_entry, capacity_from, end_of, ends, machine_entry}
 use Rattle.omega_model.specs.declared.cells.Task.{Task}
 use Rattle.omega_model.specs.declared.entries.Entry.{Entry}
 use Rattle.omega_model.specs.declared.entries.Entry.TheVariants.{Round as RoundEntry, MachineAdd, MachineUpdate, MachineRemove, AttrSet, AttrDelete, End, Commit}
@@ -32,12 +34,12 @@ end_is_of_row None = All-nil IsOfRow
 end_is_of_row (Some task) = All-cons IsOfRow (End task.key task.machine) [] tt (All-nil IsOfRow)
 
 -- extra tasks end by entries of the row too
-extra_are_of_row : (cell : Cell) (left : List WantedTask) (job : ℕ) → All IsOfRow (extra_ends cell left job)
+extra_are_of_row : (cell : Cell) (left : List WantedTask) (job : ℕ) → All IsOfRow (ends_of_extras cell left job)
 extra_are_of_row cell left job = All-nil IsOfRow
 
 task_is_of_row : (cell : Cell) (left : List WantedTask) (row : TaskFields) → All IsOfRow (task_entries cell left row)
-task_is_of_row cell left row = elim (ends row.code) as (λ test. All IsOfRow (if test then end_of (task_at cell.tasks row.key) ++ extra_ends cell left row.key.job else [])) [
-  | true ↦ All-append IsOfRow (end_of (task_at cell.tasks row.key)) (extra_ends cell left row.key.job) (end_is_of_row (task_at cell.tasks row.key))
+task_is_of_row cell left row = elim (ends row.code) as (λ test. All IsOfRow (if test then end_of (task_at cell.tasks row.key) ++ ends_of_extras cell left row.key.job else [])) [
+  | true ↦ All-append IsOfRow (end_of (task_at cell.tasks row.key)) (ends_of_extras cell left row.key.job) (end_is_of_row (task_at cell.tasks row.key))
       (extra_are_of_row cell left row.key.job)
   | false ↦ All-nil IsOfRow
 ]

@@ -8,7 +8,8 @@ use Rattle.omega_model.specs.Lawful.{Applied, RoundOf, opened, with_row}
 use Rattle.omega_model.specs.Policy.{schedulers}
 use Rattle.omega_model.specs.State.{reply_of, state}
 use Rattle.omega_model.specs.Turns.{InTurns, KeepsTurns}
-use Rattle.omega_model.specs.Wanted.{row_entries, wanted}
+use Rattle.omega_model.specs.RowEntries.{row_entries}
+use Rattle.omega_model.specs.Wanted.{wanted}
 use Rattle.omega_model.specs.declared.entries.Entry.{Entry}
 use Rattle.omega_model.specs.declared.entries.Entry.TheVariants.{Round as RoundEntry, MachineAdd, MachineUpdate, MachineRemove, AttrSet, AttrDelete, End, Commit}
 use Rattle.omega_model.specs.declared.rows.Row.{Row}

@@ -13,7 +13,8 @@ use Rattle.omega_model.specs.Policy.{policy_of, schedulers}
 use Rattle.omega_model.specs.Requests.{requests}
 use Rattle.omega_model.specs.State.{state}
 use Rattle.omega_model.specs.Stepping.{rows_end}
-use Rattle.omega_model.specs.Wanted.{row_entries, wanted}
+use Rattle.omega_model.specs.RowEntries.{row_entries}
+use Rattle.omega_model.specs.Wanted.{wanted}
 use Rattle.omega_model.specs.Work.{AgreesWithFirst, Standing, standing_of}
 use Rattle.omega_model.specs.declared.cells.TaskKey.{TaskKey}
 use Rattle.omega_model.specs.declared.claims.Claim.{Claim}
