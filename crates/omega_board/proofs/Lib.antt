@@ -2,6 +2,7 @@ pub mod Tasks
 pub mod Uses
 pub mod Boards
 pub mod Sounds
+pub mod Sums
 pub mod Parts
 pub mod Ranks
 pub mod Rewinds

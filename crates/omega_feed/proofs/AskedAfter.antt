@@ -13,6 +13,8 @@ use Rattle.omega_model.specs.Wanted.{wanted, wanted_after}
 use Rattle.omega_model.specs.declared.rows.Row.{Row}
 use Rattle.omega_model.specs.declared.rows.TraceTables.{TraceTables}
 use Rattle.omega_model.specs.declared.settings.Settings.{Settings}
+use Rattle.omega_model.specs.ExtraTasks.{activities_of}
+use Rattle.omega_feed.proofs.Extras.{extras_asked}
 use Rattle.omega_feed.specs.Asked.{routed, asked_after, job_request, asked_requests}
 
 filter_mapped : {X Y : Type 0} (f : X → Y) (p : Y → Bool) (xs : List X) → filter p (map f xs) ≡ map f (filter (λ x. p (f x)) xs)
@@ -41,7 +43,8 @@ asked_open settings trace rows cell scheduler =
     ap (λ z. filter_map (job_request (asked_after settings trace rows) cell) z) (filter_mapped (routed settings trace) (λ job. job.scheduler == scheduler) jobs)
     ∙ filter_map_mapped (routed settings trace) (job_request (asked_after settings trace rows) cell)
     (λ job. request_of job (wishes_of settings trace cell (wanted rows) job))
-    (λ job. ap (request_of job) (sym (append-nil (map (wish_of trace) (filter (is_waiting cell job) (wanted rows))))))
+    (λ job. ap (λ z. request_of job (map (wish_of trace) (filter (is_waiting cell job) (wanted rows)) ++ z))
+    (extras_asked settings trace rows cell (wanted rows) job (activities_of trace job)))
     (filter (λ job. scheduler_of settings trace job == scheduler) jobs)
 
 -- one more row changes the wanted tasks alone

@@ -8,14 +8,15 @@ use Rattle.std.specs.Ordering.{nat_cmp}
 use Rattle.std.proofs.lemmas.Bool.{eq-eqb, ne_eqb, eqb-true, le-ltb, lt-ltb, cases_eq, cases_order, cases_Bool}
 use Rattle.std.proofs.lemmas.List.Folds.{list_any-append}
 use Rattle.omega_model.specs.Feed.{feed, each_once}
+use Rattle.omega_model.specs.Fields.{ActivityFields}
 use Rattle.omega_model.specs.Plan.{first_item}
 use Rattle.omega_model.specs.Requests.{job_of_row, jobs_in_order}
-use Rattle.omega_model.specs.Routing.{class_in, class_of, scheduler_for}
+use Rattle.omega_model.specs.Routing.{class_in, class_of}
 use Rattle.omega_model.specs.declared.rows.Row.{Row}
 use Rattle.omega_model.specs.declared.rows.Row.TheVariants.{Machine, Attr, Task}
 use Rattle.omega_model.specs.declared.rows.TraceTables.{TraceTables}
 use Rattle.omega_model.specs.declared.settings.Settings.{Settings}
-use Rattle.omega_feed.specs.Asked.{routed, is_job, with_job}
+use Rattle.omega_feed.specs.Asked.{home, routed, is_job, with_job}
 use Rattle.omega_feed.specs.Index.{job_at, AreFound}
 use Rattle.omega_feed.specs.declared.jobs.RoutedJob.{RoutedJob}
 
@@ -173,15 +174,15 @@ all_new (m ∷ ms) = ap (λ z. m ∷ z) (all_new ms)
 pub each_added : (ns : List ℕ) → fold add_once [] ns ≡ each_once ns
 each_added ns = fold_once [] ns ∙ all_new (each_once ns)
 
--- a job with the scheduler for this class
-abbrev pub classed : Settings → Option ℕ → ℕ → RoutedJob
-classed settings class job = record { job = job; scheduler = scheduler_for settings class job }
+-- a job with its scheduler, where its tasks have this class
+abbrev pub classed : Settings → List ActivityFields → Option ℕ → ℕ → RoutedJob
+classed settings activities class job = record { job = job; scheduler = home settings activities class job }
 
--- the jobs after one more row: a new one is routed by the row's class
-abbrev pub note_job : Settings → List RoutedJob → Row → List RoutedJob
-note_job settings jobs (Machine row) = jobs
-note_job settings jobs (Attr row) = jobs
-note_job settings jobs (Task row) = with_job jobs (classed settings (Some row.class) row.key.job)
+-- the jobs after one more row: a new one is routed by the row's class, or as it has activities
+abbrev pub note_job : Settings → List ActivityFields → List RoutedJob → Row → List RoutedJob
+note_job settings activities jobs (Machine row) = jobs
+note_job settings activities jobs (Attr row) = jobs
+note_job settings activities jobs (Task row) = with_job jobs (classed settings activities (Some row.class) row.key.job)
 
 both_false : (a b : Bool) → (a || (b || false)) ≡ false → (a ≡ false) × (b ≡ false)
 both_false true b e = absurd (cc)
@@ -192,10 +193,10 @@ both_false false false e = (refl, refl)
 abbrev first_class : List Row → ℕ → Option ℕ
 first_class rows job = first_item (filter_map (class_in job) rows)
 
-module _ (settings : Settings) (class : ℕ → Option ℕ) where
+module _ (settings : Settings) (activities : List ActivityFields) (class : ℕ → Option ℕ) where
   -- a job with the scheduler for its class
   abbrev routed_by : ℕ → RoutedJob
-  routed_by job = classed settings (class job) job
+  routed_by job = classed settings activities (class job) job
 
   any_routed : (job : ℕ) (ns : List ℕ) → list_any (is_job job) (map routed_by ns) ≡ list_any (λ m. m == job) ns
   any_routed job [] = refl
@@ -206,12 +207,12 @@ module _ (settings : Settings) (class : ℕ → Option ℕ) where
   map_push (m ∷ ns) n = ap (λ z. routed_by m ∷ z) (map_push ns n)
 
   with_routed : (ns : List ℕ) (job : ℕ) (given : Option ℕ) → (list_any (λ m. m == job) ns ≡ false → class job ≡ given)
-      → with_job (map routed_by ns) (classed settings given job) ≡ map routed_by (add_once ns job)
+      → with_job (map routed_by ns) (classed settings activities given job) ≡ map routed_by (add_once ns job)
   with_routed ns job given is = rw (any_routed job ns) (by_cases (list_any (λ m. m == job) ns) is) where
     by_cases : (b : Bool) → (b ≡ false → class job ≡ given)
-        → cond b (map routed_by ns) (map routed_by ns ++ classed settings given job ∷ []) ≡ map routed_by (cond b ns (ns ++ job ∷ []))
+        → cond b (map routed_by ns) (map routed_by ns ++ classed settings activities given job ∷ []) ≡ map routed_by (cond b ns (ns ++ job ∷ []))
     by_cases true is = refl
-    by_cases false is = ap (λ (c : Option ℕ). map routed_by ns ++ classed settings c job ∷ []) (sym (is refl)) ∙ sym (map_push ns job)
+    by_cases false is = ap (λ (c : Option ℕ). map routed_by ns ++ classed settings activities c job ∷ []) (sym (is refl)) ∙ sym (map_push ns job)
 
   -- of a job that isn't noted yet the class is that of its first row among those that remain
   abbrev IsFirst : List ℕ → List Row → Type 0
@@ -232,12 +233,12 @@ module _ (settings : Settings) (class : ℕ → Option ℕ) where
     by_cases false has none = both_false (list_any (λ m. m == job) ns) (n == job) (sym (list_any-append (λ m. m == job) ns (n ∷ [])) ∙ none)
 
   fold_routed : (ns : List ℕ) (rows : List Row) → IsFirst ns rows
-      → fold (note_job settings) (map routed_by ns) rows ≡ map routed_by (fold add_once ns (filter_map job_of_row rows))
+      → fold (note_job settings activities) (map routed_by ns) rows ≡ map routed_by (fold add_once ns (filter_map job_of_row rows))
   fold_routed ns [] first = refl
   fold_routed ns (Machine row ∷ rows) first = fold_routed ns rows first
   fold_routed ns (Attr row ∷ rows) first = fold_routed ns rows first
   fold_routed ns (Task row ∷ rows) first =
-      ap (λ z. fold (note_job settings) z rows) (with_routed ns row.key.job (Some row.class) (λ none. first row.key.job none ∙ here))
+      ap (λ z. fold (note_job settings activities) z rows) (with_routed ns row.key.job (Some row.class) (λ none. first row.key.job none ∙ here))
       ∙ fold_routed (add_once ns row.key.job) rows later where
         here : first_class (Task row ∷ rows) row.key.job ≡ Some row.class
         here = rw (eq-eqb row.key.job row.key.job refl) refl
@@ -247,7 +248,7 @@ module _ (settings : Settings) (class : ℕ → Option ℕ) where
 
 -- the jobs noted from row to row are those of the trace in order of their first task row
 pub jobs_noted : (settings : Settings) (trace : TraceTables)
-    → fold (note_job settings) [] (feed trace) ≡ map (routed settings trace) (jobs_in_order (feed trace))
+    → fold (note_job settings trace.activities) [] (feed trace) ≡ map (routed settings trace) (jobs_in_order (feed trace))
 jobs_noted settings trace =
-    fold_routed settings (class_of trace) [] (feed trace) (λ job none. refl)
+    fold_routed settings trace.activities (class_of trace) [] (feed trace) (λ job none. refl)
     ∙ ap (map (routed settings trace)) (each_added (filter_map job_of_row (feed trace)))

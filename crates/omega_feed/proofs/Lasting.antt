@@ -1,4 +1,4 @@
--- The disk of the last row for each machine.
+-- The amount of the last row of each name.
 use Rattle.std.proofs.Common.{◌≡◌, ◌<◌, ◌≤◌, ◌+◌, ◌==◌, ℕ, Bool, cond, List, [], ◌∷◌, ◌++◌, Option, Some, None, map, length, take, get_or, refl, ap, sym, subst, ◌∙◌, inl, inr}
 use Rattle.std.specs.Prelude.{IfSome}
 use Rattle.std.specs.BTreeMap as tree
@@ -8,7 +8,6 @@ use Rattle.std.specs.Ordering.{nat_cmp}
 use Rattle.std.proofs.lemmas.Bool.{eq-eqb, ne_eqb, cases_eq}
 use Rattle.std.proofs.lemmas.List.{append-nil, map-append}
 use Rattle.std.proofs.lemmas.List.Elements.{filter_more}
-use Rattle.omega_model.specs.Fields.{DiskFields, greatest_quantity}
 use Rattle.omega_feed.specs.Last.{AreLast}
 use Rattle.omega_model.proofs.Places.{at_place, off_place}
 
@@ -17,64 +16,65 @@ last_or-end : {X : Type 0} (other : Option X) (xs : List X) (x : X) → last_or 
 last_or-end other [] x = refl
 last_or-end other (y ∷ xs) x = last_or-end (Some y) xs x
 
-abbrev is_of : ℕ → DiskFields → Bool
-is_of machine row = row.machine == machine
+module _ (Row : Type 0) (name amount : Row → ℕ) (most : ℕ) where
+  abbrev is_of : ℕ → Row → Bool
+  is_of id row = name row == id
 
-abbrev last_of : ℕ → List DiskFields → Option ℕ
-last_of machine rows = last_or None (map (λ row. row.disk) (filter (is_of machine) rows))
+  abbrev last_of : ℕ → List Row → Option ℕ
+  last_of id rows = last_or None (map (λ row. amount row) (filter (is_of id) rows))
 
--- one more row is the last for its machine, and leaves the others
-pub last_more : (rows : List DiskFields) (place : ℕ) (row : DiskFields) (disks more : BTreeMap ℕ ℕ)
-    → place < length rows → row ≡ get_or rows place row → row.disk ≤ greatest_quantity
-    → tree.Updates nat_cmp disks more row.machine (Some row.disk)
-    → AreLast disks (take place rows) → AreLast more (take (place + 1) rows)
-last_more rows place row disks more within at small updates before = record { found = found; bounded = bounded } where
-  here : (machine : ℕ) → filter (is_of machine) (take (place + 1) rows)
-      ≡ filter (is_of machine) (take place rows) ++ cond (row.machine == machine) (row ∷ []) []
-  here machine =
-      filter_more (is_of machine) rows place row within
-      ∙ ap (λ (r : DiskFields). filter (is_of machine) (take place rows) ++ cond (r.machine == machine) (r ∷ []) []) (sym at)
+  -- one more row is the last of its name, and leaves the others
+  pub last_more : (rows : List Row) (place : ℕ) (row : Row) (last more : BTreeMap ℕ ℕ)
+      → place < length rows → row ≡ get_or rows place row → amount row ≤ most
+      → tree.Updates nat_cmp last more (name row) (Some (amount row))
+      → AreLast Row name amount most last (take place rows) → AreLast Row name amount most more (take (place + 1) rows)
+  last_more rows place row last more within at small updates before = record { found = found; bounded = bounded } where
+    here : (id : ℕ) → filter (is_of id) (take (place + 1) rows)
+        ≡ filter (is_of id) (take place rows) ++ cond (name row == id) (row ∷ []) []
+    here id =
+        filter_more (is_of id) rows place row within
+        ∙ ap (λ (r : Row). filter (is_of id) (take place rows) ++ cond (name r == id) (r ∷ []) []) (sym at)
 
-  mine : (machine : ℕ) → row.machine ≡ machine → last_of machine (take (place + 1) rows) ≡ Some row.disk
-  mine machine same =
-      let front = filter (is_of machine) (take place rows) in
-      ap (λ (found : List DiskFields). last_or None (map (λ r. r.disk) found))
-      (here machine ∙ ap (λ test. front ++ cond test (row ∷ []) []) (eq-eqb row.machine machine same))
-      ∙ ap (last_or None) (map-append (λ r. r.disk) front (row ∷ []))
-      ∙ last_or-end None (map (λ r. r.disk) front) row.disk
+    mine : (id : ℕ) → name row ≡ id → last_of id (take (place + 1) rows) ≡ Some (amount row)
+    mine id same =
+        let front = filter (is_of id) (take place rows) in
+        ap (λ (found : List Row). last_or None (map (λ r. amount r) found))
+        (here id ∙ ap (λ test. front ++ cond test (row ∷ []) []) (eq-eqb (name row) id same))
+        ∙ ap (last_or None) (map-append (λ r. amount r) front (row ∷ []))
+        ∙ last_or-end None (map (λ r. amount r) front) (amount row)
 
-  theirs : (machine : ℕ) → (row.machine ≡ machine → ⊥) → last_of machine (take (place + 1) rows) ≡ last_of machine (take place rows)
-  theirs machine apart =
-      let front = filter (is_of machine) (take place rows) in
-      ap (λ (found : List DiskFields). last_or None (map (λ r. r.disk) found))
-      (here machine ∙ ap (λ test. front ++ cond test (row ∷ []) []) (ne_eqb row.machine machine apart) ∙ append-nil front)
+    theirs : (id : ℕ) → (name row ≡ id → ⊥) → last_of id (take (place + 1) rows) ≡ last_of id (take place rows)
+    theirs id apart =
+        let front = filter (is_of id) (take place rows) in
+        ap (λ (found : List Row). last_or None (map (λ r. amount r) found))
+        (here id ∙ ap (λ test. front ++ cond test (row ∷ []) []) (ne_eqb (name row) id apart) ∙ append-nil front)
 
-  new : (machine : ℕ) → row.machine ≡ machine → tree.get nat_cmp more machine ≡ Some row.disk
-  new machine same = updates.0 machine ∙ rw (at_place row.machine machine same) refl
+    new : (id : ℕ) → name row ≡ id → tree.get nat_cmp more id ≡ Some (amount row)
+    new id same = updates.0 id ∙ rw (at_place (name row) id same) refl
 
-  old : (machine : ℕ) → (row.machine ≡ machine → ⊥) → tree.get nat_cmp more machine ≡ tree.get nat_cmp disks machine
-  old machine apart = updates.2 machine (off_place row.machine machine apart)
+    old : (id : ℕ) → (name row ≡ id → ⊥) → tree.get nat_cmp more id ≡ tree.get nat_cmp last id
+    old id apart = updates.2 id (off_place (name row) id apart)
 
-  found : (machine : ℕ) → tree.get nat_cmp more machine ≡ last_of machine (take (place + 1) rows)
-  found machine =
-      elim (cases_eq row.machine machine) [
-        | inl same ↦ new machine same ∙ sym (mine machine same)
-        | inr apart ↦ old machine apart ∙ before.found machine ∙ sym (theirs machine apart)
-      ]
+    found : (id : ℕ) → tree.get nat_cmp more id ≡ last_of id (take (place + 1) rows)
+    found id =
+        elim (cases_eq (name row) id) [
+          | inl same ↦ new id same ∙ sym (mine id same)
+          | inr apart ↦ old id apart ∙ before.found id ∙ sym (theirs id apart)
+        ]
 
-  bounded : (machine : ℕ) → IfSome (tree.get nat_cmp more machine) (λ disk. disk ≤ greatest_quantity)
-  bounded machine =
-      elim (cases_eq row.machine machine) [
-        | inl same ↦ subst (λ found. IfSome found (λ disk. disk ≤ greatest_quantity)) (sym (new machine same)) small
-        | inr apart ↦ subst (λ found. IfSome found (λ disk. disk ≤ greatest_quantity)) (sym (old machine apart)) (before.bounded machine)
-      ]
+    bounded : (id : ℕ) → IfSome (tree.get nat_cmp more id) (λ value. value ≤ most)
+    bounded id =
+        elim (cases_eq (name row) id) [
+          | inl same ↦ subst (λ found. IfSome found (λ value. value ≤ most)) (sym (new id same)) small
+          | inr apart ↦ subst (λ found. IfSome found (λ value. value ≤ most)) (sym (old id apart)) (before.bounded id)
+        ]
 
--- the same by the row's fields
-pub last_named : (rows : List DiskFields) (place : ℕ) (row : DiskFields) (machine disk : ℕ) (disks more : BTreeMap ℕ ℕ)
-    → place < length rows → row ≡ get_or rows place row → machine ≡ row.machine → disk ≡ row.disk → disk ≤ greatest_quantity
-    → tree.Updates nat_cmp disks more machine (Some disk)
-    → AreLast disks (take place rows) → AreLast more (take (place + 1) rows)
-last_named rows place row machine disk disks more within at named holds small updates before =
-    last_more rows place row disks more within at (subst (λ d. d ≤ greatest_quantity) holds small)
-    (subst (λ m. tree.Updates nat_cmp disks more m (Some row.disk)) named
-    (subst (λ d. tree.Updates nat_cmp disks more machine (Some d)) holds updates)) before
+  -- the same by the row's fields
+  pub last_named : (rows : List Row) (place : ℕ) (row : Row) (id value : ℕ) (last more : BTreeMap ℕ ℕ)
+      → place < length rows → row ≡ get_or rows place row → id ≡ name row → value ≡ amount row → value ≤ most
+      → tree.Updates nat_cmp last more id (Some value)
+      → AreLast Row name amount most last (take place rows) → AreLast Row name amount most more (take (place + 1) rows)
+  last_named rows place row id value last more within at named holds small updates before =
+      last_more rows place row last more within at (subst (λ d. d ≤ most) holds small)
+      (subst (λ m. tree.Updates nat_cmp last more m (Some (amount row))) named
+      (subst (λ d. tree.Updates nat_cmp last more id (Some d)) holds updates)) before

@@ -9,3 +9,5 @@ pub mod Lasting
 pub mod Picked
 pub mod AtEnd
 pub mod TaskRows
+pub mod Active
+pub mod Extras

@@ -1,5 +1,5 @@
 -- The requests of the jobs that have a wanted task are those of all jobs.
-use Rattle.std.proofs.Common.{◌≡◌, ℕ, zero, suc, ◌+◌, ◌<◌, ◌≤◌, Bool, true, false, cond, not, ◌&&◌, ◌||◌, ◌==◌, List, [], ◌∷◌, Option, Some, None, map, drop, refl, ap, sym, ◌∙◌, inl, inr, arith, add-one}
+use Rattle.std.proofs.Common.{◌≡◌, ℕ, zero, suc, ◌+◌, ◌<◌, ◌≤◌, Bool, true, false, cond, not, ◌&&◌, ◌||◌, ◌==◌, List, [], ◌∷◌, ◌++◌, Option, Some, None, map, drop, refl, ap, sym, ◌∙◌, inl, inr, arith, add-one}
 use Rattle.std.specs.Prelude.{slice_get, option_and_then, option_map, is_some}
 use Rattle.std.specs.BTreeMap.{is_at}
 use Rattle.std.specs.BTreeSet.{BTreeSet}
@@ -8,24 +8,16 @@ use Rattle.std.specs.List.Sorted.{IsStrictlySortedBy}
 use Rattle.std.specs.Ordering.{nat_cmp}
 use Rattle.std.specs.declared.cmp.Ordering.TheVariants.{Less, Equal, Greater}
 use Rattle.std.proofs.lemmas.Map.Keys.{sorted_head, sorted_tail}
-use Rattle.std.proofs.lemmas.Bool.{lt-ltb, le-ltb, eq-eqb, ne_eqb, eqb-true, cases_eq, cases_order, both_ways, or_cases}
+use Rattle.std.proofs.lemmas.Bool.{lt-ltb, le-ltb, eq-eqb, ne_eqb, eqb-true, cases_eq, cases_order, cases_Bool, both_ways, or_cases}
 use Rattle.omega_running.specs.Order.{Each}
 use Rattle.omega_running.proofs.Lists.{each_map, any_none}
 use Rattle.omega_model.specs.Cell.{Cell, task_at}
-use Rattle.omega_model.specs.Fields.{ConstraintFields}
+use Rattle.omega_model.specs.ExtraTasks.{wanted_of}
 use Rattle.omega_model.specs.Requests.{request_of, is_running, is_waiting}
 use Rattle.omega_model.specs.Wanted.{WantedTask}
-use Rattle.omega_model.specs.declared.cells.Spec.{Spec}
-use Rattle.omega_model.specs.declared.cells.TaskKey.{TaskKey}
-use Rattle.omega_model.specs.declared.wishes.Wish.{Wish}
-use Rattle.omega_feed.specs.Asked.{Asked, is_task_of, asked_wish, job_request, asked_requests}
-use Rattle.omega_feed.specs.Index.{wanted_task, AreActive, place_request}
+use Rattle.omega_feed.specs.Asked.{Asked, activities_in, is_task_of, asked_extras, asked_wish, asked_wishes, extras_after, job_request, asked_requests}
+use Rattle.omega_feed.specs.Index.{AreActive, place_request}
 use Rattle.omega_feed.specs.declared.jobs.RoutedJob.{RoutedJob}
-
-pub wishes_mapped : (constraints : List ConstraintFields) (es : List (TaskKey × Spec))
-    → map (λ entry. asked_wish constraints (wanted_task entry)) es ≡ map (asked_wish constraints) (map wanted_task es)
-wishes_mapped constraints [] = refl
-wishes_mapped constraints (e ∷ es) = ap (λ z. asked_wish constraints (wanted_task e) ∷ z) (wishes_mapped constraints es)
 
 -- numbers that rise
 abbrev pub Up : List ℕ → Type 0
@@ -146,23 +138,41 @@ has_place : (p : ℕ) (ps : List ℕ) → list_any (is_at (nat_cmp p)) ps ≡ ha
 has_place p [] = refl
 has_place p (q ∷ ps) = ap (λ b. b || list_any (is_at (nat_cmp p)) ps) (same_place p q) ∙ ap (λ b. (q == p) || b) (has_place p ps)
 
--- a job with a request has a wanted task
-requested : (job : ℕ) (cell : Cell) (wish : WantedTask → Wish) (tasks : List WantedTask)
-    → is_some (request_of job (map wish (filter (is_waiting cell job) tasks))) ≡ true → list_any (is_task_of job) tasks ≡ true
-requested job cell wish [] e = e
-requested job cell wish (task ∷ tasks) e = by_cases (task.key.job == job) e (requested job cell wish tasks) where
-  by_cases : (b : Bool)
-      → is_some (request_of job (map wish (cond (b && not (is_running (task_at cell.tasks task.key))) (task ∷ filter (is_waiting cell job) tasks) (filter (is_waiting cell job) tasks)))) ≡ true
-      → (is_some (request_of job (map wish (filter (is_waiting cell job) tasks))) ≡ true → list_any (is_task_of job) tasks ≡ true)
-      → (b || list_any (is_task_of job) tasks) ≡ true
-  by_cases true e later = refl
+-- a job without a wanted task has none that waits
+none_wait : (cell : Cell) (job : ℕ) (tasks : List WantedTask) → list_any (is_task_of job) tasks ≡ false → (filter (is_waiting cell job) tasks ≡ []) × (wanted_of job tasks ≡ [])
+none_wait cell job [] none = (refl, refl)
+none_wait cell job (task ∷ tasks) none = by_cases (task.key.job == job) none (none_wait cell job tasks) where
+  by_cases : (b : Bool) → (b || list_any (is_task_of job) tasks) ≡ false
+      → (list_any (is_task_of job) tasks ≡ false → (filter (is_waiting cell job) tasks ≡ []) × (wanted_of job tasks ≡ []))
+      → (cond (b && not (is_running (task_at cell.tasks task.key))) (task ∷ filter (is_waiting cell job) tasks) (filter (is_waiting cell job) tasks) ≡ [])
+      × (cond b (task ∷ wanted_of job tasks) (wanted_of job tasks) ≡ [])
+  by_cases true e later = absurd (cc)
   by_cases false e later = later e
+
+-- nor does it get extras
+no_extras : (asked : Asked) (cell : Cell) (job : ℕ) (activities : Option ℕ) → extras_after asked cell job activities [] ≡ []
+no_extras asked cell job None = refl
+no_extras asked cell job (Some activities) = refl
+
+-- a job with a request has a wanted task
+requested : (asked : Asked) (cell : Cell) (job : ℕ) → is_some (request_of job (asked_wishes asked cell job)) ≡ true → list_any (is_task_of job) asked.tasks ≡ true
+requested asked cell job some =
+    elim (cases_Bool (list_any (is_task_of job) asked.tasks)) [
+      | inl e ↦ e
+      | inr none ↦
+          let idle = none_wait cell job asked.tasks none in
+          let nothing : asked_wishes asked cell job ≡ [] =
+          ap (λ z. map (asked_wish asked.constraints) z ++ asked_extras asked cell job) idle.0
+          ∙ ap (extras_after asked cell job (activities_in asked.activities job)) idle.1
+          ∙ no_extras asked cell job (activities_in asked.activities job) in
+          absurd (both_ways _ (ap (λ z. is_some (request_of job z)) nothing) some)
+    ]
 
 covered : (asked : Asked) (cell : Cell) (scheduler : ℕ) (active : BTreeSet ℕ) → AreActive active asked.jobs asked.tasks
     → (p : ℕ) → is_some (place_request asked cell scheduler p) ≡ true → has p active.keys ≡ true
 covered asked cell scheduler active a p some = by_cases (slice_get asked.jobs p) refl some where
   at_job : (job : RoutedJob) (b : Bool) → is_some (cond b (job_request asked cell job) None) ≡ true → list_any (is_task_of job.job) asked.tasks ≡ true
-  at_job job true s = requested job.job cell (asked_wish asked.constraints) asked.tasks s
+  at_job job true s = requested asked cell job.job s
   at_job job false s = absurd (cc)
 
   by_cases : (o : Option RoutedJob) → slice_get asked.jobs p ≡ o

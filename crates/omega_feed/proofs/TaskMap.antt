@@ -1,5 +1,5 @@
 -- The wanted tasks as entries of a map in order of key.
-use Rattle.std.proofs.Common.{◌≡◌, ℕ, ◌<◌, ◌≤◌, ◌^◌, Bool, true, false, cond, not, ◌&&◌, ◌||◌, ◌==◌, List, [], ◌∷◌, ◌++◌, Option, Some, None, map, length, refl, ap, sym, ◌∙◌, inl, inr, arith, subst}
+use Rattle.std.proofs.Common.{◌≡◌, ℕ, ◌<◌, ◌≤◌, ◌^◌, Bool, true, false, cond, not, ◌&&◌, ◌||◌, ◌==◌, List, [], ◌∷◌, ◌++◌, Option, Some, None, map, length, refl, ap, sym, ◌∙◌, inl, inr, arith, subst, nat_lt}
 use Rattle.std.specs.Prelude.{is_some, MatchOption}
 use Rattle.std.specs.BTreeMap.{insert_entry, is_at}
 use Rattle.std.specs.BTreeMap.Range.{entries_between, range_contains}
@@ -11,14 +11,15 @@ use Rattle.std.specs.declared.cmp.Ordering.{Ordering}
 use Rattle.std.specs.declared.cmp.Ordering.TheVariants.{Less, Equal, Greater}
 use Rattle.std.specs.declared.ops.Bound.TheVariants.{Included}
 use Rattle.std.proofs.lemmas.Bool.{eq-eqb, ne_eqb, le-ltb, lt-ltb, cases_order, cases_Bool}
-use Rattle.std.proofs.lemmas.List.Elements.{All-head, All-tail}
+use Rattle.std.proofs.lemmas.List.Elements.{All-nil, All-cons, All-head, All-tail}
+use Rattle.omega_model.proofs.Lists.{by_answer}
+use Rattle.omega_model.specs.ExtraTasks.{HasLowIndex, first_extra, is_wanted, wanted_of}
 use Rattle.std.proofs.lemmas.Map.Keys.{sorted_head, sorted_tail}
 use Rattle.omega_running.specs.Order.{Each}
 use Rattle.omega_running.proofs.Lists.{each_map, filter_none, filter_every, filter_where}
 use Rattle.omega_model.specs.Keys.{same_key, key_lt}
 use Rattle.omega_model.specs.Cell.{task_at}
-use Rattle.omega_model.specs.Requests.{is_running, is_waiting}
-use Rattle.omega_model.specs.declared.cells.Machine.{Machine}
+use Rattle.omega_model.specs.Requests.{is_running}
 use Rattle.omega_model.specs.declared.cells.Task.{Task}
 use Rattle.omega_model.specs.Wanted.{WantedTask, with_wanted, is_named}
 use Rattle.omega_model.specs.declared.cells.Spec.{Spec}
@@ -192,7 +193,7 @@ not_past n i h =
     ]
 
 -- the keys between the least and the greatest of a job are the job's
-in_range : (job : ℕ) (key : TaskKey) → key.index < 2 ^ 32
+in_range : (job : ℕ) (key : TaskKey) → key.index < 2 ^ 31
     → range_contains key_cmp (Included (record { job = job; index = 0 })) (Included (record { job = job; index = 4294967295 })) key ≡ (key.job == job)
 in_range job key fits =
     elim (cases_order job key.job) [
@@ -202,11 +203,11 @@ in_range job key fits =
       | inr (inr more) ↦ rw (le-ltb job key.job (omega arith), ne_eqb job key.job (λ e. omega arith), ne_eqb key.job job (λ e. omega arith)) refl
     ]
 
-pub between_is : (job : ℕ) (es : List (TaskKey × Spec)) → All (λ (key : TaskKey). key.index < 2 ^ 32) (keys_of es)
+pub between_is : (job : ℕ) (es : List (TaskKey × Spec)) → All (λ (key : TaskKey). key.index < 2 ^ 31) (keys_of es)
     → entries_between key_cmp (Included (record { job = job; index = 0 })) (Included (record { job = job; index = 4294967295 })) es ≡ filter (λ e. e.0.job == job) es
 between_is job es narrow =
     filter_where _ (λ e. e.0.job == job) es
-    (each_map (λ e. e.0.index < 2 ^ 32) _ (λ e h. in_range job e.0 h) es (each_of_all (λ key. key.index < 2 ^ 32) es narrow))
+    (each_map (λ e. e.0.index < 2 ^ 31) _ (λ e h. in_range job e.0 h) es (each_of_all (λ key. key.index < 2 ^ 31) es narrow))
 
 any_here : (job : ℕ) (es : List (TaskKey × Spec)) → list_any (is_task_of job) (map wanted_task es) ≡ list_any (λ e. e.0.job == job) es
 any_here job [] = refl
@@ -226,7 +227,7 @@ pub first_is : {Y : Type 0} (o : Option Y) (es rest : List (TaskKey × Spec)) (e
 first_is None es rest entry Q h = rw h.0 refl
 first_is (Some y) es rest entry Q h = rw (h, ne_eqb (length (entry y ∷ rest)) 0 (λ d. omega arith)) refl
 
-pub between_at : (job : ℕ) (low high : TaskKey) (es : List (TaskKey × Spec)) → All (λ (key : TaskKey). key.index < 2 ^ 32) (keys_of es)
+pub between_at : (job : ℕ) (low high : TaskKey) (es : List (TaskKey × Spec)) → All (λ (key : TaskKey). key.index < 2 ^ 31) (keys_of es)
     → low ≡ record { job = job; index = 0 } → high ≡ record { job = job; index = 4294967295 }
     → entries_between key_cmp (Included low) (Included high) es ≡ filter (λ e. e.0.job == job) es
 between_at job low high es narrow p q =
@@ -238,15 +239,28 @@ between_at job low high es narrow p q =
 abbrev pub idle : List Task → TaskKey × Spec → Bool
 idle running entry = not (is_running (task_at running entry.0))
 
-pub waiting_is : (running : List Task) (machines : List Machine) (job : ℕ) (es : List (TaskKey × Spec))
-    → map wanted_task (filter (idle running) (filter (λ e. e.0.job == job) es))
-    ≡ filter (is_waiting (record { machines = machines; tasks = running }) job) (map wanted_task es)
-waiting_is running machines job [] = refl
-waiting_is running machines job (e ∷ es) = by_cases (e.0.job == job) (idle running e) refl (waiting_is running machines job es) where
-  by_cases : (b i : Bool) → idle running e ≡ i
-      → map wanted_task (filter (idle running) (filter (λ e. e.0.job == job) es)) ≡ filter (is_waiting (record { machines = machines; tasks = running }) job) (map wanted_task es)
-      → map wanted_task (filter (idle running) (cond b (e ∷ filter (λ e. e.0.job == job) es) (filter (λ e. e.0.job == job) es)))
-      ≡ cond (b && i) (wanted_task e ∷ filter (is_waiting (record { machines = machines; tasks = running }) job) (map wanted_task es)) (filter (is_waiting (record { machines = machines; tasks = running }) job) (map wanted_task es))
-  by_cases false i is rest = rest
-  by_cases true true is rest = rw is (ap (λ z. wanted_task e ∷ z) rest)
-  by_cases true false is rest = rw is rest
+-- the tasks of a job, as entries and as wanted tasks
+pub of_job_is : (job : ℕ) (es : List (TaskKey × Spec)) → map wanted_task (filter (λ e. e.0.job == job) es) ≡ wanted_of job (map wanted_task es)
+of_job_is job [] = refl
+of_job_is job (e ∷ es) =
+    by_answer (e.0.job == job)
+    (λ t. rw t (ap (λ z. wanted_task e ∷ z) (of_job_is job es)))
+    (λ f. rw f (of_job_is job es))
+
+-- no wanted task is an extra
+pub low_tasks : (es : List (TaskKey × Spec)) → All (λ key. key.index < first_extra) (keys_of es) → All HasLowIndex (map wanted_task es)
+low_tasks [] low = All-nil HasLowIndex
+low_tasks (e ∷ es) low = All-cons HasLowIndex (wanted_task e) (map wanted_task es) (All-head _ e.0 (keys_of es) low) (low_tasks es (All-tail _ e.0 (keys_of es) low))
+
+-- so any wanted task of a job is one of the trace
+pub low_wanted : (job : ℕ) (es : List (TaskKey × Spec)) → All (λ key. key.index < first_extra) (keys_of es) → list_any (is_task_of job) (map wanted_task es) ≡ is_wanted (map wanted_task es) job
+low_wanted job [] low = refl
+low_wanted job (e ∷ es) low =
+    let below : e.0.index < first_extra = All-head _ e.0 (keys_of es) low in
+    let test : nat_lt e.0.index first_extra ≡ true = lt-ltb e.0.index first_extra below in
+    let rest = low_wanted job es (All-tail _ e.0 (keys_of es) low) in
+    rw test (λ i. and_true (e.0.job == job) i || rest i)
+  where
+    and_true : (b : Bool) → b ≡ (b && true)
+    and_true true = refl
+    and_true false = refl

@@ -1,19 +1,23 @@
 -- How what is asked for is kept so that it is found.
-use Rattle.std.specs.Prelude.{◌≡◌, ℕ, true, List, Option, Some, None, slice_get, option_map, option_and_then, ◌==◌, if◌then◌else◌, ◌↔◌, ◌<◌, ◌^◌}
+use Rattle.std.specs.Prelude.{◌≡◌, ℕ, true, List, Option, Some, None, slice_get, option_map, option_and_then, ◌==◌, if◌then◌else◌, ◌↔◌, ◌<◌, not}
 use Rattle.std.specs.BTreeMap as tree
 use Rattle.std.specs.BTreeSet as set
 use Rattle.std.specs.BTreeMap.{BTreeMap}
 use Rattle.std.specs.BTreeSet.{BTreeSet}
-use Rattle.std.specs.List.{All, list_any}
+use Rattle.std.specs.List.{All, filter, list_any}
 use Rattle.std.specs.Ordering.{nat_cmp, ordering_then}
 use Rattle.std.specs.declared.cmp.Ordering.{Ordering}
-use Rattle.omega_model.specs.Wanted.{WantedTask}
+use Rattle.omega_model.specs.ExtraTasks.{first_extra, HasLowIndex}
+use Rattle.omega_model.specs.Fields.{TaskFields}
+use Rattle.omega_model.specs.Wanted.{WantedTask, with_wanted, is_named}
 use Rattle.omega_model.specs.declared.cells.Spec.{Spec}
 use Rattle.omega_model.specs.declared.cells.TaskKey.{TaskKey}
 use Rattle.omega_model.specs.Cell.{Cell}
 use Rattle.omega_model.specs.declared.wishes.Request.{Request}
 use Rattle.omega_feed.specs.Asked.{Asked, is_task_of, job_request}
 use Rattle.omega_feed.specs.declared.jobs.RoutedJob.{RoutedJob}
+use Rattle.omega_feed.specs.declared.tasks.Change.{Change}
+use Rattle.omega_feed.specs.declared.tasks.Change.TheVariants.{Want, End, Keep}
 
 -- a wanted task from its key and what it asks for
 abbrev pub wanted_task : TaskKey × Spec → WantedTask
@@ -23,10 +27,16 @@ wanted_task entry = record { key = entry.0; spec = entry.1 }
 abbrev pub key_cmp : TaskKey → TaskKey → Ordering
 key_cmp a b = ordering_then (nat_cmp a.job b.job) (nat_cmp a.index b.index)
 
--- the keys rise, and their indexes fit 32 bits
+-- the keys rise, and their indexes are below those of extras
 pub record AreKeys (specs : BTreeMap TaskKey Spec) : Type 0 where
   pub ordered : tree.IsOrdered key_cmp specs
-  pub narrow : All (λ key. key.index < 2 ^ 32) (tree.keys specs)
+  pub low : All (λ key. key.index < first_extra) (tree.keys specs)
+
+-- the wanted tasks after a row of a task that makes this change
+abbrev pub changed_by : Change → TaskFields → List WantedTask → List WantedTask
+changed_by Want row tasks = with_wanted row.key row.spec tasks
+changed_by End row tasks = filter (λ task. not (is_named row.key task)) tasks
+changed_by Keep row tasks = tasks
 
 -- the job at a place
 abbrev pub job_at : List RoutedJob → ℕ → Option ℕ
@@ -39,6 +49,11 @@ AreFound places jobs = (job place : ℕ) → (tree.get nat_cmp places job ≡ So
 -- the place of each job that has a wanted task is among these
 abbrev pub AreActive : BTreeSet ℕ → List RoutedJob → List WantedTask → Type 0
 AreActive places jobs tasks = (job place : ℕ) → job_at jobs place ≡ Some job → list_any (is_task_of job) tasks ≡ true → set.contains nat_cmp places place ≡ true
+
+-- what is kept of the wanted tasks: the places of their jobs, and that none is an extra
+pub record AreWanted (places : BTreeSet ℕ) (jobs : List RoutedJob) (tasks : List WantedTask) : Type 0 where
+  pub active : AreActive places jobs tasks
+  pub low : All HasLowIndex tasks
 
 -- the request of the job at a place, if it stands there and is this scheduler's
 abbrev pub place_request : Asked → Cell → ℕ → ℕ → Option Request

@@ -2,7 +2,7 @@
 ghost use Rattle.std.specs.Prelude.{◌≡◌, ◌≤◌, IfOk};
 ghost use Rattle.omega_model.specs.Fields.{greatest_quantity};
 ghost use Rattle.omega_model.specs.Wanted.{disk_of};
-ghost use Rattle.omega_feed.specs.Last.{AreLast};
+ghost use Rattle.omega_feed.specs.Last.{AreLastDisks};
 
 use omega_model::{Copied, DiskRow, GREATEST_QUANTITY, NoMemory, Seq};
 use std::alloc::Global;
@@ -19,13 +19,13 @@ pub struct MachineDisks {
 impl Model for MachineDisks {
     ghost use Rattle.std.specs.Prelude.{List};
     ghost use Rattle.omega_model.specs.Fields.{DiskFields};
-    ghost use Rattle.omega_feed.specs.Last.{AreLast};
+    ghost use Rattle.omega_feed.specs.Last.{AreLastDisks};
 
     ghost Value = { List DiskFields };
 
     ghost view = { λ disks. disks.rows };
 
-    ghost invariant = { λ disks. AreLast disks.last disks.rows };
+    ghost invariant = { λ disks. AreLastDisks disks.last disks.rows };
 }
 
 impl MachineDisks {
@@ -56,7 +56,7 @@ impl MachineDisks {
 
 /// The disk of the last row for each machine.
 fn last_of(alloc: Global, rows: &[DiskRow]) -> Result<BTreeMap<u64, u64>, NoMemory>
-    ensures { IfOk result (λ last. AreLast last rows.now) }
+    ensures { IfOk result (λ last. AreLastDisks last rows.now) }
 {
     let mut last = BTreeMap::new(alloc);
     for row in rows {

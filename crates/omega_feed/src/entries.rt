@@ -1,50 +1,43 @@
 //! What a row does to the cell.
-ghost use Rattle.std.specs.Prelude.{◌≡◌, ◌++◌, All, List, IfOk, IfSome};
-ghost use Rattle.std.specs.Option.{option_to_list};
+ghost use Rattle.std.specs.Prelude.{◌≡◌, ◌++◌, All, List, IfOk, IfSome, OnOk, map};
+ghost use Rattle.std.specs.List.{filter};
 ghost use Rattle.omega_model.specs.Applying.{CapacityIsInRange};
+ghost use Rattle.omega_model.specs.Cell.{task_at};
+ghost use Rattle.omega_model.specs.ExtraTasks.{is_extra_of};
 ghost use Rattle.omega_model.specs.RowEntries.{row_entries, task_entries};
-ghost use Rattle.omega_model.specs.Wanted.{WantedTask, machine_entry, attr_entry};
+ghost use Rattle.omega_model.specs.Wanted.{attr_entry, end_of, machine_entry};
 ghost use Rattle.omega_model.specs.declared.cells.Machine.{Machine};
+ghost use Rattle.omega_model.specs.declared.entries.Entry.TheVariants.{End};
 
 use crate::disks::MachineDisks;
-use omega_model::{AttrRow, Copied, Entries, Entry, MachineRow, Need, NoMemory, Row, TaskRow};
+use crate::extras::running_extras;
+use crate::tasks::WantedTasks;
+use omega_model::{
+    AttrRow, Copied, Entries, Entry, MachineRow, Need, NoMemory, Row, TaskKey, TaskRow,
+};
 use omega_running::Running;
 use std::alloc::Global;
 
-/// The entries of a row, where these tasks run. Costs the logarithm of their number.
+/// The entries of a row that leaves these tasks wanted, where those tasks run. Costs the logarithm of
+/// their numbers, and the running tasks of a job that the row leaves without a wanted task.
 pub fn entries_of(
     alloc: Global,
     row: &Row,
     disks: &MachineDisks,
+    left: &WantedTasks,
     running: &Running,
 ) -> Result<Entries, NoMemory>
-    ensures entries { IfOk result (λ entries. (machines : List Machine) (left : List WantedTask)
-        → entries ≡ row_entries disks.now (record { machines = machines; tasks = running.now.tasks }) left row.now) }
+    ensures entries { IfOk result (λ entries. (machines : List Machine)
+        → entries ≡ row_entries disks.now (record { machines = machines; tasks = running.now.tasks }) left.now row.now) }
     ensures range { IfOk result (λ entries. All CapacityIsInRange entries) }
 {
     let mut entries = Entries::new(alloc);
-    if let Some(entry) = entry_of(alloc, row, disks, running)? {
-        entries.push(entry)?;
+    match row {
+        Row::Machine(row) => entries.push(machine_entry(row, disks))?,
+        Row::Attr(row) => entries.push(attr_entry(alloc, row)?)?,
+        Row::Task(row) => return task_entries(alloc, row, left, running),
     }
     Ok(entries)
-}
-
-/// The entry of a row: each gives one at most.
-fn entry_of(
-    alloc: Global,
-    row: &Row,
-    disks: &MachineDisks,
-    running: &Running,
-) -> Result<Option<Entry>, NoMemory>
-    ensures entry { IfOk result (λ entry. (machines : List Machine) (left : List WantedTask)
-        → option_to_list entry ≡ row_entries disks.now (record { machines = machines; tasks = running.now.tasks }) left row.now) }
-    ensures range { IfOk result (λ entry. IfSome entry CapacityIsInRange) }
-{
-    match row {
-        Row::Machine(row) => Ok(Some(machine_entry(row, disks))),
-        Row::Attr(row) => Ok(Some(attr_entry(alloc, row)?)),
-        Row::Task(row) => Ok(end_entry(row, running)),
-    }
 }
 
 /// The entry of a machine row, by its code, with the disk of its machine.
@@ -82,17 +75,57 @@ fn attr_entry(alloc: Global, row: &AttrRow) -> Result<Entry, NoMemory>
     })
 }
 
-/// The end of the task of a row, if the row ends it and it runs.
-fn end_entry(row: &TaskRow, running: &Running) -> Option<Entry>
-    ensures range { IfSome result CapacityIsInRange }
-    ensures entry { (machines : List Machine) (left : List WantedTask) → option_to_list result ≡ task_entries (record { machines = machines; tasks = running.now.tasks }) left row.now }
+/// The entries of a task row: the end of its task, if it runs, and then those of its job's running
+/// extras, if no task is wanted of the job any more.
+fn task_entries(
+    alloc: Global,
+    row: &TaskRow,
+    left: &WantedTasks,
+    running: &Running,
+) -> Result<Entries, NoMemory>
+    ensures entries { IfOk result (λ entries. (machines : List Machine) → entries ≡ task_entries (record { machines = machines; tasks = running.now.tasks }) left.now row.now) }
+    ensures range { IfOk result (λ entries. All CapacityIsInRange entries) }
 {
+    let mut entries = Entries::new(alloc);
     if !matches!(row.code, 3..=6) {
-        return None;
+        return Ok(entries);
     }
-    let task = running.get(row.key)?;
-    Some(Entry::End {
-        key: task.key,
-        machine: task.machine,
-    })
+    push_end(&mut entries, row.key, running)?;
+    if !left.has_job(row.key.job) {
+        push_extra_ends(&mut entries, alloc, row.key.job, running)?;
+    }
+    Ok(entries)
+}
+
+/// Appends the end of a task, if it runs.
+fn push_end(entries: &mut Entries, key: TaskKey, running: &Running) -> Result<(), NoMemory>
+    ensures entries { OnOk result (entries.new ≡ entries.old ++ end_of (task_at running.now.tasks key)) }
+    ensures range { All CapacityIsInRange entries.old → OnOk result (All CapacityIsInRange entries.new) }
+{
+    match running.get(key) {
+        Some(task) => entries.push(Entry::End {
+            key: task.key,
+            machine: task.machine,
+        }),
+        None => Ok(()),
+    }
+}
+
+/// Appends the ends of a job's running extras, by index.
+fn push_extra_ends(
+    entries: &mut Entries,
+    alloc: Global,
+    job: u64,
+    running: &Running,
+) -> Result<(), NoMemory>
+    ensures entries { OnOk result (entries.new ≡ entries.old ++ map (λ task. End task.key task.machine) (filter (is_extra_of job) running.now.tasks)) }
+    ensures range { All CapacityIsInRange entries.old → OnOk result (All CapacityIsInRange entries.new) }
+{
+    for task in running_extras(alloc, running, job)?.as_slice() {
+        entries.push(Entry::End {
+            key: task.key,
+            machine: task.machine,
+        })?;
+    }
+    Ok(())
 }

@@ -4,9 +4,10 @@ ghost use Rattle.omega_model.specs.Feed.{feed};
 ghost use Rattle.omega_model.specs.Ranges.{IsInRange};
 ghost use Rattle.omega_model.specs.Requests.{jobs_in_order};
 ghost use Rattle.omega_model.specs.Routing.{scheduler_for};
-ghost use Rattle.omega_feed.specs.Asked.{routed, with_job};
+ghost use Rattle.omega_feed.specs.Asked.{home, routed, with_job};
 ghost use Rattle.omega_feed.specs.Index.{job_at};
 
+use crate::activities::JobActivities;
 use crate::ordered::feed;
 use omega_model::{NoMemory, Row, Settings, TraceTables};
 use std::alloc::Global;
@@ -51,17 +52,23 @@ impl Jobs {
         }
     }
 
-    /// The jobs of a trace in order of their first task row, each with its scheduler. Costs a sort of
-    /// the rows by time, and a look-up for each task row.
-    pub fn of(alloc: Global, tables: &TraceTables, settings: &Settings) -> Result<Jobs, NoMemory>
-        requires { IsInRange settings.now }
+    /// The jobs of a trace in order of their first task row, each with its scheduler, where these are
+    /// its activities. Costs a sort of the rows by time, and two look-ups for each task row.
+    pub fn of(
+        alloc: Global,
+        tables: &TraceTables,
+        settings: &Settings,
+        activities: &JobActivities,
+    ) -> Result<Jobs, NoMemory>
+        requires settings { IsInRange settings.now }
+        requires activities { activities.now ≡ tables.now.activities }
         ensures { IfOk result (λ jobs. jobs ≡ map (routed settings.now tables.now) (jobs_in_order (feed tables.now))) }
     {
         let mut jobs = Jobs::new(alloc);
         for row in feed(alloc, tables)? {
             if let Row::Task(row) = row {
                 let job = row.key.job;
-                let scheduler = scheduler_for(settings, row.class, job);
+                let scheduler = home(settings, activities, row.class, job);
                 jobs.add(RoutedJob { job, scheduler })?;
             }
         }
@@ -98,6 +105,18 @@ impl Jobs {
         ensures { result ≡ slice_get self.now place }
     {
         self.list.get(place).copied()
+    }
+}
+
+/// The scheduler of a job with a task of this class: the last one where it has activities, else that
+/// for the class.
+fn home(settings: &Settings, activities: &JobActivities, class: u8, job: u64) -> u32
+    requires { IsInRange settings.now }
+    ensures { result ≡ home settings.now activities.now (Some class) job }
+{
+    match activities.of(job) {
+        Some(_) => settings.batch + 1,
+        None => scheduler_for(settings, class, job),
     }
 }
 

@@ -2,12 +2,14 @@
 //!
 //! `rounds` puts the rows of the events in order and cuts them into windows of time. `Wanted` takes
 //! them one by one, knows which tasks are to run, and says what each row does to the cell and what a
-//! scheduler is asked to place.
+//! scheduler is asked to place, the extra tasks of MapReduce jobs among it.
 #![tactic(auto)]
 
+mod activities;
 mod constraints;
 mod disks;
 mod entries;
+mod extras;
 mod jobs;
 mod ordered;
 mod tasks;

@@ -1,12 +1,12 @@
 //! The wanted tasks.
-ghost use Rattle.std.specs.Prelude.{◌≡◌, [], List, not, map, ◌<◌, ◌^◌, IfOk, OnOk, OnErr};
+ghost use Rattle.std.specs.Prelude.{◌≡◌, [], All, List, not, map, ◌<◌, IfOk, OnOk, OnErr};
 ghost use Rattle.std.specs.List.{filter, list_any};
+ghost use Rattle.omega_model.specs.ExtraTasks.{HasLowIndex, first_extra, is_wanted, wanted_of};
 ghost use Rattle.omega_model.specs.ReportCounts.{waits};
-ghost use Rattle.omega_model.specs.Requests.{is_waiting};
 ghost use Rattle.omega_model.specs.Wanted.{wanted_after, wanted_after_task, with_wanted, is_named};
 ghost use Rattle.omega_model.specs.declared.cells.Machine.{Machine};
 ghost use Rattle.omega_feed.specs.Asked.{is_task_of};
-ghost use Rattle.omega_feed.specs.Index.{wanted_task};
+ghost use Rattle.omega_feed.specs.Index.{changed_by, wanted_task};
 
 use omega_model::{NoMemory, Row, Spec, TaskKey, TaskRow};
 use omega_running::Running;
@@ -14,7 +14,19 @@ use std::alloc::Global;
 use std::collections::BTreeMap;
 use std::marker::Model;
 
-/// The wanted tasks in order of key, found by key and by job.
+/// What a task row does to the wanted tasks.
+#[derive(Clone, Copy, Debug, PartialEq, Eq)]
+pub enum Change {
+    /// The row's task is wanted as the row says.
+    Want,
+    /// The row's task isn't wanted any more.
+    End,
+    /// Nothing.
+    Keep,
+}
+
+/// The wanted tasks in order of key, found by key and by job. They are tasks of the trace, whose
+/// indexes are below those of extras.
 #[derive(Drop)]
 pub struct WantedTasks {
     specs: BTreeMap<TaskKey, Spec>,
@@ -46,8 +58,10 @@ impl WantedTasks {
     /// Puts a task in, or replaces what it asks for. A refused call leaves the tasks. Costs the
     /// logarithm of their number.
     pub fn insert(&mut self, key: TaskKey, spec: Spec) -> Result<(), NoMemory>
+        requires { key.index < first_extra }
         ensures ok { OnOk result (self.new ≡ with_wanted key spec self.old) }
         ensures err { OnErr result (self.new ≡ self.old) }
+        ensures low { All HasLowIndex self.new }
     {
         self.specs.insert(key, spec)?;
         Ok(())
@@ -55,7 +69,8 @@ impl WantedTasks {
 
     /// Takes a task out, if it is there. Costs the logarithm of their number.
     pub fn remove(&mut self, key: TaskKey)
-        ensures { self.new ≡ filter (λ task. not (is_named key task)) self.old }
+        ensures tasks { self.new ≡ filter (λ task. not (is_named key task)) self.old }
+        ensures low { All HasLowIndex self.new }
     {
         self.specs.remove(&key);
     }
@@ -69,7 +84,8 @@ impl WantedTasks {
 
     /// Whether a task of a job is wanted. Costs the logarithm of their number.
     pub fn has_job(&self, job: u64) -> bool
-        ensures { result ≡ list_any (is_task_of job) self.now }
+        ensures any { result ≡ list_any (is_task_of job) self.now }
+        ensures wanted { result ≡ is_wanted self.now job }
     {
         let (first, last) = keys_of(job);
         self.specs.range(first..=last).next().is_some()
@@ -89,14 +105,26 @@ impl WantedTasks {
     fn take_task(&mut self, row: &TaskRow) -> Result<(), NoMemory>
         ensures { OnOk result (self.new ≡ wanted_after_task self.old row.now) }
     {
-        match row.code {
-            0 | 1 => self.insert(row.key, row.spec),
-            3..=6 => {
+        match self.change_of(row) {
+            Change::Want => self.insert(row.key, row.spec),
+            Change::End => {
                 self.remove(row.key);
                 Ok(())
             }
-            7.. if self.contains(row.key) => self.insert(row.key, row.spec),
-            _ => Ok(()),
+            Change::Keep => Ok(()),
+        }
+    }
+
+    /// What a row does to the tasks. Costs the logarithm of their number.
+    pub fn change_of(&self, row: &TaskRow) -> Change
+        ensures change { wanted_after_task self.now row.now ≡ changed_by result row.now self.now }
+        ensures low { row.now.key.index < first_extra }
+    {
+        match row.code {
+            0 | 1 => Change::Want,
+            3..=6 => Change::End,
+            7.. if self.contains(row.key) => Change::Want,
+            _ => Change::Keep,
         }
     }
 
@@ -115,22 +143,14 @@ impl WantedTasks {
         Ok(jobs)
     }
 
-    /// The tasks of a job that don't run, by index. Costs the job's wanted tasks, each times the
-    /// logarithm of the number of all that are wanted or run.
-    pub fn waiting(
-        &self,
-        alloc: Global,
-        job: u64,
-        running: &Running,
-    ) -> Result<Vec<(TaskKey, Spec)>, NoMemory>
-        ensures { IfOk result (λ found. (machines : List Machine) → map wanted_task found.items ≡ filter (is_waiting (record { machines = machines; tasks = running.now.tasks }) job) self.now) }
+    /// The wanted tasks of a job, by index. Costs these, and the logarithm of the number of all.
+    pub fn of_job(&self, alloc: Global, job: u64) -> Result<Vec<(TaskKey, Spec)>, NoMemory>
+        ensures { IfOk result (λ found. map wanted_task found.items ≡ wanted_of job self.now) }
     {
         let (first, last) = keys_of(job);
         let mut found = Vec::new(alloc);
         for (key, spec) in self.specs.range(first..=last) {
-            if running.get(*key).is_none() {
-                found.push((*key, *spec))?;
-            }
+            found.push((*key, *spec))?;
         }
         Ok(found)
     }

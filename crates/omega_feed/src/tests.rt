@@ -1,9 +1,10 @@
 ghost use Rattle.std.specs.Prelude.{◌<◌};
+ghost use Rattle.omega_model.specs.Ranges.{IsInRange};
 
 use crate::{Wanted, rounds};
 use omega_board::Board;
 use omega_model::{
-    AttrRow, Bytes, Claim, Claims, Command, Constraint, ConstraintRow, Entry, Extra, Format, Keys,
+    ActivityRow, AttrRow, Bytes, Claim, Claims, Command, Constraint, ConstraintRow, Entry, Extra, Format, Keys,
     MachineRow, Mode, Need, NoMemory, Op, Preempt, Request, Round, Row, Rows, Rule, Settings, Spec,
     TaskKey, TaskRow, TraceTables, Verdict, Wish,
 };
@@ -23,6 +24,16 @@ const SETTINGS: Settings = Settings {
     format: Format::Text,
     machines: 0,
     jobs: 0,
+};
+
+const RELATIVE: Settings = Settings {
+    extra: Extra::Relative,
+    ..SETTINGS
+};
+
+const CAPPED: Settings = Settings {
+    extra: Extra::Cap(50),
+    ..SETTINGS
 };
 
 fn machine_row(time: u32, machine: u64, code: u8) -> MachineRow {
@@ -150,16 +161,47 @@ fn rounds_are_windows_with_a_row(rt: HostRuntime) -> Result<(), NoMemory> {
 
 // The requests of scheduler 1 after task rows of job 1: each a code, an index and a need.
 fn asked(alloc: Global, board: &Board, rows: &[(u8, u16, u32)]) -> Result<Vec<u64>, NoMemory> {
+    asked_of(alloc, board, &SETTINGS, 1, &[], rows)
+}
+
+// Task rows of job 1, and rows of its activities.
+fn job_trace(
+    alloc: Global,
+    activities: &[u8],
+    rows: &[(u8, u16, u32)],
+) -> Result<TraceTables, NoMemory> {
     let mut tables = TraceTables::new(alloc);
     for (code, index, n) in rows {
         tables.tasks.push(task_row(0, 1, *index, *code, *n))?;
     }
-    let mut wanted = Wanted::new(alloc, &tables, &SETTINGS)?;
+    for n in activities {
+        tables.activities.push(ActivityRow {
+            job: 1,
+            activities: u32::from(*n),
+        })?;
+    }
+    Ok(tables)
+}
+
+// The requests of a scheduler after these rows, where the job has these activities.
+fn asked_of(
+    alloc: Global,
+    board: &Board,
+    settings: &Settings,
+    scheduler: u32,
+    activities: &[u8],
+    rows: &[(u8, u16, u32)],
+) -> Result<Vec<u64>, NoMemory>
+    requires { IsInRange settings.now }
+{
+    let tables = job_trace(alloc, activities, rows)?;
+    let mut wanted = Wanted::new(alloc, &tables, settings)?;
     for row in tables.tasks.as_slice() {
         wanted.take(&Row::Task(*row))?;
     }
     let mut told = Vec::new(alloc);
-    tell_requests(&mut told, wanted.requests(alloc, 1, board)?.as_slice())?;
+    let requests = wanted.requests(alloc, scheduler, board)?;
+    tell_requests(&mut told, requests.as_slice())?;
     Ok(told)
 }
 
@@ -179,6 +221,11 @@ fn asked_each(
 
 // A board on which task 0 of job 1 runs on machine 4.
 fn busy(alloc: Global) -> Result<Board, NoMemory> {
+    running(alloc, 0)
+}
+
+// A board on which the task of this index of job 1 runs on machine 4.
+fn running(alloc: Global, index: u32) -> Result<Board, NoMemory> {
     let mut board = Board::new(alloc);
     let cap = Need {
         cpu: 10,
@@ -187,7 +234,7 @@ fn busy(alloc: Global) -> Result<Board, NoMemory> {
     };
     board.apply_entry(alloc, &Entry::MachineAdd { machine: 4, cap })?;
     let claim = Claim {
-        key: TaskKey { job: 1, index: 0 },
+        key: TaskKey { job: 1, index },
         machine: 4,
         spec: Spec {
             need: Need {
@@ -294,6 +341,57 @@ fn rows_give_entries(rt: HostRuntime) -> Result<(), NoMemory> {
     let told = entries_of_rows(alloc, &busy(alloc)?)?;
     let want: [u64; 18] = [1, 7, 2, 7, 3, 7, 4, 8, 5, 9, 6, 4, 6, 4, 6, 4, 6, 4];
     assert_eq!(rt; told.as_slice(), want.as_slice());
+    Ok(())
+}
+
+#[test]
+fn jobs_with_activities_get_extras(rt: HostRuntime) -> Result<(), NoMemory> {
+    let alloc = rt.alloc();
+    let (none, one) = (Board::new(alloc), running(alloc, 2_147_483_648)?);
+    let mut all = Vec::new(alloc);
+    for (board, settings, scheduler, activities, rows) in [
+        (&none, &SETTINGS, 2, [9, 4], [(0, 0, 2), (0, 1, 7)]),
+        (&none, &SETTINGS, 1, [9, 4], [(0, 0, 2), (0, 1, 7)]),
+        (&none, &SETTINGS, 2, [9, 4], [(0, 0, 2), (4, 0, 7)]),
+        (&none, &RELATIVE, 2, [0, 9], [(0, 0, 2), (2, 1, 7)]),
+        (&one, &SETTINGS, 2, [0, 4], [(0, 0, 2), (2, 1, 7)]),
+        (&one, &CAPPED, 2, [0, 9], [(0, 0, 3), (2, 1, 7)]),
+    ] {
+        all.push(99)?;
+        let told = asked_of(alloc, board, settings, scheduler, &activities, &rows)?;
+        all.extend_from_slice(told.as_slice())?;
+    }
+    let (a, b, c) = (2_147_483_648, 2_147_483_649, 2_147_483_650);
+    let want: [u64; 49] = [
+        99, 1, 0, 2, 0, 1, 7, 0, a, 2, 0, b, 2, 0, 99, 99, 99, 1, 0, 2, 0, a, 2, 0, b, 2, 0, c, 2,
+        0, 99, 1, 0, 2, 0, b, 2, 0, c, 2, 0, 99, 1, 0, 3, 0, b, 3, 0,
+    ];
+    assert_eq!(rt; all.as_slice(), want.as_slice());
+    Ok(())
+}
+
+// The entries of the last of these rows of job 1.
+fn ended_by(alloc: Global, board: &Board, rows: &[(u8, u16, u32)]) -> Result<Vec<u64>, NoMemory> {
+    let tables = job_trace(alloc, &[], rows)?;
+    let mut wanted = Wanted::new(alloc, &tables, &SETTINGS)?;
+    let mut told = Vec::new(alloc);
+    for row in tables.tasks.as_slice() {
+        let row = Row::Task(*row);
+        wanted.take(&row)?;
+        told.clear();
+        tell_entries(&mut told, wanted.entries(alloc, &row, board)?.as_slice())?;
+    }
+    Ok(told)
+}
+
+#[test]
+fn extras_end_with_the_last_wanted_task(rt: HostRuntime) -> Result<(), NoMemory> {
+    let alloc = rt.alloc();
+    let board = running(alloc, 2_147_483_648)?;
+    let told = ended_by(alloc, &board, &[(0, 0, 2), (0, 1, 2), (4, 0, 2)])?;
+    assert_eq!(rt; told.as_slice(), [].as_slice());
+    let told = ended_by(alloc, &board, &[(0, 0, 2), (4, 0, 2)])?;
+    assert_eq!(rt; told.as_slice(), [6, 4].as_slice());
     Ok(())
 }
 

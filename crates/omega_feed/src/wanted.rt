@@ -2,28 +2,30 @@
 ghost use Rattle.std.specs.Prelude.{◌≡◌, ◌++◌, ◌∷◌, [], All, List, map, not, IfOk, OnOk, OnErr};
 ghost use Rattle.std.specs.List.{filter};
 ghost use Rattle.omega_model.specs.Applying.{CapacityIsInRange};
-ghost use Rattle.omega_model.specs.ExtraTasks.{HasLowIndex};
 ghost use Rattle.omega_model.specs.OpenRequests.{open_requests};
 ghost use Rattle.omega_model.specs.Ranges.{IsInRange};
-ghost use Rattle.omega_model.specs.Requests.{is_waiting};
+ghost use Rattle.omega_model.specs.Cell.{task_at};
+ghost use Rattle.omega_model.specs.ExtraTasks.{HasLowIndex, first_extra};
+ghost use Rattle.omega_model.specs.Requests.{is_running};
 ghost use Rattle.omega_model.specs.RowEntries.{row_entries};
 ghost use Rattle.omega_model.specs.Wanted.{wanted_after, wanted_after_task, with_wanted, is_named};
-ghost use Rattle.omega_model.specs.declared.cells.Machine.{Machine};
 ghost use Rattle.omega_model.specs.declared.rows.Row.{Row};
 ghost use Rattle.omega_model.specs.declared.rows.TraceTables.{TraceTables};
 ghost use Rattle.omega_model.specs.declared.settings.Settings.{Settings};
 ghost use Rattle.omega_board.specs.Board.{cell_of};
-ghost use Rattle.omega_feed.specs.Asked.{asked_after, asked_requests, asked_wish};
-ghost use Rattle.omega_feed.specs.Index.{place_request};
+ghost use Rattle.omega_feed.specs.Asked.{activities_in, asked_after, asked_extra, asked_requests, asked_wish, asked_wishes, extras_after};
+ghost use Rattle.omega_feed.specs.Index.{place_request, wanted_task};
 
+use crate::activities::JobActivities;
 use crate::constraints::TaskConstraints;
 use crate::disks::MachineDisks;
 use crate::entries::entries_of;
+use crate::extras::{extra_count, free_indexes, running_extras};
 use crate::jobs::{Jobs, RoutedJob};
-use crate::tasks::WantedTasks;
+use crate::tasks::{Change, WantedTasks};
 use omega_board::Board;
 use omega_model::{
-    Entries, NoMemory, Request, Requests, Row, Settings, Spec, TaskKey, TaskRow, TraceTables, Wish,
+    Entries, Extra, NoMemory, Request, Requests, Row, Settings, Spec, TaskKey, TaskRow, TraceTables, Wish,
     Wishes,
 };
 use omega_running::Running;
@@ -32,12 +34,14 @@ use std::collections::BTreeSet;
 use std::marker::Model;
 
 /// What a trace asks for after some of its rows. `active` has the places of all jobs that have a
-/// wanted task.
+/// wanted task. Every wanted task has an index below those of extras.
 #[derive(Drop)]
 pub struct Wanted {
     jobs: Jobs,
     constraints: TaskConstraints,
     disks: MachineDisks,
+    activities: JobActivities,
+    extra: Extra,
     tasks: WantedTasks,
     active: BTreeSet<usize>,
 }
@@ -47,11 +51,11 @@ impl Model for Wanted {
 
     ghost Value = { Asked };
 
-    ghost use Rattle.omega_feed.specs.Index.{AreActive};
+    ghost use Rattle.omega_feed.specs.Index.{AreWanted};
 
-    ghost view = { λ wanted. record { jobs = wanted.jobs; constraints = wanted.constraints; disks = wanted.disks; tasks = wanted.tasks } };
+    ghost view = { λ wanted. record { jobs = wanted.jobs; constraints = wanted.constraints; disks = wanted.disks; activities = wanted.activities; extra = wanted.extra; tasks = wanted.tasks } };
 
-    ghost invariant = { λ wanted. AreActive wanted.active wanted.jobs wanted.tasks };
+    ghost invariant = { λ wanted. AreWanted wanted.active wanted.jobs wanted.tasks };
 }
 
 impl Wanted {
@@ -61,10 +65,13 @@ impl Wanted {
         requires { IsInRange settings.now }
         ensures { IfOk result (λ wanted. wanted ≡ asked_after settings.now tables.now []) }
     {
+        let activities = JobActivities::new(alloc, &tables.activities)?;
         Ok(Wanted {
-            jobs: Jobs::of(alloc, tables, settings)?,
+            jobs: Jobs::of(alloc, tables, settings, &activities)?,
             constraints: TaskConstraints::new(alloc, &tables.constraints)?,
             disks: MachineDisks::new(alloc, &tables.disks)?,
+            activities,
+            extra: settings.extra,
             tasks: WantedTasks::new(alloc),
             active: BTreeSet::new(alloc),
         })
@@ -79,6 +86,7 @@ impl Wanted {
         ensures asked { (settings : Settings) (trace : TraceTables) (rows : List Row)
             → self.old ≡ asked_after settings trace rows
             → OnOk result (self.new ≡ asked_after settings trace (rows ++ row.now ∷ [])) }
+        ensures low { All HasLowIndex self.new.tasks }
     {
         match row {
             Row::Task(row) => self.take_task(row),
@@ -90,18 +98,18 @@ impl Wanted {
         ensures ok { OnOk result (self.new ≡ record self.old { tasks = wanted_after_task self.old.tasks row.now }) }
         ensures err { OnErr result (self.new ≡ self.old) }
     {
-        match row.code {
-            0 | 1 => self.want(row.key, row.spec),
-            3..=6 => {
+        match self.tasks.change_of(row) {
+            Change::Want => self.want(row.key, row.spec),
+            Change::End => {
                 self.end(row.key);
                 Ok(())
             }
-            7.. if self.tasks.contains(row.key) => self.want(row.key, row.spec),
-            _ => Ok(()),
+            Change::Keep => Ok(()),
         }
     }
 
     fn want(&mut self, key: TaskKey, spec: Spec) -> Result<(), NoMemory>
+        requires { key.index < first_extra }
         ensures ok { OnOk result (self.new ≡ record self.old { tasks = with_wanted key spec self.old.tasks }) }
         ensures err { OnErr result (self.new ≡ self.old) }
     {
@@ -125,66 +133,64 @@ impl Wanted {
     }
 
     /// The entries of the row that was taken last, on the cell of a board. Costs the logarithm of the
-    /// number of running tasks.
+    /// number of tasks that are wanted or run, and the running tasks of a job that the row leaves
+    /// without a wanted task.
     pub fn entries(&self, alloc: Global, row: &Row, board: &Board) -> Result<Entries, NoMemory>
         ensures entries { IfOk result (λ entries. entries ≡ row_entries self.now.disks (cell_of board.now) self.now.tasks row.now) }
         ensures range { IfOk result (λ entries. All CapacityIsInRange entries) }
     {
-        entries_of(alloc, row, &self.disks, board.running())
+        entries_of(alloc, row, &self.disks, &self.tasks, board.running())
     }
 
     /// What a scheduler is asked to place on the cell of a board: its jobs in order of their first
-    /// task row, each with its wanted tasks that don't run, by index. A job without such a task is
-    /// left out, one that is given up is not. Costs the wanted tasks of the scheduler's jobs, also
-    /// those that run, each times the logarithm of the number of all, and the jobs that have any.
+    /// task row, each with its wanted tasks that don't run, by index, and then its extras. A job for
+    /// which this is nothing is left out, one that is given up is not.
+    ///
+    /// Costs the wanted tasks of the scheduler's jobs, also those that run, each times the logarithm
+    /// of the number of all, and the jobs that have any. A job with activities costs besides its
+    /// running tasks and its extras, each times the same logarithm; the number of machines costs
+    /// nothing.
     pub fn requests(
         &self,
         alloc: Global,
         scheduler: u32,
         board: &Board,
     ) -> Result<Requests, NoMemory>
-        ensures { IfOk result (λ requests. (settings : Settings) (trace : TraceTables) (rows : List Row)
+        ensures requests { IfOk result (λ requests. (settings : Settings) (trace : TraceTables) (rows : List Row)
             → self.now ≡ asked_after settings trace rows
             → requests ≡ open_requests settings trace rows (cell_of board.now) scheduler) }
+        ensures low { All HasLowIndex self.now.tasks }
     {
-        self.requests_beside(alloc, scheduler, board.running())
+        self.requests_on(alloc, scheduler, board)
     }
 
-    /// No wanted task has the index of an extra, by the type of the rows. Does nothing: the contract is
-    /// what a caller learns.
-    pub fn check_low(&self)
-        ensures { All HasLowIndex self.now.tasks }
-    {
-        unreachable!()
-    }
-
-    /// The requests of a scheduler, where these tasks run.
-    fn requests_beside(
+    /// The requests of a scheduler on the cell of a board.
+    fn requests_on(
         &self,
         alloc: Global,
         scheduler: u32,
-        running: &Running,
+        board: &Board,
     ) -> Result<Requests, NoMemory>
-        ensures { IfOk result (λ requests. (machines : List Machine) → requests ≡ asked_requests self.now (record { machines = machines; tasks = running.now.tasks }) scheduler) }
+        ensures { IfOk result (λ requests. requests ≡ asked_requests self.now (cell_of board.now) scheduler) }
     {
         let mut requests = Requests::new(alloc);
         for place in self.active.iter() {
-            if let Some(request) = self.request_at(alloc, *place, scheduler, running)? {
+            if let Some(request) = self.request_at(alloc, *place, scheduler, board)? {
                 requests.push(request)?;
             }
         }
         Ok(requests)
     }
 
-    /// The request of the job at a place, if it is this scheduler's and has a task that doesn't run.
+    /// The request of the job at a place, if it is this scheduler's and wishes for anything.
     fn request_at(
         &self,
         alloc: Global,
         place: usize,
         scheduler: u32,
-        running: &Running,
+        board: &Board,
     ) -> Result<Option<Request>, NoMemory>
-        ensures { IfOk result (λ request. (machines : List Machine) → request ≡ place_request self.now (record { machines = machines; tasks = running.now.tasks }) scheduler place) }
+        ensures { IfOk result (λ request. request ≡ place_request self.now (cell_of board.now) scheduler place) }
     {
         let Some(
             RoutedJob {
@@ -198,24 +204,96 @@ impl Wanted {
         if home != scheduler {
             return Ok(None);
         }
-        let wishes = self.wishes_of(alloc, job, running)?;
+        let wishes = self.wishes_of(alloc, job, board)?;
         if wishes.is_empty() {
             return Ok(None);
         }
         Ok(Some(Request { job, wishes }))
     }
 
-    /// The wishes of a job: its wanted tasks that don't run, by index.
-    fn wishes_of(&self, alloc: Global, job: u64, running: &Running) -> Result<Wishes, NoMemory>
-        ensures { IfOk result (λ wishes. (machines : List Machine) → wishes ≡ map (asked_wish self.now.constraints) (filter (is_waiting (record { machines = machines; tasks = running.now.tasks }) job) self.now.tasks)) }
+    /// The wishes of a job: its wanted tasks that don't run, by index, and then its extras.
+    fn wishes_of(&self, alloc: Global, job: u64, board: &Board) -> Result<Wishes, NoMemory>
+        ensures { IfOk result (λ wishes. wishes ≡ asked_wishes self.now (cell_of board.now) job) }
+    {
+        let wanted = self.tasks.of_job(alloc, job)?;
+        let wishes = self.waiting(alloc, &wanted, board.running())?;
+        self.with_extras(alloc, wishes, job, &wanted, board)
+    }
+
+    /// The wishes for those of some wanted tasks that don't run.
+    fn waiting(
+        &self,
+        alloc: Global,
+        wanted: &[(TaskKey, Spec)],
+        running: &Running,
+    ) -> Result<Wishes, NoMemory>
+        ensures { IfOk result (λ wishes. wishes ≡ map (asked_wish self.now.constraints) (filter (λ task. not (is_running (task_at running.now.tasks task.key))) (map wanted_task wanted.now))) }
     {
         let mut wishes = Wishes::new(alloc);
-        for (key, spec) in self.tasks.waiting(alloc, job, running)? {
-            let constraints = self.constraints.of(alloc, key)?;
+        for (key, spec) in wanted {
+            if running.get(*key).is_none() {
+                wishes.push(Wish {
+                    key: *key,
+                    spec: *spec,
+                    constraints: self.constraints.of(alloc, *key)?,
+                })?;
+            }
+        }
+        Ok(wishes)
+    }
+
+    /// These wishes, and behind them those for the extras of a job of which these tasks are wanted.
+    fn with_extras(
+        &self,
+        alloc: Global,
+        wishes: Wishes,
+        job: u64,
+        wanted: &[(TaskKey, Spec)],
+        board: &Board,
+    ) -> Result<Wishes, NoMemory>
+        ensures { IfOk result (λ all. all ≡ wishes ++ extras_after self.now (cell_of board.now) job (activities_in self.now.activities job) (map wanted_task wanted.now)) }
+    {
+        let Some(activities) = self.activities.of(job) else {
+            return Ok(wishes);
+        };
+        let Some(model) = wanted.first() else {
+            return Ok(wishes);
+        };
+        let held = running_extras(alloc, board.running(), job)?.len();
+        let need = model.1.need;
+        let count = extra_count(self.extra, activities, wanted.len(), held, need, board);
+        if count == 0 {
+            return Ok(wishes);
+        }
+        let indexes = free_indexes(alloc, board.running(), job, held, count)?;
+        self.with_extras_of(alloc, wishes, model, &indexes)
+    }
+
+    /// These wishes, and behind them those for extras of these indexes, each of which needs what a
+    /// wanted task needs and has its constraints.
+    fn with_extras_of(
+        &self,
+        alloc: Global,
+        mut wishes: Wishes,
+        model: &(TaskKey, Spec),
+        indexes: &[u32],
+    ) -> Result<Wishes, NoMemory>
+        ensures { IfOk result (λ all. all ≡ wishes ++ map (asked_extra self.now.constraints (wanted_task model.now)) indexes.now) }
+    {
+        let (like, spec) = model;
+        for index in indexes {
+            let key = TaskKey {
+                job: like.job,
+                index: *index,
+            };
             wishes.push(Wish {
                 key,
-                spec,
-                constraints,
+                spec: Spec {
+                    need: spec.need,
+                    prec: 0,
+                    differ: false,
+                },
+                constraints: self.constraints.of(alloc, *like)?,
             })?;
         }
         Ok(wishes)

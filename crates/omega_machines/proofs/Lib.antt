@@ -4,5 +4,6 @@ pub mod Bounds
 mod Growing
 mod Attributes
 pub mod Laws
+mod Loads
 mod Shortening
 pub mod Ensuring

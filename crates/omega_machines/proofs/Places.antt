@@ -1,5 +1,5 @@
 -- Where a machine stands in a table, and what is said of it there.
-use Rattle.std.proofs.Common.{◌≡◌, ℕ, ◌+◌, ◌<◌, Bool, true, false, cond, not, ◌||◌, nat_eq, List, [], ◌∷◌, map, length, get_or, slice_get, position, Some, None, IsTrue, IsSomeAnd, refl, sym, ap, ◌∙◌, arith, if◌then◌else◌, ◌==◌}
+use Rattle.std.proofs.Common.{◌≡◌, ℕ, ◌+◌, ◌<◌, Bool, true, cond, not, ◌||◌, nat_eq, List, [], ◌∷◌, map, length, get_or, slice_get, position, Some, None, IsTrue, IsSomeAnd, refl, sym, ap, ◌∙◌, arith, if◌then◌else◌, ◌==◌}
 use Rattle.std.specs.Cmp.{nat_eq_equiv}
 use Rattle.std.specs.List.{list_any, position_or_len}
 use Rattle.std.specs.Map.{keys_of, values_of, lookup}

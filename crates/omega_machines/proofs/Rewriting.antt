@@ -21,7 +21,7 @@ use Rattle.omega_machines.proofs.Bounds.{bounded-put}
 use Rattle.omega_machines.proofs.Places.{Stands, stands}
 
 -- a value that is written in a row is written in the table
-values-set_value_at : (rows : List (ℕ × MachineState)) (place : ℕ) (next : MachineState) → values_of (set_value_at rows place next) ≡ set (values_of rows) place next
+pub values-set_value_at : (rows : List (ℕ × MachineState)) (place : ℕ) (next : MachineState) → values_of (set_value_at rows place next) ≡ set (values_of rows) place next
 values-set_value_at [] place next = refl
 values-set_value_at (row ∷ rows) zero next = refl
 values-set_value_at (row ∷ rows) (suc place) next = ap (λ states. row.1 ∷ states) (values-set_value_at rows place next)
@@ -78,7 +78,7 @@ bounded_row rows place key state kept row =
     bounded_at (values_of rows) place state kept.table (slice_get-map (λ (e : ℕ × MachineState). e.1) rows place ∙ ap (option_map (λ (e : ℕ × MachineState). e.1)) row)
 
 -- the state of a row stands at the row's place in the table
-row_stands : (rows : List (ℕ × MachineState)) (table : List MachineState) (place key : ℕ) (state : MachineState) → values_of rows ≡ table → slice_get rows place ≡ Some (key, state)
+pub row_stands : (rows : List (ℕ × MachineState)) (table : List MachineState) (place key : ℕ) (state : MachineState) → values_of rows ≡ table → slice_get rows place ≡ Some (key, state)
     → slice_get table place ≡ Some state
 row_stands rows table place key state seen row =
     ap (λ t. slice_get t place) (sym seen) ∙ slice_get-map (λ (e : ℕ × MachineState). e.1) rows place ∙ ap (option_map (λ (e : ℕ × MachineState). e.1)) row

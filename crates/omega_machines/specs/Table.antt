@@ -3,6 +3,7 @@ pub use Rattle.omega_machines.specs.declared.MachineState.{MachineState}
 use Rattle.std.specs.Prelude.{◌≡◌, ℕ, ◌+◌, ◌≤◌, false, List, [], ◌∷◌, ◌++◌, Option, Some, None, ◌==◌, nat_eq, map, length, if◌then◌else◌}
 use Rattle.std.specs.List.{All, IsDistinct, find}
 use Rattle.std.specs.Option.{option_map_or, option_and_then}
+use Rattle.omega_model.specs.ExtraTasks.{sum_of}
 use Rattle.omega_model.specs.Fields.{greatest}
 use Rattle.omega_model.specs.Machines.{is_listed, numbers_of, new_machine, added, updated}
 use Rattle.omega_model.specs.Need.{Fits, nothing, plus, minus}
@@ -32,6 +33,20 @@ free_if_up state = if state.machine.up then Some state.free else None
 -- what is free on the machine of this number, if it is in the table and up
 abbrev pub free_at : List MachineState → ℕ → Option Need
 free_at table id = option_and_then free_if_up (state_at table id)
+
+-- what is in use on a machine, and its capacity: nothing where it isn't up
+abbrev pub used_if_up : MachineState → Need
+used_if_up state = if state.machine.up then used state else nothing
+
+abbrev pub cap_if_up : MachineState → Need
+cap_if_up state = if state.machine.up then state.machine.cap else nothing
+
+-- what is in use on all machines that are up, and the capacity of these
+abbrev pub used_by_all : List MachineState → Need
+used_by_all table = sum_of (map used_if_up table)
+
+abbrev pub capacity_of_all : List MachineState → Need
+capacity_of_all table = sum_of (map cap_if_up table)
 
 -- the sequence number of the machine of this number, 0 where it isn't in the table
 abbrev pub seq_at : List MachineState → ℕ → ℕ

@@ -1,13 +1,15 @@
 //! The machines of a cell, with what is free on each and how often it was touched.
 //!
 //! A look-up by number goes through a hash table and costs the same for any number of machines.
-//! Contracts speak of the list of the machines' states alone, in order of first mention.
+//! Contracts speak of the list of the machines' states alone, in order of first mention. What is in
+//! use on all machines that are up, and their capacity, are kept as running sums.
 //!
 //! The hash has a fixed seed. Numbers that are chosen so that they collide make a look-up go
 //! through the machines one by one, of which there are at most 65,536; no answer changes.
 #![tactic(auto)]
 
 mod attrs;
+mod load;
 mod table;
 #[cfg(test)]
 mod tests;

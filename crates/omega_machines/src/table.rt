@@ -1,11 +1,14 @@
 //! The table of machines.
-ghost use Rattle.std.specs.Prelude.{◌≡◌, ◌-◌, ◌<◌, ◌^◌, ◌⊎◌, ◌==◌, false, [], ◌∷◌, ◌++◌, None, Some, nat_eq, length, take, slice_get, option_map, position, is_some, IsTrue, IsSomeAnd, OnOk, OnErr};
+ghost use Rattle.std.specs.Prelude.{◌≡◌, ◌-◌, ◌<◌, ◌^◌, ◌⊎◌, ◌==◌, false, [], ◌∷◌, ◌++◌, None, Some, nat_eq, length, take, drop, slice_get, option_map, position, is_some, IsTrue, IsSomeAnd, OnOk, OnErr};
 ghost use Rattle.indexmap.specs.IndexMap.{get, IsUnchanged};
 ghost use Rattle.omega_model.specs.Fields.{greatest};
 ghost use Rattle.omega_model.specs.Machines.{is_listed, numbers_of, removed, attr_set, attr_deleted};
 ghost use Rattle.omega_model.specs.Need.{Fits, nothing};
-ghost use Rattle.omega_machines.specs.Table.{machines_of, use_at, free_at, seq_at, change_state, ensured_states, state_added, state_updated, state_put, with_machine, charged, released, touched, IsTable};
+ghost use Rattle.std.specs.Map.{values_of};
+ghost use Rattle.omega_machines.specs.Load.{less, load_of_all};
+ghost use Rattle.omega_machines.specs.Table.{machines_of, use_at, free_at, seq_at, used_by_all, capacity_of_all, change_state, ensured_states, state_added, state_updated, state_put, with_machine, charged, released, touched, IsTable};
 
+use crate::load::Load;
 use crate::{MachineState, attrs};
 use indexmap::IndexMap;
 use omega_model::{Bytes, Copied, Machine, Need, NoMemory, Seq};
@@ -23,19 +26,20 @@ use std::marker::Model;
 #[derive(Drop)]
 pub struct MachineTable {
     rows: IndexMap<u64, MachineState>,
+    load: Load,
 }
 
 impl Model for MachineTable {
     ghost use Rattle.std.specs.Prelude.{List};
     ghost use Rattle.indexmap.specs.IndexMap.{values};
     ghost use Rattle.omega_machines.specs.Table.{MachineState};
-    ghost use Rattle.omega_machines.specs.Rows.{IsKept};
+    ghost use Rattle.omega_machines.specs.Load.{AreSummed};
 
     ghost Value = { List MachineState };
 
     ghost view = { λ table. values table.rows };
 
-    ghost invariant = { λ table. IsKept table.rows.entries };
+    ghost invariant = { λ table. AreSummed table.rows.entries table.load };
 }
 
 /// Gives a machine a capacity. What is in use on it stays in use.
@@ -61,6 +65,19 @@ fn push(
     Ok(())
 }
 
+/// What is left of a load when the machines from this place on leave.
+fn without_rest(rows: &IndexMap<u64, MachineState>, load: Load, from: usize) -> Load
+    ensures { result ≡ less load (load_of_all (drop from (values_of rows.now.entries))) }
+{
+    let mut left = load;
+    for position in from..rows.len() {
+        if let Some((_, state)) = rows.get_index(position) {
+            left = left.less(Load::of(state));
+        }
+    }
+    left
+}
+
 impl MachineTable {
     /// The table without machines.
     pub fn new(alloc: Global) -> MachineTable
@@ -68,6 +85,7 @@ impl MachineTable {
     {
         MachineTable {
             rows: IndexMap::new(alloc),
+            load: Load::NONE,
         }
     }
 
@@ -93,6 +111,22 @@ impl MachineTable {
         ensures place { result ≡ position (λ machine. machine.id == id) (machines_of self.now) }
     {
         self.rows.get_index_of(&id)
+    }
+
+    /// What is in use on all machines that are up, below 2^56 in each component. Costs the same for
+    /// any number of machines.
+    pub fn used(&self) -> Need
+        ensures { result ≡ used_by_all self.now }
+    {
+        self.load.used
+    }
+
+    /// The capacity of all machines that are up, below 2^56 in each component. Costs the same for
+    /// any number of machines.
+    pub fn capacity(&self) -> Need
+        ensures { result ≡ capacity_of_all self.now }
+    {
+        self.load.capacity
     }
 
     /// Puts a machine that isn't there at the end of the list: down, with no capacity and no
@@ -131,8 +165,10 @@ impl MachineTable {
     {
         let place = self.place_of(id);
         let (_, state) = self.rows.pair_mut(place);
+        let before = Load::of(state);
         set_cap(state, cap);
         state.machine.up = true;
+        self.load = self.load.replaced(before, Load::of(state));
     }
 
     /// Gives a machine another capacity; it stays up or down. What is in use on it stays in use.
@@ -145,7 +181,9 @@ impl MachineTable {
     {
         let place = self.place_of(id);
         let (_, state) = self.rows.pair_mut(place);
+        let before = Load::of(state);
         set_cap(state, cap);
+        self.load = self.load.replaced(before, Load::of(state));
     }
 
     /// Takes a machine down on which nothing is in use. Its capacity and attributes stay.
@@ -157,7 +195,9 @@ impl MachineTable {
     {
         let place = self.place_of(id);
         let (_, state) = self.rows.pair_mut(place);
+        let before = Load::of(state);
         state.machine.up = false;
+        self.load = self.load.replaced(before, Load::of(state));
     }
 
     /// Gives an attribute of a machine a value, in its place where it is set, else after the
@@ -206,11 +246,12 @@ impl MachineTable {
     }
 
     /// The first `n` machines stay as they are and the others leave the list, so that a refused
-    /// `ensure` among several can be undone.
+    /// `ensure` among several can be undone. Costs the machines that leave.
     pub fn truncate(&mut self, n: usize)
         ensures first { self.new ≡ take n self.old }
         ensures table { IsTable self.new }
     {
+        self.load = without_rest(&self.rows, self.load, n);
         self.rows.truncate(n);
     }
 
@@ -226,7 +267,9 @@ impl MachineTable {
     {
         let free = machine.cap.minus(used);
         let (_, state) = self.rows.pair_mut(position);
+        let before = Load::of(state);
         *state = MachineState { machine, free, seq };
+        self.load = self.load.replaced(before, Load::of(state));
     }
 
     /// What is free on a machine: its capacity less what is in use. `None` exactly where it isn't
@@ -273,7 +316,9 @@ impl MachineTable {
     {
         let place = self.place_of(id);
         let (_, state) = self.rows.pair_mut(place);
+        let before = Load::of(state);
         state.free = state.free.minus(need);
+        self.load = self.load.replaced(before, Load::of(state));
     }
 
     /// Gives back an amount of what is in use on a machine.
@@ -285,7 +330,9 @@ impl MachineTable {
     {
         let place = self.place_of(id);
         let (_, state) = self.rows.pair_mut(place);
+        let before = Load::of(state);
         state.free = state.free.plus(need);
+        self.load = self.load.replaced(before, Load::of(state));
     }
 
     /// The place of a machine that is there.
@@ -306,6 +353,9 @@ impl Copied for MachineTable {
                 push(&mut rows, *id, state.copy(alloc)?)?;
             }
         }
-        Ok(MachineTable { rows })
+        Ok(MachineTable {
+            rows,
+            load: self.load,
+        })
     }
 }

@@ -79,6 +79,10 @@ fn tasks_take_and_give_back(rt: HostRuntime) -> Result<(), Fail> {
     table.charge(7, need(30, 50));
     table.charge(7, need(10, 0));
     assert_eq!(rt; table.free(7), Some(need(60, 150)));
+    assert_eq!(rt;
+        (table.used(), table.capacity()),
+        (need(40, 50), need(100, 200))
+    );
     table.update(7, need(40, 60));
     assert_eq!(rt; table.free(7), Some(need(0, 10)));
     table.add(7, need(70, 70));

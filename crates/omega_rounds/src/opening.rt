@@ -125,7 +125,6 @@ pub(crate) fn begin_all(
     requires no_work { HaveNoWork seats.old.items }
     ensures { OnOk result (BeginAll wanted.now cell.now.history seats.old.items seats.new.items) }
 {
-    wanted.check_low();
     for i in 0..seats.len() {
         let requests = wanted.requests(alloc, i as u32, cell.board())?;
         seats[i].begin(requests)?;

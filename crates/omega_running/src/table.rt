@@ -185,6 +185,16 @@ impl Running {
         keys_of(alloc, &found)
     }
 
+    /// A job's running tasks by index. Takes the time of what the job has, and logarithmic in the
+    /// number of tasks.
+    pub fn tasks_of_job(&self, alloc: Global, job: u64) -> Result<Tasks, NoMemory>
+        ensures { IfOk result (λ tasks. tasks ≡ filter (is_of_job job) self.now.tasks) }
+    {
+        let mut found = Vec::new(alloc);
+        self.by_key.collect(Order::ByKey, job, &mut found)?;
+        Ok(Seq::of(found))
+    }
+
     /// The key of the job's task on the machine with the least index that isn't in `gone`; `None`
     /// exactly where there is none. Takes no memory, and the time of the job's tasks on the
     /// machine, each looked up in `gone`, and logarithmic in the number of tasks.

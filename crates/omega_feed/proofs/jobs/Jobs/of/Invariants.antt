@@ -6,5 +6,5 @@ use Rattle.omega_feed.proofs.jobs.Jobs.of.Given as goal
 
 abbrev pub invariant-loop-row : goal.invariant-loop-row
 invariant-loop-row l =
-    fold (note_job l.settings) l.jobs (into_iter_items l.row-iterator)
-    ≡ fold (note_job l.settings) [] (into_iter_items l.initial.row-iterator)
+    fold (note_job l.settings l.activities) l.jobs (into_iter_items l.row-iterator)
+    ≡ fold (note_job l.settings l.activities) [] (into_iter_items l.initial.row-iterator)

@@ -1,5 +1,6 @@
-use Rattle.std.proofs.Common.{rules, ◌<◌, ◌^◌, ap, ◌∙◌, map}
+use Rattle.std.proofs.Common.{◌<◌, ap, ◌∙◌, map}
 use Rattle.std.proofs.lemmas.Map.Views.{All-keys-insert_entry}
+use Rattle.omega_model.specs.ExtraTasks.{first_extra}
 use Rattle.omega_model.specs.Wanted.{with_wanted}
 use Rattle.omega_feed.specs.Index.{wanted_task, key_cmp}
 use Rattle.omega_feed.proofs.tasks.WantedTasks.insert.Goals as goal
@@ -9,7 +10,7 @@ pub invariant_of-self-2 : goal.invariant_of-self-2
 invariant_of-self-2 c =
     record {
       ordered = c.in_ok-insert.ensures.ordered;
-      narrow = rw c.in_ok-insert.ensures.entries (All-keys-insert_entry key_cmp c.args.key c.args.spec (λ key. key.index < 2 ^ 32) c.self.inside.specs.entries c.self.invariant.narrow (search rules));
+      low = rw c.in_ok-insert.ensures.entries (All-keys-insert_entry key_cmp c.args.key c.args.spec (λ key. key.index < first_extra) c.self.inside.specs.entries c.self.invariant.low c.requires);
     }
 
 pub returns-clause-ok : goal.returns-clause-ok

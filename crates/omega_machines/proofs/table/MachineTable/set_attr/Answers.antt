@@ -3,21 +3,23 @@ use Rattle.std.proofs.lemmas.Result.{on_ok_weaker, on_err_weaker}
 use Rattle.omega_model.specs.Machines.{attr_set}
 use Rattle.omega_model.specs.declared.cells.Attr.{Attr}
 use Rattle.omega_machines.specs.Table.{with_machine}
+use Rattle.omega_machines.proofs.Loads.{rows_kept}
 use Rattle.omega_machines.proofs.Rewriting.{rewritten, unwritten}
 use Rattle.omega_machines.proofs.table.MachineTable.set_attr.Goals as goal
 
 pub invariant_of-self : goal.invariant_of-self
 invariant_of-self c =
     let attrs = c.set.new.attrs in
-    (rewritten _ _ _ _ _ _ _ (with_machine (λ machine. record machine { attrs = attrs })) c.self.view_is c.self.invariant c.place_of-place.ensures c.pair_mut-state.ensures.value
-    refl refl (λ here bounded. record { cap = bounded.cap; free = bounded.free; down = bounded.down })).0
+    rows_kept _ _ _ _ _ _ c.self.invariant c.pair_mut-state.ensures.value refl
+    ((rewritten _ _ _ _ _ _ _ (with_machine (λ machine. record machine { attrs = attrs })) c.self.view_is c.self.invariant.kept c.place_of-place.ensures c.pair_mut-state.ensures.value
+    refl refl (λ here bounded. record { cap = bounded.cap; free = bounded.free; down = bounded.down })).0)
 
 pub returns-clause-ok : goal.returns-clause-ok
 returns-clause-ok c =
     on_ok_weaker c.set.result
     (λ is.
     let state = c.pair_mut-state.result.1.now in
-    (rewritten _ _ _ _ _ state _ (with_machine (attr_set c.args.name.now c.args.value.now)) c.self.view_is c.self.invariant c.place_of-place.ensures c.pair_mut-state.ensures.value
+    (rewritten _ _ _ _ _ state _ (with_machine (attr_set c.args.name.now c.args.value.now)) c.self.view_is c.self.invariant.kept c.place_of-place.ensures c.pair_mut-state.ensures.value
     (ap (λ (attrs : List Attr). record state { machine = record state.machine { attrs = attrs } }) (sym is)) refl
     (λ here bounded. record { cap = bounded.cap; free = bounded.free; down = bounded.down })).1)
     c.set.ensures.ok
@@ -34,5 +36,5 @@ returns-clause-err c =
 pub returns-clause-table : goal.returns-clause-table
 returns-clause-table c =
     let attrs = c.set.new.attrs in
-    (rewritten _ _ _ _ _ _ _ (with_machine (λ machine. record machine { attrs = attrs })) c.self.view_is c.self.invariant c.place_of-place.ensures c.pair_mut-state.ensures.value
+    (rewritten _ _ _ _ _ _ _ (with_machine (λ machine. record machine { attrs = attrs })) c.self.view_is c.self.invariant.kept c.place_of-place.ensures c.pair_mut-state.ensures.value
     refl refl (λ here bounded. record { cap = bounded.cap; free = bounded.free; down = bounded.down })).0.table

@@ -1,9 +1,0 @@
-use Rattle.std.proofs.Common.{◌≡◌, ◌++◌, []}
-use Rattle.std.specs.List.{filter_map}
-use Rattle.omega_feed.specs.Index.{place_request}
-use Rattle.omega_feed.proofs.wanted.Wanted.requests_beside.Given as goal
-
-abbrev pub invariant-loop-place : goal.invariant-loop-place
-invariant-loop-place l =
-    l.requests ++ filter_map (place_request l.self (record { machines = []; tasks = l.running.tasks }) l.scheduler) l.place-iterator
-    ≡ filter_map (place_request l.self (record { machines = []; tasks = l.running.tasks }) l.scheduler) l.initial.place-iterator

@@ -1,0 +1,88 @@
+//! The extra tasks of MapReduce jobs.
+ghost use Rattle.std.specs.Prelude.{◌≡◌, ◌≤◌, ◌<◌, ◌+◌, IfOk, length, min, map};
+ghost use Rattle.std.specs.List.{filter};
+ghost use Rattle.omega_model.specs.ExtraTasks.{capacity_in_all, free_indexes, is_extra_of, used_in};
+ghost use Rattle.omega_model.specs.Extras.{extras};
+ghost use Rattle.omega_board.specs.Board.{cell_of};
+
+use omega_board::Board;
+use omega_mapreduce::extras;
+use omega_model::{Extra, Need, NoMemory, TaskKey, Tasks};
+use omega_running::Running;
+use std::alloc::Global;
+
+/// The least index of an extra task; the tasks of the trace have lower ones.
+const FIRST_EXTRA: u32 = 2_147_483_648;
+
+/// The running extras of a job, by index. Costs the job's running tasks, and the logarithm of the
+/// number of all.
+pub fn running_extras(alloc: Global, running: &Running, job: u64) -> Result<Tasks, NoMemory>
+    ensures { IfOk result (λ found. found ≡ filter (is_extra_of job) running.now.tasks) }
+{
+    let mut found = Tasks::new(alloc);
+    for task in running.tasks_of_job(alloc, job)?.as_slice() {
+        if task.key.index >= FIRST_EXTRA {
+            found.push(*task)?;
+        }
+    }
+    Ok(found)
+}
+
+/// How many extras a job gets on the cell of a board, with these activities, so many tasks wanted and
+/// so many extras running, each of which needs so much. Takes no memory, and the same time for any
+/// number of machines.
+pub fn extra_count(
+    policy: Extra,
+    activities: u32,
+    wanted: usize,
+    running: usize,
+    need: Need,
+    board: &Board,
+) -> u32
+    ensures count { result ≡ extras policy activities wanted running need (used_in (cell_of board.now)) (capacity_in_all (cell_of board.now)) }
+    ensures room { 0 < result → running + result ≤ activities }
+{
+    let machines = board.machines();
+    let (used, capacity) = (machines.used(), machines.capacity());
+    extras(
+        policy,
+        activities,
+        narrowed(wanted),
+        narrowed(running),
+        need,
+        used,
+        capacity,
+    )
+}
+
+/// A count, or the greatest number of 32 bits where it is more.
+fn narrowed(count: usize) -> u32
+    ensures { result ≡ min count 4294967295 }
+{
+    u32::try_from(count).unwrap_or(u32::MAX)
+}
+
+/// So many of the least indexes of extras that no running task of the job has, where so many extras
+/// of it run. Costs these and those that run, each times the logarithm of the number of running
+/// tasks.
+pub fn free_indexes(
+    alloc: Global,
+    running: &Running,
+    job: u64,
+    held: usize,
+    count: u32,
+) -> Result<Vec<u32>, NoMemory>
+    requires held { held ≡ length (filter (is_extra_of job) running.now.tasks) }
+    requires few { held + count ≤ 10000 }
+    ensures { IfOk result (λ found. found.items ≡ free_indexes (map (λ task. task.key.index) (filter (is_extra_of job) running.now.tasks)) count) }
+{
+    let mut found = Vec::new(alloc);
+    let end = FIRST_EXTRA + held as u32 + count;
+    for index in FIRST_EXTRA..end {
+        if running.get(TaskKey { job, index }).is_none() {
+            found.push(index)?;
+        }
+    }
+    found.truncate(count as usize);
+    Ok(found)
+}
