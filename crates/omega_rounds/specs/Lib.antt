@@ -14,3 +14,4 @@ pub mod Going
 pub mod SeatSteps
 pub mod Opening
 pub mod Playing
+pub mod Players
