@@ -1,3 +1,4 @@
 pub mod Edge
 pub mod ByTable
 pub mod Lends
+pub mod Gates

@@ -2,13 +2,14 @@
 //!
 //! The three traits say what a read, a write and a gate may do. The objects in memory serve
 //! tests, the steady ones never fail, and the real ones read a folder and write to standard
-//! output.
+//! output. Of the gates one returns at once, and one holds schedulers in an order.
 #![tactic(auto)]
 
 mod by_table;
 mod calls;
 mod edges;
 mod folder;
+mod held;
 mod memory;
 mod stdout;
 mod steady;
@@ -17,6 +18,7 @@ mod writing;
 
 pub use edges::{Failed, Gate, PassGate, Point, Sink, Tables};
 pub use folder::FolderTables;
+pub use held::HeldGate;
 pub use memory::{MemorySink, MemoryTables};
 pub use stdout::StdoutSink;
 pub use steady::{SteadySink, SteadyTables};

@@ -1,12 +1,14 @@
-//! Reads and writes that are cut or fail, real files, and standard output.
+//! Reads and writes that are cut or fail, real files, standard output, and holds at a gate.
 use crate::{
-    Failed, FolderTables, Gate, MemorySink, MemoryTables, PassGate, Point, Sink, StdoutSink,
-    SteadySink, SteadyTables, Tables, write_all,
+    Failed, FolderTables, Gate, HeldGate, MemorySink, MemoryTables, PassGate, Point, Sink,
+    StdoutSink, SteadySink, SteadyTables, Tables, write_all,
 };
 use omega_model::{Bytes, NoMemory, Seq, Table};
 use std::alloc::{AllocError, Global};
 use std::fs;
+use std::sync::atomic::{AtomicU64, Ordering};
 use std::test::Fail;
+use std::thread::{Threads, join};
 
 // What is written in these tests.
 const TEXT: &[u8] = b"report";
@@ -211,5 +213,38 @@ fn tables_of_a_folder(rt: HostRuntime) -> Result<(), Fail> {
     assert_eq!(rt; next, Ok(0));
     assert_eq!(rt; again, (Ok(2), *b"ab\0\0"));
     assert_eq!(rt; faults, [1, 0, 3, 1, 0, 0]);
+    Ok(())
+}
+
+// The order in which two schedulers get on at a point, each on a thread of its own, where the first is
+// held until the second has come to it. The second counts before it comes there.
+fn held_until(rt: &(impl Threads + Sync), gate: &HeldGate) -> (u64, u64) {
+    let passed = AtomicU64::new(0);
+    join(
+        rt,
+        || {
+            gate.at(0, Point::Planned);
+            passed.fetch_add(1, Ordering::SeqCst)
+        },
+        || {
+            let place = passed.fetch_add(1, Ordering::SeqCst);
+            gate.at(1, Point::Planned);
+            place
+        },
+    )
+}
+
+#[test]
+fn holds_at_a_gate(rt: HostRuntime) -> Result<(), Fail> {
+    let order = [(0, Point::Planned, 1, Point::Planned)];
+    let met = HeldGate::new(rt.alloc(), &order, 200_000_000)?;
+    assert_eq!(rt; held_until(&rt, &met), (1, 0));
+    assert_eq!(rt; met.ran_out(), false);
+    let unmet = HeldGate::new(rt.alloc(), &order, 1000)?;
+    unmet.at(1, Point::Synced);
+    unmet.at(0, Point::Synced);
+    assert_eq!(rt; unmet.ran_out(), false);
+    unmet.at(0, Point::Planned);
+    assert_eq!(rt; unmet.ran_out(), true);
     Ok(())
 }

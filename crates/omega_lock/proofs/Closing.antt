@@ -11,7 +11,7 @@ use Rattle.atomic_table.specs.Table.{State, Final, Seen}
 use Rattle.atomic_table.specs.Seated.{TableId}
 use Rattle.omega_lock.specs.declared.view.View.{View}
 use Rattle.omega_lock.specs.declared.rule.Terms.{Terms}
-use Rattle.omega_lock.specs.Lists.{EachBelow, EachHasItsEntries, StartsWith, StartsWithEach, entries_since, same}
+use Rattle.omega_lock.specs.Lists.{EachBelow, EachHasItsEntries, StartsWith, StartsWithEach, EachIs, entries_since, same}
 use Rattle.omega_lock.specs.Views.{Rests, answers, holding, joined, lists, own_list}
 use Rattle.omega_lock.specs.Rule.{LockRule, first_list}
 use Rattle.omega_lock.specs.Seats.{LockState, SeatState, seat_state}
@@ -41,6 +41,7 @@ module _ {E : Type 0} where
   has_joined v w s h = (
     subst (In (s.number, s.own)) (append_assoc (own_list v) v.kept (lists w)) (in_left (s.number, s.own) (lists v) (lists w) h.0),
     inr (⊎_elim (λ (e : s.seen ≡ v.seen). inl e) (λ (r : In s.seen v.also_seen). inr (inr (in_left s.seen v.also_seen w.also_seen r))) h.1),
+    ⊎_elim (λ (e : s.first_length ≡ v.first_length). inl e) (λ (r : In s.first_length v.also_first). inr (inr (in_left s.first_length v.also_first w.also_first r))) h.2,
   )
 
   -- so it does of all seats that it keeps
@@ -64,6 +65,11 @@ module _ {E : Type 0} where
       → StartsWith log x
   starts_each_in log x [] a h = absurd h
   starts_each_in log x (y ∷ ys) a h = ⊎_elim (λ (e : x ≡ y). subst (StartsWith log) (sym e) a.0) (λ (r : In x ys). starts_each_in log x ys a.1 r) h
+
+-- one of numbers that are all this one
+is_each : (n x : ℕ) (xs : List ℕ) → EachIs n xs → In x xs → x ≡ n
+is_each n x [] a h = absurd h
+is_each n x (y ∷ ys) a h = ⊎_elim (λ (e : x ≡ y). e ∙ a.0) (λ (r : In x ys). is_each n x ys a.1 r) h
 
 module _ {T E : Type 0} (entries : T → List E) (number : E → Option ℕ) where
   -- the seat has all number_keeps and rests: nobody holds the turn
@@ -111,6 +117,7 @@ module _ {E : Type 0} where
   has_new of v w s is same_seat = subst (Has (joined v w)) same_seat (
     subst (In (w.number, w.own)) (append_assoc (own_list v) v.kept (lists w)) (in_right (w.number, w.own) (lists v) (lists w) (subst (λ (z : Bool). In (w.number, w.own) ((if z then (w.number, w.own) ∷ [] else []) ++ w.kept)) (sym is) (inl refl))),
     inr (inr (inl refl)),
+    inr (inl refl),
   )
 
   -- two lists of kept seats together
@@ -180,7 +187,7 @@ module _ {E : Type 0} where
 module _ {T E : Type 0} (entries : T → List E) (number : E → Option ℕ) where
   abbrev pub Ended : LockState E → View E → T → Type 0
   Ended l v y = EachIsKnown number (lists v) (drop (length l.first) (entries y)) × StartsWith (entries y) l.first
-      × ((s : SeatState E) → Has v s → StartsWith (entries y) s.seen × (s.own ≡ entries_since number (length l.first) s.number (entries y)))
+      × ((s : SeatState E) → Has v s → StartsWith (entries y) s.seen × (s.first_length ≡ length l.first) × (s.own ≡ entries_since number (length l.first) s.number (entries y)))
 
   -- the value in a slot
   abbrev value_in : Option T → T → T
@@ -188,9 +195,9 @@ module _ {T E : Type 0} (entries : T → List E) (number : E → Option ℕ) whe
   value_in (Some y) d = y
 
   pub ended : (of : TableId) (k : Terms T) (id : ℕ) (v : View E) (ws : List ℕ) (xs : List (Option T))
-      → Final (Seen (LockRule entries number k) id v) ws xs → Rests v → k.callers ≤ length (lists v)
+      → Final (Seen (LockRule entries number k) id v) ws xs → v.has_number ≡ true → Rests v → k.callers ≤ length (lists v)
       → (y : T) × (get_elem? xs 0 ≡ some (Some y)) × Ended (record { of = of; callers = k.callers; turns = k.turns; first = first_list entries k }) v y
-  ended of k id v ws xs (s, (r, at), words, slots, homes) quiet all =
+  ended of k id v ws xs (s, (r, at), words, slots, homes) is quiet all =
       let (c, there) = closes entries number k s r id v at quiet all in
       let b : ℕ = length (first_list entries k) in
       let f = r.fits id v at in
@@ -200,7 +207,7 @@ module _ {T E : Type 0} (entries : T → List E) (number : E → Option ℕ) whe
         rw log (
           known_all number (get_or s.words 0 0) (lists v) (drop b r.log) there r.given,
           r.from_first,
-          λ t h. (starts_each_in r.log t.seen (v.seen ∷ v.also_seen) (f.seen, f.also_seen) h.1, listed_in number b t.number r.log t.own (lists v) f.listed h.0),
+          λ t h. (starts_each_in r.log t.seen (v.seen ∷ v.also_seen) (f.seen, f.also_seen) h.1, is_each b t.first_length (v.first_length ∷ v.also_first) (f.based is, f.also_first) h.2, listed_in number b t.number r.log t.own (lists v) f.listed h.0),
         ),
       )
 

@@ -61,6 +61,7 @@ module _ {T E : Type 0} (entries : T → List E) (number : E → Option ℕ) whe
             mine = f.mine;
             listed = f.listed;
             also_seen = f.also_seen;
+            also_first = f.also_first;
             turn = λ h. absurd (cc (sym free ∙ h));
             read = λ h. f.read h;
             tells = f.tells;

@@ -4,7 +4,7 @@ use Rattle.std.specs.Prelude.{sum_by}
 use Rattle.std.proofs.lemmas.List.{append-nil}
 use Rattle.std.proofs.lemmas.List.Elements.{filter-append}
 use Rattle.std.proofs.lemmas.List.Sums.{sum_by-cons}
-use Rattle.omega_lock.specs.Lists.{EachBelow, EachHasItsEntries, StartsWith, StartsWithEach, entries_of, entries_since, is_by, same}
+use Rattle.omega_lock.specs.Lists.{EachBelow, EachHasItsEntries, EachIs, StartsWith, StartsWithEach, entries_of, entries_since, is_by, same}
 use Rattle.omega_lock.proofs.Sums.{same-same}
 
 module _ {E : Type 0} where
@@ -129,3 +129,8 @@ module _ {E : Type 0} where
       → StartsWithEach log ys → StartsWithEach log (xs ++ ys)
   starts_each_both log [] ys a b = b
   starts_each_both log (x ∷ xs) ys a b = (a.0, starts_each_both log xs ys a.1 b)
+
+-- the numbers of two seats together
+pub each_is_both : (n : ℕ) (xs ys : List ℕ) → EachIs n xs → EachIs n ys → EachIs n (xs ++ ys)
+each_is_both n [] ys a b = b
+each_is_both n (x ∷ xs) ys a b = (a.0, each_is_both n xs ys a.1 b)

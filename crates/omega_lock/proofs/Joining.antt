@@ -17,7 +17,7 @@ use Rattle.omega_lock.specs.Views.{Rests, answers, holding, joined, lists, longe
 use Rattle.omega_lock.specs.Rule.{Fits, LockRule, first_list}
 use Rattle.omega_lock.proofs.Sums.{total_set, each_set}
 use Rattle.omega_lock.proofs.SeatLists.{own_is_all}
-use Rattle.omega_lock.proofs.Entries.{starts_between, since_starts, listed_both, starts_each_both}
+use Rattle.omega_lock.proofs.Entries.{starts_between, since_starts, listed_both, starts_each_both, each_is_both}
 
 module _ {E : Type 0} where
   pub longer_is : (xs ys : List E)
@@ -48,9 +48,9 @@ module _ {E : Type 0} where
       head (x ∷ xs) d = x
 
 module _ {T E : Type 0} (entries : T → List E) (number : E → Option ℕ) where
-  pub join_keeps : (k : Terms T) (id other : ℕ) (v w : View E) → v.has_number ≡ true → Rests v → Rests w
+  pub join_keeps : (k : Terms T) (id other : ℕ) (v w : View E) → v.has_number ≡ true → w.has_number ≡ true → Rests v → Rests w
       → Joins (LockRule entries number k) id v other w (joined v w) spent
-  join_keeps k id other v w is quiet still s r at ne at' =
+  join_keeps k id other v w is has quiet still s r at ne at' =
       let b : ℕ = length (first_list entries k) in
       let x : ℕ = get_or s.words 2 0 in
       let both : View E = joined v w in
@@ -109,6 +109,7 @@ module _ {T E : Type 0} (entries : T → List E) (number : E → Option ℕ) whe
               mine = λ h. mine;
               listed = rw all (listed_both number b r.log (lists v) (lists w) f.listed g.listed);
               also_seen = starts_each_both r.log (v.seen ∷ w.seen ∷ v.also_seen) w.also_seen (f.seen, (g.seen, f.also_seen)) g.also_seen;
+              also_first = each_is_both b (w.first_length ∷ v.also_first) w.also_first (g.based has, f.also_first) g.also_first;
               turn = f.turn;
               read = λ h. absurd (cc (sym quiet.2 ∙ h));
               tells = f.tells;
@@ -120,6 +121,7 @@ module _ {T E : Type 0} (entries : T → List E) (number : E → Option ℕ) whe
               mine = λ h. absurd (cc h);
               listed = tt;
               also_seen = tt;
+              also_first = tt;
               turn = λ h. absurd (cc h);
               read = λ h. absurd (cc h);
               tells = λ h. absurd (cc h);

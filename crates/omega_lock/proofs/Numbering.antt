@@ -73,6 +73,7 @@ module _ {T E : Type 0} (entries : T → List E) (number : E → Option ℕ) whe
           mine = λ e. sym unseen;
           listed = (sym none_yet, rw nothing tt);
           also_seen = f.also_seen;
+          also_first = f.also_first;
           turn = λ h. absurd (cc (sym free ∙ h));
           read = λ h. f.read h;
           tells = f.tells;

@@ -71,6 +71,7 @@ module _ {T E : Type 0} (entries : T → List E) (number : E → Option ℕ) whe
                 mine = o.mine;
                 listed = o.listed;
                 also_seen = o.also_seen;
+                also_first = o.also_first;
                 turn = λ h. absurd (ne (one_holder s.views j id u v r.single g at h holds));
                 read = λ h. absurd (ne (one_holder s.views j id u v r.single g at (o.read h).0 holds));
                 tells = o.tells;
@@ -82,6 +83,7 @@ module _ {T E : Type 0} (entries : T → List E) (number : E → Option ℕ) whe
                 mine = f.mine;
                 listed = f.listed;
                 also_seen = f.also_seen;
+                also_first = f.also_first;
                 turn = λ h. absurd (cc h);
                 read = λ h. absurd (cc h);
                 tells = λ h. absurd (cc h);

@@ -105,6 +105,7 @@ module _ {T E : Type 0} (entries : T → List E) (number : E → Option ℕ) whe
                 mine = o.mine;
                 listed = listed_other number b v.number log e (lists u) base by (others_none j u ne g) o.listed;
                 also_seen = starts_each_more log e u.also_seen o.also_seen;
+                also_first = o.also_first;
                 turn = λ h. absurd (ne (alone h holds));
                 read = λ h. absurd (ne (alone (o.read h).0 holds));
                 tells = o.tells;
@@ -116,6 +117,7 @@ module _ {T E : Type 0} (entries : T → List E) (number : E → Option ℕ) whe
                 mine = λ h. own_more;
                 listed = rw is (own_more, listed_other number b v.number log e v.kept base by kept_none ls.1);
                 also_seen = starts_each_more log e v.also_seen f.also_seen;
+                also_first = f.also_first;
                 turn = λ h. ((f.turn holds).0, (f.turn holds).1, refl);
                 read = λ h. (holds, refl);
                 tells = λ h. read;

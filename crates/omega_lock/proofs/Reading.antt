@@ -53,6 +53,7 @@ module _ {T E : Type 0} (entries : T → List E) (number : E → Option ℕ) whe
             mine = λ e. rw held own;
             listed = f.listed;
             also_seen = f.also_seen;
+            also_first = f.also_first;
             turn = f.turn;
             read = λ h. (holds, held);
             tells = λ h. refl;

@@ -27,6 +27,7 @@ module _ {T E : Type 0} (entries : T → List E) (number : E → Option ℕ) whe
         mine = λ e. absurd (cc e);
         listed = tt;
         also_seen = tt;
+        also_first = tt;
         turn = λ e. absurd (cc e);
         read = λ e. absurd (cc e);
         tells = λ e. absurd (cc e);

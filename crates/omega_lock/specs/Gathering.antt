@@ -13,9 +13,10 @@ In x (y ∷ ys) = (x ≡ y) ⊎ In x ys
 abbrev pub pair_of : {E : Type 0} → SeatState E → ℕ × List E
 pair_of seat = (seat.number, seat.own)
 
--- the view keeps a seat's number with its own list, and what it had seen
+-- the view keeps a seat's number with its own list, what it had seen, and how long it knew the first list to be
 abbrev pub Has : {E : Type 0} → View E → SeatState E → Type 0
 Has v seat = In (pair_of seat) (lists v) × In seat.seen (v.seen ∷ v.also_seen)
+    × In seat.first_length (v.first_length ∷ v.also_first)
 
 -- it keeps those of all these seats
 abbrev pub HasAll : {E : Type 0} → View E → List (SeatState E) → Type 0

@@ -10,6 +10,11 @@ abbrev pub StartsWithEach : {E : Type 0} → List E → List (List E) → Type 0
 StartsWithEach whole [] = Unit {0}
 StartsWithEach whole (x ∷ xs) = StartsWith whole x × StartsWithEach whole xs
 
+-- each of these numbers is this one
+abbrev pub EachIs : ℕ → List ℕ → Type 0
+EachIs n [] = Unit {0}
+EachIs n (m ∷ ms) = (m ≡ n) × EachIs n ms
+
 -- 1 where the numbers are the same, and else 0
 abbrev pub same : ℕ → ℕ → ℕ
 same n m = if n == m then 1 else 0

@@ -5,7 +5,7 @@ use lib.ListN.{get_elem?}
 use Rattle.atomic_table.specs.Table.{State}
 use Rattle.omega_lock.specs.declared.rule.Terms.{Terms}
 use Rattle.omega_lock.specs.declared.view.View.{View}
-use Rattle.omega_lock.specs.Lists.{StartsWith, StartsWithEach, below, entries_since, EachHasItsEntries, EachBelow}
+use Rattle.omega_lock.specs.Lists.{StartsWith, StartsWithEach, below, entries_since, EachHasItsEntries, EachBelow, EachIs}
 use Rattle.omega_lock.specs.Views.{lists, answers, ticket_is, ticketed, holding, telling}
 
 module _ {T E : Type 0} where
@@ -44,6 +44,8 @@ module _ {E : Type 0} (number : E → Option ℕ) where
     pub listed : EachHasItsEntries number first_length log (lists v)
     -- the list goes on from what each seat had seen that was joined to it
     pub also_seen : StartsWithEach log v.also_seen
+    -- each of these knew how long the first list was
+    pub also_first : EachIs first_length v.also_first
     -- where it holds the turn, its ticket is served, and the list behind the value that it holds is the list
     pub turn : v.holds ≡ true → (v.has_ticket ≡ true) × (v.ticket ≡ served) × (v.held ≡ log)
     -- only the holder reads, and has then seen all of the list

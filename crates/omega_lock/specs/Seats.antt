@@ -91,6 +91,7 @@ pub record IsSeat {T E : Type 0} (number : E → Option ℕ) (me : Me (Option T)
   -- no seat was joined to it
   pub kept : me.0.kept ≡ []
   pub also_seen : me.0.also_seen ≡ []
+  pub also_first : me.0.also_first ≡ []
   -- it has a ticket, and has read, exactly while it holds the turn
   pub has_ticket : me.0.has_ticket ≡ me.0.holds
   pub read : me.0.read ≡ me.0.holds

@@ -50,6 +50,7 @@ module _ {E : Type 0} where
     own = [];
     kept = [];
     also_seen = [];
+    also_first = [];
   }
 
   -- a seat that is split off has seen what the other has, and has neither number nor ticket
@@ -64,14 +65,15 @@ module _ {E : Type 0} where
   abbrev pub longer : List E → List E → List E
   longer xs ys = if leb (length ys) (length xs) then xs else ys
 
-  -- a seat that another is joined to has the longer of what the two had seen, keeps both, and answers
-  -- for the numbers of both
+  -- a seat that another is joined to has the longer of what the two had seen, keeps both, and how long each
+  -- knew the first list to be, and answers for the numbers of both
   abbrev pub joined : View E → View E → View E
   joined v w = record v {
     turns = v.turns + w.turns;
     seen = longer v.seen w.seen;
     kept = v.kept ++ lists w;
     also_seen = (v.seen ∷ w.seen ∷ v.also_seen) ++ w.also_seen;
+    also_first = (w.first_length ∷ v.also_first) ++ w.also_first;
   }
 
   -- a seat that has no ticket and no turn

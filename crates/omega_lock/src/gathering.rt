@@ -23,7 +23,7 @@ impl<T: Counted> Lock<T> {
         requires of { All (λ seat. seat.of ≡ self.now.of) seats.items }
         requires free { All (λ seat. seat.holds ≡ false) seats.items }
         ensures of { result.table_id ≡ self.now.of }
-        ensures rest { Rests result.me.0 × (result.me.1 ≡ []) }
+        ensures rest { (result.me.0.has_number ≡ true) × Rests result.me.0 × (result.me.1 ≡ []) }
         ensures count { length (lists result.me.0) ≡ length seats.items + 1 }
         ensures pairs { lists result.me.0 ≡ map pair_of (first ∷ seats.items) }
         ensures has { HasAll result.me.0 (first ∷ seats.items) }
@@ -54,13 +54,14 @@ impl<T: Counted> Lock<T> {
     // Closes the table with the seat that all others were joined to, and takes the value out.
     pub(crate) fn end(self, all: Token<Option<T>, View<T::Entry>>) -> T
         requires of { all.table_id ≡ self.of }
-        requires rest { Rests all.me.0 × (all.me.1 ≡ []) }
+        requires rest { (all.me.0.has_number ≡ true) × Rests all.me.0 × (all.me.1 ≡ []) }
         requires all { self.callers ≤ length (lists all.me.0) }
         ensures known { EachIsKnown T.number (lists all.me.0)
             (drop (length self.first) (T.entries result)) }
         ensures begins { StartsWith (T.entries result) self.first }
         ensures each { (seat : SeatState T.Entry) → Has all.me.0 seat
             → StartsWith (T.entries result) seat.seen
+            × (seat.first_length ≡ length self.first)
             × (seat.own ≡ entries_since T.number (length self.first) seat.number (T.entries result)) }
     {
         let Lock { table } = self;

@@ -135,13 +135,15 @@ impl<T: Counted> Lock<T> {
 
     /// Takes all seats back, and hands out the value. Its list goes on from what each seat had seen.
     /// Every entry since the lock began has the number of one of the seats, and those of a seat's
-    /// number are its own entries, in order. Takes no memory.
+    /// number are its own entries, in order. Each seat knows how long the list was when the lock
+    /// began. Takes no memory.
     pub fn close(self, mut seats: Vec<Seat<T>>) -> T
         requires all { length seats.items ≡ self.callers }
         requires of { All (λ seat. seat.of ≡ self.of) seats.items }
         requires free { All (λ seat. seat.holds ≡ false) seats.items }
         ensures begins { StartsWith (T.entries result) self.first }
         ensures seen { All (λ seat. StartsWith (T.entries result) seat.seen) seats.items }
+        ensures first { All (λ seat. seat.first_length ≡ length self.first) seats.items }
         ensures given { All (λ e. Any (λ seat. T.number e ≡ Some seat.number) seats.items)
             (drop (length self.first) (T.entries result)) }
         ensures own { All (λ seat. seat.own

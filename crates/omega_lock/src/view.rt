@@ -29,4 +29,6 @@ pub struct View<E> {
     pub kept: LinkedList<(u64, LinkedList<E>)>,
     /// What it and each of these had seen before they were joined.
     pub also_seen: LinkedList<LinkedList<E>>,
+    /// How long each of these knew the first list to be.
+    pub also_first: LinkedList<u64>,
 }

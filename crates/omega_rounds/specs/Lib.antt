@@ -14,3 +14,5 @@ pub mod Going
 pub mod SeatSteps
 pub mod Opening
 pub mod Playing
+pub mod Players
+pub mod PlayingOn

@@ -10,6 +10,7 @@
 mod laws;
 mod opening;
 mod planned;
+mod player;
 mod seat;
 mod steps;
 mod turns;

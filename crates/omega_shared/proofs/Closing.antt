@@ -51,10 +51,11 @@ module _ (seats : List (SeatState Entry)) (passes : List PassState) (same : map 
     -- after what a pass has seen there is no commit of its number
     pub no_others : All IsPassSeat seats → All (λ seat. StartsWith history seat.seen) seats
         → All (λ seat. seat.own ≡ entries_since committer_of first seat.number history) seats
-        → All (λ pass. pass.first_length ≡ first → GoesOnWithout pass.number pass.seen history) passes
-    no_others kept seen own =
-        of_passes (λ pass. pass.first_length ≡ first → GoesOnWithout pass.number pass.seen history) (λ k other within began.
+        → All (λ seat. seat.first_length ≡ first) seats
+        → All (λ pass. GoesOnWithout pass.number pass.seen history) passes
+    no_others kept seen own began =
+        of_passes (λ pass. GoesOnWithout pass.number pass.seen history) (λ k other within.
         let seat : SeatState Entry = get_or seats k other in
         let is : IsPassSeat seat = kept k other within in
         goes_on_without seat.first_length seat.number seat.seen history seat.own is.first (seen k other within) is.own
-        (own k other within ∙ entries_are_commits first seat.number history ∙ ap (λ n. commits_since n seat.number history) (sym began)))
+        (own k other within ∙ entries_are_commits first seat.number history ∙ ap (λ n. commits_since n seat.number history) (sym (began k other within))))

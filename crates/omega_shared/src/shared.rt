@@ -146,8 +146,8 @@ impl SharedCell {
         ensures seen { All (λ pass. StartsWith result.history pass.seen) passes.items }
         ensures own { All (λ pass. pass.own
             ≡ commits_since (length self.first) pass.number result.history) passes.items }
-        ensures others { All (λ pass. pass.first_length ≡ length self.first
-            → GoesOnWithout pass.number pass.seen result.history) passes.items }
+        ensures others { All (λ pass. GoesOnWithout pass.number pass.seen result.history) passes.items }
+        ensures first { All (λ pass. pass.first_length ≡ length self.first) passes.items }
         ensures commits { All (λ entry. Any (λ pass. is_commit_of pass.number entry ≡ true) passes.items)
             (drop (length self.first) result.history) }
     {

@@ -1,13 +1,14 @@
-//! A pass takes its turns, and the cell comes back.
+//! Passes take their turns, also on threads of their own, and the cell comes back.
 ghost use Rattle.std.specs.Prelude.{◌≡◌, ◌≤◌, ◌+◌, None, OnOk};
 ghost use Rattle.omega_copy.specs.Copies.{CopyOf};
 
 use crate::{Pass, SharedCell};
 use omega_cell::Cell;
 use omega_copy::PrivateCopy;
-use omega_model::{Claims, Mode, NoMemory, Rule, Txn};
+use omega_model::{Claims, Entry, Mode, NoMemory, Rule, Txn};
 use std::alloc::Global;
 use std::sync::Wait;
+use std::thread::{Threads, join};
 
 // Syncs a copy, and commits a transaction without claims.
 fn attempt<R: Wait>(
@@ -69,4 +70,44 @@ fn commit_alone<R: Wait>(rt: &R, alloc: Global, turns: u32) -> Option<Cell> {
 fn one_pass(rt: HostRuntime) {
     let cell = commit_alone(&rt, rt.alloc(), 20).expect(&rt, "memory");
     assert_eq!(rt; cell.history().len(), 10);
+}
+
+// The cell that two callers leave who each take all their turns on a thread of their own, if there is
+// memory.
+fn commit_together<R: Threads + Wait + Sync>(rt: &R, alloc: Global, turns: u32) -> Option<Cell> {
+    let Ok((shared, mut passes)) = SharedCell::share(rt, alloc, Cell::new(alloc), 2, turns) else {
+        return None;
+    };
+    let second = passes.pop()?;
+    let first = passes.pop()?;
+    let (first, second) = join(
+        rt,
+        || -> Pass
+            requires { first.of ≡ shared.of }
+            ensures { result.of ≡ shared.of }
+        { take_turns(rt, alloc, &shared, first) },
+        || -> Pass
+            requires { second.of ≡ shared.of }
+            ensures { result.of ≡ shared.of }
+        { take_turns(rt, alloc, &shared, second) },
+    );
+    passes.push(first).ok()?;
+    passes.push(second).ok()?;
+    Some(shared.close(passes))
+}
+
+// How many commits of a scheduler a history has.
+fn commits_of(history: &[Entry], number: u32) -> usize {
+    history
+        .iter()
+        .filter(|entry| matches!(entry, Entry::Commit { scheduler, .. } if *scheduler == number))
+        .count()
+}
+
+#[test]
+fn two_passes_on_threads(rt: HostRuntime) {
+    let cell = commit_together(&rt, rt.alloc(), 2000).expect(&rt, "memory");
+    assert_eq!(rt; cell.history().len(), 2000);
+    assert_eq!(rt; commits_of(cell.history(), 0), 1000);
+    assert_eq!(rt; commits_of(cell.history(), 1), 1000);
 }

@@ -14,7 +14,7 @@ join_seat-requires g c =
       search rules,
       i.0.home free,
       search rules,
-      join_keeps g.T.Counted.entries g.T.Counted.number _ _ _ _ _ r.0 r.1 (i.0.has_ticket ∙ free, free, i.0.read ∙ free, i.0.told),
+      join_keeps g.T.Counted.entries g.T.Counted.number _ _ _ _ _ r.0 i.0.has_number r.1 (i.0.has_ticket ∙ free, free, i.0.read ∙ free, i.0.told),
     )
 
 pub returns-clause-pairs : goal.returns-clause-pairs

@@ -32,4 +32,10 @@ pub returns-clause-others : goal.returns-clause-others
 returns-clause-others c =
     rw (← c.self.view_is)
     (no_others c.seats_of.result.items c.args.passes.items c.seats_of.ensures.passes (length c.self.inside.lock.first) c.close-held.result.cell.history
-    c.seats_of.ensures.seats c.close-held.ensures.seen c.close-held.ensures.own)
+    c.seats_of.ensures.seats c.close-held.ensures.seen c.close-held.ensures.own c.close-held.ensures.first)
+
+pub returns-clause-first : goal.returns-clause-first
+returns-clause-first c =
+    rw (← c.self.view_is)
+    (of_passes c.seats_of.result.items c.args.passes.items c.seats_of.ensures.passes (λ pass. pass.first_length ≡ length c.self.inside.lock.first)
+    c.close-held.ensures.first)

@@ -1,0 +1,231 @@
+-- A player that plays on, by what its turns bring.
+use Rattle.std.proofs.Common.{◌≡◌, ◌≢◌, ◌≤◌, ◌<◌, ◌+◌, ◌*◌, ◌-◌, ℕ, zero, suc, Bool, true, false, List, [], ◌∷◌, ◌++◌, length, length-append, Option, Some, None, refl, sym, ap, subst, arith, ◌∙◌}
+use Rattle.std.specs.Prelude.{slice_get, if◌then◌else◌}
+use Rattle.omega_model.proofs.Growing.{by_place_push_where}
+use Rattle.omega_model.specs.Lawful.{after_last}
+use Rattle.omega_model.specs.Policy.{schedulers}
+use Rattle.omega_model.specs.Work.{after_outcomes, commits_of}
+use Rattle.omega_model.specs.declared.claims.Reply.{Reply}
+use Rattle.omega_model.specs.declared.claims.Txn.{Txn}
+use Rattle.omega_model.specs.declared.entries.Entry.{Entry}
+use Rattle.omega_model.specs.declared.rows.Row.{Row}
+use Rattle.omega_model.specs.declared.rows.TraceTables.{TraceTables}
+use Rattle.omega_model.specs.declared.settings.Settings.{Settings}
+use Rattle.omega_copy.specs.Copies.{CopyOf}
+use Rattle.omega_desk.specs.Desks.{DeskState, IsSameDesk, left_at}
+use Rattle.omega_shared.specs.Commits.{GoesOnWithout, commit_after}
+use Rattle.omega_shared.specs.Turns.{Commits, SpendsTurn}
+use Rattle.omega_rounds.specs.NextCommit.{attempt}
+use Rattle.omega_rounds.specs.Players.{IsOwnDesk, MayStand, OwnMayStand}
+use Rattle.omega_rounds.specs.PlayingOn.{PlansFirst, PlaysOn}
+use Rattle.omega_rounds.specs.Seats.{IsSeat, synced_of, to_do_of}
+use Rattle.omega_rounds.specs.SeatSteps.{CommitsFirst}
+use Rattle.omega_rounds.specs.declared.player.Player.{Player}
+use Rattle.omega_rounds.specs.declared.seat.Seat.{Seat}
+use Rattle.omega_rounds.proofs.DeskCommits.{own_desk_own}
+use Rattle.omega_rounds.proofs.LastCommits.{after_last-within}
+use Rattle.omega_rounds.proofs.SeatCommits.{IsCommitting, commits_first, fewer_left, seat_after}
+use Rattle.omega_rounds.proofs.Without.{after_last-without, attempt_without, desk_without, longer_without, seat_without, stand_without}
+
+module _ (settings : Settings) where
+  -- before its first turn
+  pub plays_on_self : (player : Player) → IsSeat settings player.pass.seen player.pass.number player.seat → PlaysOn settings player player
+  plays_on_self player seat = record {
+    of = refl;
+    number = refl;
+    first_length = refl;
+    within = omega arith;
+    seat = seat;
+    desk = λ trace rows opened_at within is. is;
+    commits = λ opened_at within stand. stand;
+  }
+
+  -- and then further
+  pub plays_on_more : (old mid new : Player) → PlaysOn settings old mid → PlaysOn settings mid new → PlaysOn settings old new
+  plays_on_more old mid new one two =
+      let first : length old.pass.seen ≤ length mid.pass.seen = one.within in
+      let second : length mid.pass.seen ≤ length new.pass.seen = two.within in
+      record {
+        of = two.of ∙ one.of;
+        number = two.number ∙ one.number;
+        first_length = two.first_length ∙ one.first_length;
+        within = omega (arith, first, second);
+        seat = two.seat;
+        desk = λ trace rows opened_at within is. two.desk trace rows opened_at (omega (arith, first, within)) (one.desk trace rows opened_at within is);
+        commits = λ opened_at within stand. two.commits opened_at (omega (arith, first, within)) (one.commits opened_at within stand);
+      }
+
+  -- a turn after which the pass has seen commits of others, the desk is as before, and the copy stands for
+  -- what the pass has seen
+  pub plays_on_without : (old new : Player) → IsSeat settings old.pass.seen old.pass.number old.seat
+      → SpendsTurn old.pass new.pass → GoesOnWithout old.pass.number old.pass.seen new.pass.seen
+      → new.seat.desk ≡ old.seat.desk → CopyOf new.seat.copy new.pass.seen → new.seat.copy.trial ≡ None
+      → PlaysOn settings old new
+  plays_on_without old new seat turn on same copy no_trial =
+      let here = seat_without old.pass.number old.pass.seen new.pass.seen on settings old.seat seat in
+      record {
+        of = turn.of;
+        number = turn.number;
+        first_length = turn.first_length;
+        within = longer_without old.pass.number old.pass.seen new.pass.seen on;
+        seat = record {
+          settings = ap (λ (d : DeskState). d.settings) same ∙ seat.settings;
+          scheduler = ap (λ (d : DeskState). d.scheduler) same ∙ seat.scheduler ∙ sym turn.number;
+          attempts = ap (λ (d : DeskState). d.attempts) same ∙ here.attempts ∙ ap (λ (n : ℕ). commits_of n new.pass.seen) (sym turn.number);
+          tries = subst (λ (d : DeskState). d.taken < settings.tries) (sym same) seat.tries;
+          copy = copy;
+          no_trial = no_trial;
+        };
+        desk = λ trace rows opened_at within is.
+            subst (λ (d : DeskState). IsOwnDesk settings trace rows opened_at new.pass.seen new.pass.number d) (sym same)
+            (subst (λ (n : ℕ). IsOwnDesk settings trace rows opened_at new.pass.seen n old.seat.desk) (sym turn.number)
+            (desk_without old.pass.number old.pass.seen new.pass.seen on settings trace rows opened_at old.seat.desk within is));
+        commits = λ opened_at within stand.
+            subst (λ (n : ℕ). OwnMayStand settings opened_at n new.pass.seen) (sym turn.number)
+            (stand_without old.pass.number old.pass.seen new.pass.seen on settings opened_at stand);
+      }
+
+-- a copy of a seat that has synced
+pub synced_seen : (seat : Seat) (count : ℕ) → synced_of seat ≡ Some count → (seat.synced ≡ true) × (seat.copy.seen ≡ count)
+synced_seen seat count is = by_synced seat.synced refl is where
+    by_synced : (synced : Bool) → seat.synced ≡ synced → (if synced then Some seat.copy.seen else None) ≡ Some count
+        → (seat.synced ≡ true) × (seat.copy.seen ≡ count)
+    by_synced true same is = (same, cc)
+    by_synced false same is = absurd (cc)
+
+-- a player before a commit, and what its pass and its desk say after it
+pub record PlayerCommits (old new : Player) (txn : Txn) (reply : Reply) : Type 0 where
+  pub seat : IsSeat old.seat.desk.settings old.pass.seen old.pass.number old.seat
+  pub tries : 1 ≤ old.seat.desk.settings.tries
+  pub known : old.pass.number < schedulers old.seat.desk.settings
+  pub all : synced_of old.seat ≡ Some (length old.pass.seen)
+  pub plans : PlansFirst old txn
+  pub turn : SpendsTurn old.pass new.pass
+  pub commits : Commits old.pass new.pass old.seat.copy.seen txn reply
+  pub same : IsSameDesk old.seat.desk new.seat.desk
+  pub attempts : new.seat.desk.attempts ≡ old.seat.desk.attempts + 1
+  pub moved : after_outcomes old.seat.desk.settings (left_at old.seat.desk) old.seat.desk.requests reply.outcomes ≡ Some (left_at new.seat.desk)
+  pub copy : new.seat.copy ≡ old.seat.copy
+  pub spent : new.seat.synced ≡ false
+
+module _ (old new : Player) (txn : Txn) (reply : Reply) (did : PlayerCommits old new txn reply) where
+  abbrev settings : Settings
+  settings = old.seat.desk.settings
+
+  abbrev number : ℕ
+  number = old.pass.number
+
+  abbrev before : List Entry
+  before = did.commits.before
+
+  abbrev next : Seat
+  next = record { desk = new.seat.desk; copy = new.seat.copy; synced = false }
+
+  next_is : next ≡ new.seat
+  next_is = ap (λ (b : Bool). record { desk = new.seat.desk; copy = new.seat.copy; synced = b }) (sym did.spent)
+
+  -- the seat beside what was there before the commit
+  seat_before : IsSeat settings before number old.seat
+  seat_before = seat_without number old.pass.seen before did.commits.others settings old.seat did.seat
+
+  committing : IsCommitting settings number before new.pass.seen old.seat new.seat.desk did.plans.request txn reply.outcomes
+  committing = record {
+    seat = seat_before;
+    tries = did.tries;
+    synced = (synced_seen old.seat (length old.pass.seen) did.all).0;
+    first = sym (ap (λ rs. slice_get rs 0) did.plans.work);
+    is = did.plans.is ∙ attempt_without number old.pass.seen before did.commits.others settings old.seat.copy.seen did.plans.request did.seat.copy.within;
+    appended = did.commits.commit_seen;
+    outcome = did.commits.answers.outcomes;
+    same = did.same;
+    attempts = did.attempts;
+    moved = did.moved;
+  }
+
+  seat_next : IsSeat settings new.pass.seen number next
+  seat_next = seat_after settings number before new.pass.seen old.seat new.seat.desk did.plans.request txn reply.outcomes committing new.seat.copy did.copy
+
+  first_next : CommitsFirst settings number before old.seat new.pass.seen next reply.place
+  first_next =
+      commits_first settings number before new.pass.seen old.seat new.seat.desk did.plans.request txn reply.outcomes committing
+      new.seat.copy reply.place did.commits.answers.place
+
+  -- fewer attempts are left
+  pub fewer_after : to_do_of new.seat < to_do_of old.seat
+  fewer_after =
+      subst (λ (seat : Seat). to_do_of seat < to_do_of old.seat) next_is
+      (fewer_left settings number before new.pass.seen old.seat next reply.place did.tries seat_before seat_next first_next)
+
+  -- the history before the commit is no shorter than what was seen
+  longer : length old.pass.seen ≤ length before
+  longer = longer_without number old.pass.seen before did.commits.others
+
+  -- the commit may stand where it does
+  commit_stands : (opened_at : ℕ) → opened_at ≤ length old.pass.seen → OwnMayStand settings opened_at number old.pass.seen
+      → OwnMayStand settings opened_at number new.pass.seen
+  commit_stands opened_at within stand =
+      let seen : old.seat.copy.seen ≡ length old.pass.seen = (synced_seen old.seat (length old.pass.seen) did.all).1 in
+      let last : after_last number before ≤ length old.pass.seen =
+      subst (λ (n : ℕ). n ≤ length old.pass.seen) (sym (after_last-without number old.pass.seen before did.commits.others))
+      (after_last-within number old.pass.seen) in
+      let more = longer in
+      subst (OwnMayStand settings opened_at number) (sym first_next.appended)
+      (by_place_push_where (λ place. opened_at ≤ place) (MayStand settings opened_at number) before
+      (attempt settings before number old.seat.copy.seen first_next.request)
+      (stand_without number old.pass.seen before did.commits.others settings opened_at stand)
+      (λ same. record {
+        known = did.known;
+        there = omega (arith, seen, more);
+        rows = omega (arith, seen, within);
+        own = omega (arith, seen, last);
+        answered = refl;
+      }))
+
+  -- the desk is right after it
+  desk_after : (trace : TraceTables) (rows : List Row) (opened_at : ℕ) → opened_at ≤ length old.pass.seen
+      → IsOwnDesk settings trace rows opened_at old.pass.seen number old.seat.desk
+      → IsOwnDesk settings trace rows opened_at new.pass.seen number new.seat.desk
+  desk_after trace rows opened_at within is =
+      let more = longer in
+      subst (λ (h : List Entry). IsOwnDesk settings trace rows opened_at h number new.seat.desk) (sym first_next.appended)
+      (own_desk_own settings trace rows opened_at before (omega (arith, more, within)) number old.seat.copy.seen first_next.request
+      old.seat.desk new.seat.desk first_next.rest
+      (desk_without number old.pass.seen before did.commits.others settings trace rows opened_at old.seat.desk within is)
+      first_next.work first_next.moved)
+
+  -- a player that commits plays on
+  pub plays_on_commit : PlaysOn settings old new
+  plays_on_commit =
+      let more : length before ≤ length new.pass.seen = commit_longer in
+      let first = longer in record {
+        of = did.turn.of;
+        number = did.turn.number;
+        first_length = did.turn.first_length;
+        within = omega (arith, first, more);
+        seat = subst (λ (n : ℕ). IsSeat settings new.pass.seen n new.seat) (sym did.turn.number)
+            (subst (λ (seat : Seat). IsSeat settings new.pass.seen number seat) next_is seat_next);
+        desk = λ trace rows opened_at within is.
+            subst (λ (n : ℕ). IsOwnDesk settings trace rows opened_at new.pass.seen n new.seat.desk) (sym did.turn.number)
+            (desk_after trace rows opened_at within is);
+        commits = λ opened_at within stand.
+            subst (λ (n : ℕ). OwnMayStand settings opened_at n new.pass.seen) (sym did.turn.number)
+            (commit_stands opened_at within stand);
+      } where
+        commit_longer : length before ≤ length new.pass.seen
+        commit_longer = subst (λ (h : List Entry). length before ≤ length h) (sym did.commits.commit_seen)
+            (let count = length-append before (commit_after before number old.seat.copy.seen txn ∷ []) in omega (arith, count))
+
+-- where a request is left, so is an attempt
+pub some_to_do : (settings : Settings) (history : List Entry) (number : ℕ) (seat : Seat) → IsSeat settings history number seat
+    → seat.desk.requests ≢ [] → 1 ≤ to_do_of seat
+some_to_do settings history number seat is work =
+    subst (λ (s : Settings). 1 ≤ length seat.desk.requests * s.tries - seat.desk.taken) (sym is.settings)
+    (some_left settings.tries seat.desk.taken (length seat.desk.requests) is.tries (some seat.desk.requests work)) where
+      some : {X : Type 0} (items : List X) → items ≢ [] → 1 ≤ length items
+      some [] none = absurd (none refl)
+      some (item ∷ items) none = omega arith
+
+      some_left : (tries taken count : ℕ) → taken < tries → 1 ≤ count → 1 ≤ count * tries - taken
+      some_left tries taken zero few more = absurd (omega arith)
+      some_left tries taken (suc count) few more = 
+          let all : (suc count) * tries ≡ count * tries + tries = grind (arith) in rw all (omega (arith, few))
