@@ -37,3 +37,5 @@ pub mod WorldBegins
 pub mod WorldGoes
 pub mod PlayedTurns
 pub mod PlayedRounds
+pub mod GoesOnWithout
+pub mod RoundFailures
