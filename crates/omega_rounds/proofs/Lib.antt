@@ -39,3 +39,5 @@ pub mod PlayedTurns
 pub mod PlayedRounds
 pub mod GoesOnWithout
 pub mod RoundFailures
+pub mod ClosedRounds
+pub mod PlayersBack

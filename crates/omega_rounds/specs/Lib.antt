@@ -15,3 +15,4 @@ pub mod SeatSteps
 pub mod Opening
 pub mod Playing
 pub mod Players
+pub mod Closed
