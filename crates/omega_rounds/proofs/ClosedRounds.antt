@@ -60,13 +60,13 @@ stands_in_round settings opened_at scheduler before (Commit by seen txn reply) i
 -- a commit of a scheduler that may stand there is one of the round
 is_of_round : (settings : Settings) (opened_at scheduler : ℕ) (before : List Entry) (entry : Entry) → is_commit_of scheduler entry ≡ true
     → MayStand settings opened_at scheduler before entry → IsCommitOfRound settings opened_at before entry
-is_of_round settings opened_at scheduler before (RoundEntry number) is stands = absurd (both_ways _ is refl)
-is_of_round settings opened_at scheduler before (MachineAdd machine cap) is stands = absurd (both_ways _ is refl)
-is_of_round settings opened_at scheduler before (MachineUpdate machine cap) is stands = absurd (both_ways _ is refl)
-is_of_round settings opened_at scheduler before (MachineRemove machine) is stands = absurd (both_ways _ is refl)
-is_of_round settings opened_at scheduler before (AttrSet machine name value) is stands = absurd (both_ways _ is refl)
-is_of_round settings opened_at scheduler before (AttrDelete machine name) is stands = absurd (both_ways _ is refl)
-is_of_round settings opened_at scheduler before (End key machine) is stands = absurd (both_ways _ is refl)
+is_of_round settings opened_at scheduler before (RoundEntry number) is stands = absurd (both_ways _ refl is)
+is_of_round settings opened_at scheduler before (MachineAdd machine cap) is stands = absurd (both_ways _ refl is)
+is_of_round settings opened_at scheduler before (MachineUpdate machine cap) is stands = absurd (both_ways _ refl is)
+is_of_round settings opened_at scheduler before (MachineRemove machine) is stands = absurd (both_ways _ refl is)
+is_of_round settings opened_at scheduler before (AttrSet machine name value) is stands = absurd (both_ways _ refl is)
+is_of_round settings opened_at scheduler before (AttrDelete machine name) is stands = absurd (both_ways _ refl is)
+is_of_round settings opened_at scheduler before (End key machine) is stands = absurd (both_ways _ refl is)
 is_of_round settings opened_at scheduler before (Commit by seen txn reply) is stands = stands (eqb-true by scheduler is)
 
 -- in a round that is under way the commits of each scheduler may stand where they do

@@ -36,8 +36,10 @@ pub mod OpenedEntries
 pub mod WorldBegins
 pub mod WorldGoes
 pub mod PlayedTurns
+pub mod EndedRounds
 pub mod PlayedRounds
 pub mod GoesOnWithout
 pub mod RoundFailures
 pub mod ClosedRounds
 pub mod PlayersBack
+pub mod TwoSteps

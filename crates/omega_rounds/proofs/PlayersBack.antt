@@ -119,6 +119,10 @@ module _ (settings : Settings) (of : TableId) (turns : ℕ) (first : List Entry)
           | inr past ↦ absurd (omega (arith, past.0, count, inside))
         ]
 
+    -- there are as many after as schedulers
+    pub after_count : length after ≡ schedulers settings
+    after_count = played.count ∙ players_count
+
     number_of : (number : ℕ) (player : Player) → slice_get after number ≡ Some player → player.pass.number ≡ number
     number_of number player here =
         let found = before_of number player here in

@@ -91,19 +91,24 @@ pub(crate) fn play_shared<R: Threads + Wait + Sync, G: Gate + Sync>(
     Ok((shared.close(passes), seats))
 }
 
-// Two turns for each attempt that a scheduler can make: as many as for each to make all tries of as
-// many requests as the desk with most has. More than a number of turns can be is want of memory.
+// Two turns for each attempt that a scheduler can make: as many as for all tries of as many requests as
+// the desk with most has. More than a number of turns can be is want of memory.
 fn turns_for(settings: &Settings, seats: &[Seat]) -> Result<u32, NoMemory>
     ensures { IfOk result (Suffice settings.now seats.now) }
 {
-    let turns = 2 * (most_requests(seats) * u128::from(settings.tries));
-    u32::try_from(turns).map_err(|_| NoMemory)
+    let most = most_requests(seats);
+    let Some(turns) = most.checked_mul(2 * u128::from(settings.tries)) else {
+        return Err(NoMemory);
+    };
+    match u32::try_from(turns) {
+        Ok(turns) => Ok(turns),
+        Err(_) => Err(NoMemory),
+    }
 }
 
 // The number of requests at the desk that has most.
 fn most_requests(seats: &[Seat]) -> u128
-    ensures most { All (λ seat. length seat.desk.requests ≤ result) seats.now }
-    ensures few { result < 2 ^ 65 }
+    ensures { All (λ seat. length seat.desk.requests ≤ result) seats.now }
 {
     let mut most = 0;
     for seat in seats {
