@@ -28,15 +28,16 @@ use Rattle.omega_rounds.proofs.GoesOnWithout.{desk_without, may_stand_without, s
 mapped_at : {X Y : Type 0} (f : X → Y) (xs : List X) (ys : List Y) (place : ℕ) (x : X) → map f xs ≡ ys → slice_get xs place ≡ Some x → slice_get ys place ≡ Some (f x)
 mapped_at f xs ys place x same is = ap (λ zs. slice_get zs place) (sym same) ∙ slice_get-map f xs place ∙ ap (option_map f) is
 
--- and the other way round
+-- what is seen as something is something
+some_from : {X Y : Type 0} (f : X → Y) (found : Option X) (y : Y) → option_map f found ≡ Some y → (x : X) × ((found ≡ Some x) × (f x ≡ y))
+some_from f None y is = absurd (cc)
+some_from f (Some x) y is = (x, (refl, cc))
+
+-- what is seen at a place stands there
 seen_from : {X Y : Type 0} (f : X → Y) (xs : List X) (ys : List Y) (place : ℕ) (y : Y) → map f xs ≡ ys → slice_get ys place ≡ Some y
     → (x : X) × ((slice_get xs place ≡ Some x) × (f x ≡ y))
 seen_from f xs ys place y same is =
-    let at : option_map f (slice_get xs place) ≡ Some y = sym (slice_get-map f xs place) ∙ ap (λ zs. slice_get zs place) same ∙ is in
-    of_some (slice_get xs place) refl at where
-      of_some : (o : Option _) → slice_get xs place ≡ o → option_map f o ≡ Some y → (x : _) × ((slice_get xs place ≡ Some x) × (f x ≡ y))
-      of_some None here at = absurd (cc)
-      of_some (Some x) here at = (x, (here, cc))
+    some_from f (slice_get xs place) y (sym (slice_get-map f xs place) ∙ ap (λ zs. slice_get zs place) same ∙ is)
 
 -- nobody failed where no player has
 pub none_failed : (players : List Player) → list_any (λ player. player.failed) players ≡ false

@@ -81,7 +81,7 @@ pub(crate) fn play_shared<R: Threads + Wait + Sync, G: Gate + Sync>(
     let players = Vec::with_capacity(alloc, seats.len())?;
     let seats_room = Vec::with_capacity(alloc, seats.len())?;
     let passes_room = Vec::with_capacity(alloc, seats.len())?;
-    let (shared, passes) = shared(rt, alloc, cell, callers, turns)?;
+    let (shared, passes) = share(rt, alloc, cell, callers, turns)?;
     let mut players = players_of(seats, passes, players);
     play_all(rt, alloc, settings, &shared, &mut players, gate);
     if any_failed(&players) {
@@ -185,7 +185,7 @@ fn play_all<R: Threads + Wait + Sync, G: Gate + Sync>(
 }
 
 // Shares a cell. Where memory runs out the cell is gone.
-fn shared<R: Wait>(
+fn share<R: Wait>(
     rt: &R,
     alloc: Global,
     cell: Cell,
