@@ -133,16 +133,16 @@ module _ (settings : Settings) (of : TableId) (turns : ℕ) (first : List Entry)
     since = λ place entry inside.
         let by = commits place entry inside in
         let k : ℕ = by.0 in
-        let pass : PassState = by.1.0 in
+        let pass : PassState = by.1 in
         let seen : List PassState = map (λ (player : Player). player.pass) after in
         let count : length seen ≡ length after = length-map after (λ (player : Player). player.pass) in
-        let below : k < length seen = by.1.1.0 in
+        let below : k < length seen = by.2 in
         let as_many : length after ≡ length players = played.count in
-        let one = seen_from (λ (p : Player). p.pass) after seen k pass refl (slice_get_read seen (length seen) k pass refl below (sym by.1.1.1.0)) in
+        let one = seen_from (λ (p : Player). p.pass) after seen k pass refl (slice_get_read seen (length seen) k pass refl below (sym by.3)) in
         record {
           scheduler = k;
           known = omega (arith, below, count, as_many, players_count, all);
-          commit = subst (λ (n : ℕ). is_commit_of n entry ≡ true) (ap (λ (p : PassState). p.number) (sym one.1.1) ∙ number_of k one.0 one.1.0) by.1.1.1.1;
+          commit = subst (λ (n : ℕ). is_commit_of n entry ≡ true) (ap (λ (p : PassState). p.number) (sym one.1.1) ∙ number_of k one.0 one.1.0) by.4;
         }
 
     back_of : (number : ℕ) (was player : Player) → IsNewPlayer of turns first number was → HasPlayed settings was player → player.failed ≡ false

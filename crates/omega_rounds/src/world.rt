@@ -249,7 +249,8 @@ impl World {
             → IsFirstAtWork trace self.now scheduler) }
         ensures none { result ≡ None → IsDone self.now }
     {
-        first_at_work(self.seats.as_slice()).map(|scheduler| scheduler as u32)
+        let scheduler = first_at_work(self.seats.as_slice())?;
+        Some(scheduler as u32)
     }
 
     // An attempt of the first scheduler that has work: it takes over the history, if it hasn't, and
