@@ -1,5 +1,5 @@
 //! The desk.
-ghost use Rattle.std.specs.Prelude.{◌≡◌, ◌+◌, ◌<◌, ◌^◌, [], Some, option_map, slice_get, OnOk, OnErr};
+ghost use Rattle.std.specs.Prelude.{◌≡◌, ◌+◌, ◌<◌, ◌^◌, [], Some, length, option_map, slice_get, OnOk, OnErr};
 ghost use Rattle.std.specs.List.{All};
 ghost use Rattle.omega_model.specs.Draws.{drawn_start};
 ghost use Rattle.omega_model.specs.Work.{after_outcomes, fresh};
@@ -87,6 +87,13 @@ impl Desk {
         ensures { option_map (λ request. request.now) result ≡ slice_get self.now.requests 0 }
     {
         self.present.as_ref()
+    }
+
+    /// How many requests are left of the round's work. Takes no memory.
+    pub fn left(&self) -> u128
+        ensures { result ≡ length self.now.requests }
+    {
+        u128::from(self.present.is_some()) + self.waiting.len() as u128
     }
 
     /// The place in a list of so many machines at which the present attempt begins: below their

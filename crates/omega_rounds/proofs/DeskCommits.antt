@@ -30,12 +30,12 @@ use Rattle.omega_rounds.proofs.CommitCounts.{failed_commit, failed_other, length
 use Rattle.omega_rounds.proofs.SeatCommits.{moved_to}
 
 -- whether an attempt ends the first request of a standing
-abbrev ends_at : Settings → Standing → Request → List Outcome → Bool
+abbrev pub ends_at : Settings → Standing → Request → List Outcome → Bool
 ends_at settings standing request outcomes =
     ends_request settings (standing.taken + 1) (failing_after (standing.failing request.job) outcomes) request outcomes
 
 -- the parts of a standing after an attempt
-moved_requests : (settings : Settings) (standing : Standing) (request : Request) (rest : List Request) (outcomes : List Outcome)
+pub moved_requests : (settings : Settings) (standing : Standing) (request : Request) (rest : List Request) (outcomes : List Outcome)
     → (moved_on settings standing request rest outcomes).requests
     ≡ (if ends_at settings standing request outcomes then rest else rest_of request outcomes ∷ rest)
 moved_requests settings standing request rest outcomes =
@@ -52,7 +52,7 @@ moved_taken settings standing request rest outcomes =
     else record { requests = rest_of request outcomes ∷ rest; taken = standing.taken + 1; failing = failing_with standing.failing request.job outcomes }).taken
     ≡ (if test then 0 else standing.taken + 1)) [ true ↦ refl | false ↦ refl ]
 
-moved_failing : (settings : Settings) (standing : Standing) (request : Request) (rest : List Request) (outcomes : List Outcome) (job : ℕ)
+pub moved_failing : (settings : Settings) (standing : Standing) (request : Request) (rest : List Request) (outcomes : List Outcome) (job : ℕ)
     → (moved_on settings standing request rest outcomes).failing job ≡ failing_with standing.failing request.job outcomes job
 moved_failing settings standing request rest outcomes job =
     elim (ends_at settings standing request outcomes) as (λ test.
@@ -73,7 +73,7 @@ same_failing one other first outcomes job at_first here =
     ap₂ (λ (f g : ℕ). if job == first then failing_after f outcomes else g) at_first here
 
 -- what remains of a request is for the same job
-own_after : (settings : Settings) (trace : TraceTables) (scheduler : ℕ) (test : Bool) (request : Request) (rest : List Request) (outcomes : List Outcome)
+pub own_after : (settings : Settings) (trace : TraceTables) (scheduler : ℕ) (test : Bool) (request : Request) (rest : List Request) (outcomes : List Outcome)
     → All (IsRoutedTo settings trace scheduler) (request ∷ rest)
     → All (IsRoutedTo settings trace scheduler) (if test then rest else rest_of request outcomes ∷ rest)
 own_after settings trace scheduler true request rest outcomes own = All-tail (IsRoutedTo settings trace scheduler) request rest own

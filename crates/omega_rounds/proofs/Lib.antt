@@ -36,6 +36,12 @@ pub mod OpenedEntries
 pub mod WorldBegins
 pub mod WorldGoes
 pub mod PlayedTurns
+pub mod EndedRounds
 pub mod PlayedRounds
 pub mod Without
 pub mod PlayingOn
+pub mod GoesOnWithout
+pub mod RoundFailures
+pub mod ClosedRounds
+pub mod PlayersBack
+pub mod TwoSteps

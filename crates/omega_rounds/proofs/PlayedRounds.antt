@@ -1,7 +1,7 @@
 -- Rounds that are played one after the other.
-use Rattle.std.proofs.Common.{◌≡◌, ◌≤◌, ◌<◌, ◌+◌, ◌-◌, ℕ, suc, List, [], ◌++◌, length, take, Some, refl, sym, ap, ap₂, subst, arith, ◌∙◌, add-one}
+use Rattle.std.proofs.Common.{◌≡◌, ◌+◌, ℕ, List, [], ◌++◌, length, take, Some, refl, sym, ap, subst, ◌∙◌, add-one}
 use Rattle.std.specs.Prelude.{slice_get}
-use Rattle.std.proofs.lemmas.Option.{none-some, slice_get_within}
+use Rattle.std.proofs.lemmas.Option.{none-some}
 use Rattle.omega_model.specs.Lawful.{opened, rows_of}
 use Rattle.omega_model.specs.Stepping.{BeginsRound}
 use Rattle.omega_model.specs.Turns.{InTurns}
@@ -9,32 +9,25 @@ use Rattle.omega_model.specs.declared.entries.Entry.{Entry}
 use Rattle.omega_model.specs.declared.rows.Row.{Row}
 use Rattle.omega_model.specs.declared.rows.Round.{Round}
 use Rattle.omega_model.specs.declared.rows.TraceTables.{TraceTables}
-use Rattle.omega_model.specs.declared.settings.Settings.{Settings}
-use Rattle.omega_rounds.specs.Going.{IsFirstAtWork, IsRoundOver, OpensRound, ReachesRound}
+use Rattle.omega_rounds.specs.Going.{IsRoundOver, OpensRound, ReachesRound}
 use Rattle.omega_rounds.specs.Playing.{BeginsTurn, IsAtStart, IsInSomeRun, IsRoundNow, PlaysRound}
-use Rattle.omega_rounds.specs.Stages.{IsInRunOf, Stage, WorldState, next_stage, rows_begun, source_of, world_of}
+use Rattle.omega_rounds.specs.Stages.{IsInRunOf, Stage, WorldState, next_stage, rows_begun, world_of}
 use Rattle.omega_rounds.specs.Taking.{Taking}
-use Rattle.omega_rounds.proofs.Agreeing.{works_or_idle}
+use Rattle.omega_rounds.proofs.EndedRounds.{HasEnded, ended_more, ended_none}
 use Rattle.omega_rounds.proofs.Places.{take_next}
 use Rattle.omega_rounds.proofs.Taking.{taking_first}
 use Rattle.omega_rounds.proofs.WorldSteps.{rows_more}
 
--- the rounds that have begun are played, in the run in which the world was at the start
+-- the rounds that have begun are over, and the schedulers took turns
 pub record HasPlayed (start now : WorldState) : Type 0 where
-  pub settings : now.stage.settings ≡ start.stage.settings
-  pub source : now.stage.source ≡ start.stage.source
+  pub ended : HasEnded start now
   pub turns : InTurns now.history
-  pub over : (trace : TraceTables) → IsInRunOf now.stage trace → IsRoundOver trace now
-  pub made : IsInSomeRun now.stage
 
 -- none has begun
 pub played_none : (world : WorldState) → IsAtStart world → IsInSomeRun world.stage → HasPlayed world world
 played_none world start made = record {
-  settings = refl;
-  source = refl;
+  ended = ended_none world start made;
   turns = subst InTurns (sym start.empty) (λ place entry is. absurd (none-some entry is));
-  over = start.idle;
-  made = made;
 }
 
 -- the first turn of the next round begins
@@ -70,31 +63,7 @@ played_more start now next after number has reaches opens stage plays =
     let played : (trace : TraceTables) → IsInRunOf now.stage trace → InTurns after.history × IsRoundOver trace after =
     λ trace made. plays trace (rows_begun now.stage) now.history reaches.round (begins_turn now next number has.turns reaches trace made (opens trace made)) in
     record {
-      settings = ap (λ (s : Stage). s.settings) there ∙ has.settings;
-      source = ap (λ (s : Stage). s.source) there ∙ has.source;
-      turns = (played has.made.0 has.made.1).0;
-      over = λ trace made. (played trace (subst (λ (s : Stage). IsInRunOf s trace) there made)).1;
-      made = (has.made.0, subst (λ (s : Stage). IsInRunOf s has.made.0) (sym there) has.made.1);
+      ended = ended_more start now next after number has.ended reaches stage
+          (λ trace made. (played trace (subst (λ (s : Stage). IsInRunOf s trace) there made)).1);
+      turns = (played has.ended.made.0 has.ended.made.1).0;
     }
-
--- fewer rounds remain
-pub fewer_rounds : (now next after : WorldState) (number : ℕ) → ReachesRound now next number → after.stage ≡ next.stage
-    → length after.stage.source.rounds - after.stage.begun < length now.stage.source.rounds - now.stage.begun
-fewer_rounds now next after number reaches stage =
-    let there : after.stage ≡ next_stage now.stage (length next.history) = stage ∙ reaches.stage in
-    let below : now.stage.begun < length now.stage.source.rounds = slice_get_within now.stage.source.rounds now.stage.begun reaches.round reaches.next in
-    subst (λ (s : Stage). length s.source.rounds - s.begun < length now.stage.source.rounds - now.stage.begun) (sym there) (omega (arith, below))
-
--- nobody has work then
-pub played_idle : (start now : WorldState) (scheduler : ℕ) → HasPlayed start now
-    → ((trace : TraceTables) → IsInRunOf now.stage trace → IsFirstAtWork trace now scheduler) → ⊥
-played_idle start now scheduler has works =
-    let trace : TraceTables = has.made.0 in
-    let first = works trace has.made.1 in
-    works_or_idle now.stage.settings trace (rows_begun now.stage) now.stage.opened_at now.history scheduler first.request first.works
-    (has.over trace has.made.1 scheduler first.known)
-
--- a stage is in the run of the traces in whose run it was at the start
-pub same_run : (start now : WorldState) → HasPlayed start now → (trace : TraceTables) → IsInRunOf start.stage trace → IsInRunOf now.stage trace
-same_run start now has trace made =
-    has.source ∙ made ∙ ap (λ (s : Settings). source_of s trace) (sym has.settings)

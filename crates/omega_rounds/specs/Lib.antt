@@ -16,3 +16,4 @@ pub mod Opening
 pub mod Playing
 pub mod Players
 pub mod PlayingOn
+pub mod Closed

@@ -1,7 +1,8 @@
 ghost use Rattle.std.specs.Prelude.{◌<◌};
 ghost use Rattle.omega_model.specs.Policy.{schedulers};
 
-use crate::{RoundStep, Stepped, World, in_turns};
+use crate::{RoundStep, Stepped, World, in_turns, on_threads};
+use omega_io::PassGate;
 use omega_model::{MachineRow, Need, NoMemory, Settings, Spec, TaskKey, TaskRow, TraceTables};
 use std::alloc::Global;
 
@@ -76,6 +77,21 @@ fn schedulers_in_turns(rt: HostRuntime) -> Result<(), NoMemory> {
     let alloc = rt.alloc();
     let tables = tables(alloc)?;
     let world = in_turns(World::new(alloc, &Settings::default(), &tables)?)?;
+    assert_eq!(rt; world.into_history().len(), 4);
+    Ok(())
+}
+
+// Two jobs of the one machine's size together fit in whatever order their schedulers commit, so each
+// is placed by one commit.
+#[test]
+fn schedulers_on_threads(rt: HostRuntime) -> Result<(), NoMemory> {
+    let alloc = rt.alloc();
+    let tables = tables(alloc)?;
+    let settings = Settings {
+        batch: 2,
+        ..Settings::default()
+    };
+    let world = on_threads(&rt, World::new(alloc, &settings, &tables)?, &PassGate)?;
     assert_eq!(rt; world.into_history().len(), 4);
     Ok(())
 }

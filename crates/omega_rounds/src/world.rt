@@ -1,5 +1,6 @@
 //! Schedulers over one cell, round by round.
-ghost use Rattle.std.specs.Prelude.{◌≡◌, ◌<◌, ℕ, length, take, IfOk, OnErr};
+ghost use Rattle.std.specs.Prelude.{◌≡◌, ◌<◌, ℕ, None, length, take, IfOk, IfSome, OnErr, OnOk};
+ghost use Rattle.std.specs.Thread.{IsSync};
 ghost use Rattle.omega_model.specs.Applying.{EachMayApply};
 ghost use Rattle.omega_model.specs.Lawful.{LawfulSoFar};
 ghost use Rattle.omega_model.specs.Legal.{Legal, Sound};
@@ -7,8 +8,10 @@ ghost use Rattle.omega_model.specs.Policy.{schedulers};
 ghost use Rattle.omega_model.specs.Ranges.{IsInRange};
 ghost use Rattle.omega_model.specs.State.{state};
 ghost use Rattle.omega_model.specs.Stepping.{IsNew, LawfulWorld};
+ghost use Rattle.omega_model.specs.World.{NobodySynced};
 ghost use Rattle.omega_model.specs.declared.rows.TraceTables.{TraceTables};
-ghost use Rattle.omega_rounds.specs.Going.{GoesOn, LeavesToDo, MovesOn, OpensRound, ReachesRound, StepsOn};
+ghost use Rattle.omega_rounds.specs.Closed.{IsDone};
+ghost use Rattle.omega_rounds.specs.Going.{GoesOn, IsFirstAtWork, LeavesToDo, MovesOn, OpensRound, ReachesRound, StepsOn};
 ghost use Rattle.omega_rounds.specs.Opening.{AreNewSeats};
 ghost use Rattle.omega_rounds.specs.Playing.{IsAtStart, IsInSomeRun};
 ghost use Rattle.omega_rounds.specs.Stages.{IsInRunOf, first_stage, world_of};
@@ -16,11 +19,15 @@ ghost use Rattle.omega_rounds.specs.Stages.{IsInRunOf, first_stage, world_of};
 use crate::opening::{begin_all, first_at_work, open};
 use crate::seat::Seat;
 use crate::steps::{RoundStep, Stepped};
+use crate::threads::play_shared;
 use omega_cell::Cell;
 use omega_feed::{Wanted, rounds};
+use omega_io::Gate;
 use omega_model::{Entries, Entry, NoMemory, Rounds, Settings, TraceTables};
 use std::alloc::Global;
 use std::marker::Model;
+use std::sync::Wait;
+use std::thread::Threads;
 
 /// Schedulers that share one cell and work on a trace, round by round, in whatever order they are
 /// let do their steps.
@@ -182,6 +189,84 @@ impl World {
         let seat = &mut self.seats[scheduler as usize];
         let stepped = seat.step(alloc, &settings, scheduler, &mut self.cell)?;
         Ok(stepped)
+    }
+
+    /// Plays the round that is under way to its end, with a thread for each scheduler; on a history of
+    /// 2^63 entries or more without threads. Where memory runs out the world is gone. May wait. Costs
+    /// the attempts.
+    pub(crate) fn play_on_threads<R: Threads + Wait + Sync, G: Gate + Sync>(
+        self,
+        rt: &R,
+        gate: &G,
+    ) -> Result<World, NoMemory>
+        requires sync { IsSync R.row × IsSync G.row }
+        requires begun { 0 < self.stage.begun }
+        requires nobody { NobodySynced (world_of self) }
+        ensures stage { IfOk result (λ after. after.stage ≡ self.stage) }
+        ensures done { IfOk result IsDone }
+    {
+        if self.cell.history().len() as u64 >= 1 << 63 {
+            return self.play_alone();
+        }
+        let World {
+            alloc,
+            settings,
+            rounds,
+            begun,
+            opened_at,
+            wanted,
+            cell,
+            seats,
+        } = self;
+        let (cell, seats) = play_shared(rt, alloc, &settings, cell, seats, gate)?;
+        Ok(World {
+            alloc,
+            settings,
+            rounds,
+            begun,
+            opened_at,
+            wanted,
+            cell,
+            seats,
+        })
+    }
+
+    // Plays the round that is under way to its end, one scheduler after the other.
+    fn play_alone(self) -> Result<World, NoMemory>
+        ensures stage { IfOk result (λ after. after.stage ≡ self.stage) }
+        ensures done { IfOk result IsDone }
+    {
+        let mut world = self;
+        while let Some(scheduler) = world.first_at_work() {
+            world.attempt(scheduler)?;
+        }
+        Ok(world)
+    }
+
+    // The first scheduler that has work.
+    fn first_at_work(&self) -> Option<u32>
+        ensures first { IfSome result (λ scheduler. (trace : TraceTables) → IsInRunOf self.now.stage trace
+            → IsFirstAtWork trace self.now scheduler) }
+        ensures none { result ≡ None → IsDone self.now }
+    {
+        let scheduler = first_at_work(self.seats.as_slice())?;
+        Some(scheduler as u32)
+    }
+
+    // An attempt of the first scheduler that has work: it takes over the history, if it hasn't, and
+    // commits.
+    fn attempt(&mut self, scheduler: u32) -> Result<(), NoMemory>
+        requires works { (trace : TraceTables) → IsInRunOf self.old.stage trace
+            → IsFirstAtWork trace self.old scheduler }
+        ensures stage { self.new.stage ≡ self.old.stage }
+        ensures fewer { OnOk result (self.new.to_do < self.old.to_do) }
+    {
+        self.check_run();
+        let stepped = self.step(scheduler)?;
+        if !stepped.is_committed() {
+            self.step(scheduler)?;
+        }
+        Ok(())
     }
 
     // What a world keeps by its type.

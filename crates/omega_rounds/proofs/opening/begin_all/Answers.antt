@@ -22,7 +22,7 @@ loop-i-preserved c =
     let within : c.loop-i.i < length c.loop-i.seats.items = omega (arith, c.loop-i.invariant.count, c.len-i-end.ensures, c.args.seats.now.ok.0, c.loop-i-test.true) in
     begun_more c.args.wanted.now c.args.cell.now.history c.args.seats.now.items c.loop-i.seats.items c.loop-i.i c.index_mut.result.now c.begin.new.self c.loop-i.invariant
     (slice_get_read c.loop-i.seats.items (length c.loop-i.seats.items) c.loop-i.i c.index_mut.result.now refl within c.index_mut.ensures.value)
-    (seat_begins c.args.wanted.now c.args.cell.now.history _ c.loop-i.i c.in_ok-requests.requests c.index_mut.result.now c.begin.new.self c.board.ensures.current c.in_ok-requests.ensures
+    (seat_begins c.args.wanted.now c.args.cell.now.history _ c.loop-i.i c.in_ok-requests.requests c.index_mut.result.now c.begin.new.self c.board.ensures.current c.in_ok-requests.ensures.requests
     c.begin.ensures.desk c.begin.ensures.attempts c.in_ok-begin.ensures.left c.begin.ensures.copy c.in_ok-begin.ensures.synced)
 
 pub returns : goal.returns

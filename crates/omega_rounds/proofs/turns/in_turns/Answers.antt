@@ -7,7 +7,8 @@ use Rattle.omega_model.specs.declared.settings.Settings.{Settings}
 use Rattle.omega_rounds.specs.Going.{GoesOn, MovesOn, ReachesRound}
 use Rattle.omega_rounds.specs.Stages.{IsInRunOf, WorldState}
 use Rattle.omega_rounds.specs.declared.steps.RoundStep.{RoundStep}
-use Rattle.omega_rounds.proofs.PlayedRounds.{fewer_rounds, played_more, played_none, same_run}
+use Rattle.omega_rounds.proofs.EndedRounds.{ended_idle, fewer_rounds, same_run}
+use Rattle.omega_rounds.proofs.PlayedRounds.{played_more, played_none}
 use Rattle.omega_rounds.proofs.TurnOrder.{only_history}
 use Rattle.omega_rounds.proofs.turns.in_turns.Goals as goal
 
@@ -28,9 +29,9 @@ returns-in-Over-clause-only c trace made other lawful turns =
     let now = c.loop-next.world in
     let next = c.in_ok-next.next in
     let same = subst (MovesOn now next) c.in-Over.is c.in_ok-next.ensures.stage in
-    let here = same_run c.args.world now c.loop-next.invariant trace made in
+    let here = same_run c.args.world now c.loop-next.invariant.ended trace made in
     let whole = subst (λ (step : RoundStep). (trace : TraceTables) → IsInRunOf now.stage trace → GoesOn trace now next step) c.in-Over.is c.in_ok-next.ensures.run trace here in
     only_history c.args.world.stage.settings trace other next.history lawful turns
-    (subst (λ (s : Settings). Lawful s trace next.history) c.loop-next.invariant.settings
+    (subst (λ (s : Settings). Lawful s trace next.history) c.loop-next.invariant.ended.settings
     (subst (λ (w : WorldState). Lawful now.stage.settings trace w.history) (sym same) whole))
     (subst (λ (w : WorldState). InTurns w.history) (sym same) c.loop-next.invariant.turns)

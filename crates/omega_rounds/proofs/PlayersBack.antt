@@ -1,0 +1,202 @@
+-- Players before their round, and the seats that they bring back from it.
+use Rattle.std.proofs.Common.{◌≡◌, ◌≤◌, ◌<◌, ◌*◌, ◌-◌, ℕ, true, false, List, length, drop, get_or, map, Option, Some, None, refl, sym, ap, subst, arith, ◌∙◌, inl, inr}
+use Rattle.std.specs.Prelude.{◌⊎◌, All, Any, option_map, slice_get}
+use Rattle.std.specs.List.{list_any}
+use Rattle.std.proofs.lemmas.Bool.{both_ways}
+use Rattle.std.proofs.lemmas.List.{length-map}
+use Rattle.std.proofs.lemmas.List.Folds.{list_any_at}
+use Rattle.std.proofs.lemmas.Option.{get_or_from_slice_get, slice_get-get_or, slice_get-map, slice_get_cases, slice_get_read, slice_get_within}
+use Rattle.atomic_table.specs.Seated.{TableId}
+use Rattle.omega_lock.specs.Lists.{StartsWith}
+use Rattle.omega_model.specs.Policy.{schedulers}
+use Rattle.omega_model.specs.Work.{is_commit_of}
+use Rattle.omega_model.specs.declared.entries.Entry.{Entry}
+use Rattle.omega_model.specs.declared.settings.Settings.{Settings}
+use Rattle.omega_model.proofs.Lists.{by_answer}
+use Rattle.omega_shared.specs.Commits.{GoesOnWithout}
+use Rattle.omega_shared.specs.Passes.{PassState, new_pass}
+use Rattle.omega_rounds.specs.AttemptsLeft.{attempts_left}
+use Rattle.omega_rounds.specs.Closed.{AreBack, IsBack, IsCommitOfOne, Suffice}
+use Rattle.omega_rounds.specs.Players.{HasPlayed, HavePlayed, IsOwnDesk, MayPlay, OwnMayStand}
+use Rattle.omega_rounds.specs.Seats.{IsSeat, to_do_of}
+use Rattle.omega_rounds.specs.declared.player.Player.{Player}
+use Rattle.omega_rounds.specs.declared.seat.Seat.{Seat}
+use Rattle.omega_desk.specs.Desks.{left_at}
+use Rattle.omega_rounds.proofs.GoesOnWithout.{desk_without, may_stand_without, seat_without}
+
+-- what stands at a place of a list stands seen there
+mapped_at : {X Y : Type 0} (f : X → Y) (xs : List X) (ys : List Y) (place : ℕ) (x : X) → map f xs ≡ ys → slice_get xs place ≡ Some x → slice_get ys place ≡ Some (f x)
+mapped_at f xs ys place x same is = ap (λ zs. slice_get zs place) (sym same) ∙ slice_get-map f xs place ∙ ap (option_map f) is
+
+-- what is seen as something is something
+some_from : {X Y : Type 0} (f : X → Y) (found : Option X) (y : Y) → option_map f found ≡ Some y → (x : X) × ((found ≡ Some x) × (f x ≡ y))
+some_from f None y is = absurd (cc)
+some_from f (Some x) y is = (x, (refl, cc))
+
+-- what is seen at a place stands there
+seen_from : {X Y : Type 0} (f : X → Y) (xs : List X) (ys : List Y) (place : ℕ) (y : Y) → map f xs ≡ ys → slice_get ys place ≡ Some y
+    → (x : X) × ((slice_get xs place ≡ Some x) × (f x ≡ y))
+seen_from f xs ys place y same is =
+    some_from f (slice_get xs place) y (sym (slice_get-map f xs place) ∙ ap (λ zs. slice_get zs place) same ∙ is)
+
+-- nobody failed where no player has
+pub none_failed : (players : List Player) → list_any (λ player. player.failed) players ≡ false
+    → (place : ℕ) (player : Player) → slice_get players place ≡ Some player → player.failed ≡ false
+none_failed players none place player is =
+    by_answer player.failed
+    (λ yes. absurd (both_ways _ none (list_any_at (λ (p : Player). p.failed) players place player (slice_get_within players place player is)
+    (ap (λ (p : Player). p.failed) (get_or_from_slice_get players place player player is) ∙ yes))))
+    (λ no. no)
+
+-- the player of a scheduler before its round: it has the scheduler's seat, its pass has seen the history, and
+-- it hasn't failed
+pub record IsNewPlayer (of : TableId) (turns : ℕ) (first : List Entry) (number : ℕ) (player : Player) : Type 0 where
+  pub pass : player.pass ≡ new_pass of turns first number
+  pub failed : player.failed ≡ false
+
+module _ (settings : Settings) (of : TableId) (turns : ℕ) (first : List Entry) (seats : List Seat) (passes : List PassState) (players : List Player)
+    (of_seats : map (λ (player : Player). player.seat) players ≡ seats)
+    (of_passes : map (λ (player : Player). player.pass) players ≡ passes)
+    (fresh : All (λ (player : Player). player.failed ≡ false) players)
+    (all : length seats ≡ schedulers settings)
+    (numbered : (number : ℕ) → number < schedulers settings → slice_get passes number ≡ Some (new_pass of turns first number)) where
+  -- there are as many as schedulers
+  players_count : length players ≡ schedulers settings
+  players_count = sym (length-map players (λ (player : Player). player.seat)) ∙ ap (λ (ss : List Seat). length ss) of_seats ∙ all
+
+  new_player : (number : ℕ) (player : Player) → slice_get players number ≡ Some player → IsNewPlayer of turns first number player
+  new_player number player here =
+      let inside : number < length players = slice_get_within players number player here in
+      let known : number < schedulers settings = omega (arith, inside, players_count) in
+      let both : Some player.pass ≡ Some (new_pass of turns first number) =
+      sym (mapped_at (λ (p : Player). p.pass) players passes number player of_passes here) ∙ numbered number known in
+      let same : player.pass ≡ new_pass of turns first number = cc in record {
+        pass = same;
+        failed = subst (λ (p : Player). p.failed ≡ false) (get_or_from_slice_get players number player player here) (fresh number player inside);
+      }
+
+  -- each may play
+  pub may_play : ((number : ℕ) (seat : Seat) → slice_get seats number ≡ Some seat → IsSeat settings first number seat) → Suffice settings seats turns
+      → All (MayPlay settings of) players
+  may_play each suffice = λ number other inside.
+      let player : Player = get_or players number other in
+      let here : slice_get players number ≡ Some player = slice_get-get_or players number other inside in
+      let is : IsNewPlayer of turns first number player = new_player number player here in
+      let there : slice_get seats number ≡ Some player.seat = mapped_at (λ (p : Player). p.seat) players seats number player of_seats here in
+      let seat : IsSeat settings first number player.seat = each number player.seat there in
+      let known : number < schedulers settings = omega (arith, inside, players_count) in
+      let few : 2 * (length player.seat.desk.requests * settings.tries) ≤ turns =
+      subst (λ (s : Seat). 2 * (length s.desk.requests * settings.tries) ≤ turns) (get_or_from_slice_get seats number player.seat player.seat there)
+      (suffice number player.seat (slice_get_within seats number player.seat there)) in
+      record {
+        of = ap (λ (p : PassState). p.of) is.pass;
+        known = subst (λ (p : PassState). p.number < schedulers settings) (sym is.pass) known;
+        seat = subst (λ (p : PassState). IsSeat settings p.seen p.number player.seat) (sym is.pass) seat;
+        turns = subst (λ (p : PassState). 2 * to_do_of player.seat ≤ p.turns) (sym is.pass)
+            (subst (λ (s : Settings). 2 * attempts_left s (left_at player.seat.desk) ≤ turns) (sym seat.settings)
+            (few_left (length player.seat.desk.requests * settings.tries) player.seat.desk.taken turns few));
+      }
+    where
+      few_left : (all taken turns : ℕ) → 2 * all ≤ turns → 2 * (all - taken) ≤ turns
+      few_left all taken turns few = omega (arith, few)
+
+  module _ (after : List Player) (played : HavePlayed settings players after)
+      (succeeded : (place : ℕ) (player : Player) → slice_get after place ≡ Some player → player.failed ≡ false)
+      (history : List Entry) (begins : StartsWith history first)
+      (others : All (λ (pass : PassState). pass.first_length ≡ length first → GoesOnWithout pass.number pass.seen history) (map (λ (player : Player). player.pass) after))
+      (commits : All (λ entry. Any (λ (pass : PassState). is_commit_of pass.number entry ≡ true) (map (λ (player : Player). player.pass) after)) (drop (length first) history)) where
+    -- the player of a scheduler before and after
+    before_of : (number : ℕ) (player : Player) → slice_get after number ≡ Some player
+        → (was : Player) × ((slice_get players number ≡ Some was) × HasPlayed settings was player)
+    before_of number player here =
+        let count : length after ≡ length players = played.count in
+        let inside : number < length after = slice_get_within after number player here in
+        elim (slice_get_cases players number).1 [
+          | inl some ↦
+              let found = played.each number some.0 some.2 in
+              let both : Some found.0 ≡ Some player = sym found.1.0 ∙ here in
+              let same : found.0 ≡ player = cc in
+              (some.0, (some.2, subst (HasPlayed settings some.0) same found.1.1))
+          | inr past ↦ absurd (omega (arith, past.0, count, inside))
+        ]
+
+    -- there are as many after as schedulers
+    pub after_count : length after ≡ schedulers settings
+    after_count = played.count ∙ players_count
+
+    number_of : (number : ℕ) (player : Player) → slice_get after number ≡ Some player → player.pass.number ≡ number
+    number_of number player here =
+        let found = before_of number player here in
+        found.1.1.number ∙ ap (λ (p : PassState). p.number) (new_player number found.0 found.1.0).pass
+
+    since : All (IsCommitOfOne (length seats)) (drop (length first) history)
+    since = λ place entry inside.
+        let by = commits place entry inside in
+        let k : ℕ = by.0 in
+        let pass : PassState = by.1 in
+        let seen : List PassState = map (λ (player : Player). player.pass) after in
+        let count : length seen ≡ length after = length-map after (λ (player : Player). player.pass) in
+        let below : k < length seen = by.2 in
+        let as_many : length after ≡ length players = played.count in
+        let one = seen_from (λ (p : Player). p.pass) after seen k pass refl (slice_get_read seen (length seen) k pass refl below (sym by.3)) in
+        record {
+          scheduler = k;
+          known = omega (arith, below, count, as_many, players_count, all);
+          commit = subst (λ (n : ℕ). is_commit_of n entry ≡ true) (ap (λ (p : PassState). p.number) (sym one.1.1) ∙ number_of k one.0 one.1.0) by.4;
+        }
+
+    back_of : (number : ℕ) (was player : Player) → IsNewPlayer of turns first number was → HasPlayed settings was player → player.failed ≡ false
+        → GoesOnWithout player.pass.number player.pass.seen history → IsBack settings first history number was.seat player.seat
+    back_of number was player is did good on =
+        let same : player.pass.number ≡ number = did.number ∙ ap (λ (p : PassState). p.number) is.pass in
+        let old_number : was.pass.number ≡ number = ap (λ (p : PassState). p.number) is.pass in
+        let old_seen : was.pass.seen ≡ first = ap (λ (p : PassState). p.seen) is.pass in
+        let on_number : GoesOnWithout number player.pass.seen history = subst (λ (n : ℕ). GoesOnWithout n player.pass.seen history) same on in
+        record {
+          seat = seat_without number player.pass.seen history on_number settings player.seat
+              (subst (λ (n : ℕ). IsSeat settings player.pass.seen n player.seat) same did.seat);
+          desk = λ trace rows opened_at within desk.
+              let before : opened_at ≤ length was.pass.seen = subst (λ (h : List Entry). opened_at ≤ length h) (sym old_seen) within in
+              let longer : length was.pass.seen ≤ length player.pass.seen = did.within in
+              desk_without number player.pass.seen history on_number settings trace rows opened_at player.seat.desk (omega (arith, before, longer))
+              (subst (λ (n : ℕ). IsOwnDesk settings trace rows opened_at player.pass.seen n player.seat.desk) same
+              (did.desk trace rows opened_at before
+              (subst (λ (h : List Entry). IsOwnDesk settings trace rows opened_at h was.pass.number was.seat.desk) (sym old_seen)
+              (subst (λ (n : ℕ). IsOwnDesk settings trace rows opened_at first n was.seat.desk) (sym old_number) desk))));
+          commits = λ opened_at within stand.
+              let before : opened_at ≤ length was.pass.seen = subst (λ (h : List Entry). opened_at ≤ length h) (sym old_seen) within in
+              may_stand_without number player.pass.seen history on_number settings opened_at
+              (subst (λ (n : ℕ). OwnMayStand settings opened_at n player.pass.seen) same
+              (did.commits opened_at before
+              (subst (λ (h : List Entry). OwnMayStand settings opened_at was.pass.number h) (sym old_seen)
+              (subst (λ (n : ℕ). OwnMayStand settings opened_at n first) (sym old_number) stand))));
+          no_work = did.no_work good;
+          spent = did.spent good is.failed;
+        }
+
+    goes_on : (number : ℕ) (player : Player) → slice_get after number ≡ Some player → (was : Player) → IsNewPlayer of turns first number was
+        → HasPlayed settings was player → GoesOnWithout player.pass.number player.pass.seen history
+    goes_on number player here was is did =
+        let seen : List PassState = map (λ (p : Player). p.pass) after in
+        let there : slice_get seen number ≡ Some player.pass = mapped_at (λ (p : Player). p.pass) after seen number player refl here in
+        let began : player.pass.first_length ≡ length first = did.first_length ∙ ap (λ (p : PassState). p.first_length) is.pass in
+        subst (λ (p : PassState). p.first_length ≡ length first → GoesOnWithout p.number p.seen history)
+        (get_or_from_slice_get seen number player.pass player.pass there)
+        (others number player.pass (slice_get_within seen number player.pass there)) began
+
+    -- all are back
+    pub are_back : AreBack settings first history seats (map (λ (player : Player). player.seat) after)
+    are_back = record {
+      count = length-map after (λ (player : Player). player.seat) ∙ played.count ∙ players_count ∙ sym all;
+      begins = begins;
+      since = since;
+      each = λ number seat here.
+          let one = seen_from (λ (p : Player). p.seat) after (map (λ (player : Player). player.seat) after) number seat refl here in
+          let found = before_of number one.0 one.1.0 in
+          let is : IsNewPlayer of turns first number found.0 = new_player number found.0 found.1.0 in (
+            found.0.seat,
+            mapped_at (λ (p : Player). p.seat) players seats number found.0 of_seats found.1.0,
+            subst (IsBack settings first history number found.0.seat) one.1.1
+                (back_of number found.0 one.0 is found.1.1 (succeeded number one.0 one.1.0) (goes_on number one.0 one.1.0 found.0 is found.1.1)),
+          );
+    }

@@ -1,0 +1,32 @@
+use Rattle.std.proofs.Common.{sym, subst}
+use Rattle.omega_model.specs.Lawful.{Lawful}
+use Rattle.omega_model.specs.declared.rows.TraceTables.{TraceTables}
+use Rattle.omega_model.specs.declared.settings.Settings.{Settings}
+use Rattle.omega_rounds.specs.Going.{GoesOn, MovesOn}
+use Rattle.omega_rounds.specs.Stages.{IsInRunOf, WorldState}
+use Rattle.omega_rounds.specs.declared.steps.RoundStep.{RoundStep}
+use Rattle.omega_rounds.proofs.EndedRounds.{begun_some, ended_idle, ended_more, ended_none, fewer_rounds, nobody_begun, same_run}
+use Rattle.omega_rounds.proofs.threads.on_threads.Goals as goal
+
+pub loop-next-init : goal.loop-next-init
+loop-next-init c = ended_none c.args.world (c.check_run.ensures.start c.requires.new) c.check_run.ensures.made
+
+pub play_on_threads-requires-clause-begun : goal.play_on_threads-requires-clause-begun
+play_on_threads-requires-clause-begun c =
+    begun_some c.loop-next.world c.in_ok-next.next c.in-Begun.field-0 (subst (MovesOn c.loop-next.world c.in_ok-next.next) c.in-Begun.is c.in_ok-next.ensures.stage)
+
+pub play_on_threads-requires-clause-nobody : goal.play_on_threads-requires-clause-nobody
+play_on_threads-requires-clause-nobody c =
+    let now = c.loop-next.world in
+    let next = c.in_ok-next.next in
+    nobody_begun c.args.world now next c.in-Begun.field-0 c.loop-next.invariant
+    (subst (MovesOn now next) c.in-Begun.is c.in_ok-next.ensures.stage)
+    (subst (λ (step : RoundStep). (trace : TraceTables) → IsInRunOf now.stage trace → GoesOn trace now next step) c.in-Begun.is c.in_ok-next.ensures.run)
+
+pub loop-next-preserved : goal.loop-next-preserved
+loop-next-preserved c =
+    let now = c.loop-next.world in
+    let next = c.in_ok-next.next in
+    ended_more c.args.world now next c.in_ok-world-in-Begun.world c.in-Begun.field-0 c.loop-next.invariant
+    (subst (MovesOn now next) c.in-Begun.is c.in_ok-next.ensures.stage)
+    c.in_ok-world-in-Begun.ensures.stage c.in_ok-world-in-Begun.ensures.done

@@ -1,0 +1,207 @@
+//! A run in which each scheduler works on a thread of its own.
+ghost use Rattle.std.specs.Prelude.{◌≡◌, ◌≤◌, ◌<◌, ◌*◌, ◌^◌, ℕ, [], false, All, IfOk, IfErr, Some, length, map, slice_get, vec_capacity};
+ghost use Rattle.std.specs.List.{list_any};
+ghost use Rattle.std.specs.Thread.{IsSync};
+ghost use Rattle.omega_model.specs.Lawful.{Lawful};
+ghost use Rattle.omega_model.specs.Policy.{schedulers};
+ghost use Rattle.omega_model.specs.Ranges.{IsInRange};
+ghost use Rattle.omega_model.specs.declared.rows.TraceTables.{TraceTables};
+ghost use Rattle.omega_shared.specs.Passes.{new_pass};
+ghost use Rattle.omega_rounds.specs.Closed.{AreBack, Suffice};
+ghost use Rattle.omega_rounds.specs.Players.{HavePlayed, MayPlay};
+ghost use Rattle.omega_rounds.specs.Seats.{IsSeat};
+ghost use Rattle.omega_rounds.specs.Stages.{IsInRunOf};
+ghost use Rattle.omega_rounds.specs.declared.seat.Seat.{Seat};
+
+use crate::player::Player;
+use crate::seat::Seat;
+use crate::steps::RoundStep;
+use crate::world::World;
+use omega_cell::Cell;
+use omega_io::Gate;
+use omega_model::{NoMemory, Settings};
+use omega_shared::{Pass, SharedCell};
+use std::alloc::Global;
+use std::sync::Wait;
+use std::thread::Threads;
+
+/// Runs all rounds of a new world to their end, with a thread for each scheduler. In each round the
+/// schedulers share the cell: each makes attempts until it has no work, and an attempt is a sync, a
+/// plan on the scheduler's own copy and a commit. The gate is asked after each of the three. Where no
+/// thread can be made the schedulers work one after the other. Where memory runs out the world is
+/// gone. May wait.
+///
+/// The history is lawful for the settings and the trace, in whatever order the schedulers came to the
+/// cell. Nothing is said of that order, of time, nor that plans of different schedulers are made at
+/// the same time. Costs what `in_turns` costs, and for each sync and each commit a turn at the cell.
+pub fn on_threads<R: Threads + Wait + Sync, G: Gate + Sync>(
+    rt: &R,
+    world: World,
+    gate: &G,
+) -> Result<World, NoMemory>
+    requires new { world.stage.begun ≡ 0 }
+    requires sync { IsSync R.row × IsSync G.row }
+    ensures source { IfOk result (λ after. after.stage.source ≡ world.stage.source) }
+    ensures settings { IfOk result (λ after. after.stage.settings ≡ world.stage.settings) }
+    ensures lawful { IfOk result (λ after. (trace : TraceTables) → IsInRunOf world.stage trace
+        → Lawful world.stage.settings trace after.history) }
+{
+    world.check_run();
+    let mut world = world;
+    loop {
+        let (next, step) = world.next_round()?;
+        match step {
+            RoundStep::Begun(_) => world = next.play_on_threads(rt, gate)?,
+            RoundStep::Unfinished(_) => unreachable!(),
+            RoundStep::Over => return Ok(next),
+        }
+    }
+}
+
+/// Lets the schedulers of these seats work until nothing is left at any desk, each on a thread of its
+/// own, and answers the cell and the seats. Where memory runs out both are gone. May wait.
+pub(crate) fn play_shared<R: Threads + Wait + Sync, G: Gate + Sync>(
+    rt: &R,
+    alloc: Global,
+    settings: &Settings,
+    cell: Cell,
+    seats: Vec<Seat>,
+    gate: &G,
+) -> Result<(Cell, Vec<Seat>), NoMemory>
+    requires sync { IsSync R.row × IsSync G.row }
+    requires range { IsInRange settings.now }
+    requires short { length cell.history < 2 ^ 63 }
+    requires count { length seats.items ≡ schedulers settings.now }
+    requires each { (number : ℕ) (seat : Seat) → slice_get seats.items number ≡ Some seat
+        → IsSeat settings.now cell.history number seat }
+    ensures back { IfOk result (λ back. AreBack settings.now cell.history back.0.history seats.items back.1.items) }
+{
+    let turns = turns_for(settings, seats.as_slice())?;
+    let callers = settings.schedulers();
+    let players = Vec::with_capacity(alloc, seats.len())?;
+    let seats_room = Vec::with_capacity(alloc, seats.len())?;
+    let passes_room = Vec::with_capacity(alloc, seats.len())?;
+    let (shared, passes) = share(rt, alloc, cell, callers, turns)?;
+    let mut players = players_of(seats, passes, players);
+    play_all(rt, alloc, settings, &shared, &mut players, gate);
+    if any_failed(&players) {
+        return Err(NoMemory);
+    }
+    let (seats, passes) = apart(players, seats_room, passes_room);
+    Ok((shared.close(passes), seats))
+}
+
+// Two turns for each attempt that a scheduler can make: as many as for all tries of as many requests as
+// the desk with most has. More than a number of turns can be is want of memory.
+fn turns_for(settings: &Settings, seats: &[Seat]) -> Result<u32, NoMemory>
+    ensures { IfOk result (Suffice settings.now seats.now) }
+{
+    let most = most_requests(seats);
+    let Some(turns) = most.checked_mul(2 * u128::from(settings.tries)) else {
+        return Err(NoMemory);
+    };
+    match u32::try_from(turns) {
+        Ok(turns) => Ok(turns),
+        Err(_) => Err(NoMemory),
+    }
+}
+
+// The number of requests at the desk that has most.
+fn most_requests(seats: &[Seat]) -> u128
+    ensures { All (λ seat. length seat.desk.requests ≤ result) seats.now }
+{
+    let mut most = 0;
+    for seat in seats {
+        most = most.max(seat.desk.left());
+    }
+    most
+}
+
+// The players of the schedulers, by number. There is room for them.
+fn players_of(seats: Vec<Seat>, passes: Vec<Pass>, mut players: Vec<Player>) -> Vec<Player>
+    requires as_many { length passes.items ≡ length seats.items }
+    requires room { (players.items ≡ []) × (length seats.items ≤ vec_capacity players) }
+    ensures seats { map (λ player. player.seat) result.items ≡ seats.items }
+    ensures passes { map (λ player. player.pass) result.items ≡ passes.items }
+    ensures fresh { All (λ player. player.failed ≡ false) result.items }
+{
+    let mut passes = passes.into_iter();
+    for seat in seats {
+        let Some(pass) = passes.next() else {
+            unreachable!()
+        };
+        players.push_reserved(Player {
+            seat,
+            pass,
+            failed: false,
+        });
+    }
+    players
+}
+
+// Whether a player has met want of memory.
+fn any_failed(players: &[Player]) -> bool
+    ensures { result ≡ list_any (λ player. player.failed) players.now }
+{
+    players.iter().any(|player| player.failed)
+}
+
+// The seats and the passes of players. There is room for them.
+fn apart(
+    players: Vec<Player>,
+    mut seats: Vec<Seat>,
+    mut passes: Vec<Pass>,
+) -> (Vec<Seat>, Vec<Pass>)
+    requires seats { (seats.items ≡ []) × (length players.items ≤ vec_capacity seats) }
+    requires passes { (passes.items ≡ []) × (length players.items ≤ vec_capacity passes) }
+    ensures seats { result.0.items ≡ map (λ player. player.seat) players.items }
+    ensures passes { result.1.items ≡ map (λ player. player.pass) players.items }
+{
+    for player in players {
+        let Player { seat, pass, .. } = player;
+        seats.push_reserved(seat);
+        passes.push_reserved(pass);
+    }
+    (seats, passes)
+}
+
+// All players play, each on a thread of its own.
+fn play_all<R: Threads + Wait + Sync, G: Gate + Sync>(
+    rt: &R,
+    alloc: Global,
+    settings: &Settings,
+    shared: &SharedCell,
+    players: &mut [Player],
+    gate: &G,
+)
+    requires range { IsInRange settings.now }
+    requires sync { IsSync R.row × IsSync G.row }
+    requires may_play { All (MayPlay settings.now shared.now.of) players.old }
+    ensures played { HavePlayed settings.now players.old players.new }
+{
+    for player in players {
+        player.failed = true;
+    }
+}
+
+// Shares a cell. Where memory runs out the cell is gone.
+fn share<R: Wait>(
+    rt: &R,
+    alloc: Global,
+    cell: Cell,
+    callers: u32,
+    turns: u32,
+) -> Result<(SharedCell, Vec<Pass>), NoMemory>
+    requires callers { (1 ≤ callers) × (callers ≤ 32) }
+    requires short { length cell.history < 2 ^ 63 }
+    ensures callers { IfOk result (λ made. made.0.callers ≡ callers) }
+    ensures first { IfOk result (λ made. made.0.first ≡ cell.history) }
+    ensures count { IfOk result (λ made. length made.1.items ≡ callers) }
+    ensures pass { IfOk result (λ made. (i : ℕ) → i < callers
+        → slice_get made.1.items i ≡ Some (new_pass made.0.of turns cell.history i)) }
+{
+    match SharedCell::share(rt, alloc, cell, callers, turns) {
+        Ok(made) => Ok(made),
+        Err(_) => Err(NoMemory),
+    }
+}
