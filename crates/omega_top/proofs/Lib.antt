@@ -1,4 +1,5 @@
 pub mod Completing
+pub mod Making
 pub mod Refusing
 pub mod SomeRun
 pub mod NoHistory

@@ -1,20 +1,42 @@
-use Rattle.std.proofs.Common.{◌∙◌, refl}
-use Rattle.omega_top.proofs.Completing.{completes}
+use Rattle.std.proofs.Common.{◌≡◌, ◌∙◌, None, ap, refl, subst, sym}
+use Rattle.omega_model.specs.Generated.{tables_of_run}
+use Rattle.omega_model.specs.Refusals.{first_refusal}
+use Rattle.omega_model.specs.declared.settings.Settings.{Settings}
+use Rattle.omega_top.proofs.Completing.{completes, ends_well}
 use Rattle.omega_top.proofs.SomeRun.{no_memory_run}
 use Rattle.omega_top.proofs.top.omega.Goals as goal
 
 -- entering a folder leaves what is told of the tables
 pub returns-clause-first : goal.returns-clause-first
-returns-clause-first g c bytes told taken = c.omega_with.ensures.first bytes (λ table. c.enter.ensures.rests table ∙ told table)
+returns-clause-first g c bytes told =
+    rw c.omega_with.ensures.settings (c.omega_with.ensures.first bytes (λ table. c.enter.ensures.rests table ∙ told table))
+
+pub returns-clause-made : goal.returns-clause-made
+returns-clause-made g c = rw c.omega_with.ensures.settings c.omega_with.ensures.made
+
+pub returns-clause-unread : goal.returns-clause-unread
+returns-clause-unread g c =
+    rw c.omega_with.ensures.settings (λ makes. record {
+      rests = λ table. (c.omega_with.ensures.unread makes).rests table ∙ c.enter.ensures.rests table;
+      counts = λ table. (c.omega_with.ensures.unread makes).counts table ∙ c.enter.ensures.counts table;
+    })
 
 pub returns-clause-complete : goal.returns-clause-complete
 returns-clause-complete g c bytes told clean none taken =
-    completes bytes _ _ _ _ _ _ clean none c.enter.ensures.counts
+    completes (tables_of_run c.in-Ok.parsed.settings bytes) _ _ _ _ _ _
+    (subst (λ (settings : Settings). first_refusal (tables_of_run settings bytes) ≡ None) (sym c.in-Ok.ensures.settings) clean)
+    none c.enter.ensures.counts
     (c.omega_with.ensures.first bytes (λ table. c.enter.ensures.rests table ∙ told table))
     c.omega_with.ensures.read_fault c.omega_with.ensures.write_fault
 
+pub returns-clause-complete_made : goal.returns-clause-complete_made
+returns-clause-complete_made g c makes stays taken =
+    ends_well _ _ _ (c.omega_with.ensures.made (ap (λ (settings : Settings). settings.command) c.in-Ok.ensures.settings ∙ makes))
+    stays c.omega_with.ensures.write_fault
+
 pub returns-clause-to_end : goal.returns-clause-to_end
-returns-clause-to_end g c bytes told done = c.omega_with.ensures.to_end bytes (λ table. c.enter.ensures.rests table ∙ told table) done
+returns-clause-to_end g c bytes told done =
+    rw c.omega_with.ensures.settings (c.omega_with.ensures.to_end bytes (λ table. c.enter.ensures.rests table ∙ told table) done)
 
 pub returns-clause-lawful : goal.returns-clause-lawful
 returns-clause-lawful g c bytes told =
