@@ -1,11 +1,9 @@
 -- What the top call answers, and why.
 use Rattle.std.specs.Prelude.{◌≡◌, ℕ, List, [], Option, Some, None, take, ⊤}
 use Rattle.omega_io.specs.Edge.{Appends, AppendsPart, Rose}
-use Rattle.omega_model.specs.Generated.{tables_of_run}
 use Rattle.omega_model.specs.Lawful.{Lawful}
 use Rattle.omega_model.specs.Legal.{Sound}
 use Rattle.omega_model.specs.State.{state}
-use Rattle.omega_model.specs.Trace.{trace_of}
 use Rattle.omega_model.specs.Turns.{InTurns}
 use Rattle.omega_model.specs.Ranges.{IsInRange}
 use Rattle.omega_model.specs.Refusals.{first_refusal, refusal_before}
@@ -14,8 +12,7 @@ use Rattle.omega_model.specs.declared.results.Status.{Status}
 use Rattle.omega_model.specs.declared.results.Status.TheVariants.{Done, Usage, ReadFault, TooLong, BadRow, TooMany, WriteFault, NoMemory}
 use Rattle.omega_model.specs.declared.rows.Table.{Table}
 use Rattle.omega_model.specs.declared.rows.TraceTables.{TraceTables}
-use Rattle.omega_model.specs.declared.settings.Command.{Command}
-use Rattle.omega_model.specs.declared.settings.Command.TheVariants.{Generate, Replay, Run}
+use Rattle.omega_model.specs.declared.settings.Command.TheVariants.{Run}
 use Rattle.omega_model.specs.declared.settings.Settings.{Settings}
 use Rattle.omega_model.specs.Limits.{IsWithinLimits}
 use Rattle.omega_model.specs.ReportForms.{printed_report}
@@ -25,10 +22,6 @@ use Rattle.omega_rounds.specs.Gangs.{GangsAreWhole}
 pub record IsBuilt (settings : Settings) : Type 0 where
   pub ranges : IsInRange settings
   pub command : settings.command ≢ Run
-
--- the trace that a run replays: that of the tables that it makes on `generate`, else of those that it is handed
-abbrev pub trace_of_run : Settings → (Table → List ℕ) → TraceTables
-trace_of_run settings handed = trace_of (tables_of_run settings handed)
 
 -- after each of its entries the state of the history is sound: no machine is used beyond its capacity,
 -- no task runs twice, and each is on a machine that is up
@@ -148,18 +141,6 @@ EndsRun (ReadFault table) = ⊥
 EndsRun (TooLong table) = ⊥
 EndsRun (BadRow table row column cause) = ⊥
 EndsRun (TooMany kind number) = ⊥
-
--- the bytes that a run which was done leaves of the tables that it was handed: none, or on `generate`, which
--- reads none of them, all
-abbrev pub left_by : Command → (Table → List ℕ) → Table → List ℕ
-left_by Replay handed table = []
-left_by Run handed table = []
-left_by Generate handed table = handed table
-
--- nothing was read of any table, and no count of faults moved
-pub record StayUnread (rest rest_now : Table → Option (List ℕ)) (count count_now : Table → ℕ) : Type 0 where
-  pub rests : (table : Table) → rest_now table ≡ rest table
-  pub counts : (table : Table) → count_now table ≡ count table
 
 -- no count of faults rose
 pub record NoneRose (tables_before tables_now : Table → ℕ) (sink_before sink_now : ℕ) : Type 0 where

@@ -1,11 +1,8 @@
 -- What the words of the command line choose for a run.
-use Rattle.std.specs.Prelude.{◌≡◌, ◌⊎◌, ℕ, true, List, Option, None}
+use Rattle.std.specs.Prelude.{◌≡◌, ◌⊎◌, ℕ, true, List, Option}
 use Rattle.omega_io.specs.Edge.{Enters}
-use Rattle.omega_model.specs.Generated.{tables_of_run}
 use Rattle.omega_model.specs.PlainWords.{is_plain}
-use Rattle.omega_model.specs.Refusals.{first_refusal}
 use Rattle.omega_model.specs.WordSettings.{folder_of, settings_of}
-use Rattle.omega_model.specs.declared.rows.Table.{Table}
 use Rattle.omega_model.specs.declared.settings.Command.TheVariants.{Generate}
 use Rattle.omega_model.specs.declared.settings.Settings.{Settings}
 use Rattle.omega_words.specs.Built.{built_words}
@@ -28,10 +25,6 @@ pub record AreChosenBy (words : List (List ℕ)) (settings : Settings) : Type 0 
 pub record EntersChosen (words : List (List ℕ)) (before now : Option (Option (List ℕ))) : Type 0 where
   pub matched : Enters (folder_in built_words words) before now
   pub plain : is_plain built_words words ≡ true → Enters (folder_of words) before now
-
--- of the tables that the words have the run read, made or handed, no refusal stands
-abbrev pub HasNoRefusal : List (List ℕ) → (Table → List ℕ) → Type 0
-HasNoRefusal words handed = first_refusal (tables_of_run (settings_in built_words words) handed) ≡ None
 
 -- the words are those of a run that makes its tables
 abbrev pub MakesTables : List (List ℕ) → Type 0

@@ -2,15 +2,19 @@
 ghost use Rattle.std.specs.Prelude.{◌≡◌, ◌≢◌, ◌⊎◌, ℕ, List, None, Some, map, IfSome};
 ghost use Rattle.omega_cell.specs.Laws.{EvictionsGoDown, NoGangIsSplit};
 ghost use Rattle.omega_io.specs.Edge.{Rose, Tells};
-ghost use Rattle.omega_model.specs.Generated.{tables_of_run};
 ghost use Rattle.omega_model.specs.Legal.{Legal};
+ghost use Rattle.omega_model.specs.Refusals.{first_refusal};
 ghost use Rattle.omega_model.specs.ReportForms.{printed_report};
+ghost use Rattle.omega_model.specs.Trace.{trace_of};
 ghost use Rattle.omega_model.specs.Turns.{InTurns};
 ghost use Rattle.omega_model.specs.declared.results.Status.TheVariants.{Usage, WriteFault, NoMemory};
 ghost use Rattle.omega_model.specs.declared.rows.Table.{Table};
 ghost use Rattle.omega_model.specs.declared.settings.Command.TheVariants.{Generate};
-ghost use Rattle.omega_top.specs.Answers.{Answers, EndsRun, HasHistory, HasReadCause, HasWholeGangs, IsBuilt, IsOnlyRun, IsSomeRun, IsWholeRun, NeverOvercommits, NoneRose, StayUnread, Writes, WritesNothing, left_by, trace_of_run};
-ghost use Rattle.omega_top.specs.Chosen.{AreChosenBy, AreTaken, EntersChosen, HasNoRefusal, MakesTables};
+ghost use Rattle.omega_top.specs.Answers.{Answers, EndsRun, HasHistory, HasReadCause, HasWholeGangs, IsBuilt, IsOnlyRun, IsSomeRun, IsWholeRun, NeverOvercommits, NoneRose, Writes, WritesNothing};
+ghost use Rattle.omega_top.specs.Chosen.{AreChosenBy, AreTaken, EntersChosen, MakesTables};
+ghost use Rattle.omega_top.specs.Reads.{Reads, StayUnread, left_by};
+ghost use Rattle.omega_words.specs.Built.{built_words};
+ghost use Rattle.omega_words.specs.Taken.{settings_in};
 
 use crate::replay::replayed;
 use crate::trace::trace_of_run;
@@ -42,26 +46,26 @@ pub fn omega<T: Tables, K: Sink, G: Gate>(
     ensures folder { result.settings ≢ None → result.status ≢ NoMemory
         → EntersChosen (map (λ word. word.now) words.now) (T.entered tables.old) (T.entered tables.new) }
 
-    ensures first { (bytes : Table → List ℕ) → Tells (T.rest tables.old) bytes
-        → IfSome result.settings (λ settings. Answers (tables_of_run settings bytes) result.status) }
+    ensures first { (bytes : Table → List ℕ) → IfSome result.settings
+        (λ settings. Reads settings (T.rest tables.old) bytes → Answers bytes result.status) }
     ensures made { IfSome result.settings (λ settings. settings.command ≡ Generate → EndsRun result.status) }
     ensures unread { IfSome result.settings (λ settings. settings.command ≡ Generate
         → StayUnread (T.rest tables.old) (T.rest tables.new) (T.faults tables.old) (T.faults tables.new)) }
     ensures read_fault { HasReadCause (T.faults tables.old) (T.faults tables.new) result.status }
     ensures write_fault { result.status ≡ WriteFault → Rose (K.faults out.old) (K.faults out.new) }
-    ensures complete { (bytes : Table → List ℕ) → Tells (T.rest tables.old) bytes → HasNoRefusal (map (λ word. word.now) words.now) bytes
-        → NoneRose (T.faults tables.old) (T.faults tables.new) (K.faults out.old) (K.faults out.new)
+    ensures complete { (bytes : Table → List ℕ) → Reads (settings_in built_words (map (λ word. word.now) words.now)) (T.rest tables.old) bytes
+        → first_refusal bytes ≡ None → NoneRose (T.faults tables.old) (T.faults tables.new) (K.faults out.old) (K.faults out.new)
         → AreTaken (map (λ word. word.now) words.now) → (result.status ≡ Status.Done) ⊎ (result.status ≡ NoMemory) }
     ensures complete_made { MakesTables (map (λ word. word.now) words.now) → ¬ Rose (K.faults out.old) (K.faults out.new)
         → AreTaken (map (λ word. word.now) words.now) → (result.status ≡ Status.Done) ⊎ (result.status ≡ NoMemory) }
 
-    ensures lawful { (bytes : Table → List ℕ) → Tells (T.rest tables.old) bytes
-        → IfSome result.settings (λ settings. IsWholeRun settings (trace_of_run settings bytes) result.history result.status) }
-    ensures only { (bytes : Table → List ℕ) → Tells (T.rest tables.old) bytes
-        → IfSome result.settings (λ settings. IsOnlyRun settings (trace_of_run settings bytes) result.history result.status) }
+    ensures lawful { (bytes : Table → List ℕ) → IfSome result.settings
+        (λ settings. Reads settings (T.rest tables.old) bytes → IsWholeRun settings (trace_of bytes) result.history result.status) }
+    ensures only { (bytes : Table → List ℕ) → IfSome result.settings
+        (λ settings. Reads settings (T.rest tables.old) bytes → IsOnlyRun settings (trace_of bytes) result.history result.status) }
     ensures turns { InTurns result.history }
-    ensures whole_gangs { (bytes : Table → List ℕ) → Tells (T.rest tables.old) bytes
-        → IfSome result.settings (λ settings. HasWholeGangs settings (trace_of_run settings bytes) result.history result.status) }
+    ensures whole_gangs { (bytes : Table → List ℕ) → IfSome result.settings
+        (λ settings. Reads settings (T.rest tables.old) bytes → HasWholeGangs settings (trace_of bytes) result.history result.status) }
     ensures some_run { IfSome result.settings
         (λ settings. IsSomeRun settings result.history result.status (K.written out.old) (K.written out.new)) }
     ensures legal { Legal result.history }
@@ -69,9 +73,8 @@ pub fn omega<T: Tables, K: Sink, G: Gate>(
     ensures gangs { NoGangIsSplit result.history }
     ensures evictions { EvictionsGoDown result.history }
     ensures history { HasHistory result.history result.status }
-    ensures written { (bytes : Table → List ℕ) → Tells (T.rest tables.old) bytes
-        → IfSome result.settings
-        (λ settings. Writes (printed_report settings (trace_of_run settings bytes) result.history) (K.written out.old) (K.written out.new) result.status) }
+    ensures written { (bytes : Table → List ℕ) → IfSome result.settings (λ settings. Reads settings (T.rest tables.old) bytes
+        → Writes (printed_report settings (trace_of bytes) result.history) (K.written out.old) (K.written out.new) result.status) }
     ensures nothing { WritesNothing (K.written out.old) (K.written out.new) result.status }
     ensures to_end { (bytes : Table → List ℕ) → Tells (T.rest tables.old) bytes → result.status ≡ Status.Done
         → IfSome result.settings (λ settings. Tells (T.rest tables.new) (left_by settings.command bytes)) }
@@ -99,7 +102,7 @@ pub fn omega_with<T: Tables, K: Sink, G: Gate>(
     ensures settings { result.settings ≡ Some settings.now }
     ensures folder { T.entered tables.new ≡ T.entered tables.old }
 
-    ensures first { (bytes : Table → List ℕ) → Tells (T.rest tables.old) bytes → Answers (tables_of_run settings.now bytes) result.status }
+    ensures first { (bytes : Table → List ℕ) → Reads settings.now (T.rest tables.old) bytes → Answers bytes result.status }
     ensures not_usage { result.status ≢ Usage }
     ensures made { settings.now.command ≡ Generate → EndsRun result.status }
     ensures unread { settings.now.command ≡ Generate
@@ -107,18 +110,21 @@ pub fn omega_with<T: Tables, K: Sink, G: Gate>(
     ensures read_fault { HasReadCause (T.faults tables.old) (T.faults tables.new) result.status }
     ensures write_fault { result.status ≡ WriteFault → Rose (K.faults out.old) (K.faults out.new) }
 
-    ensures lawful { (bytes : Table → List ℕ) → Tells (T.rest tables.old) bytes → IsWholeRun settings.now (trace_of_run settings.now bytes) result.history result.status }
-    ensures only { (bytes : Table → List ℕ) → Tells (T.rest tables.old) bytes → IsOnlyRun settings.now (trace_of_run settings.now bytes) result.history result.status }
+    ensures lawful { (bytes : Table → List ℕ) → Reads settings.now (T.rest tables.old) bytes
+        → IsWholeRun settings.now (trace_of bytes) result.history result.status }
+    ensures only { (bytes : Table → List ℕ) → Reads settings.now (T.rest tables.old) bytes
+        → IsOnlyRun settings.now (trace_of bytes) result.history result.status }
     ensures turns { InTurns result.history }
-    ensures whole_gangs { (bytes : Table → List ℕ) → Tells (T.rest tables.old) bytes → HasWholeGangs settings.now (trace_of_run settings.now bytes) result.history result.status }
+    ensures whole_gangs { (bytes : Table → List ℕ) → Reads settings.now (T.rest tables.old) bytes
+        → HasWholeGangs settings.now (trace_of bytes) result.history result.status }
     ensures some_run { IsSomeRun settings.now result.history result.status (K.written out.old) (K.written out.new) }
     ensures legal { Legal result.history }
     ensures sound { NeverOvercommits result.history }
     ensures gangs { NoGangIsSplit result.history }
     ensures evictions { EvictionsGoDown result.history }
     ensures history { HasHistory result.history result.status }
-    ensures written { (bytes : Table → List ℕ) → Tells (T.rest tables.old) bytes
-        → Writes (printed_report settings.now (trace_of_run settings.now bytes) result.history) (K.written out.old) (K.written out.new) result.status }
+    ensures written { (bytes : Table → List ℕ) → Reads settings.now (T.rest tables.old) bytes
+        → Writes (printed_report settings.now (trace_of bytes) result.history) (K.written out.old) (K.written out.new) result.status }
     ensures nothing { WritesNothing (K.written out.old) (K.written out.new) result.status }
     ensures to_end { (bytes : Table → List ℕ) → Tells (T.rest tables.old) bytes → result.status ≡ Status.Done
         → Tells (T.rest tables.new) (left_by settings.now.command bytes) }

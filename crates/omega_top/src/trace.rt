@@ -1,7 +1,7 @@
 //! The trace of a run: of the tables that it is handed, or of those that it makes.
 ghost use Rattle.std.specs.Prelude.{◌≡◌, ℕ, List, None, IfErr, IfOk, OnOk};
 ghost use Rattle.omega_io.specs.Edge.{Tells};
-ghost use Rattle.omega_model.specs.Generated.{generated, tables_of_run};
+ghost use Rattle.omega_model.specs.Generated.{generated};
 ghost use Rattle.omega_model.specs.Limits.{IsWithinLimits};
 ghost use Rattle.omega_model.specs.Ranges.{IsInRange};
 ghost use Rattle.omega_model.specs.Refusals.{first_refusal};
@@ -10,7 +10,7 @@ ghost use Rattle.omega_model.specs.declared.rows.Table.{Table};
 ghost use Rattle.omega_model.specs.declared.settings.Command.TheVariants.{Generate};
 ghost use Rattle.omega_tables.specs.Reading.{ComesFirst, HasCause};
 ghost use Rattle.omega_tables.specs.declared.refusal.ReadRefusal.TheVariants.{NoMemory};
-ghost use Rattle.omega_top.specs.Answers.{StayUnread, left_by, trace_of_run};
+ghost use Rattle.omega_top.specs.Reads.{Reads, StayUnread, left_by};
 
 use omega_gen::{generated_tables_are_never_refused, tables_of_seed};
 use omega_io::Tables;
@@ -26,15 +26,15 @@ pub fn trace_of_run<T: Tables>(
     tables: &mut T,
 ) -> Result<TraceTables, ReadRefusal>
     requires { IsInRange settings.now }
-    ensures trace { (bytes : Table → List ℕ) → Tells (T.rest tables.old) bytes
-        → IfOk result (λ trace. trace ≡ trace_of_run settings.now bytes) }
-    ensures none { (bytes : Table → List ℕ) → Tells (T.rest tables.old) bytes
-        → OnOk result (first_refusal (tables_of_run settings.now bytes) ≡ None) }
+    ensures trace { (bytes : Table → List ℕ) → Reads settings.now (T.rest tables.old) bytes
+        → IfOk result (λ trace. trace ≡ trace_of bytes) }
+    ensures none { (bytes : Table → List ℕ) → Reads settings.now (T.rest tables.old) bytes
+        → OnOk result (first_refusal bytes ≡ None) }
     ensures within { IfOk result IsWithinLimits }
     ensures to_end { (bytes : Table → List ℕ) → Tells (T.rest tables.old) bytes
         → OnOk result (Tells (T.rest tables.new) (left_by settings.now.command bytes)) }
-    ensures refusal { (bytes : Table → List ℕ) → Tells (T.rest tables.old) bytes
-        → IfErr result (λ refusal. ComesFirst (tables_of_run settings.now bytes) refusal) }
+    ensures refusal { (bytes : Table → List ℕ) → Reads settings.now (T.rest tables.old) bytes
+        → IfErr result (λ refusal. ComesFirst bytes refusal) }
     ensures cause { IfErr result (λ refusal. HasCause (T.faults tables.old) (T.faults tables.new) refusal) }
     ensures made { settings.now.command ≡ Generate → IfErr result (λ refusal. refusal ≡ NoMemory) }
     ensures unread { settings.now.command ≡ Generate

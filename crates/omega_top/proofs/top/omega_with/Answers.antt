@@ -1,5 +1,4 @@
 use Rattle.std.proofs.Common.{refl, subst, sym}
-use Rattle.omega_model.specs.Generated.{tables_of_run}
 use Rattle.omega_model.specs.ReportForms.{printed_report}
 use Rattle.omega_model.specs.declared.rows.TraceTables.{TraceTables}
 use Rattle.omega_tables.specs.Reading.{status_of}
@@ -16,7 +15,7 @@ returns-in-Ok-clause-whole_gangs g c bytes told =
 
 pub returns-in-Err-clause-first : goal.returns-in-Err-clause-first
 returns-in-Err-clause-first g c bytes told =
-    rw (c.refused.ensures.answer, c.from.ensures) (answers_refusal (tables_of_run c.args.settings.now bytes) c.in-Err.refusal (c.in-Err.ensures.refusal bytes told))
+    rw (c.refused.ensures.answer, c.from.ensures) (answers_refusal bytes c.in-Err.refusal (c.in-Err.ensures.refusal bytes told))
 
 pub returns-in-Err-clause-made : goal.returns-in-Err-clause-made
 returns-in-Err-clause-made g c makes =
