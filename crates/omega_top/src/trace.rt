@@ -51,7 +51,7 @@ pub fn trace_of_run<T: Tables>(
 fn generated_trace(alloc: Global, settings: &Settings) -> Result<TraceTables, ReadRefusal>
     requires { IsInRange settings.now }
     ensures trace { IfOk result (λ trace. trace ≡ trace_of (generated settings.now.seed settings.now.machines settings.now.jobs)) }
-    ensures none { first_refusal (generated settings.now.seed settings.now.machines settings.now.jobs) ≡ None }
+    ensures none { OnOk result (first_refusal (generated settings.now.seed settings.now.machines settings.now.jobs) ≡ None) }
     ensures within { IfOk result IsWithinLimits }
     ensures refusal { IfErr result (λ refusal. refusal ≡ NoMemory) }
 {

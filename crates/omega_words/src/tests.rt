@@ -57,10 +57,7 @@ const TAKEN: [(&[&str], &str, Settings); 32] = [
     (
         &["replay", "--jobs", "5"],
         ".",
-        Settings {
-            jobs: 5,
-            ..DEFAULT
-        },
+        Settings { jobs: 5, ..DEFAULT },
     ),
     (
         &["replay", "--tries", "100"],
