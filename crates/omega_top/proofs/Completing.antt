@@ -5,7 +5,7 @@ use Rattle.omega_model.specs.Refusals.{first_refusal}
 use Rattle.omega_model.specs.declared.results.Status.{Status}
 use Rattle.omega_model.specs.declared.results.Status.TheVariants.{Done, Usage, ReadFault, TooLong, BadRow, TooMany, WriteFault, NoMemory}
 use Rattle.omega_model.specs.declared.rows.Table.{Table}
-use Rattle.omega_top.specs.Answers.{Answers, HasReadCause, NoneRose}
+use Rattle.omega_top.specs.Answers.{Answers, EndsRun, HasReadCause, NoneRose}
 
 -- where no refusal stands and no count rose, all was done or memory ran out
 pub completes : (bytes : Table → List ℕ) (before middle now : Table → ℕ) (sink_before sink_now : ℕ) (status : Status)
@@ -22,3 +22,15 @@ completes bytes before middle now sink_before sink_now Usage clean none same fir
 completes bytes before middle now sink_before sink_now (TooLong table) clean none same first read write = cc
 completes bytes before middle now sink_before sink_now (BadRow table row column cause) clean none same first read write = cc
 completes bytes before middle now sink_before sink_now (TooMany kind number) clean none same first read write = cc
+
+-- so does a run whose tables were read, where the sink didn't fail
+pub ends_well : (sink_before sink_now : ℕ) (status : Status) → EndsRun status → ¬ Rose sink_before sink_now
+    → (status ≡ WriteFault → Rose sink_before sink_now) → (status ≡ Done) ⊎ (status ≡ NoMemory)
+ends_well sink_before sink_now Done ends stays write = inl refl
+ends_well sink_before sink_now NoMemory ends stays write = inr refl
+ends_well sink_before sink_now WriteFault ends stays write = absurd (stays (write refl))
+ends_well sink_before sink_now Usage ends stays write = absurd ends
+ends_well sink_before sink_now (ReadFault table) ends stays write = absurd ends
+ends_well sink_before sink_now (TooLong table) ends stays write = absurd ends
+ends_well sink_before sink_now (BadRow table row column cause) ends stays write = absurd ends
+ends_well sink_before sink_now (TooMany kind number) ends stays write = absurd ends

@@ -4,6 +4,7 @@
 mod replay;
 mod status;
 mod top;
+mod trace;
 
 pub use status::{Line, exit_status, fault_line};
 pub use top::{omega, omega_with};

@@ -9,25 +9,29 @@ ghost use Rattle.omega_model.specs.Trace.{trace_of};
 ghost use Rattle.omega_model.specs.Turns.{InTurns};
 ghost use Rattle.omega_model.specs.declared.results.Status.TheVariants.{Usage, WriteFault, NoMemory};
 ghost use Rattle.omega_model.specs.declared.rows.Table.{Table};
+ghost use Rattle.omega_model.specs.declared.settings.Command.TheVariants.{Generate};
 ghost use Rattle.omega_top.specs.Answers.{Answers, EndsRun, HasHistory, HasReadCause, HasWholeGangs, IsBuilt, IsOnlyRun, IsSomeRun, IsWholeRun, NeverOvercommits, NoneRose, Writes, WritesNothing};
-ghost use Rattle.omega_top.specs.Chosen.{AreChosenBy, AreTaken, EntersChosen};
+ghost use Rattle.omega_top.specs.Chosen.{AreChosenBy, AreTaken, EntersChosen, MakesTables};
+ghost use Rattle.omega_top.specs.Reads.{Reads, StayUnread, left_by};
+ghost use Rattle.omega_words.specs.Built.{built_words};
+ghost use Rattle.omega_words.specs.Taken.{settings_in};
 
 use crate::replay::replayed;
+use crate::trace::trace_of_run;
 use omega_io::{Gate, Sink, Tables, write_all};
 use omega_model::{Done, Seq, Settings, Status, TraceTables};
 use omega_report::report;
-use omega_tables::read_tables;
 use omega_words::read_words;
 use std::alloc::Global;
 
-/// Does what the words say with the tables of their folder: replays them and writes the report of
-/// the history that it answers.
+/// Does what the words say with the tables of their folder, or with those that it makes on
+/// `generate`: replays them and writes the report of the history that it answers.
 ///
 /// Of the refusals the first that stands is answered: that of the words, then for each table in
 /// order that of its reading, its length and its rows, then that of the limits over all tables, then
 /// that of the writing. Want of memory alone may be answered at any place before the first write.
-/// Settings are answered unless the words weren't read. The gate is for runs with threads, which
-/// aren't built yet.
+/// On `generate` the folder is entered too, but none of its tables is read. Settings are answered
+/// unless the words weren't read. The gate is for runs with threads, which aren't built yet.
 pub fn omega<T: Tables, K: Sink, G: Gate>(
     alloc: Global,
     words: &[&str],
@@ -42,20 +46,26 @@ pub fn omega<T: Tables, K: Sink, G: Gate>(
     ensures folder { result.settings ≢ None → result.status ≢ NoMemory
         → EntersChosen (map (λ word. word.now) words.now) (T.entered tables.old) (T.entered tables.new) }
 
-    ensures first { (bytes : Table → List ℕ) → Tells (T.rest tables.old) bytes → result.status ≢ Usage → Answers bytes result.status }
+    ensures first { (bytes : Table → List ℕ) → IfSome result.settings
+        (λ settings. Reads settings (T.rest tables.old) bytes → Answers bytes result.status) }
+    ensures made { IfSome result.settings (λ settings. settings.command ≡ Generate → EndsRun result.status) }
+    ensures unread { IfSome result.settings (λ settings. settings.command ≡ Generate
+        → StayUnread (T.rest tables.old) (T.rest tables.new) (T.faults tables.old) (T.faults tables.new)) }
     ensures read_fault { HasReadCause (T.faults tables.old) (T.faults tables.new) result.status }
     ensures write_fault { result.status ≡ WriteFault → Rose (K.faults out.old) (K.faults out.new) }
-    ensures complete { (bytes : Table → List ℕ) → Tells (T.rest tables.old) bytes → first_refusal bytes ≡ None
-        → NoneRose (T.faults tables.old) (T.faults tables.new) (K.faults out.old) (K.faults out.new)
+    ensures complete { (bytes : Table → List ℕ) → Reads (settings_in built_words (map (λ word. word.now) words.now)) (T.rest tables.old) bytes
+        → first_refusal bytes ≡ None → NoneRose (T.faults tables.old) (T.faults tables.new) (K.faults out.old) (K.faults out.new)
+        → AreTaken (map (λ word. word.now) words.now) → (result.status ≡ Status.Done) ⊎ (result.status ≡ NoMemory) }
+    ensures complete_made { MakesTables (map (λ word. word.now) words.now) → ¬ Rose (K.faults out.old) (K.faults out.new)
         → AreTaken (map (λ word. word.now) words.now) → (result.status ≡ Status.Done) ⊎ (result.status ≡ NoMemory) }
 
-    ensures lawful { (bytes : Table → List ℕ) → Tells (T.rest tables.old) bytes
-        → IfSome result.settings (λ settings. IsWholeRun settings (trace_of bytes) result.history result.status) }
-    ensures only { (bytes : Table → List ℕ) → Tells (T.rest tables.old) bytes
-        → IfSome result.settings (λ settings. IsOnlyRun settings (trace_of bytes) result.history result.status) }
+    ensures lawful { (bytes : Table → List ℕ) → IfSome result.settings
+        (λ settings. Reads settings (T.rest tables.old) bytes → IsWholeRun settings (trace_of bytes) result.history result.status) }
+    ensures only { (bytes : Table → List ℕ) → IfSome result.settings
+        (λ settings. Reads settings (T.rest tables.old) bytes → IsOnlyRun settings (trace_of bytes) result.history result.status) }
     ensures turns { InTurns result.history }
-    ensures whole_gangs { (bytes : Table → List ℕ) → Tells (T.rest tables.old) bytes
-        → IfSome result.settings (λ settings. HasWholeGangs settings (trace_of bytes) result.history result.status) }
+    ensures whole_gangs { (bytes : Table → List ℕ) → IfSome result.settings
+        (λ settings. Reads settings (T.rest tables.old) bytes → HasWholeGangs settings (trace_of bytes) result.history result.status) }
     ensures some_run { IfSome result.settings
         (λ settings. IsSomeRun settings result.history result.status (K.written out.old) (K.written out.new)) }
     ensures legal { Legal result.history }
@@ -63,11 +73,11 @@ pub fn omega<T: Tables, K: Sink, G: Gate>(
     ensures gangs { NoGangIsSplit result.history }
     ensures evictions { EvictionsGoDown result.history }
     ensures history { HasHistory result.history result.status }
-    ensures written { (bytes : Table → List ℕ) → Tells (T.rest tables.old) bytes
-        → IfSome result.settings
-        (λ settings. Writes (printed_report settings (trace_of bytes) result.history) (K.written out.old) (K.written out.new) result.status) }
+    ensures written { (bytes : Table → List ℕ) → IfSome result.settings (λ settings. Reads settings (T.rest tables.old) bytes
+        → Writes (printed_report settings (trace_of bytes) result.history) (K.written out.old) (K.written out.new) result.status) }
     ensures nothing { WritesNothing (K.written out.old) (K.written out.new) result.status }
-    ensures to_end { (bytes : Table → List ℕ) → Tells (T.rest tables.old) bytes → result.status ≡ Status.Done → Tells (T.rest tables.new) (λ table. []) }
+    ensures to_end { (bytes : Table → List ℕ) → Tells (T.rest tables.old) bytes → result.status ≡ Status.Done
+        → IfSome result.settings (λ settings. Tells (T.rest tables.new) (left_by settings.command bytes)) }
 {
     let parsed = match read_words(alloc, words) {
         Ok(parsed) => parsed,
@@ -92,27 +102,34 @@ pub fn omega_with<T: Tables, K: Sink, G: Gate>(
     ensures settings { result.settings ≡ Some settings.now }
     ensures folder { T.entered tables.new ≡ T.entered tables.old }
 
-    ensures first { (bytes : Table → List ℕ) → Tells (T.rest tables.old) bytes → Answers bytes result.status }
+    ensures first { (bytes : Table → List ℕ) → Reads settings.now (T.rest tables.old) bytes → Answers bytes result.status }
     ensures not_usage { result.status ≢ Usage }
+    ensures made { settings.now.command ≡ Generate → EndsRun result.status }
+    ensures unread { settings.now.command ≡ Generate
+        → StayUnread (T.rest tables.old) (T.rest tables.new) (T.faults tables.old) (T.faults tables.new) }
     ensures read_fault { HasReadCause (T.faults tables.old) (T.faults tables.new) result.status }
     ensures write_fault { result.status ≡ WriteFault → Rose (K.faults out.old) (K.faults out.new) }
 
-    ensures lawful { (bytes : Table → List ℕ) → Tells (T.rest tables.old) bytes → IsWholeRun settings.now (trace_of bytes) result.history result.status }
-    ensures only { (bytes : Table → List ℕ) → Tells (T.rest tables.old) bytes → IsOnlyRun settings.now (trace_of bytes) result.history result.status }
+    ensures lawful { (bytes : Table → List ℕ) → Reads settings.now (T.rest tables.old) bytes
+        → IsWholeRun settings.now (trace_of bytes) result.history result.status }
+    ensures only { (bytes : Table → List ℕ) → Reads settings.now (T.rest tables.old) bytes
+        → IsOnlyRun settings.now (trace_of bytes) result.history result.status }
     ensures turns { InTurns result.history }
-    ensures whole_gangs { (bytes : Table → List ℕ) → Tells (T.rest tables.old) bytes → HasWholeGangs settings.now (trace_of bytes) result.history result.status }
+    ensures whole_gangs { (bytes : Table → List ℕ) → Reads settings.now (T.rest tables.old) bytes
+        → HasWholeGangs settings.now (trace_of bytes) result.history result.status }
     ensures some_run { IsSomeRun settings.now result.history result.status (K.written out.old) (K.written out.new) }
     ensures legal { Legal result.history }
     ensures sound { NeverOvercommits result.history }
     ensures gangs { NoGangIsSplit result.history }
     ensures evictions { EvictionsGoDown result.history }
     ensures history { HasHistory result.history result.status }
-    ensures written { (bytes : Table → List ℕ) → Tells (T.rest tables.old) bytes
+    ensures written { (bytes : Table → List ℕ) → Reads settings.now (T.rest tables.old) bytes
         → Writes (printed_report settings.now (trace_of bytes) result.history) (K.written out.old) (K.written out.new) result.status }
     ensures nothing { WritesNothing (K.written out.old) (K.written out.new) result.status }
-    ensures to_end { (bytes : Table → List ℕ) → Tells (T.rest tables.old) bytes → result.status ≡ Status.Done → Tells (T.rest tables.new) (λ table. []) }
+    ensures to_end { (bytes : Table → List ℕ) → Tells (T.rest tables.old) bytes → result.status ≡ Status.Done
+        → Tells (T.rest tables.new) (left_by settings.now.command bytes) }
 {
-    match read_tables(alloc, tables) {
+    match trace_of_run(alloc, settings, tables) {
         Ok(trace) => replay_and_write(alloc, settings, &trace, out),
         Err(refusal) => refused(alloc, Status::from(refusal), Some(*settings)),
     }

@@ -4,6 +4,7 @@ use Rattle.clap.proofs.OnLiterals.{clap_on_literals}
 use Rattle.omega_model.specs.Options.{whole_table}
 use Rattle.omega_model.specs.PlainWords.{is_plain}
 use Rattle.omega_model.specs.WordSettings.{default_settings}
+use Rattle.omega_model.specs.declared.settings.Command.TheVariants.{Generate}
 use Rattle.omega_words.specs.Built.{built_words}
 use Rattle.omega_words.specs.Taken.{folder_in, is_taken, settings_in}
 use Rattle.omega_words.proofs.Sound.{is_sound}
@@ -17,25 +18,28 @@ run_is_not_built : is_plain built_words (codes "run" ∷ []) ≡ false
 unfolding built_words
 run_is_not_built = refl
 
-machines_are_not_built : is_plain built_words (codes "replay" ∷ codes "--machines" ∷ codes "5" ∷ []) ≡ false
-unfolding built_words
-machines_are_not_built = refl
-
-sizes_are_not_built : is_plain built_words (codes "replay" ∷ codes "--jobs" ∷ codes "5" ∷ []) ≡ false
-unfolding built_words
-sizes_are_not_built = refl
-
 run_is_refused : is_taken built_words (codes "run" ∷ []) ≡ false
 unfolding built_words clap_on_literals
 run_is_refused = refl
 
-machines_are_refused : is_taken built_words (codes "replay" ∷ codes "--machines" ∷ codes "5" ∷ []) ≡ false
-unfolding built_words clap_on_literals
-machines_are_refused = refl
+-- ---- what is generated
 
-sizes_are_refused : is_taken built_words (codes "replay" ∷ codes "--jobs" ∷ codes "5" ∷ []) ≡ false
+machines_are_taken : is_taken built_words (codes "generate" ∷ codes "--machines" ∷ codes "4096" ∷ []) ≡ true
 unfolding built_words clap_on_literals
-sizes_are_refused = refl
+machines_are_taken = refl
+
+too_many_machines : is_taken built_words (codes "generate" ∷ codes "--machines" ∷ codes "4097" ∷ []) ≡ false
+unfolding built_words clap_on_literals
+too_many_machines = refl
+
+too_many_jobs : is_plain built_words (codes "generate" ∷ codes "--jobs" ∷ codes "20001" ∷ []) ≡ false
+unfolding built_words
+too_many_jobs = refl
+
+of_generated : settings_in built_words (codes "generate" ∷ codes "--jobs=0" ∷ codes "--machines" ∷ codes "1" ∷ [])
+    ≡ record default_settings { command = Generate; machines = 1; jobs = 0 }
+unfolding built_words clap_on_literals
+of_generated = refl
 
 -- ---- words that are taken, though they aren't plain
 

@@ -5,7 +5,6 @@ pub mod Taken
 pub mod Texts
 pub mod Building
 pub mod Where
-pub mod Absent
+pub mod Commands
 pub mod Tables
-pub mod Defaults
 mod Examples

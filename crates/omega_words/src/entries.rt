@@ -67,7 +67,7 @@ fn make_entry<'a>(name: &'a str, kind: Kind<'a>) -> Entry<'a>
 }
 
 /// The options of the table.
-pub fn table() -> [Entry<'static>; 12]
+pub fn table() -> [Entry<'static>; 14]
     ensures { map choice_of result ≡ built_words.choices }
 {
     [
@@ -83,6 +83,8 @@ pub fn table() -> [Entry<'static>; 12]
         make_entry("give-up", Kind::Number(GIVE_UPS)),
         make_entry("window", Kind::Number(WINDOWS)),
         make_entry("format", Kind::OneOf(&["text", "json"])),
+        make_entry("machines", Kind::Number(MACHINES)),
+        make_entry("jobs", Kind::Number(JOBS)),
     ]
 }
 

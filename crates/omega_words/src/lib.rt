@@ -3,11 +3,12 @@
 //! Which words there are is data: the table of `omega_model`, and the part of it that is built.
 #![tactic(auto)]
 
-ghost use Rattle.std.specs.Prelude.{◌≡◌, IfErr, IfOk, true, map};
+ghost use Rattle.std.specs.Prelude.{◌≡◌, ◌≢◌, IfErr, IfOk, true, map};
 ghost use Rattle.omega_model.specs.PlainWords.{is_plain};
 ghost use Rattle.omega_model.specs.Ranges.{IsInRange};
 ghost use Rattle.omega_model.specs.WordSettings.{folder_of, settings_of};
-ghost use Rattle.omega_words.specs.Built.{KeepsDefaults, built_words};
+ghost use Rattle.omega_model.specs.declared.settings.Command.TheVariants.{Run};
+ghost use Rattle.omega_words.specs.Built.{built_words};
 ghost use Rattle.omega_words.specs.Taken.{AreAccepted, are_of_table, folder_in, is_taken, settings_in, text_in};
 
 mod command;
@@ -51,8 +52,8 @@ impl From<WordsRefusal> for Status {
 /// A command and options are read as `clap` reads them. `Usage` comes only where `clap` doesn't
 /// take the words or a text isn't among the values of its option, and so never on plain words.
 /// `Ok` comes only where `clap` finds no fault in the words and all texts are values; settings and
-/// folder are those of its matches, and on plain words what the words write. What isn't built has its
-/// default.
+/// folder are those of its matches, and on plain words what the words write. The command `run` isn't
+/// built.
 pub fn read_words(alloc: Global, words: &[&str]) -> Result<Parsed, WordsRefusal>
     ensures usage { let given = map (λ word. word.now) words.now in
         IfErr result (λ e. is_taken built_words given ≡ true → e ≡ WordsRefusal.NoMemory) }
@@ -71,7 +72,7 @@ pub fn read_words(alloc: Global, words: &[&str]) -> Result<Parsed, WordsRefusal>
     ensures plain_folder { let given = map (λ word. word.now) words.now in
         IfOk result (λ r. is_plain built_words given ≡ true → r.folder ≡ folder_of given) }
     ensures in_range { IfOk result (λ r. IsInRange r.settings) }
-    ensures defaults { IfOk result (λ r. KeepsDefaults r.settings) }
+    ensures command { IfOk result (λ r. r.settings.command ≢ Run) }
 {
     let entries = entries::table();
     let matches = match command::matches_for(alloc, &entries, words) {

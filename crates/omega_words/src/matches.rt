@@ -138,11 +138,12 @@ pub fn command_of<'a>(matches: &ArgMatches<'a>) -> Option<Command>
 {
     match text_of(matches, "command") {
         Some("replay") => Some(Command::Replay),
+        Some("generate") => Some(Command::Generate),
         _ => None,
     }
 }
 
-/// The settings with this command. An option that isn't built has its default.
+/// The settings with this command.
 pub fn settings_of<'a>(matches: &ArgMatches<'a>, command: Command) -> Settings
     ensures { result ≡ (record (settings_by (texts_in matches.now)) { command = command }) }
 {

@@ -18,9 +18,47 @@ const DEFAULT: Settings = Settings {
     jobs: 500,
 };
 
+/// The same with the command `generate`.
+const GENERATED: Settings = Settings {
+    command: Command::Generate,
+    ..DEFAULT
+};
+
 /// Words that are taken, with the folder and the settings that they say.
-const TAKEN: [(&[&str], &str, Settings); 27] = [
+const TAKEN: [(&[&str], &str, Settings); 32] = [
     (&["replay"], ".", DEFAULT),
+    (&["generate"], ".", GENERATED),
+    (
+        &["generate", "--machines", "0", "--jobs", "20000"],
+        ".",
+        Settings {
+            machines: 0,
+            jobs: 20_000,
+            ..GENERATED
+        },
+    ),
+    (
+        &["--jobs=0", "--tables", "a b", "generate", "--machines=4096"],
+        "a b",
+        Settings {
+            machines: 4_096,
+            jobs: 0,
+            ..GENERATED
+        },
+    ),
+    (
+        &["replay", "--machines", "5"],
+        ".",
+        Settings {
+            machines: 5,
+            ..DEFAULT
+        },
+    ),
+    (
+        &["replay", "--jobs", "5"],
+        ".",
+        Settings { jobs: 5, ..DEFAULT },
+    ),
     (
         &["replay", "--tries", "100"],
         ".",
@@ -191,11 +229,18 @@ const TAKEN: [(&[&str], &str, Settings); 27] = [
 ];
 
 /// Words that are refused.
-const REFUSED: [&[&str]; 53] = [
+const REFUSED: [&[&str]; 58] = [
     &[],
     &[""],
     &["run"],
-    &["generate"],
+    &["generate", "replay"],
+    &["generate", "--machines", "4097"],
+    &["generate", "--machines", ""],
+    &["generate", "--machines"],
+    &["generate", "--jobs", "20001"],
+    &["generate", "--jobs", "-1"],
+    &["generate", "--jobs", "5", "--jobs", "5"],
+    &["generate", "--job", "5"],
     &["help"],
     &["Replay"],
     &["--help"],
@@ -214,8 +259,6 @@ const REFUSED: [&[&str]; 53] = [
     &["replay", "--trie", "5"],
     &["replay", "--extra", "all"],
     &["replay", "--cap", "101"],
-    &["replay", "--machines", "5"],
-    &["replay", "--jobs", "5"],
     &["replay", "--seed", "18446744073709551616"],
     &["replay", "--seed", "-1"],
     &["replay", "--batch", "0"],

@@ -1,36 +1,62 @@
-use Rattle.std.proofs.Common.{◌∙◌, refl}
-use Rattle.omega_top.proofs.Completing.{completes}
+use Rattle.std.proofs.Common.{◌∙◌, ap, refl, subst, sym}
+use Rattle.omega_model.specs.declared.settings.Settings.{Settings}
+use Rattle.omega_top.specs.Reads.{Reads}
+use Rattle.omega_top.proofs.Completing.{completes, ends_well}
+use Rattle.omega_top.proofs.Reading.{entered_reads}
 use Rattle.omega_top.proofs.SomeRun.{no_memory_run}
 use Rattle.omega_top.proofs.top.omega.Goals as goal
 
 -- entering a folder leaves what is told of the tables
 pub returns-clause-first : goal.returns-clause-first
-returns-clause-first g c bytes told taken = c.omega_with.ensures.first bytes (λ table. c.enter.ensures.rests table ∙ told table)
-
-pub returns-clause-complete : goal.returns-clause-complete
-returns-clause-complete g c bytes told clean none taken =
-    completes bytes _ _ _ _ _ _ clean none c.enter.ensures.counts
-    (c.omega_with.ensures.first bytes (λ table. c.enter.ensures.rests table ∙ told table))
-    c.omega_with.ensures.read_fault c.omega_with.ensures.write_fault
-
-pub returns-clause-to_end : goal.returns-clause-to_end
-returns-clause-to_end g c bytes told done = c.omega_with.ensures.to_end bytes (λ table. c.enter.ensures.rests table ∙ told table) done
+returns-clause-first g c bytes =
+    rw c.omega_with.ensures.settings
+    (λ reads. c.omega_with.ensures.first bytes (entered_reads c.in-Ok.parsed.settings _ _ bytes c.enter.ensures.rests reads))
 
 pub returns-clause-lawful : goal.returns-clause-lawful
-returns-clause-lawful g c bytes told =
-    rw c.omega_with.ensures.settings (c.omega_with.ensures.lawful bytes (λ table. c.enter.ensures.rests table ∙ told table))
+returns-clause-lawful g c bytes =
+    rw c.omega_with.ensures.settings
+    (λ reads. c.omega_with.ensures.lawful bytes (entered_reads c.in-Ok.parsed.settings _ _ bytes c.enter.ensures.rests reads))
+
+pub returns-clause-only : goal.returns-clause-only
+returns-clause-only g c bytes =
+    rw c.omega_with.ensures.settings
+    (λ reads. c.omega_with.ensures.only bytes (entered_reads c.in-Ok.parsed.settings _ _ bytes c.enter.ensures.rests reads))
 
 pub returns-clause-whole_gangs : goal.returns-clause-whole_gangs
-returns-clause-whole_gangs g c bytes told =
-    rw c.omega_with.ensures.settings (c.omega_with.ensures.whole_gangs bytes (λ table. c.enter.ensures.rests table ∙ told table))
+returns-clause-whole_gangs g c bytes =
+    rw c.omega_with.ensures.settings
+    (λ reads. c.omega_with.ensures.whole_gangs bytes (entered_reads c.in-Ok.parsed.settings _ _ bytes c.enter.ensures.rests reads))
+
+pub returns-clause-written : goal.returns-clause-written
+returns-clause-written g c bytes =
+    rw c.omega_with.ensures.settings
+    (λ reads. c.omega_with.ensures.written bytes (entered_reads c.in-Ok.parsed.settings _ _ bytes c.enter.ensures.rests reads))
+
+pub returns-clause-made : goal.returns-clause-made
+returns-clause-made g c = rw c.omega_with.ensures.settings c.omega_with.ensures.made
+
+pub returns-clause-unread : goal.returns-clause-unread
+returns-clause-unread g c =
+    rw c.omega_with.ensures.settings (λ makes. record {
+      rests = λ table. (c.omega_with.ensures.unread makes).rests table ∙ c.enter.ensures.rests table;
+      counts = λ table. (c.omega_with.ensures.unread makes).counts table ∙ c.enter.ensures.counts table;
+    })
+
+pub returns-clause-complete : goal.returns-clause-complete
+returns-clause-complete g c bytes reads clean none taken =
+    let chosen = subst (λ (settings : Settings). Reads settings (g.T.Tables.rest c.args.tables.now) bytes) (sym c.in-Ok.ensures.settings) reads in
+    completes bytes _ _ _ _ _ _ clean none c.enter.ensures.counts
+    (c.omega_with.ensures.first bytes (entered_reads c.in-Ok.parsed.settings _ _ bytes c.enter.ensures.rests chosen))
+    c.omega_with.ensures.read_fault c.omega_with.ensures.write_fault
+
+pub returns-clause-complete_made : goal.returns-clause-complete_made
+returns-clause-complete_made g c makes stays taken =
+    ends_well _ _ _ (c.omega_with.ensures.made (ap (λ (settings : Settings). settings.command) c.in-Ok.ensures.settings ∙ makes))
+    stays c.omega_with.ensures.write_fault
+
+pub returns-clause-to_end : goal.returns-clause-to_end
+returns-clause-to_end g c bytes told done =
+    rw c.omega_with.ensures.settings (c.omega_with.ensures.to_end bytes (λ table. c.enter.ensures.rests table ∙ told table) done)
 
 pub returns-then-is_err-clause-some_run : goal.returns-then-is_err-clause-some_run
 returns-then-is_err-clause-some_run g c = rw c.refused-then-is_err.ensures.answer (no_memory_run c.in-Ok.parsed.settings _ _ refl)
-
-pub returns-clause-only : goal.returns-clause-only
-returns-clause-only g c bytes told =
-    rw c.omega_with.ensures.settings (c.omega_with.ensures.only bytes (λ table. c.enter.ensures.rests table ∙ told table))
-
-pub returns-clause-written : goal.returns-clause-written
-returns-clause-written g c bytes told =
-    rw c.omega_with.ensures.settings (c.omega_with.ensures.written bytes (λ table. c.enter.ensures.rests table ∙ told table))

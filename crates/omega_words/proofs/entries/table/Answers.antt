@@ -16,4 +16,6 @@ returns c =
     (ap₂ ◌∷◌ c.make_entry-9.ensures
     (ap₂ ◌∷◌ c.make_entry-10.ensures
     (ap₂ ◌∷◌ c.make_entry-11.ensures
-    (ap₂ ◌∷◌ c.make_entry-12.ensures refl)))))))))))
+    (ap₂ ◌∷◌ c.make_entry-12.ensures
+    (ap₂ ◌∷◌ c.make_entry-13.ensures
+    (ap₂ ◌∷◌ c.make_entry-14.ensures refl)))))))))))))

@@ -1,0 +1,61 @@
+//! The trace of a run: of the tables that it is handed, or of those that it makes.
+ghost use Rattle.std.specs.Prelude.{◌≡◌, ℕ, List, None, IfErr, IfOk, OnOk};
+ghost use Rattle.omega_io.specs.Edge.{Tells};
+ghost use Rattle.omega_model.specs.Generated.{generated};
+ghost use Rattle.omega_model.specs.Limits.{IsWithinLimits};
+ghost use Rattle.omega_model.specs.Ranges.{IsInRange};
+ghost use Rattle.omega_model.specs.Refusals.{first_refusal};
+ghost use Rattle.omega_model.specs.Trace.{trace_of};
+ghost use Rattle.omega_model.specs.declared.rows.Table.{Table};
+ghost use Rattle.omega_model.specs.declared.settings.Command.TheVariants.{Generate};
+ghost use Rattle.omega_tables.specs.Reading.{ComesFirst, HasCause};
+ghost use Rattle.omega_tables.specs.declared.refusal.ReadRefusal.TheVariants.{NoMemory};
+ghost use Rattle.omega_top.specs.Reads.{Reads, StayUnread, left_by};
+
+use omega_gen::{generated_tables_are_never_refused, tables_of_seed};
+use omega_io::Tables;
+use omega_model::{Command, Settings, TraceTables};
+use omega_tables::{ReadRefusal, read_tables};
+use std::alloc::Global;
+
+/// The trace of the tables that a run reads: on `generate` of those that it makes of its seed, and
+/// then only memory may want; else of those that it is handed, each of which is read to its end.
+pub fn trace_of_run<T: Tables>(
+    alloc: Global,
+    settings: &Settings,
+    tables: &mut T,
+) -> Result<TraceTables, ReadRefusal>
+    requires { IsInRange settings.now }
+    ensures trace { (bytes : Table → List ℕ) → Reads settings.now (T.rest tables.old) bytes
+        → IfOk result (λ trace. trace ≡ trace_of bytes) }
+    ensures none { (bytes : Table → List ℕ) → Reads settings.now (T.rest tables.old) bytes
+        → OnOk result (first_refusal bytes ≡ None) }
+    ensures within { IfOk result IsWithinLimits }
+    ensures to_end { (bytes : Table → List ℕ) → Tells (T.rest tables.old) bytes
+        → OnOk result (Tells (T.rest tables.new) (left_by settings.now.command bytes)) }
+    ensures refusal { (bytes : Table → List ℕ) → Reads settings.now (T.rest tables.old) bytes
+        → IfErr result (λ refusal. ComesFirst bytes refusal) }
+    ensures cause { IfErr result (λ refusal. HasCause (T.faults tables.old) (T.faults tables.new) refusal) }
+    ensures made { settings.now.command ≡ Generate → IfErr result (λ refusal. refusal ≡ NoMemory) }
+    ensures unread { settings.now.command ≡ Generate
+        → StayUnread (T.rest tables.old) (T.rest tables.new) (T.faults tables.old) (T.faults tables.new) }
+    ensures folder { T.entered tables.new ≡ T.entered tables.old }
+{
+    match settings.command {
+        Command::Generate => generated_trace(alloc, settings),
+        Command::Replay | Command::Run => read_tables(alloc, tables),
+    }
+}
+
+// The trace of the tables that are made of the seed.
+fn generated_trace(alloc: Global, settings: &Settings) -> Result<TraceTables, ReadRefusal>
+    requires { IsInRange settings.now }
+    ensures trace { IfOk result (λ trace. trace ≡ trace_of (generated settings.now.seed settings.now.machines settings.now.jobs)) }
+    ensures none { OnOk result (first_refusal (generated settings.now.seed settings.now.machines settings.now.jobs) ≡ None) }
+    ensures within { IfOk result IsWithinLimits }
+    ensures refusal { IfErr result (λ refusal. refusal ≡ NoMemory) }
+{
+    generated_tables_are_never_refused();
+    let mut tables = tables_of_seed(alloc, settings.seed, settings.machines, settings.jobs)?;
+    read_tables(alloc, &mut tables)
+}
