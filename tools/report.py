@@ -146,7 +146,7 @@ def utilisation(report):
 def conflicts(report):
     """Two bars for each scheduler: its commits, and those of them with a claim that wasn't placed."""
     counted = sorted(report.schedulers.items())
-    greatest = max([counts['commits'] for _, counts in counted] + [1])
+    greatest = 4 * max([-(-counts['commits'] // 4) for _, counts in counted] + [1])
     kinds = (('commits', '#9db7cf'), ('conflicted', '#b3261e'))
     elements = [*heights(greatest, ''), *legend(kinds)]
     room = INNER_WIDTH / max(1, len(counted))
