@@ -99,7 +99,7 @@ parts() {
     echo '| What is done | Elapsed | Processor | Memory |'
     echo '|---|---|---|---|'
     part 'only reading: the last row of the last table is refused' "$bad" replay
-    part 'reading, and all rows in one round or two: hardly a task is left to place' "$folder" replay --window 1099511627776
+    part 'reading, and all rows in one round: few tasks are left to place' "$folder" replay --window 1099511627776
     part 'everything, with rounds of five minutes' "$folder" replay
     part 'everything, with rounds of an hour' "$folder" replay --window 3600000000
     part 'everything, with the report as JSON' "$folder" replay --format json
