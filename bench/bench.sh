@@ -154,7 +154,7 @@ shapes() {
     shape one_machine 100000 replay
     shape long_runs 50000 replay
     shape attributes 50000 replay
-    shape scarce 20000 replay --preempt all
+    shape scarce 5000 replay --preempt all
     shape map_reduce 20000 replay
 }
 

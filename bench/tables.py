@@ -214,8 +214,8 @@ def attributes(files, size):
 
 
 def scarce(files, size):
-    """Jobs of rising priority on a full cell of 500 machines, for runs that evict"""
-    for number in range(1, 501):
+    """Jobs of rising priority on a full cell of 100 machines, for runs that evict"""
+    for number in range(1, 101):
         files.machine(number)
     for job in range(size):
         files.task(job * 20 // size * ROUND, job, 0, 0, 0.2, prio=job * 20 // size)
