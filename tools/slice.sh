@@ -9,7 +9,7 @@
 # ended. Of the attributes it has those that a constraint of the slice names, since no other has an effect.
 #
 # It reads the parts of task_events and task_constraints one after the other in the order of their names
-# and stops at TO, so parts behind TO needn't be there. It needs zcat and awk.
+# and stops at TO, so parts behind TO needn't be there. It needs zcat, awk and sort.
 set -eu
 set -o pipefail
 
@@ -26,19 +26,27 @@ for table in machine_events machine_attributes task_events task_constraints; do
 done
 mkdir -p "$folder"
 
-# The rows of a table's parts with a time before TO. The parts are in order of time, so what comes after
-# the first later row isn't read; zcat then ends by a signal, which is no fault.
-rows_of() {
-    { zcat "$trace/$1"/part-*.csv.gz || true; } 2>/dev/null | awk -F, -v to="$to" '$1 + 0 >= to + 0 { exit } { print }'
+# The rows of the parts of a long table with a time before TO. They must be in order of time, so that what
+# comes after the first later row isn't read; zcat then ends by a signal, which is no fault.
+rows_in_order() {
+    { zcat "$trace/$1"/part-*.csv.gz || true; } 2>/dev/null | awk -F, -v to="$to" -v table="$1" '
+        $1 + 0 >= to + 0 { exit }
+        $1 + 0 < last { print "slice.sh: " table " is not in order of time" >"/dev/stderr"; exit 1 }
+        { last = $1 + 0; print }'
+}
+
+# The same of a short table, in whatever order its rows are.
+rows_sorted() {
+    zcat "$trace/$1"/part-*.csv.gz | awk -F, -v to="$to" '$1 + 0 < to + 0' | LC_ALL=C sort -t, -s -n -k1,1
 }
 
 # Rows before FROM get its time and keep their order.
-rows_of machine_events |
+rows_sorted machine_events |
     awk -F, -v OFS=, -v from="$from" '$1 + 0 < from + 0 { $1 = from } { print }' >"$folder/machine_events.csv"
 
 # A task that is wanted at FROM is submitted there, with what its last row asks for, in the order in which
 # the tasks came.
-rows_of task_events | awk -F, -v OFS=, -v from="$from" '
+rows_in_order task_events | awk -F, -v OFS=, -v from="$from" '
     function begin(   n, row) {
         for (n = 1; n <= count; n++)
             if (key[n] in wanted && place[key[n]] == n) {
@@ -60,13 +68,13 @@ rows_of task_events | awk -F, -v OFS=, -v from="$from" '
     END { if (!begun) begin() }' >"$folder/task_events.csv"
 
 # Constraints of tasks of the slice, each once.
-rows_of task_constraints | awk -F, -v tasks="$folder/task_events.csv" '
+rows_in_order task_constraints | awk -F, -v tasks="$folder/task_events.csv" '
     BEGIN { while ((getline line < tasks) > 0) { split(line, field, ","); known[field[3] "," field[4]] } }
     $4 !~ /^[0-3]$/ { print "the fourth column of task_constraints is no operator" >"/dev/stderr"; exit 1 }
     ($2 "," $3) in known && !seen[$2, $3, $4, $5, $6]++ { print }' >"$folder/task_constraints.csv"
 
 # Of the attributes before FROM the last row for a machine and a name.
-rows_of machine_attributes | awk -F, -v OFS=, -v from="$from" -v constraints="$folder/task_constraints.csv" '
+rows_sorted machine_attributes | awk -F, -v OFS=, -v from="$from" -v constraints="$folder/task_constraints.csv" '
     BEGIN { while ((getline line < constraints) > 0) { split(line, field, ","); named[field[5]] } }
     function begin(   n) {
         for (n = 1; n <= count; n++) { $0 = last[key[n]]; $1 = from; print }
