@@ -1,0 +1,222 @@
+#!/usr/bin/env bash
+# Times a built program on tables of real size, and prints tables for a page.
+#
+#     bench/bench.sh PROGRAM one MACHINES ROWS LOAD WORDS..   one line, for any scale and words
+#     bench/bench.sh PROGRAM SECTION..                        some of the tables below
+#     bench/bench.sh PROGRAM page                             all of them, written into docs/SPEED.md
+#
+# Sections: scales parts rows machines schedulers words threads shapes. ROWS are rows of task_events, LOAD
+# is as in tables.py. Each line is the quickest of three runs, or of one that took more than ten seconds.
+#
+# Elapsed is the time on the clock and Processor the time of all threads. Multiple is Processor as a
+# multiple of what `reading` takes for the same tables, so that machines can be compared. On a machine
+# that has other work Elapsed says nothing.
+#
+# Tables are made once, in the folder BENCH_DATA (default: omega-bench in the folder for temporary files;
+# 1 GB at most). It needs Python 3, rustc for the measure, and GNU time.
+set -u
+here=$(cd "$(dirname "$(readlink -f "${BASH_SOURCE[0]}")")" && pwd)
+data=${BENCH_DATA:-${TMPDIR:-/tmp}/omega-bench}
+scale=${BENCH_SCALE:-1} # divides machines, rows and sizes, for a quick try of this script
+
+# Prints the elapsed and the processor seconds and the peak in KiB of a command in a folder, and leaves its
+# exit status in the file `status`.
+timed() { # FOLDER OUTPUT COMMAND..
+    local folder=$1 output=$2 best="999999 0 0" elapsed user system peak
+    shift 2
+    for _ in 1 2 3; do
+        (cd "$folder" && exec /usr/bin/time -o "$data/time" -f '%e %U %S %M' timeout 900 "$@" >"$output" 2>"$data/fault")
+        echo $? >"$data/status"
+        read -r elapsed user system peak < <(tail -n 1 "$data/time")
+        best=$(awk -v best="$best" -v e="$elapsed" -v p="$user" -v s="$system" -v k="$peak" \
+            'BEGIN { split(best, old); print (e < old[1] ? e " " p + s " " k : best) }')
+        awk -v e="$elapsed" 'BEGIN { exit !(e > 10) }' && break
+    done
+    echo "$best"
+}
+
+# The folder of a trace, made where it is missing.
+trace() { # MACHINES ROWS LOAD
+    local folder=$data/trace-$1-$2-$3
+    if ! [ -f "$folder/made" ]; then
+        python3 "$here/tables.py" trace "$folder" "$1" "$2" "$3" && touch "$folder/made"
+    fi
+    echo "$folder"
+}
+
+# What the report's last lines count: commits, and those with a claim that wasn't placed.
+counts() {
+    tail -c 20000 "$1" | sed 's/\],\[/\n/g; s/[][",]/ /g' |
+        awk '$1 == "scheduler" { commits += $4; conflicts += $10 } END { printf "%d | %d", commits, conflicts }'
+}
+
+header() { # FIRST COLUMNS
+    echo "$1 | Elapsed | Processor | Memory | Multiple | Commits | In conflict |"
+    echo "$1 | Elapsed | Processor | Memory | Multiple | Commits | In conflict |" | sed 's/[^|]\{1,\}/---/g'
+}
+
+# A line: the first columns as they are handed in, and then what was measured.
+measure() { # FIRST COLUMNS, FOLDER, WORDS..
+    local first=$1 folder=$2 base seconds counted
+    shift 2
+    base=$(timed "$folder" /dev/null "$data/reading" . | cut -d' ' -f2)
+    seconds=$(timed "$folder" "$data/report" "$program" "$@")
+    if [ "$(<"$data/status")" != 0 ]; then
+        echo "$first | status $(<"$data/status") | | | | | |"
+        return
+    fi
+    counted=$(counts "$data/report")
+    awk -v first="$first" -v t="$seconds" -v base="$base" -v counted="$counted" 'BEGIN {
+        split(t, at)
+        printf "%s | %.2f s | %.2f s | %d MiB | %.1f | %s |\n", first, at[1], at[2], at[3] / 1024,
+            at[2] / (base > 0.01 ? base : 0.01), counted }'
+}
+
+one() { # MACHINES ROWS LOAD WORDS..
+    local machines=$(($1 / scale + 1)) rows=$(($2 / scale)) load=$3
+    [ "$scale" = 1 ] && machines=$1
+    shift 3
+    measure "| $machines | $rows | $load | \`$*\`" "$(trace "$machines" "$rows" "$load")" "$@"
+}
+
+scales() {
+    header '| Machines | Rows of tasks | Load | Words'
+    one 1000 100000 75 replay
+    one 12500 100000 75 replay
+    one 12500 1000000 75 replay
+    one 12500 1000000 160 replay
+    one 12500 1000000 160 replay --batch 8 --preempt service
+}
+
+# What the parts cost, told by runs that leave parts out.
+parts() {
+    local folder rows=$((1000000 / scale)) bad
+    folder=$(trace $((12500 / scale)) "$rows" 75)
+    bad=$data/refused-at-the-end-$rows
+    rm -rf "$bad"
+    cp -r "$folder" "$bad"
+    echo 'x,1' >>"$bad/machine_disk.csv"
+    echo '| What is done | Elapsed | Processor | Memory |'
+    echo '|---|---|---|---|'
+    part 'only reading: the last row of the last table is refused' "$bad" replay
+    part 'reading, and all rows in one round: few tasks are left to place' "$folder" replay --window 1099511627776
+    part 'everything, with rounds of five minutes' "$folder" replay
+    part 'everything, with rounds of an hour' "$folder" replay --window 3600000000
+    part 'everything, with the report as JSON' "$folder" replay --format json
+}
+
+part() { # WHAT FOLDER WORDS..
+    local what=$1 folder=$2 seconds
+    shift 2
+    seconds=$(timed "$folder" "$data/report" "$program" "$@")
+    awk -v what="$what" -v t="$seconds" 'BEGIN {
+        split(t, at); printf "| %s | %.2f s | %.2f s | %d MiB |\n", what, at[1], at[2], at[3] / 1024 }'
+}
+
+rows() {
+    header '| Machines | Rows of tasks | Load | Words'
+    for n in 100000 200000 400000 800000 1600000; do one 12500 $n 75 replay; done
+}
+
+machines() {
+    header '| Machines | Rows of tasks | Load | Words'
+    for n in 1000 2000 4000 8000 16000 32000; do one $n 400000 75 replay; done
+}
+
+schedulers() {
+    header '| Machines | Rows of tasks | Load | Words'
+    for n in 1 2 4 8 16 30; do one 12500 400000 75 replay --batch $n; done
+}
+
+words() {
+    header '| Machines | Rows of tasks | Load | Words'
+    for choice in '' '--rule coarse' '--mode gang' '--preempt service' '--preempt all' '--extra max' '--extra cap' '--format json'; do
+        # shellcheck disable=SC2086
+        one 4000 400000 120 replay $choice
+    done
+}
+
+threads() {
+    header '| Machines | Rows of tasks | Load | Words'
+    for n in 1 2 4 8 16; do
+        one 12500 400000 75 replay --batch $n
+        one 12500 400000 75 run --batch $n
+    done
+    one 12500 400000 75 run --batch 8 --rule coarse
+    one 12500 400000 160 run --batch 8 --preempt service
+}
+
+shapes() {
+    header '| Shape | Size | Words'
+    shape one_job 100000 replay
+    shape apart 20000 replay
+    shape never_fits 50000 replay
+    shape one_machine 100000 replay
+    shape long_runs 50000 replay
+    shape attributes 50000 replay
+    shape scarce 5000 replay --preempt all
+    shape map_reduce 20000 replay
+}
+
+# A shape at a size and at twice that size.
+shape() { # NAME SIZE WORDS..
+    local name=$1 size=$(($2 / scale)) what
+    shift 2
+    what=$(python3 "$here/tables.py" | sed -n "s/^$name: //p")
+    for n in "$size" $((2 * size)); do
+        local folder=$data/shape-$name-$n
+        if ! [ -f "$folder/made" ]; then
+            python3 "$here/tables.py" "$name" "$folder" "$n" && touch "$folder/made"
+        fi
+        measure "| $what | $n | \`$*\`" "$folder" "$@"
+    done
+}
+
+sections=(scales parts rows machines schedulers words threads shapes)
+
+# Puts what each section prints between that section's marks on the page, and the date and the processor above.
+page() {
+    local page=$here/../docs/SPEED.md section
+    for section in about "${sections[@]}"; do
+        echo "bench.sh: $section" >&2
+        "$section" >"$data/section"
+        awk -v section="$section" -v from="$data/section" '
+            $0 == "<!-- bench: " section " -->" { print; while ((getline line < from) > 0) print line; inside = 1; next }
+            $0 == "<!-- end -->" { inside = 0 }
+            !inside { print }' "$page" >"$data/page" && cp "$data/page" "$page"
+    done
+}
+
+about() {
+    echo "Measured on $(date -u +%Y-%m-%d), $(nproc) processors: $(sed -n 's/^model name[[:space:]]*: //p' /proc/cpuinfo | head -n 1)."
+}
+
+if [ $# -lt 2 ]; then
+    sed -n '2,/^set -u/s/^# \{0,1\}//p' "${BASH_SOURCE[0]}" >&2
+    exit 2
+fi
+program=$(readlink -f "$1")
+shift
+if ! [ -x "$program" ]; then
+    echo "bench.sh: there is no program $program" >&2
+    exit 2
+fi
+mkdir -p "$data" || exit 1
+[ -x "$data/reading" ] || rustc -O --edition 2021 -o "$data/reading" "$here/reading.rs" || exit 1
+case $1 in
+one)
+    shift
+    header '| Machines | Rows of tasks | Load | Words'
+    one "$@"
+    ;;
+page) page ;;
+*)
+    for section in "$@"; do
+        case " ${sections[*]} " in
+        *" $section "*) "$section" ;;
+        *) echo "bench.sh: there is no section $section" >&2; exit 2 ;;
+        esac
+        echo
+    done
+    ;;
+esac

@@ -1,0 +1,254 @@
+#!/usr/bin/env python3
+"""Makes tables of real size, the same at each call with the same words.
+
+    tables.py trace FOLDER MACHINES ROWS LOAD [SEED]    a cluster's trace with so many rows of tasks
+    tables.py SHAPE FOLDER SIZE                         tables of one extreme shape; no word lists them
+
+LOAD is what all tasks that would run at a time ask for of the CPU, on an average, in per cent of what the
+machines have. The figures that the trace is made by are rough ones for a cluster of a few machine types in
+which most jobs have one task, a few have many, and services run long.
+"""
+import os
+import random
+import sys
+
+SECOND = 1_000_000
+BEGIN = 600 * SECOND            # the published traces begin at 600 s; time 0 is for what was there before
+TABLES = ('machine_events', 'machine_attributes', 'task_events', 'task_constraints', 'mapreduce_jobs',
+          'machine_disk')
+
+# In a hundred machines so many have this CPU and this memory.
+TYPES = ((54, 0.5, 0.4995), (31, 0.5, 0.2493), (8, 0.5, 0.749), (5, 1.0, 1.0), (2, 0.25, 0.2498))
+
+
+class Dice:
+    """Draws from `random.Random.random` alone, which gives the same numbers in every version of Python."""
+
+    def __init__(self, seed):
+        self.random = random.Random(seed).random
+
+    def below(self, n):
+        return int(self.random() * n)
+
+    def in_hundred(self, percent):
+        return self.random() * 100 < percent
+
+    def between(self, low, high):
+        """Evenly in the logarithm, so that small values are common and large ones come."""
+        return low * (high / low) ** self.random()
+
+
+class Files:
+    """The six tables of a folder, open for writing."""
+
+    def __init__(self, folder):
+        os.makedirs(folder, exist_ok=True)
+        self.files = {table: open(os.path.join(folder, table + '.csv'), 'w', encoding='ascii')
+                      for table in TABLES}
+
+    def put(self, table, *fields):
+        self.files[table].write(','.join(map(str, fields)) + '\n')
+
+    def machine(self, number, cpu=1, mem=1):
+        self.put('machine_events', 0, number, 0, 'p', cpu, mem)
+
+    def task(self, time, job, index, code, size, prio=1, differ=0):
+        self.put('task_events', time, '', job, index, '', code, 'u', 0, prio, size, size, '', differ)
+
+    def close(self):
+        for file in self.files.values():
+            file.close()
+
+
+class Job:
+    """One job: what its tasks ask for, and how long each runs, in seconds."""
+
+    def __init__(self, dice, number, most_tasks):
+        self.number = number
+        self.service = dice.in_hundred(12)
+        self.tasks = 1 if dice.in_hundred(70) else int(dice.between(2, 60))
+        if dice.in_hundred(2):
+            self.tasks = int(dice.between(100, 2000))
+        self.tasks = min(self.tasks, most_tasks)
+        many = self.tasks > 60
+        self.klass = 2 + dice.below(2) if self.service else dice.below(2)
+        self.prio = 8 + dice.below(4) if self.service else dice.below(9)
+        self.life = dice.between(4000, 100_000) if self.service else dice.between(60, 3000 if many else 20_000)
+        self.cpu = dice.between(0.006, 0.06 if many else 0.15)
+        self.mem = min(0.2, self.cpu * dice.between(0.3, 1.6))
+        self.disk = dice.between(0.00001, 0.002)
+        self.differ = int(dice.in_hundred(4))
+        self.activities = self.tasks * (2 + dice.below(6)) if dice.in_hundred(5) and not self.service else 0
+        self.constraint = dice.below(4) if dice.in_hundred(6) else None
+        self.submit = 0
+
+    def work(self):
+        return self.tasks * self.cpu * self.life
+
+
+def jobs_for(dice, rows):
+    """Jobs with about so many rows in all: each task is submitted, scheduled and ended."""
+    jobs, left, number = [], rows, 3_000_000
+    while left > 0:
+        number += 1 + dice.below(40_000)
+        jobs.append(Job(dice, number, left // 3 + 1))
+        left -= 3 * jobs[-1].tasks
+    return jobs
+
+
+def events_of(dice, jobs, rows):
+    """The first rows in order of time, each as its time, its job, the task's index and the code."""
+    events = []
+    for job in jobs:
+        for index in range(job.tasks):
+            begin = job.submit + (0 if job.submit == 0 else (1 + dice.below(200)) * SECOND)
+            end = begin + int(job.life * (0.7 + 0.6 * dice.random()) * SECOND)
+            events.append((job.submit, job, index, 0))
+            events.append((begin, job, index, 1))
+            events.append((end, job, index, 5 if job.service else (4, 4, 4, 5, 3)[dice.below(5)]))
+    events.sort(key=lambda event: event[0])
+    return events[:rows]
+
+
+def machines_of(dice, files, count, span):
+    """The machines and their attributes; one in a hundred goes and comes back. Answers the whole CPU."""
+    whole, later = 0.0, []
+    for number in range(1, count + 1):
+        draw = dice.below(100)
+        for percent, cpu, mem in TYPES:
+            if draw < percent:
+                break
+            draw -= percent
+        whole += cpu
+        files.machine(number, cpu, mem)
+        files.put('machine_attributes', 0, number, 'kernel', 15 + dice.below(8), 0)
+        files.put('machine_attributes', 0, number, 'rack', 'r%d' % dice.below(40), 0)
+        files.put('machine_disk', number, '0.0%d' % (2 + dice.below(7)))
+        if dice.in_hundred(1):
+            gone = dice.random()
+            later.append((gone, (number, 1, 'p', cpu, mem)))
+            later.append((gone + 0.02, (number, 0, 'p', cpu, mem)))
+    later.sort()
+    span = span(whole)
+    for part, fields in later:
+        files.put('machine_events', BEGIN + int(part * span), *fields)
+    return span
+
+
+CONSTRAINTS = ((3, 'kernel', 17), (2, 'kernel', 20), (1, 'rack', 'r7'), (0, 'rack', 'r3'))
+
+
+def trace(folder, machines, rows, load, seed=3):
+    dice, files = Dice(seed), Files(folder)
+    jobs = jobs_for(dice, rows)
+    work = sum(job.work() for job in jobs)
+    span = machines_of(dice, files, machines, lambda whole: work / (whole * load / 100) * SECOND)
+    for job in jobs:
+        before = job.service and dice.in_hundred(30)
+        job.submit = 0 if before else BEGIN + int(dice.random() * span)
+    out = files.files['task_events']
+    for time, job, index, code in events_of(dice, jobs, rows):
+        out.write('%d,,%d,%d,,%d,u,%d,%d,%.4f,%.5f,%.7f,%d\n' % (
+            time, job.number, index, code, job.klass, job.prio, job.cpu, job.mem, job.disk, job.differ))
+    for job in jobs:
+        if job.constraint is not None:
+            for index in range(job.tasks):
+                files.put('task_constraints', job.submit, job.number, index, *CONSTRAINTS[job.constraint])
+        if job.activities:
+            files.put('mapreduce_jobs', job.number, min(10_000, job.activities))
+    files.close()
+
+
+# Extreme shapes, each a function of the files and a size to which the rows are in proportion.
+
+ROUND = 300 * SECOND
+
+
+def one_job(files, size):
+    """One job of many tasks on 2,000 machines"""
+    for number in range(1, 2001):
+        files.machine(number)
+    for index in range(size):
+        files.task(0, 10, index, 0, 0.01)
+
+
+def apart(files, size):
+    """One job whose tasks must be on different machines"""
+    for number in range(1, size + 1):
+        files.machine(number)
+    for index in range(size):
+        files.task(0, 10, index, 0, 0.01, differ=1)
+
+
+def never_fits(files, size):
+    """Jobs that fit nowhere and are tried again in 20 rounds"""
+    files.machine(1, 0.1, 0.1)
+    for place in range(size):
+        files.task(place * 20 // size * ROUND, place, 0, 0, 0.5)
+
+
+def one_machine(files, size):
+    """All tasks on one machine, and all of them end"""
+    files.machine(1)
+    for job in range(size):
+        files.task(job, job, 0, 0, 0)
+    for job in range(size):
+        files.task(2 * ROUND + job, job, 0, 4, 0)
+
+
+def long_runs(files, size):
+    """Tasks that run through 300 rounds on 2,000 machines"""
+    for number in range(1, 2001):
+        files.machine(number)
+    for job in range(size):
+        files.task(0, job, 0, 0, 0.01)
+    for number in range(1, 300):
+        files.task(number * ROUND, 0, 0, 8, 0.01)
+
+
+def attributes(files, size):
+    """One machine with many attributes"""
+    files.machine(1)
+    for number in range(size):
+        files.put('machine_attributes', 0, 1, 'name%d' % number, 'v', 0)
+
+
+def scarce(files, size):
+    """Jobs of rising priority on a full cell of 100 machines, for runs that evict"""
+    for number in range(1, 101):
+        files.machine(number)
+    for job in range(size):
+        files.task(job * 20 // size * ROUND, job, 0, 0, 0.2, prio=job * 20 // size)
+
+
+def map_reduce(files, size):
+    """MapReduce jobs of one task that ask for extra tasks on 2,000 machines"""
+    for number in range(1, 2001):
+        files.machine(number)
+    for job in range(size):
+        files.task(job * 20 // size * ROUND, job, 0, 0, 0.001)
+        files.put('mapreduce_jobs', job, 8)
+
+
+SHAPES = {shape.__name__: shape for shape in (
+    one_job, apart, never_fits, one_machine, long_runs, attributes, scarce, map_reduce)}
+
+
+def main(words):
+    if len(words) in (5, 6) and words[0] == 'trace':
+        trace(words[1], *map(int, words[2:]))
+    elif len(words) == 3 and words[0] in SHAPES:
+        files = Files(words[1])
+        SHAPES[words[0]](files, int(words[2]))
+        files.close()
+    elif not words:
+        for name, shape in SHAPES.items():
+            print('%s: %s' % (name, shape.__doc__))
+    else:
+        print(__doc__, file=sys.stderr)
+        return 2
+    return 0
+
+
+if __name__ == '__main__':
+    sys.exit(main(sys.argv[1:]))
