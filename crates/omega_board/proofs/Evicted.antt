@@ -97,7 +97,7 @@ each_not : {X : Type 0} (p : X → Bool) (xs : List X) → list_any p xs ≡ fal
 each_not p [] none = tt
 each_not p (x ∷ xs) none = let parts = or_parts (p x) (list_any p xs) none in (parts.0, each_not p xs parts.1)
 
-any_more : {X : Type 0} (p q : X → Bool) → ((x : X) → p x ≡ true → q x ≡ true) → (xs : List X) → list_any p xs ≡ true → list_any q xs ≡ true
+pub any_more : {X : Type 0} (p q : X → Bool) → ((x : X) → p x ≡ true → q x ≡ true) → (xs : List X) → list_any p xs ≡ true → list_any q xs ≡ true
 any_more p q more [] any = any
 any_more p q more (x ∷ xs) any =
     elim (or_cases (p x) (list_any p xs) any) [
@@ -105,7 +105,8 @@ any_more p q more (x ∷ xs) any =
       | inr h ↦ or_right (q x) (list_any q xs) (any_more p q more xs h)
     ]
 
-same_answer : (a b : Bool) → (a ≡ true → b ≡ true) → (b ≡ true → a ≡ true) → a ≡ b
+-- two answers of which each follows from the other
+pub same_answer : (a b : Bool) → (a ≡ true → b ≡ true) → (b ≡ true → a ≡ true) → a ≡ b
 same_answer true b there back = sym (there refl)
 same_answer false true there back = back refl
 same_answer false false there back = refl

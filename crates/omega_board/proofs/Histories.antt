@@ -1,5 +1,5 @@
 -- What may be applied to the state of a history may be applied to the cell and numbers after it.
-use Rattle.std.proofs.Common.{◌≡◌, ℕ, ◌+◌, ◌-◌, ◌<◌, ◌^◌, inl, inr, List, [], ◌∷◌, ◌++◌, length, sym, subst, arith, if◌then◌else◌, ◌⊎◌, IsTrue}
+use Rattle.std.proofs.Common.{◌≡◌, ℕ, ◌+◌, ◌-◌, ◌<◌, ◌^◌, inl, inr, List, [], ◌∷◌, ◌++◌, length, map, refl, sym, ap₂, subst, arith, if◌then◌else◌, ◌⊎◌, IsTrue}
 use Rattle.std.proofs.lemmas.List.{length-map}
 use Rattle.std.proofs.lemmas.List.Sums.{fold-append}
 use Rattle.omega_model.specs.Applying.{ListsOrHasRoom, MayApply}
@@ -7,14 +7,21 @@ use Rattle.omega_model.specs.Cell.{Cell}
 use Rattle.omega_model.specs.Machines.{is_listed}
 use Rattle.omega_model.specs.State.{state}
 use Rattle.omega_model.specs.Touches.{touches, seq}
+use Rattle.omega_model.specs.declared.claims.Claim.{Claim}
 use Rattle.omega_model.specs.declared.entries.Entry.{Entry}
 use Rattle.omega_machines.specs.declared.MachineState.{MachineState}
-use Rattle.omega_machines.specs.Table.{machines_of}
+use Rattle.omega_machines.specs.Table.{machines_of, seq_at}
 
 -- the sequence number of a machine after one more entry
 pub seq_push : (history : List Entry) (entry : Entry) (id : ℕ)
     → seq (history ++ entry ∷ []) id ≡ seq history id + (if touches id entry then 1 else 0)
 seq_push history entry id = fold-append (λ (count : ℕ) (e : Entry). count + (if touches id e then 1 else 0)) 0 history (entry ∷ [])
+
+-- the numbers that a table has of the machines of claims are those of the history that it stands for
+pub numbers_alike : (table : List MachineState) (history : List Entry) (claims : List Claim) → ((id : ℕ) → seq_at table id ≡ seq history id)
+    → map (λ (claim : Claim). seq_at table claim.machine) claims ≡ map (λ (claim : Claim). seq history claim.machine) claims
+numbers_alike table history [] numbered = refl
+numbers_alike table history (claim ∷ claims) numbered = ap₂ (λ (n : ℕ) (ns : List ℕ). n ∷ ns) (numbered claim.machine) (numbers_alike table history claims numbered)
 
 -- a table has room where its machines have
 pub room_of : (table : List MachineState) (id : ℕ) → ListsOrHasRoom (machines_of table) id → length table < 65536 ⊎ IsTrue (is_listed id (machines_of table))

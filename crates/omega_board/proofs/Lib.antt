@@ -1,4 +1,6 @@
 pub mod Tasks
+pub mod Places
+pub mod Numbered
 pub mod Uses
 pub mod Boards
 pub mod Sounds
@@ -16,6 +18,7 @@ pub mod Evicted
 pub mod Placed
 pub mod Needing
 pub mod Claims
+pub mod Untouched
 pub mod Counts
 pub mod Entering
 pub mod Commits

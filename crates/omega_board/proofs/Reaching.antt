@@ -1,11 +1,11 @@
 -- Parts that lead from a board to a target, put step by step.
-use Rattle.std.proofs.Common.{◌≡◌, ℕ, zero, suc, ◌+◌, ◌≤◌, Bool, true, false, not, ◌||◌, ◌&&◌, nat_eq, List, [], ◌∷◌, ◌++◌, length, map, slice_get, Option, Some, None, IsTrue, refl, sym, ap, ap₂, ◌∙◌, subst, arith, ◌==◌, if◌then◌else◌}
+use Rattle.std.proofs.Common.{◌≡◌, ℕ, ◌+◌, ◌≤◌, Bool, true, false, not, ◌||◌, ◌&&◌, nat_eq, List, [], ◌∷◌, ◌++◌, length, map, slice_get, Option, Some, None, IsTrue, refl, sym, ap, ap₂, ◌∙◌, subst, arith, ◌==◌, if◌then◌else◌}
 use Rattle.std.specs.List.{All, filter, flat_map, fold, list_any, IsDistinct}
 use Rattle.std.specs.Option.{option_map}
 use Rattle.std.proofs.lemmas.Bool.{both_ways, eqb-true, eq-eqb, or_from}
 use Rattle.std.proofs.lemmas.List.{length-map}
 use Rattle.std.proofs.lemmas.Map.Keys.{IsDistinct-tail}
-use Rattle.std.proofs.lemmas.Option.{none-some, same_Some, slice_get-map}
+use Rattle.std.proofs.lemmas.Option.{same_Some, slice_get-map}
 use Rattle.omega_model.specs.Cell.{Cell, machine_at, task_at, with_task, without, total, is_on, use_on, keys_of}
 use Rattle.omega_model.specs.Fields.{greatest}
 use Rattle.omega_model.specs.Judge.{is_up}
@@ -33,19 +33,16 @@ use Rattle.omega_board.specs.Putting.{lacking, gone_of, came_of, listed_parts, w
 use Rattle.omega_board.proofs.Claims.{without_none}
 use Rattle.omega_board.proofs.Commits.{cell_is}
 use Rattle.omega_board.proofs.Lacking.{stands_on, stands_found, common, moved, moved_left}
+use Rattle.omega_board.proofs.Numbered.{others_behind, distinct_kept, machine_there}
+use Rattle.omega_board.proofs.Places.{each_get}
 use Rattle.omega_board.proofs.Ranks.{Apart, ordered_apart, filter_apart, each_here}
 use Rattle.omega_board.proofs.Rewinds.{machines_with, seq_with}
-use Rattle.omega_board.proofs.Rewritten.{others_behind, distinct_kept, machine_there, listing, putting, rows_put, seq_kept, listed_still, unlisted_still, listed_machines, parts_flat, parts_fold, parts_each}
+use Rattle.omega_board.proofs.Rewritten.{listing, putting, rows_put, seq_kept, listed_still, unlisted_still, listed_machines, parts_flat, parts_fold, parts_each}
 use Rattle.omega_board.proofs.Sounds.{names_distinct}
 use Rattle.omega_board.proofs.Tasks.{each_filter, each_passes, filter_and, filter_alike, without_ordered, found_still, gone_absent, back_again, stays}
 use Rattle.omega_model.proofs.Amounts.{fits_trans, total_fewer}
 use Rattle.omega_model.proofs.InOrder.{key_same}
 use Rattle.omega_model.proofs.Lists.{by_answer}
-
-each_get : {X : Type 0} (P : X → Type 0) (xs : List X) (i : ℕ) (x : X) → Each P xs → slice_get xs i ≡ Some x → P x
-each_get P [] i x each is = absurd (none-some x is)
-each_get P (y ∷ ys) zero x each is = subst P (same_Some y x is) each.0
-each_get P (y ∷ ys) (suc i) x each is = each_get P ys i x each.1 is
 
 -- some of the tasks use no more
 use_fewer : (p : Task → Bool) (tasks : List Task) (id : ℕ) → Fits (use_on (filter p tasks) id) (use_on tasks id)

@@ -1,10 +1,9 @@
 -- The rows of parts, put in place of what machines had.
-use Rattle.std.proofs.Common.{◌≡◌, ℕ, zero, suc, ◌+◌, Bool, true, false, ◌||◌, nat_eq, List, [], ◌∷◌, ◌++◌, length, map, slice_get, Option, Some, None, refl, sym, ap, ap₂, ◌∙◌, subst, arith, ◌==◌, if◌then◌else◌}
+use Rattle.std.proofs.Common.{◌≡◌, ℕ, suc, ◌+◌, Bool, true, false, nat_eq, List, [], ◌∷◌, ◌++◌, map, slice_get, Some, refl, sym, ap, ap₂, ◌∙◌, subst, arith, ◌==◌, if◌then◌else◌}
 use Rattle.std.specs.List.{filter, flat_map, fold, enumerate_from, IsDistinct, AllByRecursion}
 use Rattle.std.proofs.lemmas.Bool.{both_ways, eqb-true, eq-eqb, false_from_ne_true}
-use Rattle.std.proofs.lemmas.Map.Keys.{IsDistinct-head, IsDistinct-tail, IsDistinct-cons}
-use Rattle.std.proofs.lemmas.Option.{none-some, same_Some}
-use Rattle.omega_model.specs.Cell.{Cell, machine_at}
+use Rattle.std.proofs.lemmas.Map.Keys.{IsDistinct-head, IsDistinct-tail}
+use Rattle.omega_model.specs.Cell.{Cell}
 use Rattle.omega_model.specs.Machines.{is_listed, numbers_of, change, ensured, new_machine}
 use Rattle.omega_model.specs.declared.cells.Machine.{Machine}
 use Rattle.omega_model.specs.declared.delta.Part.{Part}
@@ -14,56 +13,9 @@ use Rattle.omega_machines.proofs.Laws.{machines_ensured}
 use Rattle.omega_running.specs.Order.{Each}
 use Rattle.omega_board.specs.Parts.{part_in, ChangedAlone}
 use Rattle.omega_board.specs.Putting.{listed_parts}
+use Rattle.omega_board.proofs.Numbered.{Others, differ_back, others_behind, others_of}
 use Rattle.omega_board.proofs.Tasks.{each_filter}
 use Rattle.omega_model.proofs.Lists.{by_answer}
-
--- numbers differ either way
-flip : (a b : ℕ) → (a == b) ≡ false → (b == a) ≡ false
-flip a b differ = false_from_ne_true _ (λ t. both_ways _ differ (eq-eqb _ _ (sym (eqb-true _ _ t))))
-
--- machines of other numbers than this one
-abbrev pub Others : ℕ → List Machine → Type 0
-Others id rows = Each (λ row. (row.id == id) ≡ false) rows
-
-others_of : (id : ℕ) (rows : List Machine) → AllByRecursion (λ n. nat_eq id n ≡ false) (numbers_of rows) → Others id rows
-others_of id [] differ = tt
-others_of id (row ∷ rows) differ = (flip id row.id differ.0, others_of id rows differ.1)
-
--- the first of distinct machines and those behind it
-pub others_behind : (row : Machine) (rows : List Machine) → IsDistinct nat_eq (numbers_of (row ∷ rows)) → Others row.id rows
-others_behind row rows distinct = others_of row.id rows (IsDistinct-head nat_eq row.id (numbers_of rows) distinct)
-
--- some of distinct machines are distinct
-pub distinct_kept : (p : Machine → Bool) (rows : List Machine) → IsDistinct nat_eq (numbers_of rows) → IsDistinct nat_eq (numbers_of (filter p rows))
-distinct_kept p [] distinct = distinct
-distinct_kept p (row ∷ rows) distinct =
-    let rest = distinct_kept p rows (IsDistinct-tail nat_eq row.id (numbers_of rows) distinct) in
-    by_answer (p row)
-    (λ t. subst (λ ns. IsDistinct nat_eq (numbers_of ns)) (sym (kept t)) (IsDistinct-cons nat_eq row.id (numbers_of (filter p rows)) (fewer rows (IsDistinct-head nat_eq row.id (numbers_of rows) distinct)) rest))
-    (λ f. rw f rest)
-  where
-    kept : p row ≡ true → filter p (row ∷ rows) ≡ row ∷ filter p rows
-    kept t = rw t refl
-
-    fewer : (rs : List Machine) → AllByRecursion (λ n. nat_eq row.id n ≡ false) (numbers_of rs) → AllByRecursion (λ n. nat_eq row.id n ≡ false) (numbers_of (filter p rs))
-    fewer [] all = tt
-    fewer (r ∷ rs) all = by_answer (p r) (λ t. rw t (all.0, fewer rs all.1)) (λ f. rw f (fewer rs all.1))
-
--- the machine at a place is found under its number
-pub machine_there : (rows : List Machine) (place : ℕ) (row : Machine) → IsDistinct nat_eq (numbers_of rows) → slice_get rows place ≡ Some row → machine_at rows row.id ≡ Some row
-machine_there [] place row distinct at = absurd (none-some row at)
-machine_there (m ∷ ms) zero row distinct at =
-    let same : m ≡ row = same_Some m row at in
-    let here : (m.id == row.id) ≡ true = eq-eqb _ _ (ap (λ (r : Machine). r.id) same) in
-    rw here (ap Some same)
-machine_there (m ∷ ms) (suc place) row distinct at =
-    let other : (m.id == row.id) ≡ false = flip row.id m.id (each_get (λ (r : Machine). (r.id == m.id) ≡ false) ms place row (others_behind m ms distinct) at) in
-    rw other (machine_there ms place row (IsDistinct-tail nat_eq m.id (numbers_of ms) distinct) at)
-  where
-    each_get : {X : Type 0} (P : X → Type 0) (xs : List X) (i : ℕ) (x : X) → Each P xs → slice_get xs i ≡ Some x → P x
-    each_get P [] i x each is = absurd (none-some x is)
-    each_get P (y ∷ ys) zero x each is = subst P (same_Some y x is) each.0
-    each_get P (y ∷ ys) (suc i) x each is = each_get P ys i x each.1 is
 
 -- a list that is made to list machines
 abbrev pub listing : List Machine → List Machine → List Machine
@@ -77,7 +29,7 @@ putting before rows = fold (λ machines row. change row.id (λ _. row) machines)
 listing_skips : (first : Machine) (before rows : List Machine) → Others first.id rows → listing (first ∷ before) rows ≡ first ∷ listing before rows
 listing_skips first before [] others = refl
 listing_skips first before (row ∷ rows) others =
-    let other : (first.id == row.id) ≡ false = flip row.id first.id others.0 in
+    let other : (first.id == row.id) ≡ false = differ_back row.id first.id others.0 in
     let one : ensured row.id (first ∷ before) ≡ first ∷ ensured row.id before =
     by_answer (is_listed row.id before) (λ t. rw (other, t) refl) (λ f. rw (other, f) refl) in
     ap (λ ms. listing ms rows) one ∙ listing_skips first (ensured row.id before) rows others.1
@@ -85,7 +37,7 @@ listing_skips first before (row ∷ rows) others =
 putting_skips : (first : Machine) (before rows : List Machine) → Others first.id rows → putting (first ∷ before) rows ≡ first ∷ putting before rows
 putting_skips first before [] others = refl
 putting_skips first before (row ∷ rows) others =
-    let other : (first.id == row.id) ≡ false = flip row.id first.id others.0 in
+    let other : (first.id == row.id) ≡ false = differ_back row.id first.id others.0 in
     let one : change row.id (λ _. row) (first ∷ before) ≡ first ∷ change row.id (λ _. row) before = rw other refl in
     ap (λ ms. putting ms rows) one ∙ putting_skips first (change row.id (λ _. row) before) rows others.1
 

@@ -16,7 +16,7 @@ use Rattle.omega_model.specs.declared.cells.Task.{Task}
 use Rattle.omega_model.specs.declared.claims.Claim.{Claim}
 use Rattle.omega_model.specs.declared.claims.Verdict.TheVariants.{SameJob}
 use Rattle.omega_running.specs.Order.{Each}
-use Rattle.omega_running.proofs.Lists.{each_map, each_both, each_of}
+use Rattle.omega_running.proofs.Lists.{each_map, each_both, each_of, filter_every}
 use Rattle.omega_board.specs.Board.{Stand}
 use Rattle.omega_board.proofs.Tasks.{each_filter, each_passes, filter_and, filter_alike}
 use Rattle.omega_model.proofs.InOrder.{key_itself, key_same}
@@ -100,7 +100,7 @@ abbrev pub Once : List TaskKey → Type 0
 Once [] = Unit {0}
 Once (key ∷ keys) = Each (λ other. same_key other key ≡ false) keys × Once keys
 
-filter_once : (p : TaskKey → Bool) (keys : List TaskKey) → Once keys → Once (filter p keys)
+pub filter_once : (p : TaskKey → Bool) (keys : List TaskKey) → Once keys → Once (filter p keys)
 filter_once p [] once = tt
 filter_once p (k ∷ keys) once =
     by_answer (p k)
@@ -114,6 +114,14 @@ once_first (k ∷ keys) = (
   filter_once (λ other. not (same_key other k)) (first_mentions keys) (once_first keys),
 )
 
+-- names of which none stands before itself are their first mentions
+pub mentions_once : (keys : List TaskKey) → Once keys → first_mentions keys ≡ keys
+mentions_once [] once = refl
+mentions_once (key ∷ keys) once =
+    ap (λ ks. key ∷ ks)
+    (ap (filter (λ other. not (same_key other key))) (mentions_once keys once.1)
+    ∙ filter_every (λ other. not (same_key other key)) keys (each_map (λ other. same_key other key ≡ false) (λ other. not (same_key other key) ≡ true) (λ other f. ap not f) keys once.0))
+
 -- what is known of victims that stand
 pub record AreStanding (tasks : List Task) (id : ℕ) (keys : List TaskKey) : Type 0 where
   pub runs : Each (λ key. runs_on tasks id key ≡ true) keys
@@ -125,7 +133,7 @@ are_standing tasks claim = record {
   once = filter_once (runs_on tasks claim.machine) (first_mentions claim.victims) (once_first claim.victims);
 }
 
-each_take : {X : Type 0} (P : X → Type 0) (n : ℕ) (xs : List X) → Each P xs → Each P (take n xs)
+pub each_take : {X : Type 0} (P : X → Type 0) (n : ℕ) (xs : List X) → Each P xs → Each P (take n xs)
 each_take P zero xs each = tt
 each_take P (suc n) [] each = tt
 each_take P (suc n) (x ∷ xs) each = (each.0, each_take P n xs each.1)
@@ -135,7 +143,7 @@ each_drop P zero xs each = each
 each_drop P (suc n) [] each = tt
 each_drop P (suc n) (x ∷ xs) each = each_drop P n xs each.1
 
-once_take : (n : ℕ) (keys : List TaskKey) → Once keys → Once (take n keys)
+pub once_take : (n : ℕ) (keys : List TaskKey) → Once keys → Once (take n keys)
 once_take zero keys once = tt
 once_take (suc n) [] once = tt
 once_take (suc n) (k ∷ keys) once = (each_take (λ other. same_key other k ≡ false) n keys once.0, once_take n keys once.1)

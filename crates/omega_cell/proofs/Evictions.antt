@@ -29,10 +29,10 @@ use Rattle.omega_model.specs.declared.entries.Entry.TheVariants.{Round, MachineA
 use Rattle.omega_running.specs.declared.orders.Order.TheVariants.{ByKey}
 use Rattle.omega_running.specs.Order.{Each, IsInOrder, precedes}
 use Rattle.omega_running.proofs.Kept.{rises_filter}
-use Rattle.omega_running.proofs.Lists.{each_map, filter_every, find_none}
+use Rattle.omega_running.proofs.Lists.{filter_every, find_none}
 use Rattle.omega_board.proofs.Parts.{found_on, withstands_is}
 use Rattle.omega_board.proofs.Placed.{passes, is_placed-Placed, placeable_fine}
-use Rattle.omega_board.proofs.Standing.{Once, among_filter, among_first, are_standing, first_standing, stand}
+use Rattle.omega_board.proofs.Standing.{among_filter, among_first, are_standing, first_standing, mentions_once, stand}
 use Rattle.omega_board.proofs.Tasks.{each_absent, filter_and, filter_alike, found_still, gone_absent, key_differs_back, stays_other, with_ordered, without_ordered}
 use Rattle.omega_cell.specs.Laws.{RunsBelow, EachHasToGo, EvictInOrder, EvictsWhatHasToGo, EvictionsGoDown}
 use Rattle.omega_cell.proofs.Shortest.{IsShortest, shortest}
@@ -85,14 +85,6 @@ ordered_from cell (entry ∷ history) order = ordered_from (step cell entry) his
 -- in every state
 pub state_ordered : (history : List Entry) → IsInOrder ByKey (state history).tasks
 state_ordered history = ordered_from (state []) history tt
-
--- names that are all of different tasks are first mentions
-mentions_once : (keys : List TaskKey) → Once keys → first_mentions keys ≡ keys
-mentions_once [] once = refl
-mentions_once (key ∷ keys) once =
-    ap (λ ks. key ∷ ks)
-    (ap (filter (λ other. not (same_key other key))) (mentions_once keys once.1)
-    ∙ filter_every (λ other. not (same_key other key)) keys (each_map (λ other. same_key other key ≡ false) (λ other. not (same_key other key) ≡ true) (λ other f. ap not f) keys once.0))
 
 -- the first of the standing victims all stand where no others are named
 stand_alone : (tasks : List Task) (claim : Claim) (turn : ℕ) → filter (runs_on tasks claim.machine) (first_mentions (take turn (standing_victims tasks claim))) ≡ take turn (standing_victims tasks claim)

@@ -10,21 +10,18 @@ use Rattle.std.proofs.lemmas.Bool.{both_ways, eqb-true, eq-eqb, ltb-true, ltb-fa
 use Rattle.std.proofs.lemmas.List.Folds.{list_any-append}
 use Rattle.std.proofs.lemmas.List.Sums.{passes_at_first}
 use Rattle.std.proofs.lemmas.Map.Keys.{IsDistinct-head, IsDistinct-tail, sorted_head, sorted_tail, sorted_from_strictly_increasing}
-use Rattle.std.proofs.lemmas.Option.{none-some, same_Some, cond_some, slice_get_within}
+use Rattle.std.proofs.lemmas.Option.{none-some, same_Some, cond_some, slice_get-get_or, slice_get_within}
 use Rattle.omega_model.specs.Machines.{is_listed, numbers_of}
 use Rattle.omega_model.specs.declared.cells.Machine.{Machine}
 use Rattle.omega_model.specs.declared.claims.Claim.{Claim}
 use Rattle.omega_model.specs.declared.claims.Judgement.{Judgement}
 use Rattle.omega_running.specs.Order.{Each}
 use Rattle.omega_running.proofs.Lists.{each_map, each_of, all_of_each}
-use Rattle.omega_board.proofs.Rewritten.{Others, others_behind}
+use Rattle.omega_board.proofs.Numbered.{Others, differ_back, others_behind}
+use Rattle.omega_board.proofs.Places.{each_get}
 use Rattle.omega_board.proofs.Tasks.{each_passes}
 use Rattle.omega_cell.specs.Touched.{is_number, is_claimed, passes_at, has_place, Adds, touched_places}
 use Rattle.omega_model.proofs.Lists.{by_answer}
-
--- numbers differ either way
-flip : (a b : ℕ) → (a == b) ≡ false → (b == a) ≡ false
-flip a b differ = false_from_ne_true _ (λ t. both_ways _ differ (eq-eqb _ _ (sym (eqb-true _ _ t))))
 
 -- one more place
 pub one_more : (places : List ℕ) (p place : ℕ) → has_place (places ++ p ∷ []) place ≡ (has_place places place || (p == place))
@@ -45,13 +42,8 @@ none_added places place b none = sym (ap (λ c. has_place places place || c) non
 -- a machine that isn't listed has no place
 pub unlisted_nowhere : (id : ℕ) (machines : List Machine) → is_listed id machines ≡ false → (place : ℕ) → passes_at (is_number id) machines place ≡ false
 unlisted_nowhere id [] absent place = refl
-unlisted_nowhere id (m ∷ ms) absent zero = flip m.id id (or_parts _ _ absent).0
+unlisted_nowhere id (m ∷ ms) absent zero = differ_back m.id id (or_parts _ _ absent).0
 unlisted_nowhere id (m ∷ ms) absent (suc place) = unlisted_nowhere id ms (or_parts _ _ absent).1 place
-
-each_get : {X : Type 0} (P : X → Type 0) (xs : List X) (k : ℕ) (x : X) → Each P xs → slice_get xs k ≡ Some x → P x
-each_get P [] k x each is = absurd (none-some x is)
-each_get P (y ∷ ys) zero x each is = subst P (same_Some y x is) each.0
-each_get P (y ∷ ys) (suc k) x each is = each_get P ys k x each.1 is
 
 -- distinct machines of one number stand at one place
 same_place : (machines : List Machine) (i j : ℕ) (a b : Machine) → IsDistinct nat_eq (numbers_of machines) → slice_get machines i ≡ Some a → slice_get machines j ≡ Some b → a.id ≡ b.id → i ≡ j
@@ -63,11 +55,6 @@ same_place (m ∷ ms) (suc i) zero a b distinct at_i at_j same =
     absurd (both_ways _ (each_get (λ (r : Machine). (r.id == m.id) ≡ false) ms i a (others_behind m ms distinct) at_i) (eq-eqb _ _ (same ∙ ap (λ (r : Machine). r.id) (sym (same_Some m b at_j)))))
 same_place (m ∷ ms) (suc i) (suc j) a b distinct at_i at_j same =
     ap suc (same_place ms i j a b (IsDistinct-tail nat_eq m.id (numbers_of ms) distinct) at_i at_j same)
-
-got : {X : Type 0} (xs : List X) (i : ℕ) (d : X) → i < length xs → slice_get xs i ≡ Some (get_or xs i d)
-got [] i d below = absurd (omega arith)
-got (x ∷ xs) zero d below = refl
-got (x ∷ xs) (suc i) d below = got xs i d (omega arith)
 
 -- a machine that is listed stands at its position, and nowhere else
 pub listed_there : (id : ℕ) (machines : List Machine) (p : ℕ) → IsDistinct nat_eq (numbers_of machines) → Some p ≡ position (λ machine. machine.id == id) machines
@@ -95,7 +82,7 @@ listed_there id machines p distinct placed place =
     there = get_or machines p none
 
     at : slice_get machines p ≡ Some there
-    at = got machines p none within
+    at = slice_get-get_or machines p none within
 
     numbered : there.id ≡ id
     numbered = eqb-true _ _ (ap (λ n. test (get_or machines n none)) (sym found) ∙ passes_at_first test machines none (omega (arith, within, found)))

@@ -33,7 +33,7 @@ use Rattle.omega_running.proofs.Lists.{each_map, each_append}
 use Rattle.omega_board.proofs.Tasks.{without_ordered}
 use Rattle.omega_copy.specs.Copies.{CopyState, MayFollow}
 use Rattle.omega_copy.proofs.Follows.{IsFollowing}
-use Rattle.omega_copy.proofs.Untouched.{admitting, claim_local}
+use Rattle.omega_board.proofs.Untouched.{admitting, claim_local}
 
 -- each of these entries may be applied to the cell after those before it
 abbrev pub MayAll : Cell → List Entry → Type 0

@@ -26,7 +26,7 @@ use Rattle.omega_board.proofs.Histories.{seq_push}
 use Rattle.omega_board.proofs.Ranks.{ending}
 use Rattle.omega_board.proofs.Tasks.{each_found}
 use Rattle.omega_copy.proofs.Applied.{MayAll, applied_sound, applied_held}
-use Rattle.omega_copy.proofs.Untouched.{tasks_untouched}
+use Rattle.omega_board.proofs.Untouched.{tasks_untouched}
 
 -- a list and itself
 alone_same : (changed : ℕ → Bool) (rows : List Machine) → ChangedAlone changed rows rows

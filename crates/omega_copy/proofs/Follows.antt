@@ -1,7 +1,7 @@
 -- A copy that follows a history.
 use Rattle.std.proofs.Common.{◌≡◌, ℕ, zero, suc, ◌+◌, ◌<◌, ◌≤◌, List, [], ◌∷◌, ◌++◌, length, get_or, take, drop, slice_get, Option, Some, None, refl, sym, ap, ◌∙◌, subst, arith, if◌then◌else◌}
 use Rattle.std.proofs.lemmas.List.{take_more, take-append-le, length-append}
-use Rattle.std.proofs.lemmas.Option.{slice_get_within, get_or_from_slice_get}
+use Rattle.std.proofs.lemmas.Option.{slice_get-get_or, slice_get_within, get_or_from_slice_get}
 use Rattle.omega_model.specs.Applying.{MayApply, EachMayApply}
 use Rattle.omega_model.specs.Cell.{Cell}
 use Rattle.omega_model.specs.Copy.{StandsFor, Carries}
@@ -45,11 +45,6 @@ rest_get xs zero i = let same : i ≡ 0 + i = omega arith in ap (slice_get xs) s
 rest_get [] (suc n) i = refl
 rest_get (x ∷ xs) (suc n) i = let next : suc (n + i) ≡ suc n + i = omega arith in rest_get xs n i ∙ ap (slice_get (x ∷ xs)) next
 
-got : {X : Type 0} (xs : List X) (i : ℕ) (d : X) → i < length xs → slice_get xs i ≡ Some (get_or xs i d)
-got [] i d below = absurd (omega arith)
-got (x ∷ xs) zero d below = refl
-got (x ∷ xs) (suc i) d below = got xs i d (omega arith)
-
 -- a copy has followed so many of these entries
 pub record IsFollowing (start now : CopyState) (later : List Entry) (n : ℕ) : Type 0 where
   pub no_trial : now.trial ≡ None
@@ -67,7 +62,7 @@ next_entry start now later n entry so here history rest =
 
 module _ (start now : CopyState) (later : List Entry) (n : ℕ) (entry : Entry) (so : IsFollowing start now later n) (below : n < length later) (is : entry ≡ get_or later n entry) where
   here : slice_get later n ≡ Some entry
-  here = got later n entry below ∙ ap Some (sym is)
+  here = slice_get-get_or later n entry below ∙ ap Some (sym is)
 
   -- and may be applied
   pub next_may : MayFollow start later → MayApply (cell_of now.board) (seq_at now.board.table) entry

@@ -1,5 +1,5 @@
 pub mod Tells
-pub mod Untouched
+pub mod TellsAfter
 pub mod Trials
 pub mod Follows
 pub mod Applied

@@ -1,7 +1,7 @@
 -- What an index tells, when machines are changed and when it is told.
 use Rattle.std.proofs.Common.{◌≡◌, ℕ, suc, ◌+◌, ◌<◌, ◌≤◌, Bool, true, false, ◌||◌, ◌&&◌, nat_eq, nat_lt, List, [], ◌∷◌, ◌++◌, map, set, length, get_or, drop, min, position, Option, Some, None, refl, sym, ap, ap₂, ◌∙◌, subst, arith, if◌then◌else◌, ◌==◌}
 use Rattle.std.specs.List.{list_any, zip, position_or_len, IsDistinct, AllByRecursion}
-use Rattle.std.proofs.lemmas.Bool.{both_ways, eqb-true, eq-eqb, lt-ltb, ltb-true, false_from_ne_true}
+use Rattle.std.proofs.lemmas.Bool.{both_ways, eqb-true, lt-ltb, ltb-true, false_from_ne_true}
 use Rattle.std.proofs.lemmas.List.{length-append, length-map}
 use Rattle.std.proofs.lemmas.Option.{cond_some}
 use Rattle.std.proofs.lemmas.Map.Keys.{IsDistinct-head, IsDistinct-tail}
@@ -19,6 +19,7 @@ use Rattle.omega_machines.specs.Table.{machines_of, free_at, free_if_up, IsTable
 use Rattle.omega_running.specs.Order.{Each}
 use Rattle.omega_board.specs.Board.{IsCounted}
 use Rattle.omega_board.proofs.Boards.{recounted-same}
+use Rattle.omega_board.proofs.Numbered.{differ_back, unlisted_behind}
 use Rattle.omega_copy.specs.Telling.{free_on, TellsBut, grown, is_this_or, is_claimed}
 use Rattle.omega_model.proofs.Lists.{by_answer}
 
@@ -45,10 +46,6 @@ tells_while stale old now same (m ∷ ms) = (
   tells_while stale old now same ms,
 )
 
--- numbers differ either way
-pub apart : (a b : ℕ) → (a == b) ≡ false → (b == a) ≡ false
-apart a b differ = by_answer (b == a) (λ t. absurd (both_ways _ differ (eq-eqb _ _ (sym (eqb-true _ _ t))))) (λ f. f)
-
 -- a machine that isn't listed needn't be left out
 pub tells_unlisted : (stale : ℕ → Bool) (tasks : List Task) (id : ℕ) (frees : List (Option Need)) (ms : List Machine) → is_listed id ms ≡ false
     → TellsBut (λ n. id == n || stale n) tasks frees ms → TellsBut stale tasks frees ms
@@ -59,17 +56,10 @@ tells_unlisted stale tasks id (f ∷ fs) (m ∷ ms) absent told =
     by_answer (m.id == id)
     (λ t. absurd (both_ways true (rw t at absent) refl))
     (λ other.
-    let differ : (id == m.id) ≡ false = apart m.id id other in (
+    let differ : (id == m.id) ≡ false = differ_back m.id id other in (
       λ fresh. told.0 (rw (differ, fresh) refl),
       tells_unlisted stale tasks id fs ms (rw other at absent) told.1,
     ))
-
--- no machine behind the one of a number has the number
-unlisted_behind : (id : ℕ) (ms : List Machine) → AllByRecursion (λ n. nat_eq id n ≡ false) (numbers_of ms) → is_listed id ms ≡ false
-unlisted_behind id [] differ = refl
-unlisted_behind id (m ∷ ms) differ =
-    let here : (m.id == id) ≡ false = apart id m.id differ.0 in
-    rw here (unlisted_behind id ms differ.1)
 
 -- a machine that is counted has so much free
 pub counted_free : (tasks : List Task) (s : MachineState) → IsCounted tasks s → free_if_up s ≡ free_on tasks s.machine
@@ -96,7 +86,7 @@ tells_put stale tasks id (s ∷ ss) (f ∷ fs) place distinct counted is below t
     let behind : ℕ = position_or_len (λ machine. machine.id == id) (machines_of ss) in
     let counted_on : 1 + behind ≡ place = rw other at is in
     let next : suc behind ≡ place = omega (arith, counted_on) in
-    let differ : (id == s.machine.id) ≡ false = apart s.machine.id id other in
+    let differ : (id == s.machine.id) ≡ false = differ_back s.machine.id id other in
     subst (λ p. TellsBut stale tasks (set (f ∷ fs) p (free_at (s ∷ ss) id)) (machines_of (s ∷ ss))) next
     (rw other (
       λ fresh. told.0 (rw (differ, fresh) refl),

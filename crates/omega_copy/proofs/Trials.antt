@@ -33,7 +33,8 @@ use Rattle.omega_board.proofs.Rewinds.{machines_with}
 use Rattle.omega_copy.specs.Copies.{IsTrialOf}
 use Rattle.omega_copy.specs.Telling.{frees_of, TellsBut, grown, is_in, is_touched}
 use Rattle.omega_copy.proofs.Tells.{tells_while}
-use Rattle.omega_copy.proofs.Untouched.{claim_local, tells_after}
+use Rattle.omega_copy.proofs.TellsAfter.{tells_after}
+use Rattle.omega_board.proofs.Untouched.{claim_local}
 
 -- a claim that would be placed is judged so
 pub judged_placed : (cell : Cell) (claim : Claim) (verdict : Verdict) (evicted : List TaskKey) → would_be_placed cell claim ≡ true

@@ -16,11 +16,12 @@ use Rattle.omega_model.proofs.Lists.{by_answer, filter_and, filter_turned}
 use Rattle.omega_running.specs.Order.{Each, IsInOrder, Rises}
 use Rattle.omega_running.specs.declared.orders.Order.TheVariants.{ByKey}
 use Rattle.omega_running.proofs.InOrder.{rank_strict}
-use Rattle.omega_running.proofs.Lists.{each_both, each_map}
-use Rattle.omega_board.proofs.Parts.{runs_on_is, withstands_is}
-use Rattle.omega_board.proofs.Ranks.{Apart, each_rank, ranked_apart, ranked_found}
-use Rattle.omega_board.proofs.Standing.{Once}
+use Rattle.omega_running.proofs.Lists.{each_map}
+use Rattle.omega_board.proofs.Parts.{withstands_is}
+use Rattle.omega_board.proofs.Ranks.{Apart, ranked_apart, ranked_found}
+use Rattle.omega_board.proofs.Standing.{Once, filter_once}
 use Rattle.omega_board.proofs.Tasks.{each_filter, each_passes}
+use Rattle.omega_board.proofs.Untouched.{each_keys, ranked_run}
 use Rattle.omega_plan.specs.Trying.{yields}
 
 -- whether the second of two tasks doesn't go before the first
@@ -119,16 +120,6 @@ pub record AreCandidates (cell : Cell) (id : ℕ) (wish : Wish) (keys : List Tas
   pub lower : Each (λ key. withstands cell.tasks wish.spec.prec key ≡ false) keys
   pub once : Once keys
 
-each_keys : (P : TaskKey → Type 0) (tasks : List Task) → Each (λ t. P t.key) tasks → Each P (keys_of tasks)
-each_keys P [] each = tt
-each_keys P (t ∷ tasks) each = (each.0, each_keys P tasks each.1)
-
-ranked_run : (tasks : List Task) (id : ℕ) → IsInOrder ByKey tasks → Each (λ t. runs_on tasks id t.key ≡ true) (ranked_on id tasks)
-ranked_run tasks id order =
-    each_both (λ t. is_on id t ≡ true) (λ t. task_at tasks t.key ≡ Some t) (λ t. runs_on tasks id t.key ≡ true)
-    (λ t on here. runs_on_is tasks id t.key order ∙ ap (λ o. option_map_or (λ (x : Task). x.machine == id) o false) here ∙ on)
-    (ranked_on id tasks) (each_rank (λ t. is_on id t ≡ true) (filter (is_on id) tasks) (each_passes (is_on id) tasks)) (ranked_found tasks id order)
-
 once_names : (tasks : List Task) → Apart tasks → Once (keys_of tasks)
 once_names [] apart = tt
 once_names (t ∷ tasks) apart = (
@@ -136,13 +127,6 @@ once_names (t ∷ tasks) apart = (
       (each_map (λ y. same_key t.key y.key ≡ false) (λ y. same_key y.key t.key ≡ false) (λ y differ. same_key-sym t.key y.key differ) tasks apart.0),
   once_names tasks apart.1,
 )
-
-once_filter : (p : TaskKey → Bool) (keys : List TaskKey) → Once keys → Once (filter p keys)
-once_filter p [] once = tt
-once_filter p (k ∷ keys) once =
-    by_answer (p k)
-    (λ h. rw h (each_filter (λ other. same_key other k ≡ false) p keys once.0, once_filter p keys once.1))
-    (λ h. rw h (once_filter p keys once.1))
 
 -- a task that yields doesn't withstand
 yields_lower : (tasks : List Task) (wish : Wish) (key : TaskKey) → IsInOrder ByKey tasks → yields tasks wish key ≡ true
@@ -165,5 +149,5 @@ are_candidates cell id wish order =
           (each_keys (λ key. runs_on cell.tasks id key ≡ true) (ranked_on id cell.tasks) (ranked_run cell.tasks id order));
       lower = each_map (λ key. p key ≡ true) (λ key. withstands cell.tasks wish.spec.prec key ≡ false)
           (λ key yielded. yields_lower cell.tasks wish key order yielded) (filter p all) (each_passes p all);
-      once = once_filter p all (once_names (ranked_on id cell.tasks) (ranked_apart cell.tasks id order));
+      once = filter_once p all (once_names (ranked_on id cell.tasks) (ranked_apart cell.tasks id order));
     })

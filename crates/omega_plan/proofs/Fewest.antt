@@ -1,11 +1,11 @@
 -- A claim that names all candidates is placed exactly where a beginning of them makes room, and evicts the shortest.
-use Rattle.std.proofs.Common.{◌≡◌, ◌+◌, ℕ, zero, suc, Bool, true, false, not, ◌&&◌, List, [], ◌∷◌, length, map, take, Option, Some, None, is_some, arith, refl, sym, ap, subst, ◌∙◌, if◌then◌else◌, inl, inr}
+use Rattle.std.proofs.Common.{◌≡◌, ◌+◌, ℕ, zero, suc, Bool, true, false, not, ◌&&◌, List, [], ◌∷◌, length, map, take, Option, Some, None, is_some, arith, refl, sym, ap, subst, ◌∙◌, if◌then◌else◌}
 use Rattle.std.specs.List.{filter, find, list_any, range_with_len}
 use Rattle.std.specs.Option.{option_map, unwrap_or}
-use Rattle.std.proofs.lemmas.Bool.{and_from, and_parts, both_ways, false_from_ne_true, not-true, not_from_false, or_cases, or_from, or_left, or_parts, or_right}
+use Rattle.std.proofs.lemmas.Bool.{and_from, and_parts, both_ways, false_from_ne_true, not-true, not_from_false, or_from, or_parts}
 use Rattle.omega_model.specs.Cell.{Cell, machine_at, rest_on, stays_on, task_at}
 use Rattle.omega_model.specs.Judge.{already_running, capacity_of, evicted_for, first_that_applies, free_without, full, has_rival, is_up, judge_fine, makes_room, no_machine, refusal_if, rival, runs_on, same_job, standing_victims, stays_of_job, verdict_given, victim_rank, withstands, would_be_placed}
-use Rattle.omega_model.specs.Keys.{beginnings, first_mentions, is_among, same_key}
+use Rattle.omega_model.specs.Keys.{beginnings, is_among, same_key}
 use Rattle.omega_model.specs.Need.{Fits, minus}
 use Rattle.omega_model.specs.Plan.{candidates, claim_of, goes_in, victims}
 use Rattle.omega_model.specs.Touches.{is_placed}
@@ -19,31 +19,18 @@ use Rattle.omega_model.specs.declared.claims.Verdict.TheVariants.{AlreadyRunning
 use Rattle.omega_model.specs.declared.wishes.Wish.{Wish}
 use Rattle.omega_model.proofs.Amounts.{fits_tested, total_fewer}
 use Rattle.omega_model.proofs.Lists.{beginning_found, by_answer}
-use Rattle.omega_running.specs.Order.{Each}
-use Rattle.omega_running.proofs.Lists.{each_map, filter_every, find_none}
+use Rattle.omega_running.proofs.Lists.{filter_every, find_none}
+use Rattle.omega_board.proofs.Evicted.{any_more, same_answer}
 use Rattle.omega_board.proofs.Parts.{not_refused}
 use Rattle.omega_board.proofs.Placed.{is_placed-Placed, placeable_fine}
 use Rattle.omega_board.proofs.Ranks.{fits_true}
-use Rattle.omega_board.proofs.Standing.{Once}
+use Rattle.omega_board.proofs.Standing.{each_take, mentions_once, once_take}
 use Rattle.omega_plan.proofs.Candidates.{AreCandidates}
-
-same_answer : (a b : Bool) → (a ≡ true → b ≡ true) → (b ≡ true → a ≡ true) → a ≡ b
-same_answer true b there back = sym (there refl)
-same_answer false true there back = back refl
-same_answer false false there back = refl
-
--- names of which none is mentioned twice are their first mentions
-mentioned : (keys : List TaskKey) → Once keys → first_mentions keys ≡ keys
-mentioned [] once = refl
-mentioned (k ∷ keys) once =
-    ap (λ ks. k ∷ filter (λ other. not (same_key other k)) ks) (mentioned keys once.1)
-    ∙ ap (λ ks. k ∷ ks) (filter_every (λ other. not (same_key other k)) keys
-    (each_map (λ other. same_key other k ≡ false) (λ other. not (same_key other k) ≡ true) (λ other differ. not_from_false _ differ) keys once.0))
 
 -- of a claim that names candidates all stand
 all_stand : (cell : Cell) (id : ℕ) (wish : Wish) (keys : List TaskKey) → AreCandidates cell id wish keys → standing_victims cell.tasks (claim_of wish keys id) ≡ keys
 all_stand cell id wish keys are =
-    ap (filter (runs_on cell.tasks id)) (mentioned keys are.once) ∙ filter_every (runs_on cell.tasks id) keys are.runs
+    ap (filter (runs_on cell.tasks id)) (mentions_once keys are.once) ∙ filter_every (runs_on cell.tasks id) keys are.runs
 
 -- and none withstands
 none_withstands : (cell : Cell) (id : ℕ) (wish : Wish) (keys : List TaskKey) → AreCandidates cell id wish keys → victim_rank cell (claim_of wish keys id) ≡ None
@@ -115,16 +102,6 @@ goes_where_room cell id wish keys are = same_answer _ _ there back
         (ap (λ b. refusal_if (not b) (Full (free_without cell (claim_of wish keys id) (standing_victims cell.tasks (claim_of wish keys id))))) enough.0)
 
 -- the first of candidates are candidates
-each_take : {X : Type 0} (P : X → Type 0) (n : ℕ) (xs : List X) → Each P xs → Each P (take n xs)
-each_take P zero xs each = tt
-each_take P (suc n) [] each = tt
-each_take P (suc n) (x ∷ xs) each = (each.0, each_take P n xs each.1)
-
-once_take : (n : ℕ) (keys : List TaskKey) → Once keys → Once (take n keys)
-once_take zero keys once = tt
-once_take (suc n) [] once = tt
-once_take (suc n) (k ∷ keys) once = (each_take (λ other. same_key other k ≡ false) n keys once.0, once_take n keys once.1)
-
 first_candidates : (cell : Cell) (id : ℕ) (wish : Wish) (n : ℕ) (keys : List TaskKey) → AreCandidates cell id wish keys → AreCandidates cell id wish (take n keys)
 first_candidates cell id wish n keys are = record {
   runs = each_take (λ key. runs_on cell.tasks id key ≡ true) n keys are.runs;
@@ -142,14 +119,6 @@ not_among_first key (suc n) (k ∷ keys) none =
 stays_before : (id n : ℕ) (keys : List TaskKey) (t : Task) → stays_on id keys t ≡ true → stays_on id (take n keys) t ≡ true
 stays_before id n keys t stays =
     let parts = and_parts _ _ stays in and_from _ _ parts.0 (not_from_false _ (not_among_first t.key n keys (not-true _ parts.1)))
-
-any_more : (p q : Task → Bool) → ((t : Task) → p t ≡ true → q t ≡ true) → (tasks : List Task) → list_any p tasks ≡ true → list_any q tasks ≡ true
-any_more p q more [] any = any
-any_more p q more (t ∷ tasks) any =
-    elim (or_cases (p t) (list_any p tasks) any) [
-      | inl h ↦ or_left (q t) (list_any q tasks) (more t h)
-      | inr h ↦ or_right (q t) (list_any q tasks) (any_more p q more tasks h)
-    ]
 
 fits_with_less : (need cap more less : Need) → Fits less more → Fits need (minus cap more) → Fits need (minus cap less)
 fits_with_less need cap more less p q = (omega (arith, p.0, q.0), (omega (arith, p.1.0, q.1.0), omega (arith, p.1.1, q.1.1)))

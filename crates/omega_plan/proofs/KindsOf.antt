@@ -18,12 +18,12 @@ use Rattle.omega_model.specs.declared.wishes.Wish.{Wish}
 use Rattle.omega_model.proofs.Lists.{beginning_found, by_answer}
 use Rattle.omega_running.specs.Order.{IsInOrder}
 use Rattle.omega_running.specs.declared.orders.Order.TheVariants.{ByKey}
+use Rattle.omega_board.proofs.Numbered.{machine_there}
 use Rattle.omega_plan.specs.Kinds.{IsFull, StaysFull, has_room}
 use Rattle.omega_plan.specs.Trying.{Takes, Yields, claim_on, takes}
 use Rattle.omega_plan.proofs.Candidates.{are_candidates}
 use Rattle.omega_plan.proofs.Elsewhere.{candidates_same, on_other, room_same}
 use Rattle.omega_plan.proofs.Fewest.{goes_where_room, goes_with, none_mapped, room_for_all, victims_by_room}
-use Rattle.omega_plan.proofs.Rooms.{by_number}
 
 -- a task that doesn't run is no obstacle
 but_for_none : (a b : Bool) (o : Option Task) → o ≡ None → ((a && not (is_some o)) && b) ≡ (a && b)
@@ -99,7 +99,7 @@ module _ (cell : Cell) (wish : Wish) (claim : Claim) (order : IsInOrder ByKey ce
   is_chosen : (i : ℕ) (machine : Machine) → slice_get cell.machines i ≡ Some machine → (claim.machine == machine.id) ≡ true → chosen ≡ machine
   is_chosen i machine at same =
       let number : chosen.id ≡ machine.id = sym on ∙ eqb-true _ _ same in
-      same_Some _ _ (sym (by_number cell.machines distinct place chosen there) ∙ ap (machine_at cell.machines) number ∙ by_number cell.machines distinct i machine at)
+      same_Some _ _ (sym (machine_there cell.machines place chosen distinct there) ∙ ap (machine_at cell.machines) number ∙ machine_there cell.machines i machine distinct at)
 
   elsewhere : (gone : List TaskKey) (machine : Machine) → (claim.machine == machine.id) ≡ false → has_room after wish gone machine ≡ has_room cell wish gone machine
   elsewhere gone machine differ =

@@ -1,10 +1,9 @@
 -- Where a machine hasn't the room that a wish needs, it doesn't take the wish as it is.
-use Rattle.std.proofs.Common.{◌≡◌, ℕ, zero, suc, true, false, List, [], ◌∷◌, map, get_or, nat_eq, slice_get, Option, Some, None, refl, sym, ap, subst, ◌∙◌, ◌==◌}
-use Rattle.std.specs.List.{IsDistinct, AllByRecursion as Each}
+use Rattle.std.proofs.Common.{◌≡◌, ℕ, true, false, List, [], get_or, nat_eq, slice_get, Option, Some, None, sym, ap, subst, ◌∙◌}
+use Rattle.std.specs.List.{IsDistinct}
 use Rattle.std.specs.Prelude.{option_map}
-use Rattle.std.proofs.lemmas.Bool.{and_parts, and_right, eq-eqb}
-use Rattle.std.proofs.lemmas.Map.Keys.{IsDistinct-head, IsDistinct-tail}
-use Rattle.std.proofs.lemmas.Option.{get_or_from_slice_get, none-some, same_Some, slice_get-map}
+use Rattle.std.proofs.lemmas.Bool.{and_parts, and_right}
+use Rattle.std.proofs.lemmas.Option.{get_or_from_slice_get, slice_get-map}
 use Rattle.omega_model.specs.Cell.{Cell, machine_at, rest_on, use_on}
 use Rattle.omega_model.specs.Judge.{capacity_of, free_without, is_up}
 use Rattle.omega_model.specs.Machines.{numbers_of}
@@ -14,44 +13,14 @@ use Rattle.omega_model.specs.declared.cells.Machine.{Machine}
 use Rattle.omega_model.specs.declared.cells.Need.{Need}
 use Rattle.omega_model.specs.declared.wishes.Wish.{Wish}
 use Rattle.omega_model.proofs.Amounts.{fits_tested, rest_is}
-use Rattle.omega_model.proofs.Lists.{by_answer, each_both}
+use Rattle.omega_model.proofs.Lists.{by_answer}
 use Rattle.omega_board.proofs.Claims.{without_none}
+use Rattle.omega_board.proofs.Numbered.{machine_there}
 use Rattle.omega_board.proofs.Parts.{not_refused}
 use Rattle.omega_board.proofs.Placed.{is_placed-Placed, placeable_fine}
 use Rattle.omega_copy.specs.Telling.{free_on, frees_of}
 use Rattle.omega_fit.specs.Needs.{Holds}
 use Rattle.omega_plan.specs.Trying.{takes}
-
--- what holds of each item holds of the one at a place
-pub each_at : {X : Type 0} (P : X → Type 0) (xs : List X) (place : ℕ) (x : X) → Each P xs → slice_get xs place ≡ Some x → P x
-each_at P [] place x each is = absurd (none-some x is)
-each_at P (y ∷ ys) zero x each is = subst P (same_Some y x is) each.0
-each_at P (y ∷ ys) (suc place) x each is = each_at P ys place x each.1 is
-
-each_unmapped : {X Y : Type 0} (P : Y → Type 0) (f : X → Y) (xs : List X) → Each P (map f xs) → Each (λ x. P (f x)) xs
-each_unmapped P f [] each = tt
-each_unmapped P f (x ∷ xs) each = (each.0, each_unmapped P f xs each.1)
-
--- each machine is the one that its number finds
-each_by_number : (machines : List Machine) → IsDistinct nat_eq (numbers_of machines)
-    → Each (λ machine. machine_at machines machine.id ≡ Some machine) machines
-each_by_number [] distinct = tt
-each_by_number (machine ∷ machines) distinct =
-    let itself : (machine.id == machine.id) ≡ true = eq-eqb machine.id machine.id refl in
-    let differ : Each (λ other. nat_eq machine.id other.id ≡ false) machines =
-    each_unmapped (λ n. nat_eq machine.id n ≡ false) (λ (other : Machine). other.id) machines (IsDistinct-head nat_eq machine.id (numbers_of machines) distinct) in (
-      rw itself refl,
-      each_both (λ other. nat_eq machine.id other.id ≡ false) (λ other. machine_at machines other.id ≡ Some other)
-          (λ other. machine_at (machine ∷ machines) other.id ≡ Some other) later machines differ
-          (each_by_number machines (IsDistinct-tail nat_eq machine.id (numbers_of machines) distinct)),
-    ) where
-      later : (other : Machine) → nat_eq machine.id other.id ≡ false → machine_at machines other.id ≡ Some other → machine_at (machine ∷ machines) other.id ≡ Some other
-      later other apart is = let past : (machine.id == other.id) ≡ false = apart in rw past is
-
-pub by_number : (machines : List Machine) → IsDistinct nat_eq (numbers_of machines) → (place : ℕ) (machine : Machine) → slice_get machines place ≡ Some machine
-    → machine_at machines machine.id ≡ Some machine
-by_number machines distinct place machine is =
-    each_at (λ m. machine_at machines m.id ≡ Some m) machines place machine (each_by_number machines distinct) is
 
 -- a machine on which a wish goes as it is: it is up, and what it has free holds the need
 pub record HasRoom (cell : Cell) (wish : Wish) (id : ℕ) : Type 0 where
@@ -74,7 +43,7 @@ pub takes_where_room : (cell : Cell) (wish : Wish) → IsDistinct nat_eq (number
     → (place : ℕ) → (Holds wish.spec.need (get_or frees place None) → ⊥)
     → (machine : Machine) → slice_get cell.machines place ≡ Some machine → takes cell wish machine ≡ false
 takes_where_room cell wish distinct frees told place none machine is =
-    let found : machine_at cell.machines machine.id ≡ Some machine = by_number cell.machines distinct place machine is in
+    let found : machine_at cell.machines machine.id ≡ Some machine = machine_there cell.machines place machine distinct is in
     let here : get_or frees place None ≡ free_on cell.tasks machine =
     ap (λ fs. get_or fs place None) told
     ∙ get_or_from_slice_get (frees_of cell) place (free_on cell.tasks machine) None

@@ -16,9 +16,9 @@ use Rattle.omega_model.specs.declared.cells.TaskKey.{TaskKey}
 use Rattle.omega_model.specs.declared.wishes.Wish.{Wish}
 use Rattle.omega_model.proofs.Amounts.{fits_tested}
 use Rattle.omega_model.proofs.Lists.{by_answer}
+use Rattle.omega_board.proofs.Numbered.{machine_there}
 use Rattle.omega_board.proofs.Placed.{is_placed-Placed, placeable_fine}
 use Rattle.omega_plan.specs.Trying.{claim_on}
-use Rattle.omega_plan.proofs.Rooms.{by_number}
 
 -- what fits beside something fits
 fits_alone : (need cap rest : Need) → Fits need (minus cap rest) → Fits need cap
@@ -46,4 +46,4 @@ too_small cell wish distinct place machine at small =
             let rest = rest_on cell.tasks machine.id (standing_victims cell.tasks claim) in
             let room : fits wish.spec.need (free_without cell claim (standing_victims cell.tasks claim)) ≡ true = (and_parts _ _ known.room).0 in
             fits_alone wish.spec.need machine.cap rest
-            (subst (λ (o : Option Machine). Fits wish.spec.need (minus (capacity_of o) rest)) (by_number cell.machines distinct place machine at) (fits_tested _ _ room))
+            (subst (λ (o : Option Machine). Fits wish.spec.need (minus (capacity_of o) rest)) (machine_there cell.machines place machine distinct at) (fits_tested _ _ room))

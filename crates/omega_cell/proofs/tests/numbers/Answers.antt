@@ -1,24 +1,18 @@
-use Rattle.std.proofs.Common.{◌≡◌, ℕ, List, [], ◌∷◌, map, refl, sym, ap, ap₂, ◌∙◌}
+use Rattle.std.proofs.Common.{◌≡◌, List, map, sym, ap, ◌∙◌}
 use Rattle.std.proofs.lemmas.List.{take_all}
 use Rattle.std.proofs.Math.Seq.{take-append_seam, take-length}
-use Rattle.omega_machines.specs.declared.MachineState.{MachineState}
 use Rattle.omega_machines.specs.Table.{seq_at}
 use Rattle.omega_model.specs.Touches.{seq}
 use Rattle.omega_model.specs.declared.claims.Claim.{Claim}
 use Rattle.omega_model.specs.declared.entries.Entry.{Entry}
+use Rattle.omega_board.proofs.Histories.{numbers_alike}
 use Rattle.omega_cell.proofs.tests.numbers.Goals as goal
-
--- the numbers of a table are those of the history that it stands for
-copied : (table : List MachineState) (history : List Entry) (claims : List Claim) → ((id : ℕ) → seq_at table id ≡ seq history id)
-    → map (λ (claim : Claim). seq_at table claim.machine) claims ≡ map (λ (claim : Claim). seq history claim.machine) claims
-copied table history [] numbered = refl
-copied table history (claim ∷ claims) numbered = ap₂ (λ (n : ℕ) (ns : List ℕ). n ∷ ns) (numbered claim.machine) (copied table history claims numbered)
 
 of_all : (c : goal.After-loop-claim) → c.loop-claim.seqs.items ≡ map (λ (claim : Claim). seq c.args.cell.now.history claim.machine) c.args.claims.now
 of_all c =
     c.loop-claim.invariant.0
     ∙ ap (map (λ (claim : Claim). seq_at c.board-board.result.now.table claim.machine)) (take_all c.loop-claim.claim-index c.args.claims.now c.loop-claim-test.false)
-    ∙ copied c.board-board.result.now.table c.args.cell.now.history c.args.claims.now c.loop-claim.invariant.1
+    ∙ numbers_alike c.board-board.result.now.table c.args.cell.now.history c.args.claims.now c.loop-claim.invariant.1
 
 pub returns-clause-now : goal.returns-clause-now
 returns-clause-now c =

@@ -1,43 +1,36 @@
--- What an entry doesn't touch.
-use Rattle.std.proofs.Common.{◌≡◌, ℕ, suc, Bool, true, false, ◌&&◌, not, List, [], ◌∷◌, ◌++◌, map, length, slice_get, Option, Some, None, refl, sym, ap, ◌∙◌, subst, ◌==◌, IsTrue}
+-- What an entry or a claim doesn't touch: the tasks on other machines.
+use Rattle.std.proofs.Common.{◌≡◌, ℕ, Bool, true, false, ◌&&◌, not, List, [], ◌∷◌, ◌++◌, Some, None, refl, sym, ap, ◌∙◌, subst, ◌==◌}
 use Rattle.std.specs.List.{filter, fold, list_any, zip}
 use Rattle.std.specs.Option.{option_map_or}
 use Rattle.std.proofs.lemmas.Bool.{both_ways, eqb-true, eq-eqb, not_from_false}
-use Rattle.std.proofs.lemmas.List.{length-map}
 use Rattle.std.proofs.lemmas.List.Elements.{filter-append}
 use Rattle.std.proofs.lemmas.Option.{same_Some}
 use Rattle.omega_model.specs.Applying.{MayPlaceAll, PlacesInOrder}
 use Rattle.omega_model.specs.Cell.{Cell, task_at, with_task, without, total, is_on, use_on, keys_of}
 use Rattle.omega_model.specs.Judge.{judge_fine, runs_on}
 use Rattle.omega_model.specs.Keys.{same_key, key_lt, is_among}
-use Rattle.omega_model.specs.Machines.{change, ensured, added, updated, removed, attr_set, attr_deleted}
-use Rattle.omega_model.specs.Need.{nothing, plus}
 use Rattle.omega_model.specs.Reply.{task_of, tasks_placed, tasks_after_claim, after_claim}
-use Rattle.omega_model.specs.State.{step, displaced, excess, ranked_on, tasks_after, machines_after, goes_on}
+use Rattle.omega_model.specs.State.{excess, ranked_on, tasks_after, goes_on}
 use Rattle.omega_model.specs.Touches.{is_placed, touches, places_on}
-use Rattle.omega_model.specs.declared.cells.Machine.{Machine}
 use Rattle.omega_model.specs.declared.cells.Need.{Need}
 use Rattle.omega_model.specs.declared.cells.Task.{Task}
 use Rattle.omega_model.specs.declared.cells.TaskKey.{TaskKey}
 use Rattle.omega_model.specs.declared.claims.Claim.{Claim}
 use Rattle.omega_model.specs.declared.claims.Judgement.{Judgement}
-use Rattle.omega_model.specs.declared.claims.Verdict.{Verdict}
 use Rattle.omega_model.specs.declared.claims.Verdict.TheVariants.{Placed}
 use Rattle.omega_model.specs.declared.entries.Entry.{Entry}
 use Rattle.omega_model.specs.declared.entries.Entry.TheVariants.{Round, MachineAdd, MachineUpdate, MachineRemove, AttrSet, AttrDelete, End, Commit}
+use Rattle.omega_model.proofs.InOrder.{key_same}
+use Rattle.omega_model.proofs.Lists.{by_answer}
 use Rattle.omega_running.specs.declared.orders.Order.TheVariants.{ByKey}
 use Rattle.omega_running.specs.Order.{Each, IsInOrder}
 use Rattle.omega_running.proofs.Lists.{each_map, each_both, each_of, each_front, filter_where}
 use Rattle.omega_board.proofs.Claims.{absent_still}
 use Rattle.omega_board.proofs.Parts.{runs_on_is, found_on}
 use Rattle.omega_board.proofs.Placed.{placed_so, is_placed-Placed}
+use Rattle.omega_board.proofs.Places.{each_place}
 use Rattle.omega_board.proofs.Ranks.{each_here, each_rank, excess_first}
 use Rattle.omega_board.proofs.Tasks.{each_filter, each_passes, parted, filter_and, with_ordered, without_ordered}
-use Rattle.omega_copy.specs.Telling.{frees_of, TellsBut, grown}
-use Rattle.omega_copy.proofs.Tells.{apart, tells_while, tells_changed, tells_grown, tells_ensured}
-use Rattle.omega_model.proofs.InOrder.{key_same}
-use Rattle.omega_model.proofs.Amounts.{plus-nothing}
-use Rattle.omega_model.proofs.Lists.{by_answer}
 
 -- where the tasks on a machine stay, they are the same
 on_kept : (tasks : List Task) (id : ℕ) (p : Task → Bool) → Each (λ t. is_on id t ≡ true → p t ≡ true) tasks → filter (is_on id) (filter p tasks) ≡ filter (is_on id) tasks
@@ -68,12 +61,13 @@ on_without tasks machine id keys order differ run =
         let same : found.0 ≡ t = same_Some _ _ (sym found.1 ∙ here) in
         both_ways _ differ (eq-eqb _ _ (sym found.2 ∙ ap (λ (x : Task). x.machine) same ∙ eqb-true _ _ on))
 
-each_keys : (P : TaskKey → Type 0) (tasks : List Task) → Each (λ t. P t.key) tasks → Each P (keys_of tasks)
+-- what holds of the name of each task holds of each of their names
+pub each_keys : (P : TaskKey → Type 0) (tasks : List Task) → Each (λ t. P t.key) tasks → Each P (keys_of tasks)
 each_keys P [] each = tt
 each_keys P (t ∷ tasks) each = (each.0, each_keys P tasks each.1)
 
 -- the tasks on a machine in order of eviction run there
-ranked_run : (tasks : List Task) (machine : ℕ) → IsInOrder ByKey tasks → Each (λ t. runs_on tasks machine t.key ≡ true) (ranked_on machine tasks)
+pub ranked_run : (tasks : List Task) (machine : ℕ) → IsInOrder ByKey tasks → Each (λ t. runs_on tasks machine t.key ≡ true) (ranked_on machine tasks)
 ranked_run tasks machine order =
     each_rank (λ t. runs_on tasks machine t.key ≡ true) (filter (is_on machine) tasks)
     (each_both (λ t. is_on machine t ≡ true) (λ t. task_at tasks t.key ≡ Some t) (λ t. runs_on tasks machine t.key ≡ true)
@@ -88,10 +82,6 @@ excess_run tasks machine cap order =
     let P : Task → Type 0 = λ t. runs_on tasks machine t.key ≡ true in
     each_keys (λ k. runs_on tasks machine k ≡ true) (excess cap (ranked_on machine tasks))
     (each_front P (excess cap (ranked_on machine tasks)) first.others (subst (Each P) first.parts (ranked_run tasks machine order)))
-
-each_place : (P : TaskKey → Type 0) (keys : List TaskKey) → ((place : ℕ) (key : TaskKey) → slice_get keys place ≡ Some key → P key) → Each P keys
-each_place P [] at = tt
-each_place P (k ∷ keys) at = (at 0 k refl, each_place P keys (λ place key is. at (suc place) key is))
 
 -- a task of another machine changes nothing on this one
 on_with : (task : Task) (tasks : List Task) (id : ℕ) → task_at tasks task.key ≡ None → IsInOrder ByKey tasks → is_on id task ≡ false → filter (is_on id) (with_task task tasks) ≡ filter (is_on id) tasks
@@ -170,42 +160,6 @@ tasks_untouched cell (End key machine) order places id away =
 tasks_untouched cell (Commit scheduler seen txn reply) order places id away = claims_elsewhere cell (zip txn.claims reply) id order places away
 
 -- so it uses as much
-use_untouched : (cell : Cell) (entry : Entry) → IsInOrder ByKey cell.tasks → PlacesInOrder cell entry → (id : ℕ) → touches id entry ≡ false
+pub use_untouched : (cell : Cell) (entry : Entry) → IsInOrder ByKey cell.tasks → PlacesInOrder cell entry → (id : ℕ) → touches id entry ≡ false
     → use_on (tasks_after cell.tasks entry) id ≡ use_on cell.tasks id
 use_untouched cell entry order places id away = ap total (tasks_untouched cell entry order places id away)
-
--- the machines after an entry, with a place for a new one
-rows_changed : (tasks : List Task) (entry : Entry) (machine : ℕ) (f : Machine → Machine) → ((m : Machine) → (f m).id ≡ m.id) → touches machine entry ≡ true
-    → (frees : List (Option Need)) (ms : List Machine) → TellsBut (λ id. touches id entry) tasks frees ms
-    → TellsBut (λ id. touches id entry) tasks (grown (length (change machine f (ensured machine ms))) frees) (change machine f (ensured machine ms))
-rows_changed tasks entry machine f keeps out frees ms told =
-    let stale : ℕ → Bool = λ id. touches id entry in
-    let long : length (change machine f (ensured machine ms)) ≡ length (ensured machine ms) = length-map (ensured machine ms) _ in
-    subst (λ n. TellsBut stale tasks (grown n frees) (change machine f (ensured machine ms))) (sym long)
-    (tells_changed stale tasks machine out f keeps (grown (length (ensured machine ms)) frees) (ensured machine ms) (tells_ensured stale tasks machine out frees ms told))
-
-rows_after : (tasks : List Task) (entry : Entry) (frees : List (Option Need)) (ms : List Machine) → TellsBut (λ id. touches id entry) tasks frees ms
-    → TellsBut (λ id. touches id entry) tasks (grown (length (machines_after ms entry)) frees) (machines_after ms entry)
-rows_after tasks (Round number) frees ms told = tells_grown (λ id. touches id (Round number)) tasks frees ms told
-rows_after tasks (MachineAdd machine cap) frees ms told =
-    rows_changed tasks (MachineAdd machine cap) machine (added cap) (λ m. refl) (eq-eqb machine machine refl) frees ms told
-rows_after tasks (MachineUpdate machine cap) frees ms told =
-    rows_changed tasks (MachineUpdate machine cap) machine (updated cap) (λ m. refl) (eq-eqb machine machine refl) frees ms told
-rows_after tasks (MachineRemove machine) frees ms told =
-    rows_changed tasks (MachineRemove machine) machine removed (λ m. refl) (eq-eqb machine machine refl) frees ms told
-rows_after tasks (AttrSet machine name value) frees ms told =
-    rows_changed tasks (AttrSet machine name value) machine (attr_set name value) (λ m. refl) (eq-eqb machine machine refl) frees ms told
-rows_after tasks (AttrDelete machine name) frees ms told =
-    rows_changed tasks (AttrDelete machine name) machine (attr_deleted name) (λ m. refl) (eq-eqb machine machine refl) frees ms told
-rows_after tasks (End key machine) frees ms told = tells_grown (λ id. touches id (End key machine)) tasks frees ms told
-rows_after tasks (Commit scheduler seen txn reply) frees ms told = tells_grown (λ id. touches id (Commit scheduler seen txn reply)) tasks frees ms told
-
--- an index that told all tells, after an entry, all but the machines that it touches
-pub tells_after : (cell after : Cell) (entry : Entry) (frees : List (Option Need)) → frees ≡ frees_of cell → IsInOrder ByKey cell.tasks → PlacesInOrder cell entry → after ≡ step cell entry
-    → TellsBut (λ id. touches id entry) after.tasks (grown (length after.machines) frees) after.machines
-tells_after cell after entry frees all order places is =
-    let stale : ℕ → Bool = λ id. touches id entry in
-    let now = tasks_after cell.tasks entry in
-    let told : TellsBut stale now frees cell.machines =
-    subst (λ fs. TellsBut stale now fs cell.machines) (sym all) (tells_while stale cell.tasks now (use_untouched cell entry order places) cell.machines) in
-    subst (λ (c : Cell). TellsBut stale c.tasks (grown (length c.machines) frees) c.machines) (sym is) (rows_after now entry frees cell.machines told)
