@@ -5,9 +5,6 @@ use Rattle.std.specs.List.{flat_map, join_with_byte, range_with_len}
 use Rattle.omega_model.specs.Draws.{new_generator, word_at}
 use Rattle.omega_model.specs.declared.rows.Table.{Table}
 use Rattle.omega_model.specs.declared.rows.Table.TheVariants.{MachineEvents, MachineAttributes, TaskEvents, TaskConstraints, MapreduceJobs, MachineDisk}
-use Rattle.omega_model.specs.declared.settings.Command.{Command}
-use Rattle.omega_model.specs.declared.settings.Command.TheVariants.{Replay, Run, Generate}
-use Rattle.omega_model.specs.declared.settings.Settings.{Settings}
 
 -- a row of a table: its fields parted by commas, and a line feed
 abbrev pub row_text : List (List ℕ) → List ℕ
@@ -87,14 +84,3 @@ made_of word machines jobs MachineDisk = []
 -- the bytes of each table made of a seed, by the words of the generator's stream 0
 abbrev pub generated : ℕ → ℕ → ℕ → Table → List ℕ
 generated seed machines jobs = made_of (word_at (new_generator seed 0)) machines jobs
-
--- of the tables that a run makes and those that it is handed, the ones that a command reads
-abbrev pub tables_by : Command → (Table → List ℕ) → (Table → List ℕ) → Table → List ℕ
-tables_by Replay made handed = handed
-tables_by Run made handed = handed
-tables_by Generate made handed = made
-
--- the bytes of the tables that a run reads: on `generate` those that it makes, else those that it is handed
-abbrev pub tables_of_run : Settings → (Table → List ℕ) → Table → List ℕ
-tables_of_run settings handed =
-    tables_by settings.command (generated settings.seed settings.machines settings.jobs) handed
