@@ -25,8 +25,16 @@ const GENERATED: Settings = Settings {
 };
 
 /// Words that are taken, with the folder and the settings that they say.
-const TAKEN: [(&[&str], &str, Settings); 32] = [
+const TAKEN: [(&[&str], &str, Settings); 33] = [
     (&["replay"], ".", DEFAULT),
+    (
+        &["run"],
+        ".",
+        Settings {
+            command: Command::Run,
+            ..DEFAULT
+        },
+    ),
     (&["generate"], ".", GENERATED),
     (
         &["generate", "--machines", "0", "--jobs", "20000"],
@@ -229,10 +237,9 @@ const TAKEN: [(&[&str], &str, Settings); 32] = [
 ];
 
 /// Words that are refused.
-const REFUSED: [&[&str]; 58] = [
+const REFUSED: [&[&str]; 57] = [
     &[],
     &[""],
-    &["run"],
     &["generate", "replay"],
     &["generate", "--machines", "4097"],
     &["generate", "--machines", ""],

@@ -1,6 +1,6 @@
 use Rattle.omega_cell.proofs.Evictions.{evictions_go_down}
 use Rattle.omega_cell.proofs.Gangs.{no_gang_is_split}
-use Rattle.omega_top.proofs.replay.replayed.Goals as goal
+use Rattle.omega_top.proofs.history.history_of.Goals as goal
 
 pub returns-clause-applied : goal.returns-clause-applied
 returns-clause-applied c = rw c.into_history.ensures.history c.into_history.ensures.applied
