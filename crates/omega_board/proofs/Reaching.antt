@@ -1,6 +1,6 @@
 -- Parts that lead from a board to a target, put step by step.
-use Rattle.std.proofs.Common.{◌≡◌, ℕ, ◌+◌, ◌≤◌, Bool, true, false, not, ◌||◌, ◌&&◌, nat_eq, List, [], ◌∷◌, ◌++◌, length, map, slice_get, Option, Some, None, IsTrue, refl, sym, ap, ap₂, ◌∙◌, subst, arith, ◌==◌, if◌then◌else◌}
-use Rattle.std.specs.List.{All, filter, flat_map, fold, list_any, IsDistinct}
+use Rattle.std.proofs.Common.{◌≡◌, ℕ, ◌+◌, ◌≤◌, Bool, true, false, not, ◌||◌, ◌&&◌, nat_eq, List, [], ◌∷◌, ◌++◌, length, slice_get, Some, IsTrue, refl, sym, ap, ◌∙◌, subst, arith, ◌==◌, if◌then◌else◌}
+use Rattle.std.specs.List.{filter, fold, IsDistinct}
 use Rattle.std.specs.Option.{option_map}
 use Rattle.std.proofs.lemmas.Bool.{both_ways, eqb-true, eq-eqb, or_from}
 use Rattle.std.proofs.lemmas.List.{length-map}
@@ -26,7 +26,7 @@ use Rattle.omega_running.specs.declared.orders.Order.TheVariants.{ByKey}
 use Rattle.omega_running.specs.Order.{Each, IsInOrder, precedes}
 use Rattle.omega_running.specs.Standing.{stands_in}
 use Rattle.omega_running.proofs.Kept.{rises_filter}
-use Rattle.omega_running.proofs.Lists.{each_map, each_both, each_append, each_of_all, all_of_each, filter_none, filter_where, any_none}
+use Rattle.omega_running.proofs.Lists.{each_map, each_both, each_append, each_of_all, all_of_each, filter_none, filter_where}
 use Rattle.omega_board.specs.Board.{BoardState, IsBoard, cell_of}
 use Rattle.omega_board.specs.Parts.{part_in, Target, LeadTo, IsAt}
 use Rattle.omega_board.specs.Putting.{lacking, gone_of, came_of, listed_parts, with_row, seq_put, with_tasks_of, MayPutRow, MayStart, MayStartAll}

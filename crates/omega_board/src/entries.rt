@@ -216,10 +216,9 @@ impl Board {
         ensures tasks { self.new.tasks ≡ fold tasks_after_claim self.old.tasks (zip claims.now reply.now) }
         ensures seqs { (id : ℕ) → seq_at self.new.table id ≡ seq_at self.old.table id }
     {
-        let count = claims.len().min(reply.len());
-        for i in 0..count {
-            if reply[i].verdict.is_placed() {
-                self.apply_placed(&claims[i], reply[i].evicted.as_slice(), undo);
+        for (claim, judgement) in claims.iter().zip(reply) {
+            if judgement.verdict.is_placed() {
+                self.apply_placed(claim, judgement.evicted.as_slice(), undo);
             }
         }
     }

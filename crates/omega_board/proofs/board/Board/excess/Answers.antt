@@ -1,7 +1,7 @@
 use Rattle.std.proofs.Common.{◌≡◌, List, take, refl, sym, ap, ap₂, ◌∙◌, subst}
 use Rattle.omega_model.specs.Cell.{keys_of, use_on, without}
 use Rattle.omega_model.specs.Need.{Fits}
-use Rattle.omega_model.specs.State.{excess, ranked_on}
+use Rattle.omega_model.specs.State.{ranked_on}
 use Rattle.omega_model.specs.declared.cells.Need.{Need}
 use Rattle.omega_model.specs.declared.cells.Task.{Task}
 use Rattle.omega_model.specs.declared.cells.TaskKey.{TaskKey}
