@@ -60,6 +60,13 @@ zip_past [] ys (suc i) past = refl
 zip_past {X} {Y} (x ∷ xs) [] (suc i) past = zip-nil X Y (drop i xs)
 zip_past (x ∷ xs) (y ∷ ys) (suc i) past = zip_past xs ys i (omega arith)
 
+-- nothing is left of pairs where one of the lists is at its end
+pub zipped_out : {X Y : Type 0} (xs : List X) (ys : List Y) → (xs ≡ []) ⊎ (ys ≡ []) → zip xs ys ≡ []
+zipped_out [] ys e = refl
+zipped_out (x ∷ xs) [] e = refl
+zipped_out (x ∷ xs) (y ∷ ys) (inl e) = absurd (cc)
+zipped_out (x ∷ xs) (y ∷ ys) (inr e) = absurd (cc)
+
 pub zip_all : {X Y : Type 0} (xs : List X) (ys : List Y) (i : ℕ) → min (length xs) (length ys) ≤ i → zip (take i xs) (take i ys) ≡ zip xs ys
 zip_all {X} {Y} [] ys i past = nil-zip X Y ys i
 zip_all (x ∷ xs) [] zero past = refl

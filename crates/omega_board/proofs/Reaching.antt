@@ -1,6 +1,6 @@
 -- Parts that lead from a board to a target, put step by step.
-use Rattle.std.proofs.Common.{◌≡◌, ℕ, ◌+◌, ◌≤◌, Bool, true, false, not, ◌||◌, ◌&&◌, nat_eq, List, [], ◌∷◌, ◌++◌, length, map, slice_get, Option, Some, None, IsTrue, refl, sym, ap, ap₂, ◌∙◌, subst, arith, ◌==◌, if◌then◌else◌}
-use Rattle.std.specs.List.{All, filter, flat_map, fold, list_any, IsDistinct}
+use Rattle.std.proofs.Common.{◌≡◌, ℕ, ◌+◌, ◌≤◌, Bool, true, false, not, ◌||◌, ◌&&◌, nat_eq, List, [], ◌∷◌, ◌++◌, length, slice_get, Some, IsTrue, refl, sym, ap, ◌∙◌, subst, arith, ◌==◌, if◌then◌else◌}
+use Rattle.std.specs.List.{filter, fold, IsDistinct}
 use Rattle.std.specs.Option.{option_map}
 use Rattle.std.proofs.lemmas.Bool.{both_ways, eqb-true, eq-eqb, or_from}
 use Rattle.std.proofs.lemmas.List.{length-map}
@@ -26,8 +26,8 @@ use Rattle.omega_running.specs.declared.orders.Order.TheVariants.{ByKey}
 use Rattle.omega_running.specs.Order.{Each, IsInOrder, precedes}
 use Rattle.omega_running.specs.Standing.{stands_in}
 use Rattle.omega_running.proofs.Kept.{rises_filter}
-use Rattle.omega_running.proofs.Lists.{each_map, each_both, each_append, each_of_all, all_of_each, filter_none, filter_where, any_none}
-use Rattle.omega_board.specs.Board.{BoardState, IsBoard, cell_of, table_with}
+use Rattle.omega_running.proofs.Lists.{each_map, each_both, each_append, each_of_all, all_of_each, filter_none, filter_where}
+use Rattle.omega_board.specs.Board.{BoardState, IsBoard, cell_of}
 use Rattle.omega_board.specs.Parts.{part_in, Target, LeadTo, IsAt}
 use Rattle.omega_board.specs.Putting.{lacking, gone_of, came_of, listed_parts, with_row, seq_put, with_tasks_of, MayPutRow, MayStart, MayStartAll}
 use Rattle.omega_board.proofs.Claims.{without_none}
@@ -36,7 +36,6 @@ use Rattle.omega_board.proofs.Lacking.{stands_on, stands_found, common, moved, m
 use Rattle.omega_board.proofs.Numbered.{others_behind, distinct_kept, machine_there}
 use Rattle.omega_board.proofs.Places.{each_get}
 use Rattle.omega_board.proofs.Ranks.{Apart, ordered_apart, filter_apart, each_here}
-use Rattle.omega_board.proofs.Rewinds.{machines_with, seq_with}
 use Rattle.omega_board.proofs.Rewritten.{listing, putting, rows_put, seq_kept, listed_still, unlisted_still, listed_machines, parts_flat, parts_fold, parts_each}
 use Rattle.omega_board.proofs.Sounds.{names_distinct}
 use Rattle.omega_board.proofs.Tasks.{each_filter, each_passes, filter_and, filter_alike, without_ordered, found_still, gone_absent, back_again, stays}
@@ -233,12 +232,13 @@ module _ (old : BoardState) (parts : List Part) (target : Target) (leads : LeadT
       omega (arith, long, one, two, leads.stands.few)
 
   module _ (stopped : BoardState) (tasks : stopped.tasks ≡ without (keys_of (gone_of old.tasks parts)) old.tasks)
-      (table : stopped.table ≡ table_with stopped.tasks (listed_parts old.table parts)) where
+      (same_rows : machines_of stopped.table ≡ machines_of (listed_parts old.table parts))
+      (same_seqs : (id : ℕ) → seq_at stopped.table id ≡ seq_at (listed_parts old.table parts) id) where
     tasks_left : stopped.tasks ≡ without (keys_of (came_of old.tasks parts)) target.cell.tasks
     tasks_left = tasks ∙ left
 
     machines_listed : machines_of stopped.table ≡ listing (machines_of old.table) changed_rows
-    machines_listed = ap machines_of table ∙ machines_with stopped.tasks (listed_parts old.table parts) ∙ listed
+    machines_listed = same_rows ∙ listed
 
     -- the row of each part may be put
     pub rows_may : Each (MayPutRow (numbers_of (machines_of stopped.table)) stopped.tasks) parts
@@ -304,7 +304,7 @@ module _ (old : BoardState) (parts : List Part) (target : Target) (leads : LeadT
       }
         where
           before : (id : ℕ) → seq_at stopped.table id ≡ seq_at old.table id
-          before id = ap (λ t. seq_at t id) table ∙ seq_with stopped.tasks (listed_parts old.table parts) id ∙ seq_listed old.table parts id
+          before id = same_seqs id ∙ seq_listed old.table parts id
 
           numbered : (id : ℕ) → (if is_listed id changed_rows then target.seqs id else seq_at stopped.table id) ≡ target.seqs id
           numbered id =
@@ -315,12 +315,16 @@ module _ (old : BoardState) (parts : List Part) (target : Target) (leads : LeadT
 -- the board once the machines of parts are listed and those tasks have stopped that they lack
 pub record IsStopped (now stopped : BoardState) (parts : List Part) : Type 0 where
   pub tasks : stopped.tasks ≡ without (keys_of (gone_of now.tasks parts)) now.tasks
-  pub table : stopped.table ≡ table_with stopped.tasks (listed_parts now.table parts)
+  pub machines : machines_of stopped.table ≡ machines_of (listed_parts now.table parts)
+  pub seqs : (id : ℕ) → seq_at stopped.table id ≡ seq_at (listed_parts now.table parts) id
 
 pub stopped_as : (now before listed stopped : BoardState) (parts told : List Part) (keys : List TaskKey) → before.table ≡ now.table → before.tasks ≡ now.tasks
     → listed ≡ record before { table = listed_parts before.table told } → told ≡ parts → keys ≡ keys_of (gone_of now.tasks parts)
-    → stopped.tasks ≡ without keys listed.tasks → stopped.table ≡ table_with stopped.tasks listed.table → IsStopped now stopped parts
-stopped_as now before rows_in stopped parts told keys table tasks all same names stop count = record {
-  tasks = stop ∙ (λ i. without (names i) ((ap (λ (b : BoardState). b.tasks) all ∙ tasks) i));
-  table = count ∙ ap (table_with stopped.tasks) (ap (λ (b : BoardState). b.table) all ∙ (λ i. listed_parts (table i) (same i)));
-}
+    → stopped.tasks ≡ without keys listed.tasks → machines_of stopped.table ≡ machines_of listed.table → ((id : ℕ) → seq_at stopped.table id ≡ seq_at listed.table id) → IsStopped now stopped parts
+stopped_as now before rows_in stopped parts told keys table tasks all same names stop rows seqs =
+    let made : rows_in.table ≡ listed_parts now.table parts = ap (λ (b : BoardState). b.table) all ∙ (λ i. listed_parts (table i) (same i)) in
+    record {
+      tasks = stop ∙ (λ i. without (names i) ((ap (λ (b : BoardState). b.tasks) all ∙ tasks) i));
+      machines = rows ∙ ap machines_of made;
+      seqs = λ id. seqs id ∙ ap (λ t. seq_at t id) made;
+    }

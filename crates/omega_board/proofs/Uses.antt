@@ -1,18 +1,15 @@
 -- What tasks use.
-use Rattle.std.proofs.Common.{◌≡◌, ℕ, Bool, cond, not, List, [], ◌∷◌, ◌++◌, Some, None, refl, sym, ap, ◌∙◌, arith}
+use Rattle.std.proofs.Common.{◌≡◌, Bool, List, [], ◌∷◌, Some, None, sym, ap, ◌∙◌}
 use Rattle.std.specs.List.{filter}
 use Rattle.std.proofs.lemmas.List.Elements.{filter-append}
-use Rattle.omega_model.specs.Need.{nothing, plus}
-use Rattle.omega_model.specs.Keys.{key_lt, is_among}
-use Rattle.omega_model.specs.Cell.{task_at, with_task, without, total, is_on, use_on, rest_on}
-use Rattle.omega_model.specs.declared.cells.Need.{Need}
-use Rattle.omega_model.specs.declared.cells.TaskKey.{TaskKey}
+use Rattle.omega_model.specs.Need.{plus}
+use Rattle.omega_model.specs.Keys.{key_lt}
+use Rattle.omega_model.specs.Cell.{task_at, with_task, without, total}
 use Rattle.omega_model.specs.declared.cells.Task.{Task}
 use Rattle.omega_running.specs.declared.orders.Order.TheVariants.{ByKey}
 use Rattle.omega_running.specs.Order.{IsInOrder}
-use Rattle.omega_board.proofs.Tasks.{parted, back_again, gone_absent, filter_and, without_ordered}
-use Rattle.omega_model.proofs.Amounts.{plus-swap, plus-assoc, plus-nothing, total-append, need_is, total-cons, share}
-use Rattle.omega_model.proofs.Lists.{by_answer}
+use Rattle.omega_board.proofs.Tasks.{parted, back_again, gone_absent, without_ordered}
+use Rattle.omega_model.proofs.Amounts.{plus-swap, total-append, total-cons, share}
 
 -- with one more task
 pub total-with : (p : Task → Bool) (t : Task) (tasks : List Task) → task_at tasks t.key ≡ None → IsInOrder ByKey tasks

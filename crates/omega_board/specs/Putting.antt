@@ -1,14 +1,13 @@
 -- How parts are put: what stops and what starts, and the rows between.
-use Rattle.std.specs.Prelude.{◌≡◌, ℕ, ◌==◌, Bool, false, not, List, [], ◌∷◌, Some, None, map, slice_get, if◌then◌else◌}
+use Rattle.std.specs.Prelude.{◌≡◌, ℕ, ◌==◌, false, not, List, [], ◌∷◌, Some, None, slice_get, if◌then◌else◌}
 use Rattle.std.specs.List.{filter, flat_map, fold}
-use Rattle.omega_model.specs.Cell.{Cell, task_at, with_task, is_on, use_on, keys_of}
+use Rattle.omega_model.specs.Cell.{Cell, task_at, with_task, is_on, use_on}
 use Rattle.omega_model.specs.Fields.{greatest}
 use Rattle.omega_model.specs.Legal.{Sound}
-use Rattle.omega_model.specs.Machines.{numbers_of, change}
+use Rattle.omega_model.specs.Machines.{change}
 use Rattle.omega_model.specs.Need.{Fits}
 use Rattle.omega_model.specs.declared.cells.Machine.{Machine}
 use Rattle.omega_model.specs.declared.cells.Task.{Task}
-use Rattle.omega_model.specs.declared.cells.TaskKey.{TaskKey}
 use Rattle.omega_model.specs.declared.delta.Part.{Part}
 use Rattle.omega_machines.specs.declared.MachineState.{MachineState}
 use Rattle.omega_machines.specs.Table.{ensured_states}

@@ -7,7 +7,7 @@ ghost use Rattle.omega_model.specs.Cell.{is_on, use_on, without};
 ghost use Rattle.omega_model.specs.Fields.{greatest};
 ghost use Rattle.omega_model.specs.Machines.{is_listed, change, ensured, added, updated, removed, attr_set, attr_deleted};
 ghost use Rattle.omega_model.specs.Need.{Fits};
-ghost use Rattle.omega_board.specs.Board.{table_with, CountsOn};
+ghost use Rattle.omega_board.specs.Board.{CountsOn};
 
 use crate::Board;
 use omega_model::{Bytes, Need, NoMemory, TaskKey};
@@ -38,10 +38,10 @@ impl Board {
     // These tasks stop.
     pub(crate) fn stop_all(&mut self, keys: &[TaskKey])
         ensures tasks { self.new.tasks ≡ without keys.now self.old.tasks }
-        ensures table { self.new.table ≡ table_with self.new.tasks self.old.table }
+        ensures machines { machines_of self.new.table ≡ machines_of self.old.table }
+        ensures seqs { (id : ℕ) → seq_at self.new.table id ≡ seq_at self.old.table id }
         ensures room { self.old.spare ≤ self.new.spare }
     {
-        let _ = &self.table;
         for key in keys {
             self.stop(*key);
         }

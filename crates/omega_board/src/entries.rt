@@ -3,10 +3,12 @@ ghost use Rattle.std.specs.Prelude.{◌≡◌, ◌≤◌, [], sum_by, ◌+◌, �
 ghost use Rattle.std.specs.List.{zip, fold, list_any};
 ghost use Rattle.omega_machines.specs.Table.{machines_of, seq_at};
 ghost use Rattle.omega_model.specs.Applying.{MayApply, MayPlaceAll};
-ghost use Rattle.omega_model.specs.Cell.{keys_of, use_on};
+ghost use Rattle.omega_model.specs.Cell.{keys_of, use_on, without};
+ghost use Rattle.omega_model.specs.Need.{Fits};
 ghost use Rattle.omega_model.specs.Reply.{tasks_after_claim};
 ghost use Rattle.omega_model.specs.State.{step, displaced, excess, ranked_on};
 ghost use Rattle.omega_model.specs.Touches.{touches, places_on};
+ghost use Rattle.omega_running.specs.Kept.{KeysRise};
 ghost use Rattle.omega_board.specs.Board.{cell_of, CountsOn};
 ghost use Rattle.omega_board.specs.Undo.{IsUndoOf};
 
@@ -60,7 +62,6 @@ impl Board {
         ensures displaced { IfOk result (λ keys. keys ≡ keys_of (displaced self.old.tasks (Entry.MachineAdd machine cap))) }
         ensures err { OnErr result (self.new ≡ self.old) }
     {
-        let _ = &self.table;
         let gone = self.excess(alloc, machine, cap)?;
         self.displace(machine, gone.as_slice())?;
         self.bring_up(machine, cap);
@@ -74,7 +75,6 @@ impl Board {
         ensures displaced { IfOk result (λ keys. keys ≡ keys_of (displaced self.old.tasks (Entry.MachineUpdate machine cap))) }
         ensures err { OnErr result (self.new ≡ self.old) }
     {
-        let _ = &self.table;
         let gone = self.excess(alloc, machine, cap)?;
         self.displace(machine, gone.as_slice())?;
         self.resize(machine, cap);
@@ -130,7 +130,6 @@ impl Board {
         ensures seqs { CountsOn machine self.old.table self.new.table }
         ensures displaced { result ≡ [] }
     {
-        let _ = &self.table;
         self.stop(key);
         self.touch(machine);
         Seq::new(alloc)
@@ -160,8 +159,10 @@ impl Board {
     }
 
     // The names of the tasks that stop where the machine has this capacity, in order of eviction.
+    // Those that stay fit it.
     fn excess(&self, alloc: Global, machine: u64, cap: Need) -> Result<Keys, NoMemory>
-        ensures { IfOk result (λ keys. keys ≡ keys_of (excess cap (ranked_on machine self.now.tasks))) }
+        ensures names { IfOk result (λ keys. keys ≡ keys_of (excess cap (ranked_on machine self.now.tasks))) }
+        ensures fits { IfOk result (λ keys. Fits (use_on (without keys self.now.tasks) machine) cap) }
     {
         let used = self.use_on(machine);
         if used.fits(cap) {
@@ -176,11 +177,11 @@ impl Board {
 
     // How many of a machine's tasks stop where it has this capacity.
     fn excess_len(&self, machine: u64, ranked: &[TaskKey], used: Need, cap: Need) -> usize
+        requires ordered { KeysRise self.now.tasks }
         requires ranked { ranked.now ≡ keys_of (ranked_on machine self.now.tasks) }
         requires used { used ≡ use_on self.now.tasks machine }
         ensures { result ≡ length (excess cap (ranked_on machine self.now.tasks)) }
     {
-        let _ = &self.running;
         let mut left = used;
         for (i, key) in ranked.iter().enumerate() {
             if left.fits(cap) {
@@ -215,10 +216,9 @@ impl Board {
         ensures tasks { self.new.tasks ≡ fold tasks_after_claim self.old.tasks (zip claims.now reply.now) }
         ensures seqs { (id : ℕ) → seq_at self.new.table id ≡ seq_at self.old.table id }
     {
-        let count = claims.len().min(reply.len());
-        for i in 0..count {
-            if reply[i].verdict.is_placed() {
-                self.apply_placed(&claims[i], reply[i].evicted.as_slice(), undo);
+        for (claim, judgement) in claims.iter().zip(reply) {
+            if judgement.verdict.is_placed() {
+                self.apply_placed(claim, judgement.evicted.as_slice(), undo);
             }
         }
     }

@@ -9,7 +9,7 @@ ghost use Rattle.omega_model.specs.Machines.{is_listed};
 ghost use Rattle.omega_model.specs.Reply.{tasks_placed};
 ghost use Rattle.omega_model.specs.Touches.{places_on};
 ghost use Rattle.omega_model.specs.declared.claims.Verdict.TheVariants.{Placed};
-ghost use Rattle.omega_board.specs.Board.{cell_of, table_with};
+ghost use Rattle.omega_board.specs.Board.{cell_of, table_with, IsBoard};
 ghost use Rattle.omega_board.specs.Putting.{MayStart};
 ghost use Rattle.omega_board.specs.Undo.{IsUndoOf, at_reserve, before_change, MayTakeBack};
 
@@ -135,7 +135,6 @@ impl Board {
         ensures claims { undo.new.claims ≡ undo.old.claims }
         ensures victims { undo.new.victims + 1 ≡ undo.old.victims }
     {
-        let _ = &self.table;
         if let Some(task) = self.stop(key) {
             undo.note_stopped(task);
         }
@@ -178,6 +177,7 @@ impl Board {
         ensures tasks { self.new.tasks ≡ without (key ∷ []) self.old.tasks }
         ensures table { self.new.table ≡ table_with self.new.tasks self.old.table }
         ensures spare { self.new.spare ≡ self.old.spare + (if is_some result then 1 else 0) }
+        ensures board { IsBoard self.old.table self.old.tasks }
     {
         let task = self.running.remove(key)?;
         self.table.release(task.machine, task.spec.need);

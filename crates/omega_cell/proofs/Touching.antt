@@ -102,12 +102,6 @@ none_claimed machines place = by (slice_get machines place)
     by None = refl
     by (Some row) = refl
 
-pub zipped_out : {A B : Type 0} (xs : List A) (ys : List B) → (xs ≡ []) ⊎ (ys ≡ []) → zip xs ys ≡ []
-zipped_out [] ys e = refl
-zipped_out (x ∷ xs) [] e = refl
-zipped_out (x ∷ xs) (y ∷ ys) (inl e) = absurd (cc)
-zipped_out (x ∷ xs) (y ∷ ys) (inr e) = absurd (cc)
-
 -- a place is among the numbers that are left where each is kept once
 pub once_kept : (places : List ℕ) (place : ℕ) → has_place (dedup nat_eq places) place ≡ has_place places place
 once_kept [] place = refl

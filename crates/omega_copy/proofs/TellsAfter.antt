@@ -1,5 +1,5 @@
 -- What an index tells once an entry was applied.
-use Rattle.std.proofs.Common.{◌≡◌, ℕ, true, List, length, Option, refl, sym, subst}
+use Rattle.std.proofs.Common.{◌≡◌, ℕ, Bool, true, List, length, Option, refl, sym, subst}
 use Rattle.std.proofs.lemmas.Bool.{eq-eqb}
 use Rattle.std.proofs.lemmas.List.{length-map}
 use Rattle.omega_model.specs.Applying.{PlacesInOrder}

@@ -4,6 +4,7 @@ ghost use Rattle.omega_board.specs.Board.{cell_of};
 ghost use Rattle.omega_fit.specs.Round.{FirstBetween};
 ghost use Rattle.omega_model.specs.Cell.{task_at};
 ghost use Rattle.omega_model.specs.Plan.{candidates, victims};
+ghost use Rattle.omega_running.specs.Kept.{KeysRise};
 ghost use Rattle.omega_plan.specs.Kinds.{Serves};
 ghost use Rattle.omega_plan.specs.Trying.{AreVictimsAt, IsFirstToYield, Yields, yields};
 
@@ -30,13 +31,13 @@ pub(crate) fn first_to_yield(
     wish: &Wish,
     progress: &Progress,
 ) -> Result<Option<Yielding>, NoMemory>
+    requires ordered { KeysRise board.now.tasks }
     requires absent { task_at board.now.tasks wish.now.key ≡ None }
     requires serves { Serves (cell_of board.now) wish.now progress.now }
     ensures first { IfOk result (λ found. IsFirstToYield (cell_of board.now) wish.now progress.now.start (option_map (λ f. f.position) found)) }
     ensures below { IfOk result (λ found. IfSome found (λ f. f.position < length board.now.table)) }
     ensures victims { IfOk result (λ found. IfSome found (λ f. AreVictimsAt (cell_of board.now) wish.now f.position (Some f.victims))) }
 {
-    let _ = board.running();
     match progress.evicting {
         Some(begin) => yielding_from(alloc, board, wish, begin),
         None => Ok(None),
@@ -118,7 +119,6 @@ pub fn victims(
 ) -> Result<Option<Keys>, NoMemory>
     ensures { IfOk result (λ keys. keys ≡ victims (cell_of board.now) machine wish.now) }
 {
-    let _ = board.running();
     let candidates = candidates(alloc, board, wish, machine)?;
     let mut evicted = Vec::with_capacity(alloc, candidates.len())?;
     let claim = claim_of(wish, candidates, machine);
@@ -131,7 +131,8 @@ pub fn victims(
 
 /// The tasks on a machine that may be evicted for a wish, in order of eviction.
 fn candidates(alloc: Global, board: &Board, wish: &Wish, machine: u64) -> Result<Keys, NoMemory>
-    ensures { IfOk result (λ keys. keys ≡ candidates (cell_of board.now) machine wish.now) }
+    ensures keys { IfOk result (λ keys. keys ≡ candidates (cell_of board.now) machine wish.now) }
+    ensures ordered { KeysRise board.now.tasks }
 {
     let running = board.running();
     let mut keys = running.on_machine(alloc, machine)?.into_items();

@@ -4,7 +4,9 @@ ghost use Rattle.omega_board.specs.Board.{cell_of};
 ghost use Rattle.omega_copy.specs.Copies.{after_trial};
 ghost use Rattle.omega_model.specs.Plan.{whole_or_none};
 ghost use Rattle.omega_model.specs.Cell.{task_at};
+ghost use Rattle.omega_model.specs.Legal.{Sound};
 ghost use Rattle.omega_model.specs.Planning.{claims_for_wishes, plan_for};
+ghost use Rattle.omega_running.specs.Kept.{KeysRise};
 ghost use Rattle.omega_plan.specs.Kinds.{Serves};
 ghost use Rattle.omega_plan.specs.Steps.{IsStep};
 ghost use Rattle.omega_plan.specs.Trying.{IsFirstToTake};
@@ -120,12 +122,13 @@ fn claim_by_evicting(
     preempts: bool,
     progress: Progress,
 ) -> Result<Step, NoMemory>
+    requires sound { Sound (cell_of board.now) }
+    requires ordered { KeysRise board.now.tasks }
     requires absent { task_at board.now.tasks wish.now.key ≡ None }
     requires full { IsFirstToTake (cell_of board.now) wish.now progress.start None }
     requires serves { Serves (cell_of board.now) wish.now progress }
     ensures { IfOk result (λ step. IsStep (cell_of board.now) wish.now preempts progress step) }
 {
-    let _ = board.running();
     if !preempts {
         return Ok(Step {
             claim: None,

@@ -3,6 +3,7 @@ ghost use Rattle.std.specs.Prelude.{◌≡◌, ◌≤◌, ◌<◌, [], None, IfS
 ghost use Rattle.omega_board.specs.Board.{cell_of};
 ghost use Rattle.omega_copy.specs.Telling.{frees_of};
 ghost use Rattle.omega_model.specs.Cell.{task_at};
+ghost use Rattle.omega_model.specs.Legal.{Sound};
 ghost use Rattle.omega_model.specs.Plan.{claim_of, goes_in};
 ghost use Rattle.omega_plan.specs.Kinds.{Serves};
 ghost use Rattle.omega_plan.specs.Trying.{IsClaimAt, IsFirstToTake, Takes};
@@ -24,6 +25,7 @@ pub(crate) fn first_to_take(
     wish: &Wish,
     progress: &Progress,
 ) -> Option<usize>
+    requires sound { Sound (cell_of board.now) }
     requires index { index.now.free ≡ frees_of (cell_of board.now) }
     requires absent { task_at board.now.tasks wish.now.key ≡ None }
     requires serves { Serves (cell_of board.now) wish.now progress.now }
@@ -44,12 +46,12 @@ fn first_from(
     wish: &Wish,
     begin: usize,
 ) -> Option<usize>
+    requires sound { Sound (cell_of board.now) }
     requires index { index.now.free ≡ frees_of (cell_of board.now) }
     requires begin { begin ≤ length (cell_of board.now).machines }
     ensures first { IsFirstToTake (cell_of board.now) wish.now begin result }
     ensures below { IfSome result (λ position. position < length board.now.table) }
 {
-    let _ = board.machines();
     index.first(begin, wish.spec.need, |position| {
         takes(alloc, board, wish, position)
     })

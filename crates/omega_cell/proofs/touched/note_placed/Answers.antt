@@ -4,8 +4,9 @@ use Rattle.std.specs.Iterator.Adapters.{zip_first, zip_second}
 use Rattle.std.specs.Slice.Iter.{iter_rest}
 use Rattle.std.proofs.lemmas.Slice.Zip.{either_empty_from_Zip}
 use Rattle.omega_machines.specs.Table.{machines_of}
+use Rattle.omega_board.proofs.Counts.{zipped_out}
 use Rattle.omega_cell.specs.Touched.{passes_at, is_claimed}
-use Rattle.omega_cell.proofs.Touching.{none_added, none_claimed, zipped_out}
+use Rattle.omega_cell.proofs.Touching.{none_added, none_claimed}
 use Rattle.omega_cell.proofs.touched.note_placed.Goals as goal
 
 pub returns : goal.returns

@@ -1,13 +1,12 @@
-use Rattle.std.proofs.Common.{◌≡◌, List, [], ◌∷◌, sym, ap, ◌∙◌, subst, rules}
+use Rattle.std.proofs.Common.{◌≡◌, List, sym, subst, rules}
 use Rattle.std.specs.List.{zip}
 use Rattle.std.specs.Iterator.Adapters.{zip_first, zip_second}
 use Rattle.std.specs.Slice.Iter.{iter_rest}
 use Rattle.std.proofs.lemmas.Slice.Zip.{Zip-more, either_empty_from_Zip}
-use Rattle.omega_model.specs.Touches.{is_placed}
 use Rattle.omega_model.specs.declared.claims.Claim.{Claim}
 use Rattle.omega_model.specs.declared.claims.Judgement.{Judgement}
 use Rattle.omega_machines.specs.Table.{machines_of}
-use Rattle.omega_cell.proofs.Touching.{zipped_out}
+use Rattle.omega_board.proofs.Counts.{zipped_out}
 use Rattle.omega_copy.specs.Telling.{TellsBut, is_claimed}
 use Rattle.omega_copy.proofs.Tells.{told_all, told_states, zipped_more, placed_more, passed_more}
 use Rattle.omega_copy.proofs.telling.tell_placed.Goals as goal

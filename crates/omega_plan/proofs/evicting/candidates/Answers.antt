@@ -9,8 +9,8 @@ use Rattle.omega_plan.specs.Trying.{yields}
 use Rattle.omega_plan.proofs.Candidates.{candidates_are}
 use Rattle.omega_plan.proofs.evicting.candidates.Goals as goal
 
-pub returns : goal.returns
-returns c =
+pub returns-clause-keys : goal.returns-clause-keys
+returns-clause-keys c =
     let tasks = c.args.board.now.tasks in
     let test : TaskKey → _ = yields tasks c.args.wish.now in
     let kept : c.retain.new.self.items ≡ filter test c.into_items-keys.result.items =

@@ -28,7 +28,7 @@ returns-in-Some-clause-first c =
     (λ (found : Option Yielding). IsFirstToYield cell c.args.wish.now c.in-Some.begin (option_map (λ (f : Yielding). f.position) found))
     (λ (found : Option Yielding). IsFirstToYield cell c.args.wish.now progress.start (option_map (λ (f : Yielding). f.position) found))
     (λ found first. found_from (StaysFull cell c.args.wish.now) (Yields cell c.args.wish.now) progress.start (length cell.machines) c.in-Some.begin
-    (option_map (λ (f : Yielding). f.position) found) c.requires.serves.start may (yields_where_full cell c.args.wish.now c.requires.absent c.running.ensures.ordered) first)
+    (option_map (λ (f : Yielding). f.position) found) c.requires.serves.start may (yields_where_full cell c.args.wish.now c.requires.absent c.requires.ordered) first)
     c.yielding_from.ensures.first
 
 pub returns-in-None-clause-first : goal.returns-in-None-clause-first
@@ -39,4 +39,4 @@ returns-in-None-clause-first c =
     let may : MayBegin (StaysFull cell c.args.wish.now) progress.start (length cell.machines) None =
     subst (λ (begin : Option ℕ). MayBegin (StaysFull cell c.args.wish.now) progress.start (length cell.machines) begin) c.in-None.is c.requires.serves.evicting in
     found_nowhere (StaysFull cell c.args.wish.now) (Yields cell c.args.wish.now) progress.start (length cell.machines) may
-    (yields_where_full cell c.args.wish.now c.requires.absent c.running.ensures.ordered)
+    (yields_where_full cell c.args.wish.now c.requires.absent c.requires.ordered)

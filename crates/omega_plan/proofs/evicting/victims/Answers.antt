@@ -12,13 +12,13 @@ returns-then-is_placed c =
     let cell = cell_of c.args.board.now in
     let keys = c.in_ok-candidates.candidates in
     let are : AreCandidates cell c.args.machine c.args.wish.now keys =
-    subst (AreCandidates cell c.args.machine c.args.wish.now) (sym c.in_ok-candidates.ensures)
-    (are_candidates cell c.args.machine c.args.wish.now c.running.ensures.ordered) in
+    subst (AreCandidates cell c.args.machine c.args.wish.now) (sym c.in_ok-candidates.ensures.keys)
+    (are_candidates cell c.args.machine c.args.wish.now c.in_ok-candidates.ensures.ordered) in
     let judged : judge_fine cell (claim_of c.args.wish.now keys c.args.machine) ≡ record { verdict = c.judge.result; evicted = c.judge.new.evicted.items } =
     subst (λ (claim : Claim). judge_fine cell claim ≡ record { verdict = c.judge.result; evicted = c.judge.new.evicted.items }) c.claim_of-claim.ensures
     c.judge.ensures.judged in
     ap Some c.of.ensures
-    ∙ victims_placed cell c.args.machine c.args.wish.now keys are c.in_ok-candidates.ensures c.judge.result c.judge.new.evicted.items judged
+    ∙ victims_placed cell c.args.machine c.args.wish.now keys are c.in_ok-candidates.ensures.keys c.judge.result c.judge.new.evicted.items judged
     (sym c.is_placed.ensures ∙ c.if-is_placed.true)
 
 pub returns-else-is_placed : goal.returns-else-is_placed
@@ -26,10 +26,10 @@ returns-else-is_placed c =
     let cell = cell_of c.args.board.now in
     let keys = c.in_ok-candidates.candidates in
     let are : AreCandidates cell c.args.machine c.args.wish.now keys =
-    subst (AreCandidates cell c.args.machine c.args.wish.now) (sym c.in_ok-candidates.ensures)
-    (are_candidates cell c.args.machine c.args.wish.now c.running.ensures.ordered) in
+    subst (AreCandidates cell c.args.machine c.args.wish.now) (sym c.in_ok-candidates.ensures.keys)
+    (are_candidates cell c.args.machine c.args.wish.now c.in_ok-candidates.ensures.ordered) in
     let judged : judge_fine cell (claim_of c.args.wish.now keys c.args.machine) ≡ record { verdict = c.judge.result; evicted = c.judge.new.evicted.items } =
     subst (λ (claim : Claim). judge_fine cell claim ≡ record { verdict = c.judge.result; evicted = c.judge.new.evicted.items }) c.claim_of-claim.ensures
     c.judge.ensures.judged in
-    victims_refused cell c.args.machine c.args.wish.now keys are c.in_ok-candidates.ensures c.judge.result c.judge.new.evicted.items judged
+    victims_refused cell c.args.machine c.args.wish.now keys are c.in_ok-candidates.ensures.keys c.judge.result c.judge.new.evicted.items judged
     (sym c.is_placed.ensures ∙ c.if-is_placed.false)

@@ -34,7 +34,7 @@ returns-in-Some c =
     subst (λ (p : Progress). IsStep cell wish c.args.preempts progress (record { claim = Some c.claim_at.result; progress = p })) (sym c.evicted.ensures)
     (subst (λ (b : Bool). IsStep cell wish b progress
     (record { claim = Some c.claim_at.result; progress = record progress { as_is = Some found.position; evicting = Some found.position } })) (sym c.if-not-preempts.false)
-    (step_evicting cell wish progress c.requires.serves c.running.ensures.ordered c.running.ensures.sound.numbers c.requires.absent true found.position below
+    (step_evicting cell wish progress c.requires.serves c.requires.ordered c.requires.sound.numbers c.requires.absent true found.position below
     c.claim_at.result c.requires.full first found.victims victims c.claim_at.ensures))
 
 pub returns-in-None : goal.returns-in-None
@@ -46,4 +46,4 @@ returns-in-None c =
     subst (λ (o : Option Yielding). IsFirstToYield cell wish progress.start (option_map (λ (f : Yielding). f.position) o)) c.in-None.is c.in_ok-found.ensures.first in
     subst (λ (p : Progress). IsStep cell wish c.args.preempts progress (record { claim = None; progress = p })) (sym c.stays_full.ensures)
     (subst (λ (b : Bool). IsStep cell wish b progress (record { claim = None; progress = record progress { evicting = None } })) (sym c.if-not-preempts.false)
-    (step_stays_full cell wish progress c.requires.serves c.running.ensures.ordered c.requires.absent c.requires.full none))
+    (step_stays_full cell wish progress c.requires.serves c.requires.ordered c.requires.absent c.requires.full none))

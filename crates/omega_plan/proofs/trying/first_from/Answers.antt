@@ -14,4 +14,4 @@ returns-clause-first c =
     let same : length cell.machines ≡ length c.args.index.now.free =
     sym (ap length c.requires.index ∙ length-map cell.machines (free_on cell.tasks)) in
     of_items (takes cell c.args.wish.now) cell.machines _ _ _ _ _ c.first.ensures.first same (λ i b w. search rules)
-    (takes_where_room cell c.args.wish.now c.machines.ensures.sound.numbers c.args.index.now.free c.requires.index)
+    (takes_where_room cell c.args.wish.now c.requires.sound.numbers c.args.index.now.free c.requires.index)

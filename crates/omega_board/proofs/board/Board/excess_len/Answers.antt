@@ -7,7 +7,6 @@ use Rattle.omega_model.specs.Cell.{task_at}
 use Rattle.omega_model.specs.State.{ranked_on}
 use Rattle.omega_model.specs.Need.{minus}
 use Rattle.omega_model.specs.declared.cells.Task.{Task}
-use Rattle.omega_board.proofs.Boards.{at_now}
 use Rattle.omega_board.proofs.Ranks.{Walked, total-ranked, walked_end, walked_more, ranked_at}
 use Rattle.omega_board.proofs.board.Board.excess_len.Goals as goal
 
@@ -19,20 +18,18 @@ returns-then-fits c = walked_end c.args.cap (ranked_on c.args.machine c.args.sel
 
 pub need_of-requires : goal.need_of-requires
 need_of-requires c =
-    let kept = at_now _ _ c.self.view_is c.self.invariant in
     let ranked = ranked_on c.args.machine c.args.self.now.tasks in
     let below : c.loop-i.i < length ranked = omega (arith, c.loop-i-test.true, ap length c.requires.ranked, length-map ranked (λ (t : Task). t.key)) in
-    let known = ranked_at c.args.self.now.tasks c.args.machine c.loop-i.i (record { job = 0; index = 0 }) kept.ordered below in
+    let known = ranked_at c.args.self.now.tasks c.args.machine c.loop-i.i (record { job = 0; index = 0 }) c.requires.ordered below in
     ap (λ keys. is_some (task_at c.args.self.now.tasks (get_or keys c.loop-i.i (record { job = 0; index = 0 })))) c.requires.ranked
     ∙ ap (λ key. is_some (task_at c.args.self.now.tasks key)) known.named
     ∙ ap is_some known.found
 
 pub loop-i-preserved : goal.loop-i-preserved
 loop-i-preserved c =
-    let kept = at_now _ _ c.self.view_is c.self.invariant in
     let ranked = ranked_on c.args.machine c.args.self.now.tasks in
     let below : c.loop-i.i < length ranked = omega (arith, c.loop-i-test.true, ap length c.requires.ranked, length-map ranked (λ (t : Task). t.key)) in
-    let known = ranked_at c.args.self.now.tasks c.args.machine c.loop-i.i (record { job = 0; index = 0 }) kept.ordered below in
+    let known = ranked_at c.args.self.now.tasks c.args.machine c.loop-i.i (record { job = 0; index = 0 }) c.requires.ordered below in
     let need : c.need_of.result ≡ known.task.spec.need = same_Some _ _ (c.need_of.ensures
     ∙ ap (λ keys. option_map (λ (t : Task). t.spec.need) (task_at c.args.self.now.tasks (get_or keys c.loop-i.i (record { job = 0; index = 0 })))) c.requires.ranked
     ∙ ap (λ key. option_map (λ (t : Task). t.spec.need) (task_at c.args.self.now.tasks key)) known.named

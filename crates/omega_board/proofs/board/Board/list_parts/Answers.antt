@@ -1,8 +1,7 @@
-use Rattle.std.proofs.Common.{◌≡◌, length, take, sym, ap, ◌∙◌, subst}
+use Rattle.std.proofs.Common.{length, take, sym, ap, ◌∙◌, subst}
 use Rattle.omega_model.specs.Applying.{ListsOrHasRoom}
 use Rattle.omega_machines.specs.Table.{machines_of}
 use Rattle.omega_board.specs.Board.{BoardState, IsBoard}
-use Rattle.omega_board.specs.Putting.{listed_parts}
 use Rattle.omega_board.proofs.Boards.{at_now}
 use Rattle.omega_board.proofs.Rewinds.{board_is}
 use Rattle.omega_board.proofs.Rows.{list_room, list_refused}

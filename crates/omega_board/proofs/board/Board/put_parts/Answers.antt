@@ -29,8 +29,8 @@ put_rows-requires c =
     let is : IsStopped now c.stop_all.new.self c.args.parts =
     stopped_as now before c.list_parts.new.self c.stop_all.new.self c.args.parts c.as_slice-3.result.now c.deref.result.now (ap (λ (b : BoardState). b.table) c.self.view_is)
     (c.reserve.ensures.tasks ∙ ap (λ (b : BoardState). b.tasks) c.self.view_is) c.in_ok-list_parts.ensures.ok c.as_slice-3.ensures
-    (c.deref.ensures.value ∙ c.in_ok-gone.ensures ∙ ap (λ (parts : List Part). keys_of (gone_of now.tasks parts)) c.as_slice.ensures) c.stop_all.ensures.tasks c.stop_all.ensures.table in
-    rows_may now c.args.parts c.requires.target c.requires.leads kept c.stop_all.new.self is.tasks is.table
+    (c.deref.ensures.value ∙ c.in_ok-gone.ensures ∙ ap (λ (parts : List Part). keys_of (gone_of now.tasks parts)) c.as_slice.ensures) c.stop_all.ensures.tasks c.stop_all.ensures.machines c.stop_all.ensures.seqs in
+    rows_may now c.args.parts c.requires.target c.requires.leads kept c.stop_all.new.self is.tasks is.machines is.seqs
 
 pub start_all-requires-clause-starts : goal.start_all-requires-clause-starts
 start_all-requires-clause-starts c =
@@ -40,9 +40,9 @@ start_all-requires-clause-starts c =
     let is : IsStopped now c.stop_all.new.self c.args.parts =
     stopped_as now before c.list_parts.new.self c.stop_all.new.self c.args.parts c.as_slice-3.result.now c.deref.result.now (ap (λ (b : BoardState). b.table) c.self.view_is)
     (c.reserve.ensures.tasks ∙ ap (λ (b : BoardState). b.tasks) c.self.view_is) c.in_ok-list_parts.ensures.ok c.as_slice-3.ensures
-    (c.deref.ensures.value ∙ c.in_ok-gone.ensures ∙ ap (λ (parts : List Part). keys_of (gone_of now.tasks parts)) c.as_slice.ensures) c.stop_all.ensures.tasks c.stop_all.ensures.table in
+    (c.deref.ensures.value ∙ c.in_ok-gone.ensures ∙ ap (λ (parts : List Part). keys_of (gone_of now.tasks parts)) c.as_slice.ensures) c.stop_all.ensures.tasks c.stop_all.ensures.machines c.stop_all.ensures.seqs in
     subst (MayStartAll (cell_of c.put_rows.new.self)) (sym (c.deref-2.ensures.value ∙ c.in_ok-came.ensures ∙ ap (came_of now.tasks) c.as_slice-2.ensures))
-    (came_may now c.args.parts c.requires.target c.requires.leads kept c.stop_all.new.self is.tasks is.table c.put_rows.new.self c.put_rows.ensures.machines c.put_rows.ensures.seqs c.put_rows.ensures.tasks)
+    (came_may now c.args.parts c.requires.target c.requires.leads kept c.stop_all.new.self is.tasks is.machines is.seqs c.put_rows.new.self c.put_rows.ensures.machines c.put_rows.ensures.seqs c.put_rows.ensures.tasks)
 
 pub returns-clause-put : goal.returns-clause-put
 returns-clause-put c = λ target leads.
@@ -52,7 +52,7 @@ returns-clause-put c = λ target leads.
     let is : IsStopped now c.stop_all.new.self c.args.parts =
     stopped_as now before c.list_parts.new.self c.stop_all.new.self c.args.parts c.as_slice-3.result.now c.deref.result.now (ap (λ (b : BoardState). b.table) c.self.view_is)
     (c.reserve.ensures.tasks ∙ ap (λ (b : BoardState). b.tasks) c.self.view_is) c.in_ok-list_parts.ensures.ok c.as_slice-3.ensures
-    (c.deref.ensures.value ∙ c.in_ok-gone.ensures ∙ ap (λ (parts : List Part). keys_of (gone_of now.tasks parts)) c.as_slice.ensures) c.stop_all.ensures.tasks c.stop_all.ensures.table in
+    (c.deref.ensures.value ∙ c.in_ok-gone.ensures ∙ ap (λ (parts : List Part). keys_of (gone_of now.tasks parts)) c.as_slice.ensures) c.stop_all.ensures.tasks c.stop_all.ensures.machines c.stop_all.ensures.seqs in
     let came : c.deref-2.result.now ≡ came_of now.tasks c.args.parts = c.deref-2.ensures.value ∙ c.in_ok-came.ensures ∙ ap (came_of now.tasks) c.as_slice-2.ensures in
-    reached now c.args.parts target leads kept c.stop_all.new.self is.tasks is.table c.put_rows.new.self c.put_rows.ensures.machines c.put_rows.ensures.seqs c.put_rows.ensures.tasks
+    reached now c.args.parts target leads kept c.stop_all.new.self is.tasks is.machines is.seqs c.put_rows.new.self c.put_rows.ensures.machines c.put_rows.ensures.seqs c.put_rows.ensures.tasks
     c.start_all.new.self (c.start_all.ensures.tasks ∙ ap (with_tasks_of c.put_rows.new.self.tasks) came) c.start_all.ensures.machines c.start_all.ensures.seqs

@@ -1,4 +1,4 @@
-use Rattle.std.proofs.Common.{◌≡◌, ℕ, [], ◌∷◌, sym, ap, ◌∙◌, rules}
+use Rattle.std.proofs.Common.{◌≡◌, ◌∷◌, sym, ap, ◌∙◌, rules}
 use Rattle.std.specs.List.{fold}
 use Rattle.std.specs.Vec.Iter.{into_iter_items}
 use Rattle.omega_machines.specs.Table.{machines_of, seq_at}

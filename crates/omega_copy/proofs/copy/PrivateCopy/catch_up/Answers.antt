@@ -1,4 +1,4 @@
-use Rattle.std.proofs.Common.{◌≡◌, ◌≤◌, ℕ, List, length, map, sym, ap, ◌∙◌, subst}
+use Rattle.std.proofs.Common.{◌≤◌, List, length, map, sym, ap, ◌∙◌, subst}
 use Rattle.omega_model.specs.Copy.{StandsFor, Carries}
 use Rattle.omega_model.specs.declared.delta.Part.{Part}
 use Rattle.omega_machines.specs.Table.{seq_at}

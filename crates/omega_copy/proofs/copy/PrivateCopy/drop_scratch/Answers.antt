@@ -1,4 +1,4 @@
-use Rattle.std.proofs.Common.{◌≡◌, ◌-◌, vec_len, vec_capacity, sym, subst}
+use Rattle.std.proofs.Common.{◌-◌, vec_len, vec_capacity, sym, subst}
 use Rattle.omega_machines.specs.Table.{machines_of}
 use Rattle.omega_copy.specs.Copies.{IsTrialOf}
 use Rattle.omega_copy.specs.Telling.{TellsBut, is_in}

@@ -1,4 +1,4 @@
-use Rattle.std.proofs.Common.{◌≡◌, ◌≤◌, ◌-◌, ◌∷◌, ◌++◌, [], vec_len, vec_capacity, sym, subst, arith}
+use Rattle.std.proofs.Common.{◌≡◌, ◌-◌, vec_len, vec_capacity, sym, subst, arith}
 use Rattle.omega_model.specs.Judge.{judge_fine}
 use Rattle.omega_model.specs.declared.claims.Verdict.TheVariants.{Placed}
 use Rattle.omega_board.specs.Board.{cell_of}
