@@ -1,25 +1,23 @@
 -- The extra tasks of MapReduce jobs: how many they are, and which indexes they take.
-use Rattle.std.proofs.Common.{◌≡◌, ℕ, zero, suc, ◌+◌, ◌-◌, ◌*◌, ◌^◌, ◌<◌, ◌≤◌, Bool, true, false, ◌&&◌, ◌||◌, ◌==◌, not, min, nat_le, List, [], ◌∷◌, ◌++◌, Option, Some, None, map, take, length, refl, sym, ap, subst, ◌∙◌, arith, if◌then◌else◌, append_assoc}
-use Rattle.std.specs.List.{All, filter, last_or, list_any, range_with_len}
+use Rattle.std.proofs.Common.{◌≡◌, ℕ, zero, suc, ◌+◌, ◌-◌, ◌*◌, ◌^◌, ◌<◌, ◌≤◌, Bool, true, false, ◌||◌, ◌==◌, not, min, nat_le, List, [], ◌∷◌, ◌++◌, Option, Some, None, map, length, refl, sym, ap, ◌∙◌, arith, append_assoc}
+use Rattle.std.specs.List.{filter, last_or, list_any, range_with_len}
 use Rattle.std.specs.Prelude.{is_some, option_map, unwrap_or}
-use Rattle.std.proofs.lemmas.Bool.{and_parts, eqb-true, le-leb}
-use Rattle.omega_model.proofs.Lists.{by_answer, filter_and}
+use Rattle.std.proofs.lemmas.Bool.{eqb-true, le-leb}
+use Rattle.omega_model.proofs.Lists.{by_answer}
 use Rattle.omega_model.specs.Cell.{Cell, task_at}
 use Rattle.omega_model.specs.ExtraTasks.{extra_wish, first_extra, free_indexes, is_extra_of, running_extras, wanted_of, wishes_after, used_in, capacity_in_all}
 use Rattle.omega_model.specs.Extras.{allowed, extras, keeps_within, target}
 use Rattle.omega_model.specs.Jobs.{is_of_job}
-use Rattle.omega_model.specs.Keys.{same_key}
 use Rattle.omega_model.specs.Requests.{is_running, is_waiting}
 use Rattle.omega_model.specs.Wanted.{WantedTask}
 use Rattle.omega_model.specs.declared.cells.Need.{Need}
 use Rattle.omega_model.specs.declared.cells.Task.{Task}
-use Rattle.omega_model.specs.declared.cells.TaskKey.{TaskKey}
 use Rattle.omega_model.specs.declared.rows.Row.{Row}
 use Rattle.omega_model.specs.declared.rows.TraceTables.{TraceTables}
 use Rattle.omega_model.specs.declared.settings.Extra.{Extra}
 use Rattle.omega_model.specs.declared.settings.Extra.TheVariants.{Max, Cap, Relative}
 use Rattle.omega_model.specs.declared.settings.Settings.{Settings}
-use Rattle.omega_feed.specs.Asked.{Asked, asked_after, extras_after}
+use Rattle.omega_feed.specs.Asked.{asked_after, extras_after}
 
 -- a job's running tasks of high index are its extras
 pub job_extras : (job : ℕ) (tasks : List Task) → filter (λ task. nat_le first_extra task.key.index) (filter (is_of_job job) tasks) ≡ filter (is_extra_of job) tasks

@@ -25,8 +25,8 @@ use crate::jobs::{Jobs, RoutedJob};
 use crate::tasks::{Change, WantedTasks};
 use omega_board::Board;
 use omega_model::{
-    Entries, Extra, NoMemory, Request, Requests, Row, Settings, Spec, TaskKey, TaskRow, TraceTables, Wish,
-    Wishes,
+    Entries, Extra, NoMemory, Request, Requests, Row, Settings, Spec, TaskKey, TaskRow,
+    TraceTables, Wish, Wishes,
 };
 use omega_running::Running;
 use std::alloc::Global;

@@ -9,5 +9,5 @@ pub returns-in-Task-clause-entries : goal.returns-in-Task-clause-entries
 returns-in-Task-clause-entries c =
     subst
     (λ (row : Row). IfOk c.task_entries.result (λ entries. (machines : List Machine)
-        → entries ≡ row_entries c.args.disks.now (record { machines = machines; tasks = c.args.running.now.tasks }) c.args.left.now row))
+    → entries ≡ row_entries c.args.disks.now (record { machines = machines; tasks = c.args.running.now.tasks }) c.args.left.now row))
     (sym c.in-Task.is) c.task_entries.ensures.entries

@@ -21,8 +21,8 @@ loop-index-preserved c =
           rw w.found-is (
             higher,
             ap (λ (found : List ℕ). found ++ filter (is_free c.args.job tasks) (range_with_len (index + 1) (end - (index + 1)))) w.in_ok-push.ensures.items
-            ∙ number_passes (is_free c.args.job tasks) c.loop-index.found.items index end within (ap not (sym held ∙ w.if-is_none.ensures))
-            ∙ c.loop-index.invariant.1,
+                ∙ number_passes (is_free c.args.job tasks) c.loop-index.found.items index end within (ap not (sym held ∙ w.if-is_none.ensures))
+                ∙ c.loop-index.invariant.1,
           )
       | else-is_none w ↦
           rw w.found-is (

@@ -1,6 +1,6 @@
-use Rattle.std.proofs.Common.{◌≡◌, ◌++◌, ◌+◌, ◌-◌, ◌≤◌, map}
+use Rattle.std.proofs.Common.{◌≡◌, ◌++◌, ◌+◌, ◌-◌, ◌≤◌}
 use Rattle.std.specs.List.{filter, range_with_len}
-use Rattle.omega_model.specs.ExtraTasks.{first_extra, is_extra_of}
+use Rattle.omega_model.specs.ExtraTasks.{first_extra}
 use Rattle.omega_feed.proofs.ExtraIndexes.{is_free}
 use Rattle.omega_feed.proofs.extras.free_indexes.Given as goal
 
