@@ -10,4 +10,4 @@ pub mod Picked
 pub mod AtEnd
 pub mod TaskRows
 pub mod Active
-pub mod Extras
+pub mod ExtraIndexes

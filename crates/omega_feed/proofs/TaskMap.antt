@@ -250,15 +250,15 @@ of_job_is job (e ∷ es) =
 -- no wanted task is an extra
 pub low_tasks : (es : List (TaskKey × Spec)) → All (λ key. key.index < first_extra) (keys_of es) → All HasLowIndex (map wanted_task es)
 low_tasks [] low = All-nil HasLowIndex
-low_tasks (e ∷ es) low = All-cons HasLowIndex (wanted_task e) (map wanted_task es) (All-head _ e.0 (keys_of es) low) (low_tasks es (All-tail _ e.0 (keys_of es) low))
+low_tasks (e ∷ es) low = All-cons HasLowIndex (wanted_task e) (map wanted_task es) (All-head (λ (key : TaskKey). key.index < first_extra) e.0 (keys_of es) low) (low_tasks es (All-tail (λ (key : TaskKey). key.index < first_extra) e.0 (keys_of es) low))
 
 -- so any wanted task of a job is one of the trace
 pub low_wanted : (job : ℕ) (es : List (TaskKey × Spec)) → All (λ key. key.index < first_extra) (keys_of es) → list_any (is_task_of job) (map wanted_task es) ≡ is_wanted (map wanted_task es) job
 low_wanted job [] low = refl
 low_wanted job (e ∷ es) low =
-    let below : e.0.index < first_extra = All-head _ e.0 (keys_of es) low in
+    let below : e.0.index < first_extra = All-head (λ (key : TaskKey). key.index < first_extra) e.0 (keys_of es) low in
     let test : nat_lt e.0.index first_extra ≡ true = lt-ltb e.0.index first_extra below in
-    let rest = low_wanted job es (All-tail _ e.0 (keys_of es) low) in
+    let rest = low_wanted job es (All-tail (λ (key : TaskKey). key.index < first_extra) e.0 (keys_of es) low) in
     rw test (λ i. and_true (e.0.job == job) i || rest i)
   where
     and_true : (b : Bool) → b ≡ (b && true)

@@ -1,9 +1,8 @@
 -- What is wanted follows from the task rows alone.
-use Rattle.std.proofs.Common.{◌≡◌, ℕ, ◌≤◌, Bool, true, false, ◌&&◌, List, [], ◌∷◌, ◌++◌, map, refl, sym, ap, ◌∙◌}
+use Rattle.std.proofs.Common.{◌≡◌, ◌≤◌, Bool, true, false, List, [], ◌∷◌, ◌++◌, map, refl, sym, ap, ◌∙◌}
 use Rattle.std.specs.List.{filter, fold}
 use Rattle.std.proofs.lemmas.List.Elements.{filter-append}
-use Rattle.omega_running.specs.Order.{Each}
-use Rattle.omega_model.proofs.Lists.{by_answer, each_filter, filter_none, filter_turned}
+use Rattle.omega_model.proofs.Lists.{by_answer, each_filter, filter_turned}
 use Rattle.omega_model.specs.Feed.{by_time, event_rows, feed, time_of}
 use Rattle.omega_model.specs.Fields.{AttrFields, MachineFields, TaskFields}
 use Rattle.omega_model.specs.Wanted.{WantedTask, wanted, wanted_after}

@@ -1,5 +1,5 @@
 -- What a trace asks for after some of its rows, and the requests that come of it.
-use Rattle.std.specs.Prelude.{ℕ, Bool, List, [], ◌∷◌, ◌++◌, Option, Some, None, ◌+◌, ◌==◌, length, map, if◌then◌else◌}
+use Rattle.std.specs.Prelude.{ℕ, Bool, List, [], ◌∷◌, ◌++◌, Option, Some, None, false, ◌+◌, ◌==◌, length, map, if◌then◌else◌}
 use Rattle.std.specs.List.{filter, filter_map, last_or, list_any}
 use Rattle.omega_model.specs.Cell.{Cell}
 use Rattle.omega_model.specs.ExtraTasks.{capacity_in_all, free_indexes, running_extras, used_in, wanted_of}

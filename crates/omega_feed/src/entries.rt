@@ -13,7 +13,7 @@ use crate::disks::MachineDisks;
 use crate::extras::running_extras;
 use crate::tasks::WantedTasks;
 use omega_model::{
-    AttrRow, Copied, Entries, Entry, MachineRow, Need, NoMemory, Row, TaskKey, TaskRow,
+    AttrRow, Copied, Entries, Entry, MachineRow, Need, NoMemory, Row, Task, TaskKey, TaskRow,
 };
 use omega_running::Running;
 use std::alloc::Global;
@@ -121,7 +121,16 @@ fn push_extra_ends(
     ensures entries { OnOk result (entries.new ≡ entries.old ++ map (λ task. End task.key task.machine) (filter (is_extra_of job) running.now.tasks)) }
     ensures range { All CapacityIsInRange entries.old → OnOk result (All CapacityIsInRange entries.new) }
 {
-    for task in running_extras(alloc, running, job)?.as_slice() {
+    let extras = running_extras(alloc, running, job)?;
+    push_ends(entries, extras.as_slice())
+}
+
+/// Appends the ends of some tasks.
+fn push_ends(entries: &mut Entries, tasks: &[Task]) -> Result<(), NoMemory>
+    ensures entries { OnOk result (entries.new ≡ entries.old ++ map (λ task. End task.key task.machine) tasks.now) }
+    ensures range { All CapacityIsInRange entries.old → OnOk result (All CapacityIsInRange entries.new) }
+{
+    for task in tasks {
         entries.push(Entry::End {
             key: task.key,
             machine: task.machine,

@@ -1,13 +1,13 @@
 //! The extra tasks of MapReduce jobs.
-ghost use Rattle.std.specs.Prelude.{◌≡◌, ◌≤◌, ◌<◌, ◌+◌, IfOk, length, min, map};
+ghost use Rattle.std.specs.Prelude.{◌≡◌, ◌≤◌, ◌<◌, ◌+◌, IfOk, length, min, map, nat_le};
 ghost use Rattle.std.specs.List.{filter};
-ghost use Rattle.omega_model.specs.ExtraTasks.{capacity_in_all, free_indexes, is_extra_of, used_in};
+ghost use Rattle.omega_model.specs.ExtraTasks.{capacity_in_all, first_extra, free_indexes, is_extra_of, used_in};
 ghost use Rattle.omega_model.specs.Extras.{extras};
 ghost use Rattle.omega_board.specs.Board.{cell_of};
 
 use omega_board::Board;
 use omega_mapreduce::extras;
-use omega_model::{Extra, Need, NoMemory, TaskKey, Tasks};
+use omega_model::{Extra, Need, NoMemory, Task, TaskKey, Tasks};
 use omega_running::Running;
 use std::alloc::Global;
 
@@ -19,8 +19,16 @@ const FIRST_EXTRA: u32 = 2_147_483_648;
 pub fn running_extras(alloc: Global, running: &Running, job: u64) -> Result<Tasks, NoMemory>
     ensures { IfOk result (λ found. found ≡ filter (is_extra_of job) running.now.tasks) }
 {
+    let tasks = running.tasks_of_job(alloc, job)?;
+    extras_among(alloc, tasks.as_slice())
+}
+
+/// Those of some tasks that have the index of an extra.
+fn extras_among(alloc: Global, tasks: &[Task]) -> Result<Tasks, NoMemory>
+    ensures { IfOk result (λ found. found ≡ filter (λ task. nat_le first_extra task.key.index) tasks.now) }
+{
     let mut found = Tasks::new(alloc);
-    for task in running.tasks_of_job(alloc, job)?.as_slice() {
+    for task in tasks {
         if task.key.index >= FIRST_EXTRA {
             found.push(*task)?;
         }

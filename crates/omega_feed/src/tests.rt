@@ -4,9 +4,9 @@ ghost use Rattle.omega_model.specs.Ranges.{IsInRange};
 use crate::{Wanted, rounds};
 use omega_board::Board;
 use omega_model::{
-    ActivityRow, AttrRow, Bytes, Claim, Claims, Command, Constraint, ConstraintRow, Entry, Extra, Format, Keys,
-    MachineRow, Mode, Need, NoMemory, Op, Preempt, Request, Round, Row, Rows, Rule, Settings, Spec,
-    TaskKey, TaskRow, TraceTables, Verdict, Wish,
+    ActivityRow, AttrRow, Bytes, Claim, Claims, Command, Constraint, ConstraintRow, Entry, Extra,
+    Format, Keys, MachineRow, Mode, Need, NoMemory, Op, Preempt, Request, Round, Row, Rows, Rule,
+    Settings, Spec, TaskKey, TaskRow, TraceTables, Verdict, Wish,
 };
 use std::alloc::Global;
 

@@ -1,5 +1,5 @@
 //! What a trace asks for, row by row.
-ghost use Rattle.std.specs.Prelude.{◌≡◌, ◌++◌, ◌∷◌, [], All, List, map, not, IfOk, OnOk, OnErr};
+ghost use Rattle.std.specs.Prelude.{◌≡◌, ◌<◌, ◌++◌, ◌∷◌, [], All, List, map, not, IfOk, OnOk, OnErr};
 ghost use Rattle.std.specs.List.{filter};
 ghost use Rattle.omega_model.specs.Applying.{CapacityIsInRange};
 ghost use Rattle.omega_model.specs.OpenRequests.{open_requests};
@@ -25,8 +25,8 @@ use crate::jobs::{Jobs, RoutedJob};
 use crate::tasks::{Change, WantedTasks};
 use omega_board::Board;
 use omega_model::{
-    Entries, Extra, NoMemory, Request, Requests, Row, Settings, Spec, TaskKey, TaskRow, TraceTables, Wish,
-    Wishes,
+    Entries, Extra, NoMemory, Request, Requests, Row, Settings, Spec, TaskKey, TaskRow,
+    TraceTables, Wish, Wishes,
 };
 use omega_running::Running;
 use std::alloc::Global;
@@ -86,7 +86,6 @@ impl Wanted {
         ensures asked { (settings : Settings) (trace : TraceTables) (rows : List Row)
             → self.old ≡ asked_after settings trace rows
             → OnOk result (self.new ≡ asked_after settings trace (rows ++ row.now ∷ [])) }
-        ensures low { All HasLowIndex self.new.tasks }
     {
         match row {
             Row::Task(row) => self.take_task(row),
@@ -117,6 +116,7 @@ impl Wanted {
             self.active.insert(place)?;
         }
         self.tasks.insert(key, spec)?;
+        self.tasks.check_low();
         Ok(())
     }
 
@@ -124,12 +124,20 @@ impl Wanted {
         ensures { self.new ≡ record self.old { tasks = filter (λ task. not (is_named key task)) self.old.tasks } }
     {
         self.tasks.remove(key);
+        self.tasks.check_low();
         if self.tasks.has_job(key.job) {
             return;
         }
         if let Some(place) = self.jobs.place(key.job) {
             self.active.remove(&place);
         }
+    }
+
+    /// Says of the wanted tasks that none has the index of an extra. Costs nothing.
+    pub fn check_low(&self)
+        ensures { All HasLowIndex self.now.tasks }
+    {
+        let _tasks = &self.tasks;
     }
 
     /// The entries of the row that was taken last, on the cell of a board. Costs the logarithm of the
@@ -156,10 +164,9 @@ impl Wanted {
         scheduler: u32,
         board: &Board,
     ) -> Result<Requests, NoMemory>
-        ensures requests { IfOk result (λ requests. (settings : Settings) (trace : TraceTables) (rows : List Row)
+        ensures { IfOk result (λ requests. (settings : Settings) (trace : TraceTables) (rows : List Row)
             → self.now ≡ asked_after settings trace rows
             → requests ≡ open_requests settings trace rows (cell_of board.now) scheduler) }
-        ensures low { All HasLowIndex self.now.tasks }
     {
         self.requests_on(alloc, scheduler, board)
     }

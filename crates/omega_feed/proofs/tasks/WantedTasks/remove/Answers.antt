@@ -14,8 +14,8 @@ invariant_of-self c = record {
   low = rw c.remove.ensures.entries (All-map-remove_entry (is_at (key_cmp c.args.key)) (λ e. e.0) (λ key. key.index < first_extra) c.self.inside.specs.entries c.self.invariant.low);
 }
 
-pub returns-clause-tasks : goal.returns-clause-tasks
-returns-clause-tasks c =
+pub returns : goal.returns
+returns c =
     ap (λ z. map wanted_task z) c.remove.ensures.entries
     ∙ drop_is c.args.key c.self.inside.specs.entries c.self.invariant.ordered
     ∙ ap (λ z. filter (λ task. not (is_named c.args.key task)) z) c.self.view_is

@@ -1,25 +1,23 @@
 -- The extra tasks of MapReduce jobs: how many they are, and which indexes they take.
-use Rattle.std.proofs.Common.{◌≡◌, ℕ, zero, suc, ◌+◌, ◌-◌, ◌<◌, ◌≤◌, Bool, true, false, ◌&&◌, ◌||◌, ◌==◌, not, min, nat_le, List, [], ◌∷◌, ◌++◌, Option, Some, None, map, take, length, refl, sym, ap, subst, ◌∙◌, arith, if◌then◌else◌}
-use Rattle.std.specs.List.{All, filter, last_or, list_any, range_with_len}
-use Rattle.std.specs.Prelude.{is_some, unwrap_or}
-use Rattle.std.proofs.lemmas.Bool.{and_parts, eqb-true, le-leb}
-use Rattle.omega_model.proofs.Lists.{by_answer, filter_and}
+use Rattle.std.proofs.Common.{◌≡◌, ℕ, zero, suc, ◌+◌, ◌-◌, ◌*◌, ◌^◌, ◌<◌, ◌≤◌, Bool, true, false, ◌||◌, ◌==◌, not, min, nat_le, List, [], ◌∷◌, ◌++◌, Option, Some, None, map, length, refl, sym, ap, ◌∙◌, arith, append_assoc}
+use Rattle.std.specs.List.{filter, last_or, list_any, range_with_len}
+use Rattle.std.specs.Prelude.{is_some, option_map, unwrap_or}
+use Rattle.std.proofs.lemmas.Bool.{eqb-true, le-leb}
+use Rattle.omega_model.proofs.Lists.{by_answer}
 use Rattle.omega_model.specs.Cell.{Cell, task_at}
 use Rattle.omega_model.specs.ExtraTasks.{extra_wish, first_extra, free_indexes, is_extra_of, running_extras, wanted_of, wishes_after, used_in, capacity_in_all}
 use Rattle.omega_model.specs.Extras.{allowed, extras, keeps_within, target}
 use Rattle.omega_model.specs.Jobs.{is_of_job}
-use Rattle.omega_model.specs.Keys.{same_key}
 use Rattle.omega_model.specs.Requests.{is_running, is_waiting}
 use Rattle.omega_model.specs.Wanted.{WantedTask}
 use Rattle.omega_model.specs.declared.cells.Need.{Need}
 use Rattle.omega_model.specs.declared.cells.Task.{Task}
-use Rattle.omega_model.specs.declared.cells.TaskKey.{TaskKey}
 use Rattle.omega_model.specs.declared.rows.Row.{Row}
 use Rattle.omega_model.specs.declared.rows.TraceTables.{TraceTables}
 use Rattle.omega_model.specs.declared.settings.Extra.{Extra}
 use Rattle.omega_model.specs.declared.settings.Extra.TheVariants.{Max, Cap, Relative}
 use Rattle.omega_model.specs.declared.settings.Settings.{Settings}
-use Rattle.omega_feed.specs.Asked.{Asked, asked_after, extras_after}
+use Rattle.omega_feed.specs.Asked.{asked_after, extras_after}
 
 -- a job's running tasks of high index are its extras
 pub job_extras : (job : ℕ) (tasks : List Task) → filter (λ task. nat_le first_extra task.key.index) (filter (is_of_job job) tasks) ≡ filter (is_extra_of job) tasks
@@ -117,3 +115,27 @@ waiting_of cell job (t ∷ ts) =
 -- without extras asked for there are no indexes
 pub no_indexes : (held : List ℕ) → free_indexes held 0 ≡ []
 no_indexes held = refl
+
+-- whether no running extra of a job has an index
+abbrev pub is_free : ℕ → List Task → ℕ → Bool
+is_free job tasks index = not (list_any (λ other. other == index) (map (λ task. task.key.index) (filter (is_extra_of job) tasks)))
+
+-- one number more of a stretch
+module _ (passes : ℕ → Bool) (found : List ℕ) (index end : ℕ) (within : index < end) where
+  abbrev stretch : ℕ → List ℕ
+  stretch start = filter passes (range_with_len start (end - start))
+
+  first_number : range_with_len index (end - index) ≡ index ∷ range_with_len (index + 1) (end - (index + 1))
+  first_number =
+      let one : end - index ≡ suc (end - (index + 1)) = omega (arith, within) in
+      ap (range_with_len index) one
+
+  pub number_passes : passes index ≡ true → (found ++ index ∷ []) ++ stretch (index + 1) ≡ found ++ stretch index
+  number_passes t = append_assoc found (index ∷ []) (stretch (index + 1)) ∙ ap (λ z. found ++ z) (sym (ap (filter passes) first_number ∙ rw t refl))
+
+  pub number_fails : passes index ≡ false → found ++ stretch (index + 1) ≡ found ++ stretch index
+  number_fails f = ap (λ z. found ++ z) (sym (ap (filter passes) first_number ∙ rw f refl))
+
+pub some_mapped : {A B : Type 0} (f : A → B) (o : Option A) → is_some (option_map f o) ≡ is_some o
+some_mapped f None = refl
+some_mapped f (Some x) = refl
