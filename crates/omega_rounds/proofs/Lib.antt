@@ -39,3 +39,4 @@ pub mod PlayedTurns
 pub mod PlayedRounds
 pub mod Without
 pub mod PlayingOn
+pub mod TwoTurns
