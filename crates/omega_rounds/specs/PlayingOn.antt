@@ -38,9 +38,9 @@ pub record PlansFirst (player : Player) (txn : Txn) : Type 0 where
 
 -- a player may commit on this shared cell: it has a turn left and is one of the schedulers of its settings, and
 -- its copy has taken over all that its pass has seen
-pub record IsSynced (of : TableId) (player : Player) : Type 0 where
+pub record IsSynced (shared : TableId) (player : Player) : Type 0 where
   pub range : IsInRange player.seat.desk.settings
-  pub of : player.pass.of ≡ of
+  pub of : player.pass.of ≡ shared
   pub left : 0 < player.pass.turns
   pub known : player.pass.number < schedulers player.seat.desk.settings
   pub seat : IsSeat player.seat.desk.settings player.pass.seen player.pass.number player.seat
