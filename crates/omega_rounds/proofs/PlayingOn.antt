@@ -1,30 +1,33 @@
 -- A player that plays on, by what its turns bring.
-use Rattle.std.proofs.Common.{◌≡◌, ◌≢◌, ◌≤◌, ◌<◌, ◌+◌, ◌*◌, ◌-◌, ℕ, zero, suc, Bool, true, false, List, [], ◌∷◌, ◌++◌, length, length-append, Option, Some, None, refl, sym, ap, subst, arith, ◌∙◌}
+use Rattle.std.proofs.Common.{◌≡◌, ◌≢◌, ◌≤◌, ◌<◌, ◌+◌, ◌*◌, ◌-◌, ◌^◌, ℕ, zero, suc, Bool, true, false, List, [], ◌∷◌, ◌++◌, length, length-append, Option, Some, None, refl, sym, ap, subst, arith, ◌∙◌}
 use Rattle.std.specs.Prelude.{slice_get, if◌then◌else◌}
+use Rattle.std.proofs.lemmas.List.Sums.{count_by-le-length}
+use Rattle.atomic_table.specs.Seated.{TableId}
 use Rattle.omega_model.proofs.Growing.{by_place_push_where}
 use Rattle.omega_model.specs.Lawful.{after_last}
-use Rattle.omega_model.specs.Policy.{schedulers}
-use Rattle.omega_model.specs.Work.{after_outcomes, commits_of}
+use Rattle.omega_model.specs.Work.{after_outcomes, commits_of, is_commit_of}
 use Rattle.omega_model.specs.declared.claims.Reply.{Reply}
 use Rattle.omega_model.specs.declared.claims.Txn.{Txn}
 use Rattle.omega_model.specs.declared.entries.Entry.{Entry}
 use Rattle.omega_model.specs.declared.rows.Row.{Row}
 use Rattle.omega_model.specs.declared.rows.TraceTables.{TraceTables}
 use Rattle.omega_model.specs.declared.settings.Settings.{Settings}
+use Rattle.omega_model.specs.declared.wishes.Request.{Request}
 use Rattle.omega_copy.specs.Copies.{CopyOf}
-use Rattle.omega_desk.specs.Desks.{DeskState, IsSameDesk, left_at}
+use Rattle.omega_desk.specs.Desks.{AnswersFirst, DeskState, IsSameDesk, left_at}
 use Rattle.omega_shared.specs.Commits.{GoesOnWithout, commit_after}
+use Rattle.omega_shared.specs.Passes.{PassState}
 use Rattle.omega_shared.specs.Turns.{Commits, SpendsTurn}
 use Rattle.omega_rounds.specs.NextCommit.{attempt}
-use Rattle.omega_rounds.specs.Players.{IsOwnDesk, MayStand, OwnMayStand}
-use Rattle.omega_rounds.specs.PlayingOn.{PlansFirst, PlaysOn}
+use Rattle.omega_rounds.specs.Players.{HasPlayed, IsOwnDesk, MayPlay, MayStand, OwnMayStand}
+use Rattle.omega_rounds.specs.PlayingOn.{IsSynced, PlansFirst, PlaysOn}
 use Rattle.omega_rounds.specs.Seats.{IsSeat, synced_of, to_do_of}
 use Rattle.omega_rounds.specs.SeatSteps.{CommitsFirst}
 use Rattle.omega_rounds.specs.declared.player.Player.{Player}
 use Rattle.omega_rounds.specs.declared.seat.Seat.{Seat}
 use Rattle.omega_rounds.proofs.DeskCommits.{own_desk_own}
 use Rattle.omega_rounds.proofs.LastCommits.{after_last-within}
-use Rattle.omega_rounds.proofs.SeatCommits.{IsCommitting, commits_first, fewer_left, seat_after}
+use Rattle.omega_rounds.proofs.SeatCommits.{IsCommitting, answers_first, commits_first, fewer_left, seat_after}
 use Rattle.omega_rounds.proofs.Without.{after_last-without, attempt_without, desk_without, longer_without, seat_without, stand_without}
 
 module _ (settings : Settings) where
@@ -93,12 +96,27 @@ synced_seen seat count is = by_synced seat.synced refl is where
     by_synced true same is = (same, cc)
     by_synced false same is = absurd (cc)
 
+module _ (old : Player) (synced : IsSynced old.pass.of old) where
+  -- what a commit was answered is for the first request at the desk
+  pub takes_answers : (new : PassState) (txn : Txn) (reply : Reply) → PlansFirst old txn → Commits old.pass new old.seat.copy.seen txn reply
+      → AnswersFirst old.seat.desk.requests reply.outcomes
+  takes_answers new txn reply plans did =
+      answers_first old.seat.desk.settings old.pass.number did.before did.before old.seat.copy.seen old.seat.desk.requests plans.request txn reply.outcomes
+      (sym (ap (λ (rs : List Request). slice_get rs 0) plans.work))
+      (plans.is ∙ attempt_without old.pass.number old.pass.seen did.before did.others old.seat.desk.settings old.seat.copy.seen plans.request synced.seat.copy.within)
+      did.answers.outcomes
+
+  -- the desk has had no more attempts than its copy has seen entries
+  pub few_attempts : old.seat.copy.seen + 1 < 2 ^ 64 → old.seat.desk.attempts + 1 < 2 ^ 64
+  few_attempts short =
+      let count : old.seat.desk.attempts ≡ commits_of old.pass.number old.pass.seen = synced.seat.attempts in
+      let most : commits_of old.pass.number old.pass.seen ≤ length old.pass.seen = count_by-le-length (is_commit_of old.pass.number) old.pass.seen in
+      let seen : old.seat.copy.seen ≡ length old.pass.seen = (synced_seen old.seat (length old.pass.seen) synced.all).1 in
+      omega (arith, short, count, most, seen)
+
 -- a player before a commit, and what its pass and its desk say after it
 pub record PlayerCommits (old new : Player) (txn : Txn) (reply : Reply) : Type 0 where
-  pub seat : IsSeat old.seat.desk.settings old.pass.seen old.pass.number old.seat
-  pub tries : 1 ≤ old.seat.desk.settings.tries
-  pub known : old.pass.number < schedulers old.seat.desk.settings
-  pub all : synced_of old.seat ≡ Some (length old.pass.seen)
+  pub synced : IsSynced old.pass.of old
   pub plans : PlansFirst old txn
   pub turn : SpendsTurn old.pass new.pass
   pub commits : Commits old.pass new.pass old.seat.copy.seen txn reply
@@ -126,15 +144,15 @@ module _ (old new : Player) (txn : Txn) (reply : Reply) (did : PlayerCommits old
 
   -- the seat beside what was there before the commit
   seat_before : IsSeat settings before number old.seat
-  seat_before = seat_without number old.pass.seen before did.commits.others settings old.seat did.seat
+  seat_before = seat_without number old.pass.seen before did.commits.others settings old.seat did.synced.seat
 
   committing : IsCommitting settings number before new.pass.seen old.seat new.seat.desk did.plans.request txn reply.outcomes
   committing = record {
     seat = seat_before;
-    tries = did.tries;
-    synced = (synced_seen old.seat (length old.pass.seen) did.all).0;
-    first = sym (ap (λ rs. slice_get rs 0) did.plans.work);
-    is = did.plans.is ∙ attempt_without number old.pass.seen before did.commits.others settings old.seat.copy.seen did.plans.request did.seat.copy.within;
+    tries = did.synced.range.tries.0;
+    synced = (synced_seen old.seat (length old.pass.seen) did.synced.all).0;
+    first = sym (ap (λ (rs : List Request). slice_get rs 0) did.plans.work);
+    is = did.plans.is ∙ attempt_without number old.pass.seen before did.commits.others settings old.seat.copy.seen did.plans.request did.synced.seat.copy.within;
     appended = did.commits.commit_seen;
     outcome = did.commits.answers.outcomes;
     same = did.same;
@@ -154,7 +172,7 @@ module _ (old new : Player) (txn : Txn) (reply : Reply) (did : PlayerCommits old
   pub fewer_after : to_do_of new.seat < to_do_of old.seat
   fewer_after =
       subst (λ (seat : Seat). to_do_of seat < to_do_of old.seat) next_is
-      (fewer_left settings number before new.pass.seen old.seat next reply.place did.tries seat_before seat_next first_next)
+      (fewer_left settings number before new.pass.seen old.seat next reply.place did.synced.range.tries.0 seat_before seat_next first_next)
 
   -- the history before the commit is no shorter than what was seen
   longer : length old.pass.seen ≤ length before
@@ -164,7 +182,7 @@ module _ (old new : Player) (txn : Txn) (reply : Reply) (did : PlayerCommits old
   commit_stands : (opened_at : ℕ) → opened_at ≤ length old.pass.seen → OwnMayStand settings opened_at number old.pass.seen
       → OwnMayStand settings opened_at number new.pass.seen
   commit_stands opened_at within stand =
-      let seen : old.seat.copy.seen ≡ length old.pass.seen = (synced_seen old.seat (length old.pass.seen) did.all).1 in
+      let seen : old.seat.copy.seen ≡ length old.pass.seen = (synced_seen old.seat (length old.pass.seen) did.synced.all).1 in
       let last : after_last number before ≤ length old.pass.seen =
       subst (λ (n : ℕ). n ≤ length old.pass.seen) (sym (after_last-without number old.pass.seen before did.commits.others))
       (after_last-within number old.pass.seen) in
@@ -174,7 +192,7 @@ module _ (old new : Player) (txn : Txn) (reply : Reply) (did : PlayerCommits old
       (attempt settings before number old.seat.copy.seen first_next.request)
       (stand_without number old.pass.seen before did.commits.others settings opened_at stand)
       (λ same. record {
-        known = did.known;
+        known = did.synced.known;
         there = omega (arith, seen, more);
         rows = omega (arith, seen, within);
         own = omega (arith, seen, last);
@@ -229,3 +247,56 @@ some_to_do settings history number seat is work =
       some_left tries taken zero few more = absurd (omega arith)
       some_left tries taken (suc count) few more = 
           let all : (suc count) * tries ≡ count * tries + tries = grind (arith) in rw all (omega (arith, few))
+
+-- a player in the middle of its round: it has played on so far, may play on, and has met no want of memory since
+pub record IsPlaying (settings : Settings) (of : TableId) (old now : Player) : Type 0 where
+  pub plays_on : PlaysOn settings old now
+  pub may_play : MayPlay settings of now
+  pub failed : now.failed ≡ old.failed
+  pub spent : synced_of old.seat ≡ None → synced_of now.seat ≡ None
+
+module _ (settings : Settings) (of : TableId) (old : Player) where
+  -- at the beginning
+  pub playing_first : MayPlay settings of old → IsPlaying settings of old old
+  playing_first may = record { plays_on = plays_on_self settings old may.seat; may_play = may; failed = refl; spent = λ none. none }
+
+  module _ (now : Player) (is : IsPlaying settings of old now) where
+    -- after one more attempt
+    pub playing_more : (next : Player) → PlaysOn settings now next → MayPlay settings of next → next.failed ≡ now.failed → synced_of next.seat ≡ None
+        → IsPlaying settings of old next
+    playing_more next on may failed spent = record {
+      plays_on = plays_on_more settings old now next is.plays_on on;
+      may_play = may;
+      failed = failed ∙ is.failed;
+      spent = λ none. spent;
+    }
+
+    -- at the end
+    pub played_all : now.seat.desk.requests ≡ [] → HasPlayed settings old now
+    played_all none = record {
+      of = is.plays_on.of;
+      number = is.plays_on.number;
+      first_length = is.plays_on.first_length;
+      within = is.plays_on.within;
+      seat = is.plays_on.seat;
+      desk = is.plays_on.desk;
+      commits = is.plays_on.commits;
+      no_work = λ ok. none;
+      spent = λ ok before. is.spent;
+    }
+
+    -- after an attempt that met want of memory
+    pub played_failed : (next : Player) → PlaysOn settings now next → HasPlayed settings old (record next { failed = true })
+    played_failed next on =
+        let all = plays_on_more settings old now next is.plays_on on in
+        record {
+          of = all.of;
+          number = all.number;
+          first_length = all.first_length;
+          within = all.within;
+          seat = all.seat;
+          desk = all.desk;
+          commits = all.commits;
+          no_work = λ ok. absurd (cc ok);
+          spent = λ ok before none. absurd (cc ok);
+        }
