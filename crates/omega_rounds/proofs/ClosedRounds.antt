@@ -26,24 +26,12 @@ use Rattle.omega_rounds.specs.Players.{IsOwnDesk, MayStand, OwnMayStand}
 use Rattle.omega_rounds.specs.Seats.{IsDeskOf, synced_of}
 use Rattle.omega_rounds.specs.Stages.{IsInRunOf, Stage, rows_begun}
 use Rattle.omega_rounds.specs.declared.seat.Seat.{Seat}
+use Rattle.omega_rounds.proofs.DeskCommits.{own_desk}
 use Rattle.omega_rounds.proofs.RoundFailures.{counted_so_far}
 use Rattle.omega_rounds.proofs.SeatLists.{seen_at, seen_none}
 use Rattle.omega_rounds.proofs.WorldBegins.{nobody_works}
 use Rattle.omega_rounds.proofs.WorldSteps.{rows_same, state_at}
 use Rattle.omega_rounds.proofs.Worlds.{rows_within}
-
--- a desk is right by its scheduler's own commits
-pub own_desk : (settings : Settings) (trace : TraceTables) (rows : List Row) (opened_at : ℕ) (history : List Entry) (scheduler : ℕ) (desk : DeskState)
-    → IsDeskOf settings trace rows opened_at history scheduler desk → IsOwnDesk settings trace rows opened_at history scheduler desk
-own_desk settings trace rows opened_at history scheduler desk is = record {
-  left = is.left;
-  standing = is.standing;
-  stands = is.stands;
-  requests = is.requests;
-  taken = is.taken;
-  own = is.own;
-  counts = is.counts;
-}
 
 -- an entry of a round may stand there if it is its scheduler's
 stands_in_round : (settings : Settings) (opened_at scheduler : ℕ) (before : List Entry) (entry : Entry) → IsCommitOfRound settings opened_at before entry

@@ -83,7 +83,7 @@ own_after settings trace scheduler false request rest outcomes own =
 
 module _ (settings : Settings) (trace : TraceTables) (rows : List Row) (opened_at : ℕ) (history : List Entry) (scheduler : ℕ) (desk : DeskState) where
   -- a desk is right by its scheduler's own commits
-  own_desk : IsDeskOf settings trace rows opened_at history scheduler desk → IsOwnDesk settings trace rows opened_at history scheduler desk
+  pub own_desk : IsDeskOf settings trace rows opened_at history scheduler desk → IsOwnDesk settings trace rows opened_at history scheduler desk
   own_desk is = record {
     left = is.left;
     standing = is.standing;

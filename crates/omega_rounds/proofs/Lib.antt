@@ -40,7 +40,6 @@ pub mod EndedRounds
 pub mod PlayedRounds
 pub mod Without
 pub mod PlayingOn
-pub mod GoesOnWithout
 pub mod RoundFailures
 pub mod ClosedRounds
 pub mod PlayersBack
