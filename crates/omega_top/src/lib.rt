@@ -1,7 +1,7 @@
 //! The top call: words and tables in, a report and a history out.
 #![tactic(auto)]
 
-mod history;
+mod replay;
 mod status;
 mod top;
 mod trace;

@@ -1,16 +1,15 @@
 //! The top call.
 ghost use Rattle.std.specs.Prelude.{◌≡◌, ◌≢◌, ◌⊎◌, [], ℕ, List, None, Some, map, IfSome};
-ghost use Rattle.std.specs.Thread.{IsSync};
 ghost use Rattle.omega_cell.specs.Laws.{EvictionsGoDown, NoGangIsSplit};
 ghost use Rattle.omega_io.specs.Edge.{Rose, Tells};
 ghost use Rattle.omega_model.specs.Legal.{Legal};
+ghost use Rattle.omega_model.specs.Ranges.{IsInRange};
 ghost use Rattle.omega_model.specs.Refusals.{first_refusal};
 ghost use Rattle.omega_model.specs.ReportForms.{printed_report};
 ghost use Rattle.omega_model.specs.Trace.{trace_of};
 ghost use Rattle.omega_model.specs.Turns.{InTurns};
 ghost use Rattle.omega_model.specs.declared.results.Status.TheVariants.{Usage, WriteFault, NoMemory};
 ghost use Rattle.omega_model.specs.declared.rows.Table.{Table};
-ghost use Rattle.omega_model.specs.Ranges.{IsInRange};
 ghost use Rattle.omega_model.specs.declared.settings.Command.TheVariants.{Generate, Run};
 ghost use Rattle.omega_top.specs.Answers.{Answers, EndsRun, HasHistory, HasReadCause, HasWholeGangs, IsOnlyRun, IsSomeRun, IsWholeRun, NeverOvercommits, NoneRose, Writes, WritesNothing};
 ghost use Rattle.omega_top.specs.Chosen.{AreChosenBy, AreTaken, EntersChosen, MakesTables};
@@ -18,7 +17,7 @@ ghost use Rattle.omega_top.specs.Reads.{Reads, StayUnread, left_by};
 ghost use Rattle.omega_words.specs.Built.{built_words};
 ghost use Rattle.omega_words.specs.Taken.{settings_in};
 
-use crate::history::history_of;
+use crate::replay::replayed;
 use crate::trace::trace_of_run;
 use omega_io::{Gate, Sink, Tables, write_all};
 use omega_model::{Done, Seq, Settings, Status, TraceTables};
@@ -29,15 +28,14 @@ use std::sync::Wait;
 use std::thread::Threads;
 
 /// Does what the words say with the tables of their folder, or with those that it makes on
-/// `generate`: runs schedulers on them, on `run` each on a thread of its own, else in turns, and
-/// writes the report of the history that it answers.
+/// `generate`: replays them and writes the report of the history that it answers.
 ///
 /// Of the refusals the first that stands is answered: that of the words, then for each table in
 /// order that of its reading, its length and its rows, then that of the limits over all tables, then
 /// that of the writing. Want of memory alone may be answered at any place before the first write.
 /// On `generate` the folder is entered too, but none of its tables is read. Settings are answered
-/// unless the words weren't read. The gate is asked on `run` alone, after each sync, plan and commit
-/// of a scheduler. May wait, on `run`; else each call that is made here ends.
+/// unless the words weren't read. On `run` each scheduler has a thread of its own, which passes the
+/// gate, and the call may wait.
 pub fn omega<R: Threads + Wait + Sync, T: Tables, K: Sink, G: Gate + Sync>(
     rt: &R,
     alloc: Global,
@@ -46,7 +44,6 @@ pub fn omega<R: Threads + Wait + Sync, T: Tables, K: Sink, G: Gate + Sync>(
     out: &mut K,
     gate: &G,
 ) -> Done
-    requires sync { IsSync R.row × IsSync G.row }
     ensures usage { result.status ≡ Usage → ¬ AreTaken (map (λ word. word.now) words.now) }
     ensures settings { IfSome result.settings (AreChosenBy (map (λ word. word.now) words.now)) }
     ensures no_settings { result.status ≡ Usage → result.settings ≡ None }
@@ -70,8 +67,7 @@ pub fn omega<R: Threads + Wait + Sync, T: Tables, K: Sink, G: Gate + Sync>(
     ensures lawful { (bytes : Table → List ℕ) → IfSome result.settings
         (λ settings. Reads settings (T.rest tables.old) bytes → IsWholeRun settings (trace_of bytes) result.history result.status) }
     ensures only { (bytes : Table → List ℕ) → IfSome result.settings
-        (λ settings. settings.command ≢ Run → Reads settings (T.rest tables.old) bytes
-        → IsOnlyRun settings (trace_of bytes) result.history result.status) }
+        (λ settings. settings.command ≢ Run → Reads settings (T.rest tables.old) bytes → IsOnlyRun settings (trace_of bytes) result.history result.status) }
     ensures turns { IfSome result.settings (λ settings. settings.command ≢ Run → InTurns result.history) }
     ensures whole_gangs { (bytes : Table → List ℕ) → IfSome result.settings
         (λ settings. Reads settings (T.rest tables.old) bytes → HasWholeGangs settings (trace_of bytes) result.history result.status) }
@@ -108,8 +104,7 @@ pub fn omega_with<R: Threads + Wait + Sync, T: Tables, K: Sink, G: Gate + Sync>(
     out: &mut K,
     gate: &G,
 ) -> Done
-    requires range { IsInRange settings.now }
-    requires sync { IsSync R.row × IsSync G.row }
+    requires { IsInRange settings.now }
     ensures settings { result.settings ≡ Some settings.now }
     ensures folder { T.entered tables.new ≡ T.entered tables.old }
 
@@ -141,7 +136,7 @@ pub fn omega_with<R: Threads + Wait + Sync, T: Tables, K: Sink, G: Gate + Sync>(
         → Tells (T.rest tables.new) (left_by settings.now.command bytes) }
 {
     match trace_of_run(alloc, settings, tables) {
-        Ok(trace) => run_and_write(rt, alloc, settings, &trace, out, gate),
+        Ok(trace) => replay_and_write(rt, alloc, settings, &trace, out, gate),
         Err(refusal) => refused(alloc, Status::from(refusal), Some(*settings)),
     }
 }
@@ -161,8 +156,8 @@ fn refused(alloc: Global, status: Status, settings: Option<Settings>) -> Done
     }
 }
 
-// Runs the tables and writes the report.
-fn run_and_write<R: Threads + Wait + Sync, K: Sink, G: Gate + Sync>(
+// Replays the tables and writes the report.
+fn replay_and_write<R: Threads + Wait + Sync, K: Sink, G: Gate + Sync>(
     rt: &R,
     alloc: Global,
     settings: &Settings,
@@ -170,8 +165,7 @@ fn run_and_write<R: Threads + Wait + Sync, K: Sink, G: Gate + Sync>(
     out: &mut K,
     gate: &G,
 ) -> Done
-    requires range { IsInRange settings.now }
-    requires sync { IsSync R.row × IsSync G.row }
+    requires { IsInRange settings.now }
     ensures settings { result.settings ≡ Some settings.now }
     ensures ends { EndsRun result.status }
     ensures cause { result.status ≡ WriteFault → Rose (K.faults out.old) (K.faults out.new) }
@@ -185,7 +179,7 @@ fn run_and_write<R: Threads + Wait + Sync, K: Sink, G: Gate + Sync>(
     ensures history { HasHistory result.history result.status }
     ensures written { Writes (printed_report settings.now trace.now result.history) (K.written out.old) (K.written out.new) result.status }
 {
-    let Ok(history) = history_of(rt, alloc, settings, trace, gate) else {
+    let Ok(history) = replayed(rt, alloc, settings, trace, gate) else {
         return refused(alloc, Status::NoMemory, Some(*settings));
     };
     let Ok(bytes) = report(alloc, settings, trace, history.as_slice()) else {

@@ -24,18 +24,26 @@ const GENERATED: Settings = Settings {
     ..DEFAULT
 };
 
+/// The same with the command `run`.
+const RUN: Settings = Settings {
+    command: Command::Run,
+    ..DEFAULT
+};
+
 /// Words that are taken, with the folder and the settings that they say.
-const TAKEN: [(&[&str], &str, Settings); 33] = [
+const TAKEN: [(&[&str], &str, Settings); 34] = [
     (&["replay"], ".", DEFAULT),
+    (&["generate"], ".", GENERATED),
+    (&["run"], ".", RUN),
     (
-        &["run"],
+        &["--rule=coarse", "run", "--batch", "2"],
         ".",
         Settings {
-            command: Command::Run,
-            ..DEFAULT
+            rule: Rule::Coarse,
+            batch: 2,
+            ..RUN
         },
     ),
-    (&["generate"], ".", GENERATED),
     (
         &["generate", "--machines", "0", "--jobs", "20000"],
         ".",
@@ -237,9 +245,10 @@ const TAKEN: [(&[&str], &str, Settings); 33] = [
 ];
 
 /// Words that are refused.
-const REFUSED: [&[&str]; 57] = [
+const REFUSED: [&[&str]; 58] = [
     &[],
     &[""],
+    &["run", "generate"],
     &["generate", "replay"],
     &["generate", "--machines", "4097"],
     &["generate", "--machines", ""],

@@ -1,4 +1,4 @@
-use Rattle.std.proofs.Common.{◌≡◌, subst, ◌∙◌, ◌&&◌, List, ap, sym, map, true, false, codes}
+use Rattle.std.proofs.Common.{◌≡◌, subst, ◌∙◌, ◌&&◌, List, ap, sym, map, true, false}
 use Rattle.clap.specs.Words.{fault_of}
 use Rattle.omega_model.specs.Options.{Choice}
 use Rattle.omega_model.specs.WordSettings.{folder_by, settings_by}
@@ -6,7 +6,6 @@ use Rattle.omega_words.specs.Taken.{app_of_choices, are_values}
 use Rattle.clap.specs.Words.{Row, Text, found_of, rows_of}
 use Rattle.omega_words.specs.Entries.{choice_of, texts_of}
 use Rattle.omega_model.specs.declared.settings.Command.{Command}
-use Rattle.omega_model.specs.declared.settings.Settings.{Settings}
 use Rattle.omega_words.proofs.Built.{and_false}
 use Rattle.omega_words.proofs.Tables.{not_taken, plain_is_taken, rows_are, takes_are, texts_are, values_hold}
 use Rattle.omega_words.proofs.Where.{failed, passed}

@@ -11,7 +11,7 @@ use Rattle.omega_top.proofs.top.omega_with.Goals as goal
 pub returns-in-Ok-clause-whole_gangs : goal.returns-in-Ok-clause-whole_gangs
 returns-in-Ok-clause-whole_gangs g c bytes told =
     let trace = c.in-Ok.ensures.trace bytes told in
-    rw (← trace) (whole_gangs c.args.settings.now _ c.run_and_write.result.history c.run_and_write.result.status c.run_and_write.ensures.lawful)
+    rw (← trace) (whole_gangs c.args.settings.now _ c.replay_and_write.result.history c.replay_and_write.result.status c.replay_and_write.ensures.lawful)
 
 pub returns-in-Err-clause-first : goal.returns-in-Err-clause-first
 returns-in-Err-clause-first g c bytes told =
@@ -28,8 +28,8 @@ returns-in-Err-clause-some_run g c =
 
 pub returns-in-Ok-clause-written : goal.returns-in-Ok-clause-written
 returns-in-Ok-clause-written g c bytes told =
-    let run = c.run_and_write.result in
+    let run = c.replay_and_write.result in
     subst
     (λ (trace : TraceTables). Writes (printed_report c.args.settings.now trace run.history) (g.K.Sink.written c.args.out.now)
-    (g.K.Sink.written c.run_and_write.new.out) run.status)
-    (c.in-Ok.ensures.trace bytes told) c.run_and_write.ensures.written
+    (g.K.Sink.written c.replay_and_write.new.out) run.status)
+    (c.in-Ok.ensures.trace bytes told) c.replay_and_write.ensures.written

@@ -1,8 +1,8 @@
 use Rattle.std.proofs.Common.{◌≡◌, ◌∙◌, ℕ, List, ap, subst}
 use Rattle.omega_model.specs.ReportForms.{printed_report}
 use Rattle.omega_top.specs.Answers.{Writes}
-use Rattle.omega_top.proofs.top.run_and_write.Goals.{in-Ok-write_all, in-Err}
-use Rattle.omega_top.proofs.top.run_and_write.Goals as goal
+use Rattle.omega_top.proofs.top.replay_and_write.Goals.{in-Ok-write_all, in-Err}
+use Rattle.omega_top.proofs.top.replay_and_write.Goals as goal
 
 pub report-requires-clause-applied : goal.report-requires-clause-applied
 report-requires-clause-applied g c = rw c.as_slice.ensures c.in-Ok.ensures.applied
