@@ -39,6 +39,7 @@ fn run(rt: &HostRuntime) -> Status {
     let mut tables = FolderTables::new(rt);
     let mut out = StdoutSink::new(rt);
     let done = omega(
+        rt,
         rt.alloc(),
         words.as_slice(),
         &mut tables,

@@ -12,6 +12,7 @@ mod opening;
 mod planned;
 mod seat;
 mod steps;
+mod threads;
 mod turns;
 mod world;
 
@@ -20,6 +21,7 @@ pub use laws::{
     next_commits_in_turns, rounds_in_any_order,
 };
 pub use steps::{RoundStep, Stepped};
+pub use threads::on_threads;
 pub use turns::in_turns;
 pub use world::World;
 

@@ -5,23 +5,16 @@ use Rattle.omega_model.specs.Lawful.{Lawful}
 use Rattle.omega_model.specs.Legal.{Sound}
 use Rattle.omega_model.specs.State.{state}
 use Rattle.omega_model.specs.Turns.{InTurns}
-use Rattle.omega_model.specs.Ranges.{IsInRange}
 use Rattle.omega_model.specs.Refusals.{first_refusal, refusal_before}
 use Rattle.omega_model.specs.declared.entries.Entry.{Entry}
 use Rattle.omega_model.specs.declared.results.Status.{Status}
 use Rattle.omega_model.specs.declared.results.Status.TheVariants.{Done, Usage, ReadFault, TooLong, BadRow, TooMany, WriteFault, NoMemory}
 use Rattle.omega_model.specs.declared.rows.Table.{Table}
 use Rattle.omega_model.specs.declared.rows.TraceTables.{TraceTables}
-use Rattle.omega_model.specs.declared.settings.Command.TheVariants.{Run}
 use Rattle.omega_model.specs.declared.settings.Settings.{Settings}
 use Rattle.omega_model.specs.Limits.{IsWithinLimits}
 use Rattle.omega_model.specs.ReportForms.{printed_report}
 use Rattle.omega_rounds.specs.Gangs.{GangsAreWhole}
-
--- the settings are in their ranges, and their command is built
-pub record IsBuilt (settings : Settings) : Type 0 where
-  pub ranges : IsInRange settings
-  pub command : settings.command ≢ Run
 
 -- after each of its entries the state of the history is sound: no machine is used beyond its capacity,
 -- no task runs twice, and each is on a machine that is up

@@ -1,26 +1,37 @@
-//! The replay of a trace.
-ghost use Rattle.std.specs.Prelude.{IfOk};
+//! The run of a trace.
+ghost use Rattle.std.specs.Prelude.{◌≡◌, ◌≢◌, List, IfOk};
 ghost use Rattle.omega_cell.specs.Laws.{EvictionsGoDown, NoGangIsSplit};
 ghost use Rattle.omega_model.specs.Applying.{EachMayApply};
 ghost use Rattle.omega_model.specs.Lawful.{Lawful};
 ghost use Rattle.omega_model.specs.Legal.{Legal};
+ghost use Rattle.omega_model.specs.Ranges.{IsInRange};
 ghost use Rattle.omega_model.specs.Turns.{InTurns};
-ghost use Rattle.omega_top.specs.Answers.{IsBuilt, IsTheOnly, NeverOvercommits};
+ghost use Rattle.omega_model.specs.declared.entries.Entry.{Entry};
+ghost use Rattle.omega_model.specs.declared.rows.TraceTables.{TraceTables};
+ghost use Rattle.omega_model.specs.declared.settings.Command.TheVariants.{Run};
+ghost use Rattle.omega_rounds.specs.Stages.{IsInRunOf};
+ghost use Rattle.omega_top.specs.Answers.{IsTheOnly, NeverOvercommits};
 
-use omega_model::{Entries, NoMemory, Settings, TraceTables};
-use omega_rounds::{World, in_turns};
+use omega_io::Gate;
+use omega_model::{Command, Entries, NoMemory, Settings, TraceTables};
+use omega_rounds::{World, in_turns, on_threads};
 use std::alloc::Global;
+use std::sync::Wait;
+use std::thread::Threads;
 
-/// The history of a trace under these settings, in which the schedulers take turns.
-pub fn replayed(
+/// The history of a trace under these settings: on `run` with each scheduler on a thread of its own,
+/// which passes the gate, else with the schedulers taking turns. On `run` it may wait.
+pub fn replayed<R: Threads + Wait + Sync, G: Gate + Sync>(
+    rt: &R,
     alloc: Global,
     settings: &Settings,
     trace: &TraceTables,
+    gate: &G,
 ) -> Result<Entries, NoMemory>
-    requires { IsBuilt settings.now }
+    requires { IsInRange settings.now }
     ensures lawful { IfOk result (λ history. Lawful settings.now trace.now history) }
-    ensures turns { IfOk result (λ history. InTurns history) }
-    ensures only { IfOk result (λ history. IsTheOnly settings.now trace.now history) }
+    ensures turns { settings.now.command ≢ Run → IfOk result (λ history. InTurns history) }
+    ensures only { settings.now.command ≢ Run → IfOk result (λ history. IsTheOnly settings.now trace.now history) }
     ensures legal { IfOk result (λ history. Legal history) }
     ensures applied { IfOk result (λ history. EachMayApply history) }
     ensures sound { IfOk result (λ history. NeverOvercommits history) }
@@ -28,6 +39,29 @@ pub fn replayed(
     ensures evictions { IfOk result (λ history. EvictionsGoDown history) }
 {
     let world = World::new(alloc, settings, trace)?;
-    let world = in_turns(world)?;
+    let world = run_to_end(rt, settings.command, world, gate)?;
     Ok(world.into_history())
+}
+
+// Runs all rounds of a new world as a command has it.
+fn run_to_end<R: Threads + Wait + Sync, G: Gate + Sync>(
+    rt: &R,
+    command: Command,
+    world: World,
+    gate: &G,
+) -> Result<World, NoMemory>
+    requires { world.stage.begun ≡ 0 }
+    ensures source { IfOk result (λ after. after.stage.source ≡ world.stage.source) }
+    ensures settings { IfOk result (λ after. after.stage.settings ≡ world.stage.settings) }
+    ensures lawful { IfOk result (λ after. (trace : TraceTables) → IsInRunOf world.stage trace
+        → Lawful world.stage.settings trace after.history) }
+    ensures turns { command ≢ Run → IfOk result (λ after. InTurns after.history) }
+    ensures only { command ≢ Run → IfOk result (λ after. (trace : TraceTables) → IsInRunOf world.stage trace
+        → (other : List Entry) → Lawful world.stage.settings trace other → InTurns other
+        → other ≡ after.history) }
+{
+    match command {
+        Command::Run => on_threads(rt, world, gate),
+        Command::Replay | Command::Generate => in_turns(world),
+    }
 }

@@ -56,13 +56,13 @@ fn tables_of(alloc: Global, machines: &str, tasks: &str) -> Result<MemoryTables,
 
 // A run with these words, whose sink has room for so many bytes.
 fn run(
-    alloc: Global,
+    rt: &HostRuntime,
     words: &[&str],
     tables: &mut MemoryTables,
     room: u64,
 ) -> Result<Ran, NoMemory> {
-    let mut sink = MemorySink::new(alloc, room)?;
-    let done = omega(alloc, words, tables, &mut sink, &PassGate);
+    let mut sink = MemorySink::new(rt.alloc(), room)?;
+    let done = omega(rt, rt.alloc(), words, tables, &mut sink, &PassGate);
     Ok(Ran {
         done,
         written: sink.into_bytes(),
@@ -80,7 +80,7 @@ fn expect(rt: &impl Abort, ran: &Ran, status: Status, entries: usize, report: &[
 fn answers_the_settings_of_its_words(rt: HostRuntime) -> Result<(), Fail> {
     let mut tables = tables_of(rt.alloc(), MACHINE, TASK)?;
     let words = ["replay", "--tries", "2", "--tables", "a b"];
-    let ran = run(rt.alloc(), &words, &mut tables, ROOM)?;
+    let ran = run(&rt, &words, &mut tables, ROOM)?;
     expect(&rt, &ran, Status::Done, 3, REPORT.as_bytes());
     let settings = Settings {
         tries: 2,
@@ -108,7 +108,7 @@ fn failing_table(call: u64) -> Option<Table> {
 fn each_read_fails(rt: HostRuntime) -> Result<(), Fail> {
     for call in 0..59 {
         let mut tables = tables_of(rt.alloc(), MACHINE, TASK)?.cut(1).fail_at(call);
-        let ran = run(rt.alloc(), &["replay"], &mut tables, ROOM)?;
+        let ran = run(&rt, &["replay"], &mut tables, ROOM)?;
         match failing_table(call) {
             Some(table) => {
                 expect(&rt, &ran, Status::ReadFault(table), 0, b"");
@@ -125,7 +125,7 @@ fn each_size_of_sink(rt: HostRuntime) -> Result<(), Fail> {
     let whole = REPORT.len();
     for room in 0..526 {
         let mut tables = tables_of(rt.alloc(), MACHINE, TASK)?.cut(1);
-        let ran = run(rt.alloc(), &["replay"], &mut tables, room)?;
+        let ran = run(&rt, &["replay"], &mut tables, room)?;
         let written = whole.min(room as usize);
         let status = if written < whole {
             Status::WriteFault
@@ -151,7 +151,7 @@ fn reads_fail_before_and_behind_bad_rows(rt: HostRuntime) -> Result<(), Fail> {
     ];
     for (machines, failing, status) in cases {
         let mut tables = tables_of(rt.alloc(), machines, MACHINE)?.fail_at(failing);
-        let ran = run(rt.alloc(), &["replay"], &mut tables, ROOM)?;
+        let ran = run(&rt, &["replay"], &mut tables, ROOM)?;
         expect(&rt, &ran, status, 0, b"");
     }
     Ok(())

@@ -3,14 +3,15 @@ ghost use Rattle.std.specs.Prelude.{◌≡◌, ◌≢◌, ◌⊎◌, [], ℕ, Li
 ghost use Rattle.omega_cell.specs.Laws.{EvictionsGoDown, NoGangIsSplit};
 ghost use Rattle.omega_io.specs.Edge.{Rose, Tells};
 ghost use Rattle.omega_model.specs.Legal.{Legal};
+ghost use Rattle.omega_model.specs.Ranges.{IsInRange};
 ghost use Rattle.omega_model.specs.Refusals.{first_refusal};
 ghost use Rattle.omega_model.specs.ReportForms.{printed_report};
 ghost use Rattle.omega_model.specs.Trace.{trace_of};
 ghost use Rattle.omega_model.specs.Turns.{InTurns};
 ghost use Rattle.omega_model.specs.declared.results.Status.TheVariants.{Usage, WriteFault, NoMemory};
 ghost use Rattle.omega_model.specs.declared.rows.Table.{Table};
-ghost use Rattle.omega_model.specs.declared.settings.Command.TheVariants.{Generate};
-ghost use Rattle.omega_top.specs.Answers.{Answers, EndsRun, HasHistory, HasReadCause, HasWholeGangs, IsBuilt, IsOnlyRun, IsSomeRun, IsWholeRun, NeverOvercommits, NoneRose, Writes, WritesNothing};
+ghost use Rattle.omega_model.specs.declared.settings.Command.TheVariants.{Generate, Run};
+ghost use Rattle.omega_top.specs.Answers.{Answers, EndsRun, HasHistory, HasReadCause, HasWholeGangs, IsOnlyRun, IsSomeRun, IsWholeRun, NeverOvercommits, NoneRose, Writes, WritesNothing};
 ghost use Rattle.omega_top.specs.Chosen.{AreChosenBy, AreTaken, EntersChosen, MakesTables};
 ghost use Rattle.omega_top.specs.Reads.{Reads, StayUnread, left_by};
 ghost use Rattle.omega_words.specs.Built.{built_words};
@@ -23,6 +24,8 @@ use omega_model::{Done, Seq, Settings, Status, TraceTables};
 use omega_report::report;
 use omega_words::read_words;
 use std::alloc::Global;
+use std::sync::Wait;
+use std::thread::Threads;
 
 /// Does what the words say with the tables of their folder, or with those that it makes on
 /// `generate`: replays them and writes the report of the history that it answers.
@@ -31,8 +34,10 @@ use std::alloc::Global;
 /// order that of its reading, its length and its rows, then that of the limits over all tables, then
 /// that of the writing. Want of memory alone may be answered at any place before the first write.
 /// On `generate` the folder is entered too, but none of its tables is read. Settings are answered
-/// unless the words weren't read. The gate is for runs with threads, which aren't built yet.
-pub fn omega<T: Tables, K: Sink, G: Gate>(
+/// unless the words weren't read. On `run` each scheduler has a thread of its own, which passes the
+/// gate, and the call may wait.
+pub fn omega<R: Threads + Wait + Sync, T: Tables, K: Sink, G: Gate + Sync>(
+    rt: &R,
     alloc: Global,
     words: &[&str],
     tables: &mut T,
@@ -62,8 +67,8 @@ pub fn omega<T: Tables, K: Sink, G: Gate>(
     ensures lawful { (bytes : Table → List ℕ) → IfSome result.settings
         (λ settings. Reads settings (T.rest tables.old) bytes → IsWholeRun settings (trace_of bytes) result.history result.status) }
     ensures only { (bytes : Table → List ℕ) → IfSome result.settings
-        (λ settings. Reads settings (T.rest tables.old) bytes → IsOnlyRun settings (trace_of bytes) result.history result.status) }
-    ensures turns { InTurns result.history }
+        (λ settings. settings.command ≢ Run → Reads settings (T.rest tables.old) bytes → IsOnlyRun settings (trace_of bytes) result.history result.status) }
+    ensures turns { IfSome result.settings (λ settings. settings.command ≢ Run → InTurns result.history) }
     ensures whole_gangs { (bytes : Table → List ℕ) → IfSome result.settings
         (λ settings. Reads settings (T.rest tables.old) bytes → HasWholeGangs settings (trace_of bytes) result.history result.status) }
     ensures some_run { IfSome result.settings
@@ -86,19 +91,20 @@ pub fn omega<T: Tables, K: Sink, G: Gate>(
     if tables.enter(parsed.folder.as_str()).is_err() {
         return refused(alloc, Status::NoMemory, Some(parsed.settings));
     }
-    omega_with(alloc, &parsed.settings, tables, out, gate)
+    omega_with(rt, alloc, &parsed.settings, tables, out, gate)
 }
 
-/// What `omega` does once the words are read and the folder is entered, under any settings that
-/// are built.
-pub fn omega_with<T: Tables, K: Sink, G: Gate>(
+/// What `omega` does once the words are read and the folder is entered, under any settings in their
+/// ranges.
+pub fn omega_with<R: Threads + Wait + Sync, T: Tables, K: Sink, G: Gate + Sync>(
+    rt: &R,
     alloc: Global,
     settings: &Settings,
     tables: &mut T,
     out: &mut K,
-    _gate: &G,
+    gate: &G,
 ) -> Done
-    requires { IsBuilt settings.now }
+    requires { IsInRange settings.now }
     ensures settings { result.settings ≡ Some settings.now }
     ensures folder { T.entered tables.new ≡ T.entered tables.old }
 
@@ -112,9 +118,9 @@ pub fn omega_with<T: Tables, K: Sink, G: Gate>(
 
     ensures lawful { (bytes : Table → List ℕ) → Reads settings.now (T.rest tables.old) bytes
         → IsWholeRun settings.now (trace_of bytes) result.history result.status }
-    ensures only { (bytes : Table → List ℕ) → Reads settings.now (T.rest tables.old) bytes
+    ensures only { settings.now.command ≢ Run → (bytes : Table → List ℕ) → Reads settings.now (T.rest tables.old) bytes
         → IsOnlyRun settings.now (trace_of bytes) result.history result.status }
-    ensures turns { InTurns result.history }
+    ensures turns { settings.now.command ≢ Run → InTurns result.history }
     ensures whole_gangs { (bytes : Table → List ℕ) → Reads settings.now (T.rest tables.old) bytes
         → HasWholeGangs settings.now (trace_of bytes) result.history result.status }
     ensures some_run { IsSomeRun settings.now result.history result.status (K.written out.old) (K.written out.new) }
@@ -130,7 +136,7 @@ pub fn omega_with<T: Tables, K: Sink, G: Gate>(
         → Tells (T.rest tables.new) (left_by settings.now.command bytes) }
 {
     match trace_of_run(alloc, settings, tables) {
-        Ok(trace) => replay_and_write(alloc, settings, &trace, out),
+        Ok(trace) => replay_and_write(rt, alloc, settings, &trace, out, gate),
         Err(refusal) => refused(alloc, Status::from(refusal), Some(*settings)),
     }
 }
@@ -151,19 +157,21 @@ fn refused(alloc: Global, status: Status, settings: Option<Settings>) -> Done
 }
 
 // Replays the tables and writes the report.
-fn replay_and_write<K: Sink>(
+fn replay_and_write<R: Threads + Wait + Sync, K: Sink, G: Gate + Sync>(
+    rt: &R,
     alloc: Global,
     settings: &Settings,
     trace: &TraceTables,
     out: &mut K,
+    gate: &G,
 ) -> Done
-    requires { IsBuilt settings.now }
+    requires { IsInRange settings.now }
     ensures settings { result.settings ≡ Some settings.now }
     ensures ends { EndsRun result.status }
     ensures cause { result.status ≡ WriteFault → Rose (K.faults out.old) (K.faults out.new) }
     ensures lawful { IsWholeRun settings.now trace.now result.history result.status }
-    ensures only { IsOnlyRun settings.now trace.now result.history result.status }
-    ensures turns { InTurns result.history }
+    ensures only { settings.now.command ≢ Run → IsOnlyRun settings.now trace.now result.history result.status }
+    ensures turns { settings.now.command ≢ Run → InTurns result.history }
     ensures legal { Legal result.history }
     ensures sound { NeverOvercommits result.history }
     ensures gangs { NoGangIsSplit result.history }
@@ -171,7 +179,7 @@ fn replay_and_write<K: Sink>(
     ensures history { HasHistory result.history result.status }
     ensures written { Writes (printed_report settings.now trace.now result.history) (K.written out.old) (K.written out.new) result.status }
 {
-    let Ok(history) = replayed(alloc, settings, trace) else {
+    let Ok(history) = replayed(rt, alloc, settings, trace, gate) else {
         return refused(alloc, Status::NoMemory, Some(*settings));
     };
     let Ok(bytes) = report(alloc, settings, trace, history.as_slice()) else {

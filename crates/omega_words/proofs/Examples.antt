@@ -4,7 +4,8 @@ use Rattle.clap.proofs.OnLiterals.{clap_on_literals}
 use Rattle.omega_model.specs.Options.{whole_table}
 use Rattle.omega_model.specs.PlainWords.{is_plain}
 use Rattle.omega_model.specs.WordSettings.{default_settings}
-use Rattle.omega_model.specs.declared.settings.Command.TheVariants.{Generate}
+use Rattle.omega_model.specs.declared.claims.Rule.TheVariants.{Coarse}
+use Rattle.omega_model.specs.declared.settings.Command.TheVariants.{Generate, Run}
 use Rattle.omega_words.specs.Built.{built_words}
 use Rattle.omega_words.specs.Taken.{folder_in, is_taken, settings_in}
 use Rattle.omega_words.proofs.Sound.{is_sound}
@@ -12,15 +13,19 @@ use Rattle.omega_words.proofs.Sound.{is_sound}
 whole_is_sound : is_sound whole_table ≡ true
 whole_is_sound = refl
 
--- ---- what isn't built yet
+-- ---- the commands
 
-run_is_not_built : is_plain built_words (codes "run" ∷ []) ≡ false
-unfolding built_words
-run_is_not_built = refl
-
-run_is_refused : is_taken built_words (codes "run" ∷ []) ≡ false
+run_is_taken : is_taken built_words (codes "run" ∷ []) ≡ true
 unfolding built_words clap_on_literals
-run_is_refused = refl
+run_is_taken = refl
+
+of_run : settings_in built_words (codes "run" ∷ codes "--rule=coarse" ∷ []) ≡ record default_settings { command = Run; rule = Coarse }
+unfolding built_words clap_on_literals
+of_run = refl
+
+other_command : is_taken built_words (codes "resume" ∷ []) ≡ false
+unfolding built_words clap_on_literals
+other_command = refl
 
 -- ---- what is generated
 

@@ -5,6 +5,5 @@ pub mod Taken
 pub mod Texts
 pub mod Building
 pub mod Where
-pub mod Commands
 pub mod Tables
 mod Examples

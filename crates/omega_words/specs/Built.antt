@@ -4,7 +4,7 @@ use Rattle.omega_model.specs.Options.{WordTable, part, whole_table}
 
 -- the commands that are built
 abbrev pub built_commands : List (List ℕ)
-built_commands = codes "replay" ∷ codes "generate" ∷ []
+built_commands = codes "replay" ∷ codes "run" ∷ codes "generate" ∷ []
 
 -- the options that are built
 abbrev pub built_options : List (List ℕ)

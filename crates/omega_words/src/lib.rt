@@ -3,11 +3,10 @@
 //! Which words there are is data: the table of `omega_model`, and the part of it that is built.
 #![tactic(auto)]
 
-ghost use Rattle.std.specs.Prelude.{◌≡◌, ◌≢◌, IfErr, IfOk, true, map};
+ghost use Rattle.std.specs.Prelude.{◌≡◌, IfErr, IfOk, true, map};
 ghost use Rattle.omega_model.specs.PlainWords.{is_plain};
 ghost use Rattle.omega_model.specs.Ranges.{IsInRange};
 ghost use Rattle.omega_model.specs.WordSettings.{folder_of, settings_of};
-ghost use Rattle.omega_model.specs.declared.settings.Command.TheVariants.{Run};
 ghost use Rattle.omega_words.specs.Built.{built_words};
 ghost use Rattle.omega_words.specs.Taken.{AreAccepted, are_of_table, folder_in, is_taken, settings_in, text_in};
 
@@ -52,8 +51,7 @@ impl From<WordsRefusal> for Status {
 /// A command and options are read as `clap` reads them. `Usage` comes only where `clap` doesn't
 /// take the words or a text isn't among the values of its option, and so never on plain words.
 /// `Ok` comes only where `clap` finds no fault in the words and all texts are values; settings and
-/// folder are those of its matches, and on plain words what the words write. The command `run` isn't
-/// built.
+/// folder are those of its matches, and on plain words what the words write.
 pub fn read_words(alloc: Global, words: &[&str]) -> Result<Parsed, WordsRefusal>
     ensures usage { let given = map (λ word. word.now) words.now in
         IfErr result (λ e. is_taken built_words given ≡ true → e ≡ WordsRefusal.NoMemory) }
@@ -72,7 +70,6 @@ pub fn read_words(alloc: Global, words: &[&str]) -> Result<Parsed, WordsRefusal>
     ensures plain_folder { let given = map (λ word. word.now) words.now in
         IfOk result (λ r. is_plain built_words given ≡ true → r.folder ≡ folder_of given) }
     ensures in_range { IfOk result (λ r. IsInRange r.settings) }
-    ensures command { IfOk result (λ r. r.settings.command ≢ Run) }
 {
     let entries = entries::table();
     let matches = match command::matches_for(alloc, &entries, words) {

@@ -138,6 +138,7 @@ pub fn command_of<'a>(matches: &ArgMatches<'a>) -> Option<Command>
 {
     match text_of(matches, "command") {
         Some("replay") => Some(Command::Replay),
+        Some("run") => Some(Command::Run),
         Some("generate") => Some(Command::Generate),
         _ => None,
     }

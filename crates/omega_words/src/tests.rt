@@ -24,10 +24,26 @@ const GENERATED: Settings = Settings {
     ..DEFAULT
 };
 
+/// The same with the command `run`.
+const RUN: Settings = Settings {
+    command: Command::Run,
+    ..DEFAULT
+};
+
 /// Words that are taken, with the folder and the settings that they say.
-const TAKEN: [(&[&str], &str, Settings); 32] = [
+const TAKEN: [(&[&str], &str, Settings); 34] = [
     (&["replay"], ".", DEFAULT),
     (&["generate"], ".", GENERATED),
+    (&["run"], ".", RUN),
+    (
+        &["--rule=coarse", "run", "--batch", "2"],
+        ".",
+        Settings {
+            rule: Rule::Coarse,
+            batch: 2,
+            ..RUN
+        },
+    ),
     (
         &["generate", "--machines", "0", "--jobs", "20000"],
         ".",
@@ -232,7 +248,7 @@ const TAKEN: [(&[&str], &str, Settings); 32] = [
 const REFUSED: [&[&str]; 58] = [
     &[],
     &[""],
-    &["run"],
+    &["run", "generate"],
     &["generate", "replay"],
     &["generate", "--machines", "4097"],
     &["generate", "--machines", ""],

@@ -1,4 +1,4 @@
-use Rattle.std.proofs.Common.{◌≡◌, ◌≢◌, subst, ◌∙◌, ◌&&◌, List, ap, sym, map, true, false, codes}
+use Rattle.std.proofs.Common.{◌≡◌, subst, ◌∙◌, ◌&&◌, List, ap, sym, map, true, false}
 use Rattle.clap.specs.Words.{fault_of}
 use Rattle.omega_model.specs.Options.{Choice}
 use Rattle.omega_model.specs.WordSettings.{folder_by, settings_by}
@@ -6,14 +6,11 @@ use Rattle.omega_words.specs.Taken.{app_of_choices, are_values}
 use Rattle.clap.specs.Words.{Row, Text, found_of, rows_of}
 use Rattle.omega_words.specs.Entries.{choice_of, texts_of}
 use Rattle.omega_model.specs.declared.settings.Command.{Command}
-use Rattle.omega_model.specs.declared.settings.Settings.{Settings}
 use Rattle.omega_words.proofs.Built.{and_false}
 use Rattle.omega_words.proofs.Tables.{not_taken, plain_is_taken, rows_are, takes_are, texts_are, values_hold}
 use Rattle.omega_words.proofs.Where.{failed, passed}
 use Rattle.omega_model.specs.Ranges.{IsInRange}
 use Rattle.omega_model.proofs.WordRanges.{settings_in_range}
-use Rattle.omega_model.specs.declared.settings.Command.TheVariants.{Run}
-use Rattle.omega_words.proofs.Commands.{is_built}
 use Rattle.omega_words.proofs.read_words.Goals as goal
 
 pub returns-in-Err-clause-never_on_plain : goal.returns-in-Err-clause-never_on_plain
@@ -74,10 +71,3 @@ returns-in-Ok-from_str-clause-in_range c =
     let rows : List Row = rows_of (found_of c.in-Ok.matches) in
     let is = c.settings_of-settings.ensures ∙ ap (λ (k : Command). record (settings_by (texts_of rows)) { command = k }) known.1 in
     subst IsInRange (sym is) (settings_in_range (texts_of rows))
-
-pub returns-in-Ok-from_str-clause-command : goal.returns-in-Ok-from_str-clause-command
-returns-in-Ok-from_str-clause-command c =
-    let known = passed _ _ _ c.in-Some.ensures in
-    let rows : List Row = rows_of (found_of c.in-Ok.matches) in
-    let is = c.settings_of-settings.ensures ∙ ap (λ (k : Command). record (settings_by (texts_of rows)) { command = k }) known.1 in
-    subst (λ (settings : Settings). settings.command ≢ Run) (sym is) (is_built (texts_of rows (codes "command")) known.0)
