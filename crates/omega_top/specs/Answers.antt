@@ -1,5 +1,5 @@
 -- What the top call answers, and why.
-use Rattle.std.specs.Prelude.{◌≡◌, ◌≢◌, ℕ, List, [], Option, Some, None, take, ⊤}
+use Rattle.std.specs.Prelude.{◌≡◌, ℕ, List, [], Option, Some, None, take, ⊤}
 use Rattle.omega_io.specs.Edge.{Appends, AppendsPart, Rose}
 use Rattle.omega_model.specs.Lawful.{Lawful}
 use Rattle.omega_model.specs.Legal.{Sound}

@@ -3,10 +3,10 @@ use Rattle.omega_cell.proofs.Gangs.{no_gang_is_split}
 use Rattle.omega_top.proofs.replay.replayed.Goals as goal
 
 pub returns-clause-applied : goal.returns-clause-applied
-returns-clause-applied c = rw c.into_history.ensures.history c.into_history.ensures.applied
+returns-clause-applied g c = rw c.into_history.ensures.history c.into_history.ensures.applied
 
 pub returns-clause-gangs : goal.returns-clause-gangs
-returns-clause-gangs c = rw c.into_history.ensures.history (no_gang_is_split _ c.into_history.ensures.legal)
+returns-clause-gangs g c = rw c.into_history.ensures.history (no_gang_is_split _ c.into_history.ensures.legal)
 
 pub returns-clause-evictions : goal.returns-clause-evictions
-returns-clause-evictions c = rw c.into_history.ensures.history (evictions_go_down _ c.into_history.ensures.legal)
+returns-clause-evictions g c = rw c.into_history.ensures.history (evictions_go_down _ c.into_history.ensures.legal)

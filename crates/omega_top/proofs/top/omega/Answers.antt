@@ -20,7 +20,10 @@ returns-clause-lawful g c bytes =
 pub returns-clause-only : goal.returns-clause-only
 returns-clause-only g c bytes =
     rw c.omega_with.ensures.settings
-    (λ reads. c.omega_with.ensures.only bytes (entered_reads c.in-Ok.parsed.settings _ _ bytes c.enter.ensures.rests reads))
+    (λ others reads. c.omega_with.ensures.only others bytes (entered_reads c.in-Ok.parsed.settings _ _ bytes c.enter.ensures.rests reads))
+
+pub returns-clause-turns : goal.returns-clause-turns
+returns-clause-turns g c = rw c.omega_with.ensures.settings c.omega_with.ensures.turns
 
 pub returns-clause-whole_gangs : goal.returns-clause-whole_gangs
 returns-clause-whole_gangs g c bytes =
