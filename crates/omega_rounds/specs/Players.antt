@@ -42,8 +42,8 @@ OwnMayStand settings opened_at scheduler history =
 
 -- a player may play in a round on this shared cell: its seat is that of its scheduler beside what its pass has
 -- seen, and its pass has two turns for each attempt that it can still make
-pub record MayPlay (settings : Settings) (cell : TableId) (player : Player) : Type 0 where
-  pub of : player.pass.of ≡ cell
+pub record MayPlay (settings : Settings) (shared : TableId) (player : Player) : Type 0 where
+  pub of : player.pass.of ≡ shared
   pub known : player.pass.number < schedulers settings
   pub seat : IsSeat settings player.pass.seen player.pass.number player.seat
   pub turns : 2 * to_do_of player.seat ≤ player.pass.turns
