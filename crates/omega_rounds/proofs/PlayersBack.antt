@@ -142,7 +142,7 @@ module _ (settings : Settings) (of : TableId) (turns : ℕ) (first : List Entry)
         record {
           scheduler = k;
           known = omega (arith, below, count, as_many, players_count, all);
-          commit = subst (λ (n : ℕ). is_commit_of n entry ≡ true) (ap (λ (p : PassState). p.number) (sym one.1.1) ∙ number_of k one.0 one.1.0) by.4;
+          commit = subst (λ (n : ℕ). is_commit_of n (get_or (drop (length first) history) place entry) ≡ true) (ap (λ (p : PassState). p.number) (sym one.1.1) ∙ number_of k one.0 one.1.0) by.4;
         }
 
     back_of : (number : ℕ) (was player : Player) → IsNewPlayer of turns first number was → HasPlayed settings was player → player.failed ≡ false
