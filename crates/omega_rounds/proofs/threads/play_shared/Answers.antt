@@ -1,6 +1,53 @@
-use Rattle.std.proofs.Common.{◌≡◌, ◌<◌, ◌∙◌, ℕ, List, sym, ap, subst}
-use Rattle.std.specs.Prelude.{Some, slice_get}
+use Rattle.std.proofs.Common.{◌≡◌, ◌<◌, ◌∙◌, ℕ, true, List, drop, length, map, sym, ap, subst}
+use Rattle.std.specs.Prelude.{All, Any, Some, slice_get}
+use Rattle.std.specs.List.{list_any}
+use Rattle.omega_lock.specs.Lists.{StartsWith}
 use Rattle.omega_model.specs.Policy.{schedulers}
-use Rattle.omega_shared.specs.Passes.{new_pass}
-use Rattle.omega_rounds.proofs.PlayersBack.{are_back, may_play, none_failed}
+use Rattle.omega_model.specs.Work.{is_commit_of}
+use Rattle.omega_model.specs.declared.entries.Entry.{Entry}
+use Rattle.omega_shared.specs.Commits.{GoesOnWithout}
+use Rattle.omega_shared.specs.Passes.{PassState, new_pass}
+use Rattle.omega_rounds.specs.Closed.{AreBack, Suffice}
+use Rattle.omega_rounds.specs.Players.{HavePlayed, MayPlay}
+use Rattle.omega_rounds.specs.declared.player.Player.{Player}
+use Rattle.omega_rounds.specs.declared.seat.Seat.{Seat}
+use Rattle.omega_rounds.proofs.PlayersBack.{are_back, may_play, none_failed, of_cell}
 use Rattle.omega_rounds.proofs.threads.play_shared.Goals as goal
+
+pub play_all-requires-clause-may_play : goal.play_all-requires-clause-may_play
+play_all-requires-clause-may_play g c κs within =
+    subst (All (MayPlay c.args.settings.now c.in_ok-shared.shared.of)) (sym c.deref_mut.ensures.value)
+    (may_play c.args.settings.now c.in_ok-shared.shared.of c.in_ok-turns.turns c.args.cell.history c.args.seats.items c.in_ok-shared.passes.items c.players_of-players.result.items
+    c.players_of-players.ensures.seats c.players_of-players.ensures.passes c.players_of-players.ensures.fresh c.requires.count
+    (λ number known. c.in_ok-shared.ensures.pass number (subst (λ (n : ℕ). number < n) (sym c.schedulers-callers.ensures) known))
+    c.requires.each (subst (λ (seats : List Seat). Suffice c.args.settings.now seats c.in_ok-turns.turns) c.as_slice.ensures.value c.in_ok-turns.ensures))
+
+pub close-requires-clause-of : goal.close-requires-clause-of
+close-requires-clause-of g c =
+    subst (All (λ (pass : PassState). pass.of ≡ c.in_ok-shared.shared.of)) (sym c.apart-seats.ensures.passes)
+    (of_cell c.args.settings.now c.in_ok-shared.shared.of c.in_ok-turns.turns c.args.cell.history c.args.seats.items c.in_ok-shared.passes.items c.players_of-players.result.items
+    c.players_of-players.ensures.seats c.players_of-players.ensures.passes c.players_of-players.ensures.fresh c.requires.count
+    (λ number known. c.in_ok-shared.ensures.pass number (subst (λ (n : ℕ). number < n) (sym c.schedulers-callers.ensures) known))
+    c.play_all.new.players (subst (λ (before : List Player). HavePlayed c.args.settings.now before c.play_all.new.players) c.deref_mut.ensures.value c.play_all.ensures.played))
+
+pub returns : goal.returns
+returns g c =
+    let first : List Entry = c.args.cell.history in
+    let history : List Entry = c.close.result.history in
+    let after : List Player = c.play_all.new.players in
+    let same : c.in_ok-shared.shared.first ≡ first = c.in_ok-shared.ensures.first in
+    let others : All (λ (pass : PassState). pass.first_length ≡ length first → GoesOnWithout pass.number pass.seen history) (map (λ (player : Player). player.pass) after) =
+    subst (All (λ (pass : PassState). pass.first_length ≡ length first → GoesOnWithout pass.number pass.seen history)) c.apart-seats.ensures.passes
+    (subst (λ (h : List Entry). All (λ (pass : PassState). pass.first_length ≡ length h → GoesOnWithout pass.number pass.seen history) c.apart-seats.result.1.items) same c.close.ensures.others) in
+    let commits : All (λ entry. Any (λ (pass : PassState). is_commit_of pass.number entry ≡ true) (map (λ (player : Player). player.pass) after)) (drop (length first) history) =
+    subst (λ (passes : List PassState). All (λ entry. Any (λ (pass : PassState). is_commit_of pass.number entry ≡ true) passes) (drop (length first) history)) c.apart-seats.ensures.passes
+    (subst (λ (h : List Entry). All (λ entry. Any (λ (pass : PassState). is_commit_of pass.number entry ≡ true) c.apart-seats.result.1.items) (drop (length h) history)) same c.close.ensures.commits) in
+    record {
+      back = subst (AreBack c.args.settings.now first history c.args.seats.items) (sym c.apart-seats.ensures.seats)
+          (are_back c.args.settings.now c.in_ok-shared.shared.of c.in_ok-turns.turns first c.args.seats.items c.in_ok-shared.passes.items c.players_of-players.result.items
+          c.players_of-players.ensures.seats c.players_of-players.ensures.passes c.players_of-players.ensures.fresh c.requires.count
+          (λ number known. c.in_ok-shared.ensures.pass number (subst (λ (n : ℕ). number < n) (sym c.schedulers-callers.ensures) known))
+          after (subst (λ (before : List Player). HavePlayed c.args.settings.now before after) c.deref_mut.ensures.value c.play_all.ensures.played)
+          (none_failed after (ap (list_any (λ (player : Player). player.failed)) (sym c.deref.ensures.value) ∙ sym c.any_failed.ensures ∙ c.if-any_failed.false))
+          history (subst (StartsWith history) same c.close.ensures.begins) others commits);
+    }
