@@ -204,8 +204,10 @@ module _ (settings : Settings) (of : TableId) (turns : ℕ) (first : List Entry)
             let found = before_of number one.0 one.1.0 in
             let is : IsNewPlayer of turns first number found.0 = new_player number found.0 found.1.0 in (
               found.0.seat,
-              mapped_at (λ (p : Player). p.seat) players seats number found.0 of_seats found.1.0,
-              subst (IsBack settings first history number found.0.seat) one.1.1
-                  (back_of number found.0 one.0 is found.1.1 (succeeded number one.0 one.1.0) (goes_on number one.0 one.1.0 found.0 is found.1.1)),
+              (
+                mapped_at (λ (p : Player). p.seat) players seats number found.0 of_seats found.1.0,
+                subst (IsBack settings first history number found.0.seat) one.1.1
+                    (back_of number found.0 one.0 is found.1.1 (succeeded number one.0 one.1.0) (goes_on number one.0 one.1.0 found.0 is found.1.1)),
+              ),
             );
       }
