@@ -39,4 +39,3 @@ pub mod PlayedTurns
 pub mod PlayedRounds
 pub mod Without
 pub mod PlayingOn
-pub mod TwoTurns

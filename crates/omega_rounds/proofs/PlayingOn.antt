@@ -4,6 +4,7 @@ use Rattle.std.specs.Prelude.{slice_get, if◌then◌else◌}
 use Rattle.std.proofs.lemmas.List.Sums.{count_by-le-length}
 use Rattle.atomic_table.specs.Seated.{TableId}
 use Rattle.omega_model.proofs.Growing.{by_place_push_where}
+use Rattle.omega_model.specs.Draws.{drawn_start}
 use Rattle.omega_model.specs.Lawful.{after_last}
 use Rattle.omega_model.specs.Work.{after_outcomes, commits_of, is_commit_of}
 use Rattle.omega_model.specs.declared.claims.Reply.{Reply}
@@ -18,16 +19,17 @@ use Rattle.omega_desk.specs.Desks.{AnswersFirst, DeskState, IsSameDesk, left_at}
 use Rattle.omega_shared.specs.Commits.{GoesOnWithout, commit_after}
 use Rattle.omega_shared.specs.Passes.{PassState}
 use Rattle.omega_shared.specs.Turns.{Commits, SpendsTurn}
-use Rattle.omega_rounds.specs.NextCommit.{attempt}
+use Rattle.omega_rounds.specs.NextCommit.{attempt, attempt_txn}
 use Rattle.omega_rounds.specs.Players.{HasPlayed, IsOwnDesk, MayPlay, MayStand, OwnMayStand}
 use Rattle.omega_rounds.specs.PlayingOn.{IsSynced, PlansFirst, PlaysOn}
 use Rattle.omega_rounds.specs.Seats.{IsSeat, synced_of, to_do_of}
 use Rattle.omega_rounds.specs.SeatSteps.{CommitsFirst}
 use Rattle.omega_rounds.specs.declared.player.Player.{Player}
 use Rattle.omega_rounds.specs.declared.seat.Seat.{Seat}
+use Rattle.omega_rounds.proofs.Attempted.{start_of_seat}
 use Rattle.omega_rounds.proofs.DeskCommits.{own_desk_own}
 use Rattle.omega_rounds.proofs.LastCommits.{after_last-within}
-use Rattle.omega_rounds.proofs.SeatCommits.{IsCommitting, answers_first, commits_first, fewer_left, seat_after}
+use Rattle.omega_rounds.proofs.SeatCommits.{IsCommitting, answers_first, commits_first, fewer_left, first_some, seat_after}
 use Rattle.omega_rounds.proofs.Without.{after_last-without, attempt_without, desk_without, longer_without, seat_without, stand_without}
 
 module _ (settings : Settings) where
@@ -96,19 +98,43 @@ synced_seen seat count is = by_synced seat.synced refl is where
     by_synced true same is = (same, cc)
     by_synced false same is = absurd (cc)
 
-module _ (old : Player) (synced : IsSynced old.pass.of old) where
+-- what is planned on the copy for the first request at the desk
+pub plans_first : (settings : Settings) (player : Player) (number start : ℕ) (request : Request) (txn : Txn)
+    → IsSeat settings player.pass.seen player.pass.number player.seat → number ≡ player.pass.number
+    → Some request ≡ slice_get player.seat.desk.requests 0
+    → start ≡ drawn_start player.seat.desk.settings player.seat.desk.scheduler player.seat.desk.attempts (length player.seat.copy.board.table)
+    → ((history : List Entry) → CopyOf player.seat.copy history
+    → start ≡ drawn_start settings number (commits_of number history) (length player.seat.copy.board.table)
+    → txn ≡ attempt_txn settings history number player.seat.copy.seen request)
+    → PlansFirst player txn
+plans_first settings player number start request txn seat same first drawn planned =
+    let parts = first_some player.seat.desk.requests request first in
+    let begins : start ≡ drawn_start settings player.pass.number (commits_of player.pass.number player.pass.seen) (length player.seat.copy.board.table) =
+    drawn ∙ start_of_seat settings player.pass.seen player.pass.number player.seat _ seat in
+    record {
+      request = request;
+      rest = parts.0;
+      work = parts.1;
+      is = planned player.pass.seen seat.copy
+          (subst (λ (n : ℕ). start ≡ drawn_start settings n (commits_of n player.pass.seen) (length player.seat.copy.board.table)) (sym same) begins)
+          ∙ ap (λ (n : ℕ). attempt_txn settings player.pass.seen n player.seat.copy.seen request) same
+          ∙ ap (λ (s : Settings). attempt_txn s player.pass.seen player.pass.number player.seat.copy.seen request) (sym seat.settings);
+    }
+
+module _ (old : Player) where
   -- what a commit was answered is for the first request at the desk
-  pub takes_answers : (new : PassState) (txn : Txn) (reply : Reply) → PlansFirst old txn → Commits old.pass new old.seat.copy.seen txn reply
+  pub takes_answers : IsSeat old.seat.desk.settings old.pass.seen old.pass.number old.seat
+      → (new : PassState) (txn : Txn) (reply : Reply) → PlansFirst old txn → Commits old.pass new old.seat.copy.seen txn reply
       → AnswersFirst old.seat.desk.requests reply.outcomes
-  takes_answers new txn reply plans did =
+  takes_answers seat new txn reply plans did =
       answers_first old.seat.desk.settings old.pass.number did.before did.before old.seat.copy.seen old.seat.desk.requests plans.request txn reply.outcomes
       (sym (ap (λ (rs : List Request). slice_get rs 0) plans.work))
-      (plans.is ∙ attempt_without old.pass.number old.pass.seen did.before did.others old.seat.desk.settings old.seat.copy.seen plans.request synced.seat.copy.within)
+      (plans.is ∙ attempt_without old.pass.number old.pass.seen did.before did.others old.seat.desk.settings old.seat.copy.seen plans.request seat.copy.within)
       did.answers.outcomes
 
   -- the desk has had no more attempts than its copy has seen entries
-  pub few_attempts : old.seat.copy.seen + 1 < 2 ^ 64 → old.seat.desk.attempts + 1 < 2 ^ 64
-  few_attempts short =
+  pub few_attempts : (shared : TableId) → IsSynced shared old → old.seat.copy.seen + 1 < 2 ^ 64 → old.seat.desk.attempts + 1 < 2 ^ 64
+  few_attempts shared synced short =
       let count : old.seat.desk.attempts ≡ commits_of old.pass.number old.pass.seen = synced.seat.attempts in
       let most : commits_of old.pass.number old.pass.seen ≤ length old.pass.seen = count_by-le-length (is_commit_of old.pass.number) old.pass.seen in
       let seen : old.seat.copy.seen ≡ length old.pass.seen = (synced_seen old.seat (length old.pass.seen) synced.all).1 in
@@ -116,7 +142,8 @@ module _ (old : Player) (synced : IsSynced old.pass.of old) where
 
 -- a player before a commit, and what its pass and its desk say after it
 pub record PlayerCommits (old new : Player) (txn : Txn) (reply : Reply) : Type 0 where
-  pub synced : IsSynced old.pass.of old
+  pub shared : TableId
+  pub synced : IsSynced shared old
   pub plans : PlansFirst old txn
   pub turn : SpendsTurn old.pass new.pass
   pub commits : Commits old.pass new.pass old.seat.copy.seen txn reply
@@ -249,9 +276,9 @@ some_to_do settings history number seat is work =
           let all : (suc count) * tries ≡ count * tries + tries = grind (arith) in rw all (omega (arith, few))
 
 -- a player in the middle of its round: it has played on so far, may play on, and has met no want of memory since
-pub record IsPlaying (settings : Settings) (of : TableId) (old now : Player) : Type 0 where
+pub record IsPlaying (settings : Settings) (shared : TableId) (old now : Player) : Type 0 where
   pub plays_on : PlaysOn settings old now
-  pub may_play : MayPlay settings of now
+  pub may_play : MayPlay settings shared now
   pub failed : now.failed ≡ old.failed
   pub spent : synced_of old.seat ≡ None → synced_of now.seat ≡ None
 
@@ -272,8 +299,8 @@ module _ (settings : Settings) (of : TableId) (old : Player) where
     }
 
     -- at the end
-    pub played_all : now.seat.desk.requests ≡ [] → HasPlayed settings old now
-    played_all none = record {
+    pub played_all : (failed : Bool) → now.seat.desk.requests ≡ [] → HasPlayed settings old (record { seat = now.seat; pass = now.pass; failed = failed })
+    played_all failed none = record {
       of = is.plays_on.of;
       number = is.plays_on.number;
       first_length = is.plays_on.first_length;
