@@ -1,5 +1,5 @@
-use Rattle.std.proofs.Common.{refl, true, false}
-use Rattle.omega_rounds.proofs.PlayingOn.{PlayerCommits, plays_on_commit, plays_on_without, takes_answers}
+use Rattle.std.proofs.Common.{refl, false}
+use Rattle.omega_rounds.proofs.PlayingOn.{plays_on_commit, plays_on_without, takes_answers}
 use Rattle.omega_rounds.specs.declared.player.Player.{Player}
 use Rattle.omega_rounds.proofs.player.Player.commit.Goals as goal
 

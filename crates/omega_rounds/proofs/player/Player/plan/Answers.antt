@@ -1,7 +1,6 @@
-use Rattle.std.proofs.Common.{Bor, ◌≡◌, ◌∙◌, Option, Some, None, sym, ap}
-use Rattle.std.specs.Prelude.{option_map, slice_get}
+use Rattle.std.proofs.Common.{Bor, ◌∙◌, sym, ap}
+use Rattle.std.specs.Prelude.{option_map}
 use Rattle.omega_model.specs.declared.wishes.Request.{Request}
-use Rattle.omega_rounds.proofs.Attempted.{start_of_seat}
 use Rattle.omega_rounds.proofs.PlayingOn.{plans_first}
 use Rattle.omega_rounds.proofs.SeatCommits.{first_none}
 use Rattle.omega_rounds.proofs.player.Player.plan.Goals as goal
