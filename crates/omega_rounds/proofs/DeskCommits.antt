@@ -1,6 +1,6 @@
 -- Desks of a round after one more commit.
-use Rattle.std.proofs.Common.{◌≡◌, ◌≢◌, ◌≤◌, ◌+◌, ℕ, Bool, true, false, List, [], ◌∷◌, ◌++◌, length, take, Option, Some, None, refl, sym, ap, ap₂, subst, arith, ◌∙◌, inl, inr, ◌==◌, if◌then◌else◌}
-use Rattle.std.specs.Prelude.{option_map, slice_get}
+use Rattle.std.proofs.Common.{◌≡◌, ◌≢◌, ◌≤◌, ◌+◌, ℕ, Bool, true, false, List, [], ◌∷◌, ◌++◌, length, Option, Some, refl, sym, ap, ap₂, subst, ◌∙◌, ◌==◌, if◌then◌else◌}
+use Rattle.std.specs.Prelude.{option_map}
 use Rattle.std.specs.List.{All}
 use Rattle.std.proofs.lemmas.Bool.{eq-eqb, ne_eqb}
 use Rattle.std.proofs.lemmas.List.Elements.{All-cons, All-head, All-tail}
@@ -9,12 +9,11 @@ use Rattle.omega_model.proofs.Standing.{after_entry-other, has_left-other, stand
 use Rattle.omega_model.specs.Requests.{failed}
 use Rattle.omega_model.specs.Routing.{scheduler_of}
 use Rattle.omega_model.specs.State.{reply_of}
-use Rattle.omega_model.specs.Work.{Agrees, AgreesWithFirst, HasLeft, IsDue, Standing, after_entry, after_outcomes, ends_request, failing_after, failing_with, fresh, is_commit_of, moved_on, outcomes_of, rest_of, standing_of}
+use Rattle.omega_model.specs.Work.{Agrees, IsDue, Standing, after_entry, after_outcomes, ends_request, failing_after, failing_with, fresh, is_commit_of, moved_on, rest_of, standing_of}
 use Rattle.omega_model.specs.declared.claims.Judgement.{Judgement}
 use Rattle.omega_model.specs.declared.claims.Outcome.{Outcome}
 use Rattle.omega_model.specs.declared.claims.Txn.{Txn}
 use Rattle.omega_model.specs.declared.entries.Entry.{Entry}
-use Rattle.omega_model.specs.declared.entries.Entry.TheVariants.{Commit}
 use Rattle.omega_model.specs.declared.rows.Row.{Row}
 use Rattle.omega_model.specs.declared.rows.TraceTables.{TraceTables}
 use Rattle.omega_model.specs.declared.settings.Settings.{Settings}
@@ -22,6 +21,7 @@ use Rattle.omega_model.specs.declared.wishes.Request.{Request}
 use Rattle.omega_desk.specs.Counts.{count_of}
 use Rattle.omega_desk.specs.Desks.{DeskState, left_at}
 use Rattle.omega_rounds.specs.NextCommit.{attempt, attempt_txn}
+use Rattle.omega_rounds.specs.Players.{IsOwnDesk}
 use Rattle.omega_rounds.specs.Seats.{IsDeskOf, IsRoutedTo}
 use Rattle.omega_rounds.specs.SeatSteps.{attempt_outcomes}
 use Rattle.omega_rounds.proofs.Agreeing.{agrees_first}
@@ -80,6 +80,51 @@ own_after settings trace scheduler false request rest outcomes own =
     All-cons (IsRoutedTo settings trace scheduler) (rest_of request outcomes) rest
     (All-head (IsRoutedTo settings trace scheduler) request rest own) (All-tail (IsRoutedTo settings trace scheduler) request rest own)
 
+module _ (settings : Settings) (trace : TraceTables) (rows : List Row) (opened_at : ℕ) (history : List Entry) (scheduler : ℕ) (desk : DeskState) where
+  -- a desk is right by its scheduler's own commits
+  pub own_desk : IsDeskOf settings trace rows opened_at history scheduler desk → IsOwnDesk settings trace rows opened_at history scheduler desk
+  own_desk is = record {
+    left = is.left;
+    standing = is.standing;
+    stands = is.stands;
+    requests = is.requests;
+    taken = is.taken;
+    own = is.own;
+    counts = is.counts;
+  }
+
+  -- and altogether where its counts are those of the history
+  pub desk_with_failures : IsOwnDesk settings trace rows opened_at history scheduler desk
+      → ((job : ℕ) → scheduler_of settings trace job ≡ scheduler → failed history job ≡ count_of desk.counts job)
+      → IsDeskOf settings trace rows opened_at history scheduler desk
+  desk_with_failures is failures = record {
+    left = is.left;
+    standing = is.standing;
+    stands = is.stands;
+    requests = is.requests;
+    taken = is.taken;
+    own = is.own;
+    counts = is.counts;
+    failures = failures;
+  }
+
+-- an entry that is no commit of a scheduler leaves its desk right by its own commits
+pub own_desk_other : (settings : Settings) (trace : TraceTables) (rows : List Row) (opened_at : ℕ) (history : List Entry)
+    → opened_at ≤ length history → (scheduler : ℕ) (entry : Entry) → is_commit_of scheduler entry ≡ false → (desk : DeskState)
+    → IsOwnDesk settings trace rows opened_at history scheduler desk
+    → IsOwnDesk settings trace rows opened_at (history ++ entry ∷ []) scheduler desk
+own_desk_other settings trace rows opened_at history within scheduler entry other desk is = record {
+  left = has_left-other settings trace rows opened_at scheduler history entry desk.requests other within is.left;
+  standing = is.standing;
+  stands = standing_push settings trace rows opened_at scheduler history entry within
+      ∙ after_entry-other settings scheduler (standing_of settings trace rows opened_at scheduler history) entry other
+      ∙ is.stands;
+  requests = is.requests;
+  taken = is.taken;
+  own = is.own;
+  counts = is.counts;
+}
+
 module _ (settings : Settings) (trace : TraceTables) (rows : List Row) (opened_at : ℕ) (before : List Entry) (within : opened_at ≤ length before)
     (by seen : ℕ) (request : Request) where
   abbrev txn : Txn
@@ -94,18 +139,31 @@ module _ (settings : Settings) (trace : TraceTables) (rows : List Row) (opened_a
   abbrev outcomes : List Outcome
   outcomes = attempt_outcomes settings before by seen request
 
-  -- the desk of the scheduler that commits
-  pub desk_own : (desk next : DeskState) (rest : List Request)
-      → IsDeskOf settings trace rows opened_at before by desk → desk.requests ≡ request ∷ rest
+  -- its first request is for a job of its own
+  own_job : (desk : DeskState) (rest : List Request) → All (IsRoutedTo settings trace by) desk.requests → desk.requests ≡ request ∷ rest
+      → scheduler_of settings trace request.job ≡ by
+  own_job desk rest own work = All-head (IsRoutedTo settings trace by) request rest (subst (All (IsRoutedTo settings trace by)) work own)
+
+  -- the counts at the desk after the commit
+  counts_next : (desk next : DeskState) (rest : List Request) → desk.requests ≡ request ∷ rest
       → after_outcomes settings (left_at desk) desk.requests outcomes ≡ Some (left_at next)
-      → IsDeskOf settings trace rows opened_at (before ++ entry ∷ []) by next
-  desk_own desk next rest is work moved =
+      → (job : ℕ) → failing_with (count_of desk.counts) request.job outcomes job ≡ count_of next.counts job
+  counts_next desk next rest work moved job =
+      sym (moved_failing settings (left_at desk) request rest outcomes job)
+      ∙ sym (ap (λ (s : Standing). s.failing job) (moved_to settings (left_at desk) (left_at next) desk.requests request rest outcomes work moved))
+
+  -- the desk of the scheduler that commits, by its own commits alone
+  pub own_desk_own : (desk next : DeskState) (rest : List Request)
+      → IsOwnDesk settings trace rows opened_at before by desk → desk.requests ≡ request ∷ rest
+      → after_outcomes settings (left_at desk) desk.requests outcomes ≡ Some (left_at next)
+      → IsOwnDesk settings trace rows opened_at (before ++ entry ∷ []) by next
+  own_desk_own desk next rest is work moved =
       let one : Standing = is.standing in
       let other : Standing = left_at desk in
       let after : Standing = moved_on settings one request rest outcomes in
       let first : one.requests ≡ request ∷ rest = is.requests ∙ work in
       let routed : All (IsRoutedTo settings trace by) (request ∷ rest) = subst (All (IsRoutedTo settings trace by)) work is.own in
-      let its_job : scheduler_of settings trace request.job ≡ by = All-head (IsRoutedTo settings trace by) request rest routed in
+      let its_job : scheduler_of settings trace request.job ≡ by = own_job desk rest is.own work in
       let ends : ends_at settings one request outcomes ≡ ends_at settings other request outcomes =
       same_ends settings one other request outcomes is.taken (is.counts request.job its_job) in
       let on : left_at next ≡ moved_on settings other request rest outcomes =
@@ -121,8 +179,6 @@ module _ (settings : Settings) (trace : TraceTables) (rows : List Row) (opened_a
       ∙ sym (moved_requests settings other request rest outcomes)
       ∙ sym (ap (λ (s : Standing). s.requests) on) in
       let agrees : Agrees settings by before seen txn request = record { job = refl; rule = refl; mode = refl; claims = refl } in
-      let counted : (job : ℕ) → failing_with (count_of desk.counts) request.job outcomes job ≡ count_of next.counts job =
-      λ job. sym (moved_failing settings other request rest outcomes job) ∙ sym (ap (λ (s : Standing). s.failing job) on) in
       record {
         left = record {
           remains = ap (option_map (λ (standing : Standing). standing.requests)) stands ∙ ap (λ (l : List Request). Some l) requests;
@@ -141,12 +197,21 @@ module _ (settings : Settings) (trace : TraceTables) (rows : List Row) (opened_a
             (own_after settings trace by (ends_at settings one request outcomes) request rest outcomes routed);
         counts = λ job own. moved_failing settings one request rest outcomes job
             ∙ same_failing one.failing (count_of desk.counts) request.job outcomes job (is.counts request.job its_job) (is.counts job own)
-            ∙ counted job;
-        failures = λ job own.
-            failed_commit before by seen txn reply (count_of desk.counts) job (length-reply_of before seen txn)
-            (is.failures request.job its_job) (is.failures job own)
-            ∙ counted job;
+            ∙ counts_next desk next rest work moved job;
       }
+
+  -- and with the commits of others
+  pub desk_own : (desk next : DeskState) (rest : List Request)
+      → IsDeskOf settings trace rows opened_at before by desk → desk.requests ≡ request ∷ rest
+      → after_outcomes settings (left_at desk) desk.requests outcomes ≡ Some (left_at next)
+      → IsDeskOf settings trace rows opened_at (before ++ entry ∷ []) by next
+  desk_own desk next rest is work moved =
+      desk_with_failures settings trace rows opened_at (before ++ entry ∷ []) by next
+      (own_desk_own desk next rest (own_desk settings trace rows opened_at before by desk is) work moved)
+      (λ job own.
+      failed_commit before by seen txn reply (count_of desk.counts) job (length-reply_of before seen txn)
+      (is.failures request.job (own_job desk rest is.own work)) (is.failures job own)
+      ∙ counts_next desk next rest work moved job)
 
   -- the desk of another scheduler
   pub desk_other : (scheduler : ℕ) (desk : DeskState) → scheduler ≢ by → scheduler_of settings trace request.job ≡ by
@@ -154,18 +219,10 @@ module _ (settings : Settings) (trace : TraceTables) (rows : List Row) (opened_a
       → IsDeskOf settings trace rows opened_at (before ++ entry ∷ []) scheduler desk
   desk_other scheduler desk apart routed is =
       let other : is_commit_of scheduler entry ≡ false = ne_eqb by scheduler (λ same. apart (sym same)) in
-      record {
-        left = has_left-other settings trace rows opened_at scheduler before entry desk.requests other within is.left;
-        standing = is.standing;
-        stands = standing_push settings trace rows opened_at scheduler before entry within
-            ∙ after_entry-other settings scheduler (standing_of settings trace rows opened_at scheduler before) entry other
-            ∙ is.stands;
-        requests = is.requests;
-        taken = is.taken;
-        own = is.own;
-        counts = is.counts;
-        failures = λ job own.
-            failed_other before by seen txn reply job
-            (λ same. apart (sym own ∙ ap (scheduler_of settings trace) (sym same) ∙ routed))
-            ∙ is.failures job own;
-      }
+      desk_with_failures settings trace rows opened_at (before ++ entry ∷ []) scheduler desk
+      (own_desk_other settings trace rows opened_at before within scheduler entry other desk
+      (own_desk settings trace rows opened_at before scheduler desk is))
+      (λ job own.
+      failed_other before by seen txn reply job
+      (λ same. apart (sym own ∙ ap (scheduler_of settings trace) (sym same) ∙ routed))
+      ∙ is.failures job own)

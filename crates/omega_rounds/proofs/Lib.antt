@@ -38,7 +38,8 @@ pub mod WorldGoes
 pub mod PlayedTurns
 pub mod EndedRounds
 pub mod PlayedRounds
-pub mod GoesOnWithout
+pub mod Without
+pub mod PlayingOn
 pub mod RoundFailures
 pub mod ClosedRounds
 pub mod PlayersBack

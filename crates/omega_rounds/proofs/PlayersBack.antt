@@ -23,7 +23,7 @@ use Rattle.omega_rounds.specs.Seats.{IsSeat, to_do_of}
 use Rattle.omega_rounds.specs.declared.player.Player.{Player}
 use Rattle.omega_rounds.specs.declared.seat.Seat.{Seat}
 use Rattle.omega_desk.specs.Desks.{left_at}
-use Rattle.omega_rounds.proofs.GoesOnWithout.{desk_without, may_stand_without, seat_without}
+use Rattle.omega_rounds.proofs.Without.{desk_without, seat_without, stand_without}
 
 -- what stands at a place of a list stands seen there
 mapped_at : {X Y : Type 0} (f : X → Y) (xs : List X) (ys : List Y) (place : ℕ) (x : X) → map f xs ≡ ys → slice_get xs place ≡ Some x → slice_get ys place ≡ Some (f x)
@@ -174,7 +174,7 @@ module _ (settings : Settings) (of : TableId) (turns : ℕ) (first : List Entry)
                 (subst (λ (n : ℕ). IsOwnDesk settings trace rows opened_at first n was.seat.desk) (sym old_number) desk))));
             commits = λ opened_at within stand.
                 let before : opened_at ≤ length was.pass.seen = subst (λ (h : List Entry). opened_at ≤ length h) (sym old_seen) within in
-                may_stand_without number player.pass.seen history on_number settings opened_at
+                stand_without number player.pass.seen history on_number settings opened_at
                 (subst (λ (n : ℕ). OwnMayStand settings opened_at n player.pass.seen) same
                 (did.commits opened_at before
                 (subst (λ (h : List Entry). OwnMayStand settings opened_at was.pass.number h) (sym old_seen)

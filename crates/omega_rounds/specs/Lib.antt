@@ -15,4 +15,5 @@ pub mod SeatSteps
 pub mod Opening
 pub mod Playing
 pub mod Players
+pub mod PlayingOn
 pub mod Closed

@@ -1,11 +1,15 @@
 //! A scheduler's part in a round that is played on threads.
-ghost use Rattle.std.specs.Prelude.{◌≡◌};
+ghost use Rattle.std.specs.Prelude.{◌≡◌, ◌≢◌, ◌<◌, ◌+◌, ◌^◌, [], None, Some, length, IfOk, OnOk};
+ghost use Rattle.omega_model.specs.Policy.{schedulers};
 ghost use Rattle.omega_model.specs.Ranges.{IsInRange};
 ghost use Rattle.omega_rounds.specs.Players.{HasPlayed, MayPlay};
+ghost use Rattle.omega_rounds.specs.PlayingOn.{IsSynced, PlansFirst, PlaysOn};
+ghost use Rattle.omega_rounds.specs.Seats.{IsSeat, synced_of, to_do_of};
 
+use crate::planned::planned;
 use crate::seat::Seat;
-use omega_io::Gate;
-use omega_model::Settings;
+use omega_io::{Gate, Point};
+use omega_model::{NoMemory, Settings, Txn};
 use omega_shared::{Pass, SharedCell};
 use std::alloc::Global;
 use std::sync::Wait;
@@ -34,6 +38,108 @@ impl Player {
         requires may_play { MayPlay settings.now shared.now.of self.old }
         ensures played { HasPlayed settings.now self.old self.new }
     {
-        self.failed = true;
+        while self.seat.desk.next().is_some() {
+            if self.attempt(rt, alloc, settings, shared, gate).is_err() {
+                self.failed = true;
+                return;
+            }
+        }
+    }
+
+    // One attempt on the first request that is left, in two turns. Asks the gate after each step.
+    fn attempt<R: Wait, G: Gate>(
+        &mut self,
+        rt: &R,
+        alloc: Global,
+        settings: &Settings,
+        shared: &SharedCell,
+        gate: &G,
+    ) -> Result<(), NoMemory>
+        requires range { IsInRange settings.now }
+        requires may_play { MayPlay settings.now shared.now.of self.old }
+        requires work { self.old.seat.desk.requests ≢ [] }
+        ensures plays_on { PlaysOn settings.now self.old self.new }
+        ensures may_play { OnOk result (MayPlay settings.now shared.now.of self.new) }
+        ensures fewer { OnOk result (to_do_of self.new.seat < to_do_of self.old.seat) }
+        ensures spent { OnOk result (synced_of self.new.seat ≡ None) }
+        ensures failed { self.new.failed ≡ self.old.failed }
+    {
+        let number = self.pass.number();
+        self.sync(rt, alloc, shared)?;
+        gate.at(number, Point::Synced);
+        let txn = self.plan(alloc, settings)?;
+        gate.at(number, Point::Planned);
+        self.commit(rt, alloc, shared, txn)?;
+        gate.at(number, Point::Committed);
+        Ok(())
+    }
+
+    // A turn in which the copy takes over the history. Where memory runs out the seat is as before.
+    fn sync<R: Wait>(&mut self, rt: &R, alloc: Global, shared: &SharedCell) -> Result<(), NoMemory>
+        requires of { self.old.pass.of ≡ shared.now.of }
+        requires left { 0 < self.old.pass.turns }
+        requires seat { IsSeat self.old.seat.desk.settings self.old.pass.seen self.old.pass.number self.old.seat }
+        ensures plays_on { PlaysOn self.old.seat.desk.settings self.old self.new }
+        ensures turn { self.new.pass.turns + 1 ≡ self.old.pass.turns }
+        ensures desk { self.new.seat.desk ≡ self.old.seat.desk }
+        ensures all { OnOk result (synced_of self.new.seat ≡ Some (length self.new.pass.seen)) }
+        ensures failed { self.new.failed ≡ self.old.failed }
+    {
+        shared.sync(rt, alloc, &mut self.pass, &mut self.seat.copy)?;
+        self.seat.synced = true;
+        Ok(())
+    }
+
+    // The transaction of an attempt on the first request that is left, planned on the copy. One of
+    // 2^32 claims or more is want of memory, and so is one after 2^64 - 1 entries.
+    fn plan(&mut self, alloc: Global, settings: &Settings) -> Result<Txn, NoMemory>
+        requires range { IsInRange settings.now }
+        requires known { self.old.pass.number < schedulers settings.now }
+        requires seat { IsSeat settings.now self.old.pass.seen self.old.pass.number self.old.seat }
+        requires work { self.old.seat.desk.requests ≢ [] }
+        ensures same { self.new ≡ self.old }
+        ensures plans { IfOk result (λ txn. PlansFirst self.old txn) }
+        ensures few { IfOk result (λ txn. length txn.claims < 2 ^ 32) }
+        ensures short { OnOk result (self.old.seat.copy.seen + 1 < 2 ^ 64) }
+    {
+        let number = self.pass.number();
+        let start = self.seat.start();
+        let Some(request) = self.seat.desk.next() else {
+            unreachable!()
+        };
+        let copy = &mut self.seat.copy;
+        let txn = planned(alloc, settings, number, copy, request, start)?;
+        if txn.claims.len() > u32::MAX as usize || self.seat.copy.seen() == u64::MAX {
+            return Err(NoMemory);
+        }
+        Ok(txn)
+    }
+
+    // A turn in which an attempt's transaction is committed, after which the desk moves on by what was
+    // answered. Where memory runs out the seat is as before.
+    fn commit<R: Wait>(
+        &mut self,
+        rt: &R,
+        alloc: Global,
+        shared: &SharedCell,
+        txn: Txn,
+    ) -> Result<(), NoMemory>
+        requires synced { IsSynced shared.now.of self.old }
+        requires plans { PlansFirst self.old txn }
+        requires few { length txn.claims < 2 ^ 32 }
+        requires short { self.old.seat.copy.seen + 1 < 2 ^ 64 }
+        ensures plays_on { PlaysOn self.old.seat.desk.settings self.old self.new }
+        ensures turn { self.new.pass.turns + 1 ≡ self.old.pass.turns }
+        ensures fewer { OnOk result (to_do_of self.new.seat < to_do_of self.old.seat) }
+        ensures spent { OnOk result (synced_of self.new.seat ≡ None) }
+        ensures failed { self.new.failed ≡ self.old.failed }
+    {
+        let copy = &self.seat.copy;
+        let Ok(reply) = shared.commit(rt, alloc, &mut self.pass, copy, txn) else {
+            return Err(NoMemory);
+        };
+        self.seat.desk.take(&reply);
+        self.seat.synced = false;
+        Ok(())
     }
 }

@@ -112,8 +112,8 @@ impl Seat {
         Ok(())
     }
 
-    // The place in the copy's list of machines at which the present attempt begins.
-    fn start(&self) -> usize
+    /// The place in the copy's list of machines at which the present attempt begins. Takes no memory.
+    pub fn start(&self) -> usize
         ensures drawn { result ≡ drawn_start self.now.desk.settings self.now.desk.scheduler self.now.desk.attempts (length self.now.copy.board.table) }
         ensures within { result ≤ length self.now.copy.board.table }
     {

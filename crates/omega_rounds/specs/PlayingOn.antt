@@ -1,0 +1,47 @@
+-- What a scheduler on a thread of its own has done so far in a round, and what its attempt is.
+use Rattle.std.specs.Prelude.{◌≡◌, ◌≤◌, ◌<◌, ℕ, List, ◌∷◌, Some, length}
+use Rattle.atomic_table.specs.Seated.{TableId}
+use Rattle.omega_model.specs.Policy.{schedulers}
+use Rattle.omega_model.specs.Ranges.{IsInRange}
+use Rattle.omega_model.specs.declared.claims.Txn.{Txn}
+use Rattle.omega_model.specs.declared.rows.Row.{Row}
+use Rattle.omega_model.specs.declared.rows.TraceTables.{TraceTables}
+use Rattle.omega_model.specs.declared.settings.Settings.{Settings}
+use Rattle.omega_model.specs.declared.wishes.Request.{Request}
+use Rattle.omega_rounds.specs.NextCommit.{attempt_txn}
+use Rattle.omega_rounds.specs.Players.{IsOwnDesk, OwnMayStand}
+use Rattle.omega_rounds.specs.Seats.{IsSeat, synced_of}
+use Rattle.omega_rounds.specs.declared.player.Player.{Player}
+
+-- a player plays on: its pass is the same one and has seen more. Beside that its seat is still that of its
+-- scheduler, its desk is right wherever it was, and its commits may stand where they do wherever those before
+-- could
+pub record PlaysOn (settings : Settings) (old new : Player) : Type 0 where
+  pub of : new.pass.of ≡ old.pass.of
+  pub number : new.pass.number ≡ old.pass.number
+  pub first_length : new.pass.first_length ≡ old.pass.first_length
+  pub within : length old.pass.seen ≤ length new.pass.seen
+  pub seat : IsSeat settings new.pass.seen new.pass.number new.seat
+  pub desk : (trace : TraceTables) (rows : List Row) (opened_at : ℕ) → opened_at ≤ length old.pass.seen
+      → IsOwnDesk settings trace rows opened_at old.pass.seen old.pass.number old.seat.desk
+      → IsOwnDesk settings trace rows opened_at new.pass.seen new.pass.number new.seat.desk
+  pub commits : (opened_at : ℕ) → opened_at ≤ length old.pass.seen
+      → OwnMayStand settings opened_at old.pass.number old.pass.seen
+      → OwnMayStand settings opened_at new.pass.number new.pass.seen
+
+-- a transaction is a player's attempt on the first request that is left at its desk, planned on its copy
+pub record PlansFirst (player : Player) (txn : Txn) : Type 0 where
+  pub request : Request
+  pub rest : List Request
+  pub work : player.seat.desk.requests ≡ request ∷ rest
+  pub is : txn ≡ attempt_txn player.seat.desk.settings player.pass.seen player.pass.number player.seat.copy.seen request
+
+-- a player may commit on this shared cell: it has a turn left and is one of the schedulers of its settings, and
+-- its copy has taken over all that its pass has seen
+pub record IsSynced (shared : TableId) (player : Player) : Type 0 where
+  pub range : IsInRange player.seat.desk.settings
+  pub of : player.pass.of ≡ shared
+  pub left : 0 < player.pass.turns
+  pub known : player.pass.number < schedulers player.seat.desk.settings
+  pub seat : IsSeat player.seat.desk.settings player.pass.seen player.pass.number player.seat
+  pub all : synced_of player.seat ≡ Some (length player.pass.seen)
