@@ -26,7 +26,7 @@ use Rattle.omega_rounds.specs.Players.{IsOwnDesk, MayStand, OwnMayStand}
 use Rattle.omega_rounds.specs.Seats.{IsDeskOf, synced_of}
 use Rattle.omega_rounds.specs.Stages.{IsInRunOf, Stage, rows_begun}
 use Rattle.omega_rounds.specs.declared.seat.Seat.{Seat}
-use Rattle.omega_rounds.proofs.DeskCommits.{own_desk}
+use Rattle.omega_rounds.proofs.DeskCommits.{desk_with_failures, own_desk}
 use Rattle.omega_rounds.proofs.RoundFailures.{counted_so_far}
 use Rattle.omega_rounds.proofs.SeatLists.{seen_at, seen_none}
 use Rattle.omega_rounds.proofs.WorldBegins.{nobody_works}
@@ -145,16 +145,8 @@ module _ (settings : Settings) (first history : List Entry) (old new : List Seat
         → IsDeskOf settings trace (rows ++ round.rows) base history number seat.desk
     desk_closed number seat here =
         let is : IsOwnDesk settings trace (rows ++ round.rows) base history number seat.desk = own_desk_after number seat here in
-        record {
-          left = is.left;
-          standing = is.standing;
-          stands = is.stands;
-          requests = is.requests;
-          taken = is.taken;
-          own = is.own;
-          counts = is.counts;
-          failures = λ job its. counted_so_far settings trace rows start round history so_far_closed number is.standing is.stands job its ∙ is.counts job its;
-        }
+        desk_with_failures settings trace (rows ++ round.rows) base history number seat.desk is
+        (λ job its. counted_so_far settings trace rows start round history so_far_closed number is.standing is.stands job its ∙ is.counts job its)
 
 module _ (stage : Stage) (tasks : List WantedTask) (first history : List Entry) (old new : List Seat)
     (world : IsWorld stage tasks first old) (begun : 0 < stage.begun) (nobody : NobodySynced (world_at first old))

@@ -4,6 +4,7 @@ use Rattle.std.specs.Prelude.{◌⊎◌, All, Any, option_map, slice_get}
 use Rattle.std.specs.List.{list_any}
 use Rattle.std.proofs.lemmas.Bool.{both_ways}
 use Rattle.std.proofs.lemmas.List.{length-map}
+use Rattle.std.proofs.lemmas.List.Elements.{All-map}
 use Rattle.std.proofs.lemmas.List.Folds.{list_any_at}
 use Rattle.std.proofs.lemmas.Option.{get_or_from_slice_get, slice_get-get_or, slice_get-map, slice_get_cases, slice_get_read, slice_get_within}
 use Rattle.atomic_table.specs.Seated.{TableId}
@@ -100,11 +101,7 @@ module _ (settings : Settings) (of : TableId) (turns : ℕ) (first : List Entry)
       few_left : (all taken turns : ℕ) → 2 * all ≤ turns → 2 * (all - taken) ≤ turns
       few_left all taken turns few = omega (arith, few)
 
-  module _ (after : List Player) (played : HavePlayed settings players after)
-      (succeeded : (place : ℕ) (player : Player) → slice_get after place ≡ Some player → player.failed ≡ false)
-      (history : List Entry) (begins : StartsWith history first)
-      (others : All (λ (pass : PassState). pass.first_length ≡ length first → GoesOnWithout pass.number pass.seen history) (map (λ (player : Player). player.pass) after))
-      (commits : All (λ entry. Any (λ (pass : PassState). is_commit_of pass.number entry ≡ true) (map (λ (player : Player). player.pass) after)) (drop (length first) history)) where
+  module _ (after : List Player) (played : HavePlayed settings players after) where
     -- the player of a scheduler before and after
     before_of : (number : ℕ) (player : Player) → slice_get after number ≡ Some player
         → (was : Player) × ((slice_get players number ≡ Some was) × HasPlayed settings was player)
@@ -124,79 +121,93 @@ module _ (settings : Settings) (of : TableId) (turns : ℕ) (first : List Entry)
     pub after_count : length after ≡ schedulers settings
     after_count = played.count ∙ players_count
 
+    -- and their passes are of the cell that was shared
+    pub of_cell : All (λ (pass : PassState). pass.of ≡ of) (map (λ (player : Player). player.pass) after)
+    of_cell = All-map (λ (pass : PassState). pass.of ≡ of) (λ (player : Player). player.pass) after (λ number other inside.
+        let player : Player = get_or after number other in
+        let found = before_of number player (slice_get-get_or after number other inside) in
+        found.1.1.of ∙ ap (λ (p : PassState). p.of) (new_player number found.0 found.1.0).pass)
+
     number_of : (number : ℕ) (player : Player) → slice_get after number ≡ Some player → player.pass.number ≡ number
     number_of number player here =
         let found = before_of number player here in
         found.1.1.number ∙ ap (λ (p : PassState). p.number) (new_player number found.0 found.1.0).pass
 
-    since : All (IsCommitOfOne (length seats)) (drop (length first) history)
-    since = λ place entry inside.
-        let by = commits place entry inside in
-        let k : ℕ = by.0 in
-        let pass : PassState = by.1 in
-        let seen : List PassState = map (λ (player : Player). player.pass) after in
-        let count : length seen ≡ length after = length-map after (λ (player : Player). player.pass) in
-        let below : k < length seen = by.2 in
-        let as_many : length after ≡ length players = played.count in
-        let one = seen_from (λ (p : Player). p.pass) after seen k pass refl (slice_get_read seen (length seen) k pass refl below (sym by.3)) in
-        record {
-          scheduler = k;
-          known = omega (arith, below, count, as_many, players_count, all);
-          commit = subst (λ (n : ℕ). is_commit_of n entry ≡ true) (ap (λ (p : PassState). p.number) (sym one.1.1) ∙ number_of k one.0 one.1.0) by.4;
-        }
+    module _
+        (succeeded : (place : ℕ) (player : Player) → slice_get after place ≡ Some player → player.failed ≡ false)
+        (history : List Entry) (begins : StartsWith history first)
+        (others : All (λ (pass : PassState). pass.first_length ≡ length first → GoesOnWithout pass.number pass.seen history) (map (λ (player : Player). player.pass) after))
+        (commits : All (λ entry. Any (λ (pass : PassState). is_commit_of pass.number entry ≡ true) (map (λ (player : Player). player.pass) after)) (drop (length first) history)) where
+      since : All (IsCommitOfOne (length seats)) (drop (length first) history)
+      since = λ place entry inside.
+          let by = commits place entry inside in
+          let k : ℕ = by.0 in
+          let pass : PassState = by.1 in
+          let seen : List PassState = map (λ (player : Player). player.pass) after in
+          let count : length seen ≡ length after = length-map after (λ (player : Player). player.pass) in
+          let below : k < length seen = by.2 in
+          let as_many : length after ≡ length players = played.count in
+          let one = seen_from (λ (p : Player). p.pass) after seen k pass refl (slice_get_read seen (length seen) k pass refl below (sym by.3)) in
+          record {
+            scheduler = k;
+            known = omega (arith, below, count, as_many, players_count, all);
+            commit = subst (λ (n : ℕ). is_commit_of n (get_or (drop (length first) history) place entry) ≡ true) (ap (λ (p : PassState). p.number) (sym one.1.1) ∙ number_of k one.0 one.1.0) by.4;
+          }
 
-    back_of : (number : ℕ) (was player : Player) → IsNewPlayer of turns first number was → HasPlayed settings was player → player.failed ≡ false
-        → GoesOnWithout player.pass.number player.pass.seen history → IsBack settings first history number was.seat player.seat
-    back_of number was player is did good on =
-        let same : player.pass.number ≡ number = did.number ∙ ap (λ (p : PassState). p.number) is.pass in
-        let old_number : was.pass.number ≡ number = ap (λ (p : PassState). p.number) is.pass in
-        let old_seen : was.pass.seen ≡ first = ap (λ (p : PassState). p.seen) is.pass in
-        let on_number : GoesOnWithout number player.pass.seen history = subst (λ (n : ℕ). GoesOnWithout n player.pass.seen history) same on in
-        record {
-          seat = seat_without number player.pass.seen history on_number settings player.seat
-              (subst (λ (n : ℕ). IsSeat settings player.pass.seen n player.seat) same did.seat);
-          desk = λ trace rows opened_at within desk.
-              let before : opened_at ≤ length was.pass.seen = subst (λ (h : List Entry). opened_at ≤ length h) (sym old_seen) within in
-              let longer : length was.pass.seen ≤ length player.pass.seen = did.within in
-              desk_without number player.pass.seen history on_number settings trace rows opened_at player.seat.desk (omega (arith, before, longer))
-              (subst (λ (n : ℕ). IsOwnDesk settings trace rows opened_at player.pass.seen n player.seat.desk) same
-              (did.desk trace rows opened_at before
-              (subst (λ (h : List Entry). IsOwnDesk settings trace rows opened_at h was.pass.number was.seat.desk) (sym old_seen)
-              (subst (λ (n : ℕ). IsOwnDesk settings trace rows opened_at first n was.seat.desk) (sym old_number) desk))));
-          commits = λ opened_at within stand.
-              let before : opened_at ≤ length was.pass.seen = subst (λ (h : List Entry). opened_at ≤ length h) (sym old_seen) within in
-              stand_without number player.pass.seen history on_number settings opened_at
-              (subst (λ (n : ℕ). OwnMayStand settings opened_at n player.pass.seen) same
-              (did.commits opened_at before
-              (subst (λ (h : List Entry). OwnMayStand settings opened_at was.pass.number h) (sym old_seen)
-              (subst (λ (n : ℕ). OwnMayStand settings opened_at n first) (sym old_number) stand))));
-          no_work = did.no_work good;
-          spent = did.spent good is.failed;
-        }
+      back_of : (number : ℕ) (was player : Player) → IsNewPlayer of turns first number was → HasPlayed settings was player → player.failed ≡ false
+          → GoesOnWithout player.pass.number player.pass.seen history → IsBack settings first history number was.seat player.seat
+      back_of number was player is did good on =
+          let same : player.pass.number ≡ number = did.number ∙ ap (λ (p : PassState). p.number) is.pass in
+          let old_number : was.pass.number ≡ number = ap (λ (p : PassState). p.number) is.pass in
+          let old_seen : was.pass.seen ≡ first = ap (λ (p : PassState). p.seen) is.pass in
+          let on_number : GoesOnWithout number player.pass.seen history = subst (λ (n : ℕ). GoesOnWithout n player.pass.seen history) same on in
+          record {
+            seat = seat_without number player.pass.seen history on_number settings player.seat
+                (subst (λ (n : ℕ). IsSeat settings player.pass.seen n player.seat) same did.seat);
+            desk = λ trace rows opened_at within desk.
+                let before : opened_at ≤ length was.pass.seen = subst (λ (h : List Entry). opened_at ≤ length h) (sym old_seen) within in
+                let longer : length was.pass.seen ≤ length player.pass.seen = did.within in
+                desk_without number player.pass.seen history on_number settings trace rows opened_at player.seat.desk (omega (arith, before, longer))
+                (subst (λ (n : ℕ). IsOwnDesk settings trace rows opened_at player.pass.seen n player.seat.desk) same
+                (did.desk trace rows opened_at before
+                (subst (λ (h : List Entry). IsOwnDesk settings trace rows opened_at h was.pass.number was.seat.desk) (sym old_seen)
+                (subst (λ (n : ℕ). IsOwnDesk settings trace rows opened_at first n was.seat.desk) (sym old_number) desk))));
+            commits = λ opened_at within stand.
+                let before : opened_at ≤ length was.pass.seen = subst (λ (h : List Entry). opened_at ≤ length h) (sym old_seen) within in
+                stand_without number player.pass.seen history on_number settings opened_at
+                (subst (λ (n : ℕ). OwnMayStand settings opened_at n player.pass.seen) same
+                (did.commits opened_at before
+                (subst (λ (h : List Entry). OwnMayStand settings opened_at was.pass.number h) (sym old_seen)
+                (subst (λ (n : ℕ). OwnMayStand settings opened_at n first) (sym old_number) stand))));
+            no_work = did.no_work good;
+            spent = did.spent good is.failed;
+          }
 
-    goes_on : (number : ℕ) (player : Player) → slice_get after number ≡ Some player → (was : Player) → IsNewPlayer of turns first number was
-        → HasPlayed settings was player → GoesOnWithout player.pass.number player.pass.seen history
-    goes_on number player here was is did =
-        let seen : List PassState = map (λ (p : Player). p.pass) after in
-        let there : slice_get seen number ≡ Some player.pass = mapped_at (λ (p : Player). p.pass) after seen number player refl here in
-        let began : player.pass.first_length ≡ length first = did.first_length ∙ ap (λ (p : PassState). p.first_length) is.pass in
-        subst (λ (p : PassState). p.first_length ≡ length first → GoesOnWithout p.number p.seen history)
-        (get_or_from_slice_get seen number player.pass player.pass there)
-        (others number player.pass (slice_get_within seen number player.pass there)) began
+      goes_on : (number : ℕ) (player : Player) → slice_get after number ≡ Some player → (was : Player) → IsNewPlayer of turns first number was
+          → HasPlayed settings was player → GoesOnWithout player.pass.number player.pass.seen history
+      goes_on number player here was is did =
+          let seen : List PassState = map (λ (p : Player). p.pass) after in
+          let there : slice_get seen number ≡ Some player.pass = mapped_at (λ (p : Player). p.pass) after seen number player refl here in
+          let began : player.pass.first_length ≡ length first = did.first_length ∙ ap (λ (p : PassState). p.first_length) is.pass in
+          subst (λ (p : PassState). p.first_length ≡ length first → GoesOnWithout p.number p.seen history)
+          (get_or_from_slice_get seen number player.pass player.pass there)
+          (others number player.pass (slice_get_within seen number player.pass there)) began
 
-    -- all are back
-    pub are_back : AreBack settings first history seats (map (λ (player : Player). player.seat) after)
-    are_back = record {
-      count = length-map after (λ (player : Player). player.seat) ∙ played.count ∙ players_count ∙ sym all;
-      begins = begins;
-      since = since;
-      each = λ number seat here.
-          let one = seen_from (λ (p : Player). p.seat) after (map (λ (player : Player). player.seat) after) number seat refl here in
-          let found = before_of number one.0 one.1.0 in
-          let is : IsNewPlayer of turns first number found.0 = new_player number found.0 found.1.0 in (
-            found.0.seat,
-            mapped_at (λ (p : Player). p.seat) players seats number found.0 of_seats found.1.0,
-            subst (IsBack settings first history number found.0.seat) one.1.1
-                (back_of number found.0 one.0 is found.1.1 (succeeded number one.0 one.1.0) (goes_on number one.0 one.1.0 found.0 is found.1.1)),
-          );
-    }
+      -- all are back
+      pub are_back : AreBack settings first history seats (map (λ (player : Player). player.seat) after)
+      are_back = record {
+        count = length-map after (λ (player : Player). player.seat) ∙ played.count ∙ players_count ∙ sym all;
+        begins = begins;
+        since = since;
+        each = λ number seat here.
+            let one = seen_from (λ (p : Player). p.seat) after (map (λ (player : Player). player.seat) after) number seat refl here in
+            let found = before_of number one.0 one.1.0 in
+            let is : IsNewPlayer of turns first number found.0 = new_player number found.0 found.1.0 in (
+              found.0.seat,
+              (
+                mapped_at (λ (p : Player). p.seat) players seats number found.0 of_seats found.1.0,
+                subst (IsBack settings first history number found.0.seat) one.1.1
+                    (back_of number found.0 one.0 is found.1.1 (succeeded number one.0 one.1.0) (goes_on number one.0 one.1.0 found.0 is found.1.1)),
+              ),
+            );
+      }

@@ -1,5 +1,5 @@
 -- What a scheduler does in a round on a thread of its own, said of its pass alone.
-use Rattle.std.specs.Prelude.{◌≡◌, ◌≤◌, ◌<◌, ◌*◌, ℕ, Bool, true, false, List, [], Option, Some, None, All, length, slice_get, take}
+use Rattle.std.specs.Prelude.{◌≡◌, ◌≤◌, ◌<◌, ◌*◌, ℕ, false, List, [], Some, None, All, length, slice_get, take}
 use Rattle.atomic_table.specs.Seated.{TableId}
 use Rattle.omega_desk.specs.Counts.{count_of}
 use Rattle.omega_desk.specs.Desks.{DeskState}

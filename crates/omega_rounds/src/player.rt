@@ -1,6 +1,5 @@
 //! A scheduler's part in a round that is played on threads.
-ghost use Rattle.std.specs.Prelude.{◌≡◌, ◌≢◌, ◌<◌, ◌≤◌, ◌+◌, ◌^◌, [], None, Some, length, IfOk, OnOk};
-ghost use Rattle.omega_copy.specs.Copies.{CopyOf};
+ghost use Rattle.std.specs.Prelude.{◌≡◌, ◌≢◌, ◌<◌, ◌+◌, ◌^◌, [], None, Some, length, IfOk, OnOk};
 ghost use Rattle.omega_model.specs.Policy.{schedulers};
 ghost use Rattle.omega_model.specs.Ranges.{IsInRange};
 ghost use Rattle.omega_rounds.specs.Players.{HasPlayed, MayPlay};
@@ -76,12 +75,7 @@ impl Player {
     }
 
     // A turn in which the copy takes over the history. Where memory runs out the seat is as before.
-    fn sync<R: Wait>(
-        &mut self,
-        rt: &R,
-        alloc: Global,
-        shared: &SharedCell,
-    ) -> Result<(), NoMemory>
+    fn sync<R: Wait>(&mut self, rt: &R, alloc: Global, shared: &SharedCell) -> Result<(), NoMemory>
         requires of { self.old.pass.of ≡ shared.now.of }
         requires left { 0 < self.old.pass.turns }
         requires seat { IsSeat self.old.seat.desk.settings self.old.pass.seen self.old.pass.number self.old.seat }

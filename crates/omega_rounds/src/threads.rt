@@ -180,7 +180,7 @@ fn play_all<R: Threads + Wait + Sync, G: Gate + Sync>(
     ensures played { HavePlayed settings.now players.old players.new }
 {
     for player in players {
-        player.failed = true;
+        player.play(rt, alloc, settings, shared, gate);
     }
 }
 

@@ -249,8 +249,10 @@ impl World {
             → IsFirstAtWork trace self.now scheduler) }
         ensures none { result ≡ None → IsDone self.now }
     {
-        let scheduler = first_at_work(self.seats.as_slice())?;
-        Some(scheduler as u32)
+        if let Some(scheduler) = first_at_work(self.seats.as_slice()) {
+            return Some(scheduler as u32);
+        }
+        None
     }
 
     // An attempt of the first scheduler that has work: it takes over the history, if it hasn't, and
@@ -263,9 +265,10 @@ impl World {
     {
         self.check_run();
         let stepped = self.step(scheduler)?;
-        if !stepped.is_committed() {
-            self.step(scheduler)?;
+        if stepped.is_committed() {
+            return Ok(());
         }
+        self.step(scheduler)?;
         Ok(())
     }
 

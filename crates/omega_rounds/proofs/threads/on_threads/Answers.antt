@@ -9,14 +9,14 @@ use Rattle.omega_rounds.proofs.EndedRounds.{begun_some, ended_idle, ended_more, 
 use Rattle.omega_rounds.proofs.threads.on_threads.Goals as goal
 
 pub loop-next-init : goal.loop-next-init
-loop-next-init c = ended_none c.args.world (c.check_run.ensures.start c.requires.new) c.check_run.ensures.made
+loop-next-init g c = ended_none c.args.world (c.check_run.ensures.start c.requires.new) c.check_run.ensures.made
 
 pub play_on_threads-requires-clause-begun : goal.play_on_threads-requires-clause-begun
-play_on_threads-requires-clause-begun c =
+play_on_threads-requires-clause-begun g c κs within =
     begun_some c.loop-next.world c.in_ok-next.next c.in-Begun.field-0 (subst (MovesOn c.loop-next.world c.in_ok-next.next) c.in-Begun.is c.in_ok-next.ensures.stage)
 
 pub play_on_threads-requires-clause-nobody : goal.play_on_threads-requires-clause-nobody
-play_on_threads-requires-clause-nobody c =
+play_on_threads-requires-clause-nobody g c κs within =
     let now = c.loop-next.world in
     let next = c.in_ok-next.next in
     nobody_begun c.args.world now next c.in-Begun.field-0 c.loop-next.invariant
@@ -24,7 +24,7 @@ play_on_threads-requires-clause-nobody c =
     (subst (λ (step : RoundStep). (trace : TraceTables) → IsInRunOf now.stage trace → GoesOn trace now next step) c.in-Begun.is c.in_ok-next.ensures.run)
 
 pub loop-next-preserved : goal.loop-next-preserved
-loop-next-preserved c =
+loop-next-preserved g c =
     let now = c.loop-next.world in
     let next = c.in_ok-next.next in
     ended_more c.args.world now next c.in_ok-world-in-Begun.world c.in-Begun.field-0 c.loop-next.invariant

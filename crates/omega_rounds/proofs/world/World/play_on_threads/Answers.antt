@@ -4,10 +4,18 @@ use Rattle.omega_rounds.specs.Stages.{WorldState, stage_of, world_of}
 use Rattle.omega_rounds.proofs.ClosedRounds.{closed_done, world_closed}
 use Rattle.omega_rounds.proofs.world.World.play_on_threads.Goals as goal
 
-pub invariant_of-world : goal.invariant_of-world
-invariant_of-world c =
+pub invariant_of-result : goal.invariant_of-result
+invariant_of-result g c =
     world_closed (stage_of c.self.inside.settings c.self.inside.rounds c.self.inside.wanted c.self.inside.begun c.self.inside.opened_at) c.self.inside.wanted.tasks
-    c.self.inside.cell.history c.in_ok-play_shared.field-0.history c.self.inside.seats.items c.in_ok-play_shared.field-1.items c.self.invariant
+    c.self.inside.cell.history c.in_ok-cell.cell.history c.self.inside.seats.items c.in_ok-cell.seats.items c.self.invariant
     (subst (λ (w : WorldState). 0 < w.stage.begun) (sym c.self.view_is) c.requires.begun)
     (subst (λ (w : WorldState). NobodySynced (world_of w)) (sym c.self.view_is) c.requires.nobody)
-    c.in_ok-play_shared.ensures.back
+    c.in_ok-cell.ensures.back
+
+pub returns-clause-done : goal.returns-clause-done
+returns-clause-done g c =
+    closed_done (stage_of c.self.inside.settings c.self.inside.rounds c.self.inside.wanted c.self.inside.begun c.self.inside.opened_at) c.self.inside.wanted.tasks
+    c.self.inside.cell.history c.in_ok-cell.cell.history c.self.inside.seats.items c.in_ok-cell.seats.items c.self.invariant
+    (subst (λ (w : WorldState). 0 < w.stage.begun) (sym c.self.view_is) c.requires.begun)
+    (subst (λ (w : WorldState). NobodySynced (world_of w)) (sym c.self.view_is) c.requires.nobody)
+    c.in_ok-cell.ensures.back
