@@ -2,10 +2,11 @@
 -- wishes for a task twice.
 use Rattle.std.proofs.Common.{◌≡◌, ◌≤◌, ◌<◌, ◌+◌, ℕ, Bool, true, false, not, ◌&&◌, List, [], ◌∷◌, map, length, Option, Some, None, refl, sym, ap, subst, arith, ◌∙◌, ◌==◌, if◌then◌else◌}
 use Rattle.std.specs.Prelude.{nat_le}
-use Rattle.std.specs.List.{All, filter, filter_map, fold, list_any, AllByRecursion as Each}
+use Rattle.std.specs.List.{All, cons_option, filter, filter_map, fold, list_any, AllByRecursion as Each}
 use Rattle.std.proofs.lemmas.Bool.{and_parts, eqb-true, lt-leb}
 use Rattle.std.proofs.lemmas.List.Elements.{All-from_recursion}
-use Rattle.omega_model.specs.ExtraTasks.{HasLowIndex}
+use Rattle.omega_model.specs.Cell.{Cell}
+use Rattle.omega_model.specs.ExtraTasks.{HasLowIndex, activities_of, wishes_after}
 use Rattle.omega_model.specs.Feed.{feed}
 use Rattle.omega_model.specs.OpenRequests.{is_worked_on, open_requests}
 use Rattle.omega_model.specs.Reply.{admits}
@@ -56,18 +57,21 @@ open_own settings trace rows history scheduler =
     (λ job routed. of_job settings trace scheduler job _ routed) jobs
     (each_map (λ job. test job ≡ true) own (λ job passes. eqb-true _ _ passes) jobs (each_passes test (jobs_in_order (feed trace))))
 
-nothing : ℕ → Option Request
-nothing job = None
+none_mapped : (asks : ℕ → Option Request) → ((job : ℕ) → asks job ≡ None) → (jobs : List ℕ) → filter_map asks jobs ≡ []
+none_mapped asks none [] = refl
+none_mapped asks none (job ∷ jobs) = ap (λ (o : Option Request). cons_option o (filter_map asks jobs)) (none job) ∙ none_mapped asks none jobs
 
-none_mapped : (jobs : List ℕ) → filter_map nothing jobs ≡ []
-unfolding nothing
-none_mapped [] = refl
-none_mapped (job ∷ jobs) = none_mapped jobs
+-- without a wanted task a job gets no extras
+no_extras : (settings : Settings) (trace : TraceTables) (cell : Cell) (job : ℕ) (activities : Option ℕ) → wishes_after settings trace cell [] job activities [] ≡ []
+no_extras settings trace cell job None = refl
+no_extras settings trace cell job (Some activities) = refl
 
 -- before the first row nothing is asked
 pub requests_none : (settings : Settings) (trace : TraceTables) (scheduler : ℕ) → requests settings trace [] [] scheduler ≡ []
-unfolding nothing
-requests_none settings trace scheduler = none_mapped (filter (works_on settings trace [] scheduler) (jobs_in_order (feed trace)))
+requests_none settings trace scheduler =
+    none_mapped (λ job. request_of job (wishes_of settings trace (state []) (wanted []) job))
+    (λ job. ap (request_of job) (no_extras settings trace (state []) job (activities_of trace job)))
+    (filter (works_on settings trace [] scheduler) (jobs_in_order (feed trace)))
 
 failed_grows : (job count : ℕ) (entry : Entry) → failed_after job count entry ≤ count + 1
 failed_grows job count (Round number) = omega arith
