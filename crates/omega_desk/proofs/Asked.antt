@@ -1,10 +1,15 @@
--- What a scheduler is asked to place in a round wishes for no task twice.
-use Rattle.std.proofs.Common.{◌≡◌, ℕ, Bool, true, false, not, ◌&&◌, List, [], ◌∷◌, ◌++◌, map, sym, subst, append-nil}
+-- What a scheduler is asked to place in a round wishes for no task twice, where no task of the trace has
+-- the index of an extra.
+use Rattle.std.proofs.Common.{◌≡◌, ℕ, Bool, true, false, not, ◌&&◌, List, [], ◌∷◌, ◌++◌, map, sym, subst, ◌≤◌, ◌<◌, arith}
 use Rattle.std.specs.List.{All, cons_option, filter, filter_map, fold, list_any, IsDistinct, AllByRecursion as Each}
-use Rattle.std.proofs.lemmas.List.Elements.{All-from_recursion}
+use Rattle.std.proofs.lemmas.List.{map-append}
+use Rattle.std.proofs.lemmas.List.Elements.{All-from_recursion, recursion_from_All}
+use Rattle.std.proofs.lemmas.Map.Keys.{IsDistinct-cons, IsDistinct-head, IsDistinct-tail}
+use Rattle.omega_model.proofs.ExtraWishes.{AreExtrasOf, IsExtraOf, extras_are, index_differs}
 use Rattle.omega_model.proofs.InOrder.{key_trans, key_differs}
 use Rattle.omega_model.proofs.Lists.{by_answer, each_map, each_append, each_filter, each_passes}
 use Rattle.omega_model.specs.Cell.{Cell}
+use Rattle.omega_model.specs.ExtraTasks.{HasLowIndex, first_extra, wishes_for_extras}
 use Rattle.omega_model.specs.Feed.{feed}
 use Rattle.omega_model.specs.Fields.{TaskFields}
 use Rattle.omega_model.specs.Keys.{same_key, key_lt}
@@ -87,23 +92,50 @@ asked_once : (job : ℕ) (wishes : List Wish) (rest : List Request) → IsDistin
 asked_once job [] rest distinct later = later
 asked_once job (wish ∷ wishes) rest distinct later = (distinct, later)
 
-wishes_distinct : (settings : Settings) (trace : TraceTables) (cell : Cell) (asked : List WantedTask) (job : ℕ) → Ascend asked
-    → IsDistinct same_key (names (wishes_of settings trace cell asked job))
-wishes_distinct settings trace cell asked job rising =
-    let waiting = filter (is_waiting cell job) asked in
-    subst (λ wishes. IsDistinct same_key (names wishes)) (sym (append-nil (map (wish_of trace) waiting)))
-    (distinct_names trace waiting (ascend_filter (is_waiting cell job) asked rising))
+-- names that differ from each other, and then others that differ from each other and from the first
+distinct_append : (keys others : List TaskKey) → IsDistinct same_key keys → IsDistinct same_key others
+    → Each (λ key. Each (λ other. same_key key other ≡ false) others) keys → IsDistinct same_key (keys ++ others)
+distinct_append [] others first second apart = second
+distinct_append (key ∷ keys) others first second apart =
+    IsDistinct-cons same_key key (keys ++ others)
+    (each_append (λ other. same_key key other ≡ false) keys others (IsDistinct-head same_key key keys first) apart.0)
+    (distinct_append keys others (IsDistinct-tail same_key key keys first) second apart.1)
 
-each_distinct : (settings : Settings) (trace : TraceTables) (cell : Cell) (asked : List WantedTask) (jobs : List ℕ) → Ascend asked
+-- a task of the trace is none of the extras
+low_differs : (trace : TraceTables) (job : ℕ) (extras : List TaskKey) (tasks : List WantedTask) → Each (IsExtraOf job) extras → Each HasLowIndex tasks
+    → Each (λ key. Each (λ other. same_key key other ≡ false) extras) (names (map (wish_of trace) tasks))
+low_differs trace job extras [] high low = tt
+low_differs trace job extras (task ∷ tasks) high low = (
+  each_map (IsExtraOf job) (λ other. same_key task.key other ≡ false)
+      (λ other is. let below : task.key.index < first_extra = low.0 in
+      let above : first_extra ≤ other.index = is.1 in
+      index_differs task.key other (omega (arith, below, above)))
+      extras high,
+  low_differs trace job extras tasks high low.1,
+)
+
+wishes_distinct : (settings : Settings) (trace : TraceTables) (cell : Cell) (asked : List WantedTask) (job : ℕ) → Ascend asked → Each HasLowIndex asked
+    → IsDistinct same_key (names (wishes_of settings trace cell asked job))
+wishes_distinct settings trace cell asked job rising low =
+    let waiting : List WantedTask = filter (is_waiting cell job) asked in
+    let extras : List Wish = wishes_for_extras settings trace cell asked job in
+    let are : AreExtrasOf job (names extras) = extras_are settings trace cell asked job in
+    subst (IsDistinct same_key) (sym (map-append (λ (wish : Wish). wish.key) (map (wish_of trace) waiting) extras))
+    (distinct_append (names (map (wish_of trace) waiting)) (names extras)
+    (distinct_names trace waiting (ascend_filter (is_waiting cell job) asked rising))
+    are.distinct
+    (low_differs trace job (names extras) waiting are.each (each_filter HasLowIndex (is_waiting cell job) asked low)))
+
+each_distinct : (settings : Settings) (trace : TraceTables) (cell : Cell) (asked : List WantedTask) (jobs : List ℕ) → Ascend asked → Each HasLowIndex asked
     → Each HasDistinctWishes (filter_map (λ job. request_of job (wishes_of settings trace cell asked job)) jobs)
-each_distinct settings trace cell asked [] rising = tt
-each_distinct settings trace cell asked (job ∷ jobs) rising =
-    asked_once job (wishes_of settings trace cell asked job) _ (wishes_distinct settings trace cell asked job rising)
-    (each_distinct settings trace cell asked jobs rising)
+each_distinct settings trace cell asked [] rising low = tt
+each_distinct settings trace cell asked (job ∷ jobs) rising low =
+    asked_once job (wishes_of settings trace cell asked job) _ (wishes_distinct settings trace cell asked job rising low)
+    (each_distinct settings trace cell asked jobs rising low)
 
 pub requests_distinct : (settings : Settings) (trace : TraceTables) (rows : List Row) (history : List Entry) (scheduler : ℕ)
-    → All HasDistinctWishes (requests settings trace rows history scheduler)
-requests_distinct settings trace rows history scheduler =
+    → All HasLowIndex (wanted rows) → All HasDistinctWishes (requests settings trace rows history scheduler)
+requests_distinct settings trace rows history scheduler low =
     All-from_recursion HasDistinctWishes _
     (each_distinct settings trace (state history) (wanted rows) (filter (works_on settings trace history scheduler) (jobs_in_order (feed trace)))
-    (ascend_rows rows [] tt))
+    (ascend_rows rows [] tt) (recursion_from_All HasLowIndex (wanted rows) low))

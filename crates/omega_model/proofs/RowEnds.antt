@@ -1,13 +1,12 @@
 -- The entries of a task row are ends of tasks, and each of them runs once those before it have ended.
 use Rattle.std.proofs.Common.{◌≡◌, ◌≤◌, ◌<◌, ℕ, Bool, true, false, List, [], ◌∷◌, ◌++◌, map, Option, Some, None, refl, sym, ap, subst, ◌∙◌, arith, inr}
-use Rattle.std.specs.Prelude.{IsSomeAnd}
+use Rattle.std.specs.Prelude.{if◌then◌else◌, option_to_list}
 use Rattle.std.specs.List.{filter, fold, zip, AllByRecursion as Each}
 use Rattle.std.proofs.lemmas.Bool.{and_parts, eqb-true, leb-true}
 use Rattle.std.proofs.lemmas.Option.{none-some, same_Some}
 use Rattle.omega_model.proofs.Growing.{state_push}
 use Rattle.omega_model.proofs.InOrder.{Rise, key_differs, key_itself, key_same, rise_filter, rise_with, same_key-sym, tested_before}
 use Rattle.omega_model.proofs.Lists.{by_answer, each_both, each_filter, each_map, each_passes, found_passes}
-use Rattle.omega_model.specs.Applying.{EndsRunning}
 use Rattle.omega_model.specs.Cell.{Cell, task_at}
 use Rattle.omega_model.specs.ExtraTasks.{ends_of_extras, first_extra, is_extra_of, is_wanted, running_extras}
 use Rattle.omega_model.specs.Fields.{TaskFields}
@@ -80,19 +79,14 @@ found_still p key task (first ∷ tasks) stays found =
     (λ f. let rest : task_at (filter p tasks) key ≡ Some task = found_still p key task tasks stays (rw f at found) in
     by_answer (p first) (λ t. rw (t, f) rest) (λ g. rw g rest))
 
--- an entry ends a task that runs
-abbrev pub EndsOne : List Entry → Entry → Type 0
-EndsOne history (End key machine) = EndsRunning (state history).tasks (End key machine)
-EndsOne history _ = ⊥
-
--- entries end one running task after the other
-abbrev pub EndInTurn : List Entry → List Entry → Type 0
-EndInTurn history [] = Unit {0}
-EndInTurn history (entry ∷ entries) = EndsOne history entry × EndInTurn (history ++ entry ∷ []) entries
-
 -- the end of a running task
-abbrev end_task : Task → Entry
+abbrev pub end_task : Task → Entry
 end_task task = End task.key task.machine
+
+-- these tasks end one after the other: each runs once those before it have ended
+abbrev pub EndInTurn : List Entry → List Task → Type 0
+EndInTurn history [] = Unit {0}
+EndInTurn history (task ∷ some) = (task_at (state history).tasks task.key ≡ Some task) × EndInTurn (history ++ end_task task ∷ []) some
 
 -- these tasks run
 abbrev Run : List Entry → List Task → Type 0
@@ -112,12 +106,10 @@ run_on history ended some others run =
     some others run
 
 -- running tasks in order of name may end one after the other
-end_in_turn : (history : List Entry) (some : List Task) → Rise some → Run history some → EndInTurn history (map end_task some)
+end_in_turn : (history : List Entry) (some : List Task) → Rise some → Run history some → EndInTurn history some
 end_in_turn history [] rise run = tt
-end_in_turn history (task ∷ some) rise run = (
-  subst (λ (o : Option Task). IsSomeAnd o (λ (t : Task). t.machine ≡ task.machine)) (sym run.0) refl,
-  end_in_turn (history ++ end_task task ∷ []) some rise.1 (run_on history task some rise.0 run.1),
-)
+end_in_turn history (task ∷ some) rise run =
+    (run.0, end_in_turn (history ++ end_task task ∷ []) some rise.1 (run_on history task some rise.0 run.1))
 
 -- an extra's name stands behind that of a task of its job with a lower index
 extra_behind : (key : TaskKey) (extra : Task) → key.index < first_extra → is_extra_of key.job extra ≡ true → key_lt key extra.key ≡ true
@@ -135,14 +127,33 @@ extras_run history job =
     each_filter (λ task. task_at (state history).tasks task.key ≡ Some task) (is_extra_of job) (state history).tasks
     (each_found (state history).tasks (state_rises history))
 
--- a task that ends, and then the extras of its job or none of them
-ends_with : (history : List Entry) (key : TaskKey) (left : List WantedTask) (found : Option Task) → key.index < first_extra
-    → task_at (state history).tasks key ≡ found → EndInTurn history (end_of found ++ ends_of_extras (state history) left key.job)
-ends_with history key left None low is =
+-- the tasks that end where this one does, if it runs: it and the extras of its job, or none of these
+abbrev pub stopped_with : Cell → List WantedTask → ℕ → Option Task → List Task
+stopped_with cell left job found = option_to_list found ++ (if is_wanted left job then [] else running_extras cell job)
+
+-- the tasks that a task row ends on a cell, where it leaves these tasks wanted
+abbrev pub stopped_by : Cell → List WantedTask → TaskFields → List Task
+stopped_by cell left row = if ends row.code then stopped_with cell left row.key.job (task_at cell.tasks row.key) else []
+
+stops_with : (cell : Cell) (left : List WantedTask) (job : ℕ) (found : Option Task)
+    → end_of found ++ ends_of_extras cell left job ≡ map end_task (stopped_with cell left job found)
+stops_with cell left job None = by_answer (is_wanted left job) (λ t. rw t refl) (λ f. rw f refl)
+stops_with cell left job (Some task) = by_answer (is_wanted left job) (λ t. rw t refl) (λ f. rw f refl)
+
+-- the entries of a task row are their ends
+pub stops : (cell : Cell) (left : List WantedTask) (row : TaskFields) → task_entries cell left row ≡ map end_task (stopped_by cell left row)
+stops cell left row =
+    by_answer (ends row.code)
+    (λ t. rw t (stops_with cell left row.key.job (task_at cell.tasks row.key)))
+    (λ f. rw f refl)
+
+stop_with : (history : List Entry) (key : TaskKey) (left : List WantedTask) (found : Option Task) → key.index < first_extra
+    → task_at (state history).tasks key ≡ found → EndInTurn history (stopped_with (state history) left key.job found)
+stop_with history key left None low is =
     by_answer (is_wanted left key.job)
     (λ t. rw t tt)
     (λ f. rw f (end_in_turn history (running_extras (state history) key.job) (extras_rise history key.job) (extras_run history key.job)))
-ends_with history key left (Some task) low is =
+stop_with history key left (Some task) low is =
     let same : task.key ≡ key = key_same task.key key (found_passes (λ (t : Task). same_key t.key key) (state history).tasks task is) in
     let runs : task_at (state history).tasks task.key ≡ Some task = ap (task_at (state history).tasks) same ∙ is in
     let extras : List Task = running_extras (state history) key.job in
@@ -154,10 +165,10 @@ ends_with history key left (Some task) low is =
     (λ t. rw t (end_in_turn history (task ∷ []) (tt, tt) (runs, tt)))
     (λ f. rw f (end_in_turn history (task ∷ extras) (behind, extras_rise history key.job) (runs, extras_run history key.job)))
 
--- the entries of a task row end one running task after the other
-pub task_ends : (history : List Entry) (left : List WantedTask) (row : TaskFields) → row.key.index < first_extra
-    → EndInTurn history (task_entries (state history) left row)
-task_ends history left row low =
+-- they end one after the other, where the row's task is none of the extras
+pub stop_in_turn : (history : List Entry) (left : List WantedTask) (row : TaskFields) → row.key.index < first_extra
+    → EndInTurn history (stopped_by (state history) left row)
+stop_in_turn history left row low =
     by_answer (ends row.code)
-    (λ t. rw t (ends_with history row.key left (task_at (state history).tasks row.key) low refl))
+    (λ t. rw t (stop_with history row.key left (task_at (state history).tasks row.key) low refl))
     (λ f. rw f tt)

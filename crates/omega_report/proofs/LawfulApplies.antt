@@ -12,9 +12,11 @@ use Rattle.omega_model.proofs.Growing.{by_place_push, state_push}
 use Rattle.omega_model.proofs.InOrder.{key_same}
 use Rattle.omega_model.proofs.Listed.{each_changed, each_ensured, numbers_changed, numbers_ensured}
 use Rattle.omega_model.proofs.Lists.{by_answer, each_append, each_both, each_filter, each_map, each_of, found_passes}
+use Rattle.omega_model.proofs.RowEnds.{EndInTurn, end_task, stop_in_turn, stopped_by, stops}
 use Rattle.omega_model.proofs.Remaining.{by_place_front}
 use Rattle.omega_model.specs.Applying.{CapacityIsInRange, EachMayApply, EndsRunning, ListsOrHasRoom, MayApply, PlacesInOrder, capacity_in, machine_in}
 use Rattle.omega_model.specs.Cell.{Cell, task_at}
+use Rattle.omega_model.specs.ExtraTasks.{first_extra}
 use Rattle.omega_model.specs.Feed.{by_time, event_rows, feed, is_of_round, put_by_time, round_at, rounds, time_of}
 use Rattle.omega_model.specs.Fields.{AttrFields, DiskFields, MachineFields, TaskFields, greatest, greatest_quantity}
 use Rattle.omega_model.specs.Keys.{same_key}
@@ -25,7 +27,7 @@ use Rattle.omega_model.specs.Need.{Fits}
 use Rattle.omega_model.specs.State.{machines_after, reply_of, state}
 use Rattle.omega_model.specs.Touches.{seq, touches}
 use Rattle.omega_model.specs.RowEntries.{row_entries}
-use Rattle.omega_model.specs.Wanted.{WantedTask, attr_entry, capacity_from, disk_of, end_of, ends, machine_entry, wanted}
+use Rattle.omega_model.specs.Wanted.{WantedTask, attr_entry, capacity_from, disk_of, machine_entry, wanted}
 use Rattle.omega_model.specs.declared.cells.Machine.{Machine}
 use Rattle.omega_model.specs.declared.cells.Task.{Task}
 use Rattle.omega_model.specs.declared.cells.TaskKey.{TaskKey}
@@ -63,11 +65,11 @@ good_none trace place entry is = absurd (none-some entry is)
 good_push : (trace : TraceTables) (history : List Entry) (entry : Entry) → AllGood trace history → IsGood trace history entry → AllGood trace (history ++ entry ∷ [])
 good_push trace history entry all good = by_place_push (IsGood trace) history entry all good
 
--- what a row of the trace says is in range, and its machine is named
+-- what a row of the trace says is in range, its machine is named, and its task is none of the extras
 abbrev IsRow : TraceTables → Row → Type 0
 IsRow trace (MachineEvent row) = Fits (capacity_from trace.disks row) greatest × IsNamed trace row.machine
 IsRow trace (AttrEvent row) = IsNamed trace row.machine
-IsRow trace (TaskEvent row) = Unit {0}
+IsRow trace (TaskEvent row) = row.key.index < first_extra
 
 -- the entry of a machine row
 machine_good : (trace : TraceTables) (before : List Entry) (row : MachineFields) → Fits (capacity_from trace.disks row) greatest → IsNamed trace row.machine
@@ -91,21 +93,21 @@ attr_good trace before row named =
     ]
 
 -- the end of a running task
-end_good : (trace : TraceTables) (before : List Entry) (key : TaskKey) (task : Task) → task_at (state before).tasks key ≡ Some task → IsGood trace before (End task.key task.machine)
-end_good trace before key task found =
-    let same : task.key ≡ key = key_same task.key key (found_passes (λ (t : Task). same_key t.key key) (state before).tasks task found) in
-    let again : task_at (state before).tasks task.key ≡ Some task = ap (task_at (state before).tasks) same ∙ found in
-    record {
-      capacity = tt;
-      named = tt;
-      ends = subst (λ (o : Option Task). IsSomeAnd o (λ (t : Task). t.machine ≡ task.machine)) (sym again) refl;
-      places = tt;
-    }
+end_good : (trace : TraceTables) (before : List Entry) (task : Task) → task_at (state before).tasks task.key ≡ Some task → IsGood trace before (end_task task)
+end_good trace before task runs = record {
+  capacity = tt;
+  named = tt;
+  ends = subst (λ (o : Option Task). IsSomeAnd o (λ (t : Task). t.machine ≡ task.machine)) (sym runs) refl;
+  places = tt;
+}
 
-ends_good : (trace : TraceTables) (history : List Entry) (key : TaskKey) (found : Option Task) → task_at (state history).tasks key ≡ found
-    → AllGood trace history → AllGood trace (history ++ (end_of found ++ []))
-ends_good trace history key None is all = subst (AllGood trace) (sym (append-nil history)) all
-ends_good trace history key (Some task) is all = good_push trace history (End task.key task.machine) all (end_good trace history key task is)
+-- the ends of tasks that end one after the other
+ends_good : (trace : TraceTables) (history : List Entry) (some : List Task) → EndInTurn history some
+    → AllGood trace history → AllGood trace (history ++ map end_task some)
+ends_good trace history [] turn all = subst (AllGood trace) (sym (append-nil history)) all
+ends_good trace history (task ∷ some) turn all =
+    subst (AllGood trace) (append_assoc history (end_task task ∷ []) (map end_task some))
+    (ends_good trace (history ++ end_task task ∷ []) some turn.1 (good_push trace history (end_task task) all (end_good trace history task turn.0)))
 
 -- the entries of a row
 row_good : (trace : TraceTables) (history : List Entry) (left : List WantedTask) (row : Row) → IsRow trace row → AllGood trace history
@@ -113,10 +115,7 @@ row_good : (trace : TraceTables) (history : List Entry) (left : List WantedTask)
 row_good trace history left (MachineEvent row) is all = good_push trace history (machine_entry trace.disks row) all (machine_good trace history row is.0 is.1)
 row_good trace history left (AttrEvent row) is all = good_push trace history (attr_entry row) all (attr_good trace history row is)
 row_good trace history left (TaskEvent row) is all =
-    elim (ends row.code) as (λ test. AllGood trace (history ++ (if test then end_of (task_at (state history).tasks row.key) ++ [] else []))) [
-      | true ↦ ends_good trace history row.key (task_at (state history).tasks row.key) refl all
-      | false ↦ subst (AllGood trace) (sym (append-nil history)) all
-    ]
+    rw (stops (state history) left row) (ends_good trace history (stopped_by (state history) left row) (stop_in_turn history left row is) all)
 
 rows_good : (trace : TraceTables) (rows : List Row) (applied : Applied) → Each (IsRow trace) rows → AllGood trace applied.history
     → AllGood trace (fold (with_row trace) applied rows).history
@@ -226,7 +225,7 @@ module _ (settings : Settings) (trace : TraceTables) (ranges : RowsAreInRange tr
       (each_map (λ (row : AttrFields). IsIn (map (λ (r : AttrFields). r.machine) trace.attrs) row.machine) (λ (row : AttrFields). IsRow trace (AttrEvent row))
       (λ row is. in_back (map (λ (r : MachineFields). r.machine) trace.machines) (map (λ (r : AttrFields). r.machine) trace.attrs) row.machine is)
       trace.attrs (each_in (λ (r : AttrFields). r.machine) trace.attrs))))
-      (each_made (IsRow trace) (λ row. TaskEvent row) trace.tasks (each_of (λ (row : TaskFields). IsRow trace (TaskEvent row)) (λ row. tt) trace.tasks))
+      (each_made (IsRow trace) (λ row. TaskEvent row) trace.tasks (each_from_all (λ (row : TaskFields). row.key.index < first_extra) trace.tasks ranges.tasks))
     where
       machine_row : (row : MachineFields) → Fits row.cap greatest → IsIn (map (λ (r : MachineFields). r.machine) trace.machines) row.machine → IsRow trace (MachineEvent row)
       machine_row row fits is = (

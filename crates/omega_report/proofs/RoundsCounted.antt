@@ -4,13 +4,14 @@ use Rattle.std.specs.Prelude.{count_by}
 use Rattle.std.specs.List.{fold}
 use Rattle.std.proofs.lemmas.List.{take-append-drop}
 use Rattle.std.proofs.lemmas.List.Sums.{sum_by-append, sum_by-cons}
-use Rattle.omega_model.specs.Cell.{Cell, task_at}
+use Rattle.omega_model.proofs.RowEnds.{end_task, stopped_by, stops}
+use Rattle.omega_model.specs.Cell.{Cell}
 use Rattle.omega_model.specs.Feed.{rounds}
 use Rattle.omega_model.specs.Fields.{AttrFields, DiskFields, MachineFields}
 use Rattle.omega_model.specs.Lawful.{Applied, IsCommitOfRound, Lawful, RoundOf, RoundSoFar, Rounds, opened, with_row}
 use Rattle.omega_model.specs.State.{state}
 use Rattle.omega_model.specs.RowEntries.{row_entries}
-use Rattle.omega_model.specs.Wanted.{WantedTask, attr_entry, capacity_from, end_of, ends, machine_entry, wanted}
+use Rattle.omega_model.specs.Wanted.{WantedTask, attr_entry, capacity_from, machine_entry, wanted}
 use Rattle.omega_model.specs.declared.cells.Task.{Task}
 use Rattle.omega_model.specs.declared.entries.Entry.{Entry}
 use Rattle.omega_model.specs.declared.entries.Entry.TheVariants.{Round as RoundEntry, MachineAdd, MachineUpdate, MachineRemove, AttrSet, AttrDelete, End, Commit}
@@ -44,15 +45,17 @@ attr_none row =
 one_none : (entry : Entry) → begins_round entry ≡ false → begun (entry ∷ []) ≡ 0
 one_none entry none = rw none refl
 
-ends_none : (found : Option Task) → begun (end_of found ++ []) ≡ 0
-ends_none None = refl
-ends_none (Some task) = refl
+ends_none : (some : List Task) → begun (map end_task some) ≡ 0
+ends_none [] = refl
+ends_none (task ∷ some) =
+    let rest : begun (map end_task some) ≡ 0 = ends_none some in
+    sum_by-cons (λ e. cond (begins_round e) 1 0) (end_task task) (map end_task some) ∙ omega (arith, rest)
 
 row_none : (disks : List DiskFields) (cell : Cell) (left : List WantedTask) (row : Row) → begun (row_entries disks cell left row) ≡ 0
 row_none disks cell left (MachineEvent row) = one_none (machine_entry disks row) (machine_none disks row)
 row_none disks cell left (AttrEvent row) = one_none (attr_entry row) (attr_none row)
 row_none disks cell left (TaskEvent row) =
-    elim (ends row.code) as (λ test. begun (if test then end_of (task_at cell.tasks row.key) ++ [] else []) ≡ 0) [ true ↦ ends_none (task_at cell.tasks row.key) | false ↦ refl ]
+    ap begun (stops cell left row) ∙ ends_none (stopped_by cell left row)
 
 rows_none : (trace : TraceTables) (rows : List Row) (applied : Applied) → begun (fold (with_row trace) applied rows).history ≡ begun applied.history
 rows_none trace [] applied = refl

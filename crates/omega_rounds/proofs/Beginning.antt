@@ -6,6 +6,7 @@ use Rattle.std.proofs.lemmas.List.{length-set}
 use Rattle.std.proofs.lemmas.Option.{slice_get_within}
 use Rattle.omega_feed.specs.Asked.{Asked, asked_after}
 use Rattle.omega_model.specs.Cell.{Cell}
+use Rattle.omega_model.specs.ExtraTasks.{HasLowIndex}
 use Rattle.omega_model.specs.OpenRequests.{open_requests as all_requests}
 use Rattle.omega_model.specs.State.{state}
 use Rattle.omega_model.specs.Work.{fresh}
@@ -67,13 +68,13 @@ pub idle_still : (asked : Asked) (history : List Entry) (old now : List Seat) (p
 idle_still asked history old now place seat have idle here = idle place seat (sym (have.rest place (omega arith)) ∙ here)
 
 -- what is asked of a scheduler wishes for no task twice
-pub asked_distinct : (asked : Asked) (history : List Entry) (cell : Cell) (place : ℕ) (all : List Request) → IsAsked asked → cell ≡ state history
+pub asked_distinct : (asked : Asked) (history : List Entry) (cell : Cell) (place : ℕ) (all : List Request) → IsAsked asked → All HasLowIndex asked.tasks → cell ≡ state history
     → ((settings : Settings) (trace : TraceTables) (rows : List Row) → asked ≡ asked_after settings trace rows → all ≡ all_requests settings trace rows cell place)
     → All HasDistinctWishes all
-asked_distinct asked history cell place all is now are =
+asked_distinct asked history cell place all is low now are =
     subst (All HasDistinctWishes)
     (sym (are is.settings is.trace is.rows is.asks ∙ ap (λ (c : Cell). all_requests is.settings is.trace is.rows c place) now))
-    (open_distinct is.settings is.trace is.rows history place)
+    (open_distinct is.settings is.trace is.rows history place (subst (All HasLowIndex) (ap (λ (a : Asked). a.tasks) is.asks) low))
 
 -- a seat begins
 pub seat_begins : (asked : Asked) (history : List Entry) (cell : Cell) (place : ℕ) (all : List Request) (old new : Seat) → cell ≡ state history

@@ -1,40 +1,33 @@
 -- The entries of a round and of its rows may be fed to the cell.
-use Rattle.std.proofs.Common.{◌≡◌, ℕ, Bool, true, false, List, [], ◌∷◌, ◌++◌, Option, Some, None, refl, ap, subst, sym, ◌∙◌}
+use Rattle.std.proofs.Common.{◌≡◌, ℕ, Bool, true, false, List, [], ◌∷◌, ◌++◌, map, Option, Some, refl, ap, subst, sym, ◌∙◌}
 use Rattle.std.specs.Prelude.{◌==◌, if◌then◌else◌, All, IsSomeAnd}
 use Rattle.std.proofs.lemmas.List.Elements.{All-head}
 use Rattle.omega_model.specs.Applying.{CapacityIsInRange}
 use Rattle.omega_model.specs.Cell.{Cell, task_at}
 use Rattle.omega_model.specs.Fields.{MachineFields, AttrFields, DiskFields}
-use Rattle.omega_model.specs.Keys.{same_key}
 use Rattle.omega_model.specs.State.{state}
 use Rattle.omega_model.specs.RowEntries.{row_entries}
-use Rattle.omega_model.specs.Wanted.{WantedTask, attr_entry, capacity_from, end_of, ends, machine_entry}
+use Rattle.omega_model.specs.Wanted.{WantedTask, attr_entry, capacity_from, machine_entry}
 use Rattle.omega_model.specs.declared.cells.Task.{Task}
-use Rattle.omega_model.specs.declared.cells.TaskKey.{TaskKey}
 use Rattle.omega_model.specs.declared.entries.Entry.{Entry}
-use Rattle.omega_model.specs.declared.entries.Entry.TheVariants.{Round, MachineAdd, MachineUpdate, MachineRemove, AttrSet, AttrDelete, End}
+use Rattle.omega_model.specs.declared.entries.Entry.TheVariants.{MachineAdd, MachineUpdate, MachineRemove, AttrSet, AttrDelete}
 use Rattle.omega_model.specs.declared.rows.Row.{Row}
 use Rattle.omega_model.specs.declared.rows.Row.TheVariants.{Machine, Attr, Task as TaskEvent}
-use Rattle.omega_model.proofs.InOrder.{key_same}
-use Rattle.omega_model.proofs.Lists.{found_passes}
-use Rattle.omega_rounds.specs.Opening.{MayFeed, MayFeedAll}
+use Rattle.omega_model.proofs.RowEnds.{EndInTurn, end_task, stop_in_turn, stopped_by, stops}
+use Rattle.omega_rounds.specs.Opening.{HasLowTask, MayFeed, MayFeedAll}
 
 -- the end of a running task
-end_may : (history : List Entry) (key : TaskKey) (task : Task) → task_at (state history).tasks key ≡ Some task
-    → MayFeed history (End task.key task.machine)
-end_may history key task found =
-    let same : task.key ≡ key = key_same task.key key (found_passes (λ (t : Task). same_key t.key key) (state history).tasks task found) in
-    let again : task_at (state history).tasks task.key ≡ Some task = ap (task_at (state history).tasks) same ∙ found in
-    record {
-      no_commit = refl;
-      capacity = tt;
-      ends = subst (λ (o : Option Task). IsSomeAnd o (λ (t : Task). t.machine ≡ task.machine)) (sym again) refl;
-    }
+end_may : (history : List Entry) (task : Task) → task_at (state history).tasks task.key ≡ Some task → MayFeed history (end_task task)
+end_may history task runs = record {
+  no_commit = refl;
+  capacity = tt;
+  ends = subst (λ (o : Option Task). IsSomeAnd o (λ (t : Task). t.machine ≡ task.machine)) (sym runs) refl;
+}
 
-ends_may : (history : List Entry) (key : TaskKey) (found : Option Task) → task_at (state history).tasks key ≡ found
-    → MayFeedAll history (end_of found ++ [])
-ends_may history key None is = tt
-ends_may history key (Some task) is = (end_may history key task is, tt)
+-- the ends of tasks that end one after the other
+ends_may : (history : List Entry) (some : List Task) → EndInTurn history some → MayFeedAll history (map end_task some)
+ends_may history [] turn = tt
+ends_may history (task ∷ some) turn = (end_may history task turn.0, ends_may (history ++ end_task task ∷ []) some turn.1)
 
 machine_may : (history : List Entry) (disks : List DiskFields) (row : MachineFields) → CapacityIsInRange (machine_entry disks row)
     → MayFeed history (machine_entry disks row)
@@ -60,22 +53,21 @@ attr_may history row =
       | false ↦ record { no_commit = refl; capacity = tt; ends = tt }
     ]
 
-row_may : (history : List Entry) (disks : List DiskFields) (left : List WantedTask) (row : Row)
+row_may : (history : List Entry) (disks : List DiskFields) (left : List WantedTask) (row : Row) → HasLowTask row
     → All CapacityIsInRange (row_entries disks (state history) left row)
     → MayFeedAll history (row_entries disks (state history) left row)
-row_may history disks left (Machine row) range = (machine_may history disks row (All-head CapacityIsInRange (machine_entry disks row) [] range), tt)
-row_may history disks left (Attr row) range = (attr_may history row, tt)
-row_may history disks left (TaskEvent row) range =
-    elim (ends row.code) as (λ test. MayFeedAll history (if test then end_of (task_at (state history).tasks row.key) ++ [] else []))
-    [ true ↦ ends_may history row.key (task_at (state history).tasks row.key) refl | false ↦ tt ]
+row_may history disks left (Machine row) low range = (machine_may history disks row (All-head CapacityIsInRange (machine_entry disks row) [] range), tt)
+row_may history disks left (Attr row) low range = (attr_may history row, tt)
+row_may history disks left (TaskEvent row) low range =
+    rw (stops (state history) left row) (ends_may history (stopped_by (state history) left row) (stop_in_turn history left row low))
 
 -- the entries of a row, made on the cell of a history, may be fed to it
 pub made_may : (history : List Entry) (disks : List DiskFields) (left : List WantedTask) (row : Row) (cell : Cell) (entries : List Entry)
-    → cell ≡ state history → entries ≡ row_entries disks cell left row → All CapacityIsInRange entries
+    → HasLowTask row → cell ≡ state history → entries ≡ row_entries disks cell left row → All CapacityIsInRange entries
     → MayFeedAll history entries × (entries ≡ row_entries disks (state history) left row)
-made_may history disks left row cell entries now made range =
+made_may history disks left row cell entries low now made range =
     let same : entries ≡ row_entries disks (state history) left row = made ∙ ap (λ (c : Cell). row_entries disks c left row) now in (
       subst (λ (es : List Entry). MayFeedAll history es) (sym same)
-          (row_may history disks left row (subst (λ (es : List Entry). All CapacityIsInRange es) same range)),
+          (row_may history disks left row low (subst (λ (es : List Entry). All CapacityIsInRange es) same range)),
       same,
     )

@@ -50,7 +50,7 @@ pub made_of : (settings : Settings) (trace : TraceTables) (all : List Round) (as
     → all ≡ rounds trace settings.window → asked ≡ asked_after settings trace rows
     → (begun opened_at : ℕ) → IsInRunOf (stage_of settings all asked begun opened_at) trace
 made_of settings trace all asked rows rounds_are asks begun opened_at =
-    ap₂ (λ (rs : List Round) (a : Asked). let s : Source = record { rounds = rs; jobs = a.jobs; constraints = a.constraints; disks = a.disks } in s) rounds_are asks
+    ap₂ (λ (rs : List Round) (a : Asked). let s : Source = record { rounds = rs; asked = record a { tasks = [] } } in s) rounds_are asks
 
 -- what is left to the desk of a scheduler that has done nothing yet
 desk_new : (settings : Settings) (trace : TraceTables) (number : ℕ) (desk : DeskState) → left_at desk ≡ fresh (λ job. 0) []

@@ -24,6 +24,7 @@ use Rattle.omega_model.specs.declared.rows.TraceTables.{TraceTables}
 use Rattle.omega_model.specs.declared.settings.Settings.{Settings}
 use Rattle.omega_model.specs.declared.wishes.Request.{Request}
 use Rattle.omega_model.specs.declared.wishes.Wish.{Wish}
+use Rattle.omega_model.proofs.ExtraWishes.{IsExtraOf, extras_are, names_of}
 use Rattle.omega_model.proofs.Lists.{by_answer, each_append, each_filter, each_map, each_of, each_passes}
 use Rattle.omega_rounds.proofs.OtherJobs.{IsPlanFor, each_image, plan_is_for}
 use Rattle.omega_rounds.proofs.Suited.{OfValue, each_mapped}
@@ -44,7 +45,11 @@ waiting_of_job cell job task waits =
 
 module _ (settings : Settings) (trace : TraceTables) where
   extras_of_job : (cell : Cell) (asked : List WantedTask) (job : ℕ) → Each (IsOfJob job) (wishes_for_extras settings trace cell asked job)
-  extras_of_job cell asked job = tt
+  extras_of_job cell asked job =
+      of_names (wishes_for_extras settings trace cell asked job) (extras_are settings trace cell asked job).each where
+      of_names : (wishes : List Wish) → Each (IsExtraOf job) (names_of wishes) → Each (IsOfJob job) wishes
+      of_names [] each = tt
+      of_names (wish ∷ wishes) each = (each.0.0, of_names wishes each.1)
 
   wishes_of_job : (cell : Cell) (asked : List WantedTask) (job : ℕ) → Each (IsOfJob job) (wishes_of settings trace cell asked job)
   wishes_of_job cell asked job =

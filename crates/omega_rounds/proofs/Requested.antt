@@ -5,6 +5,7 @@ use Rattle.std.specs.Prelude.{nat_le}
 use Rattle.std.specs.List.{All, filter, filter_map, fold, list_any, AllByRecursion as Each}
 use Rattle.std.proofs.lemmas.Bool.{and_parts, eqb-true, lt-leb}
 use Rattle.std.proofs.lemmas.List.Elements.{All-from_recursion}
+use Rattle.omega_model.specs.ExtraTasks.{HasLowIndex}
 use Rattle.omega_model.specs.Feed.{feed}
 use Rattle.omega_model.specs.OpenRequests.{is_worked_on, open_requests}
 use Rattle.omega_model.specs.Reply.{admits}
@@ -96,12 +97,12 @@ all_kept test passes (x ∷ xs) = rw (passes x) (ap (λ rest. x ∷ rest) (all_k
 -- no request wishes for a task twice, also where jobs that are given up count: they are the requests under
 -- settings that give no job up
 pub open_distinct : (settings : Settings) (trace : TraceTables) (rows : List Row) (history : List Entry) (scheduler : ℕ)
-    → All HasDistinctWishes (open_requests settings trace rows (state history) scheduler)
-open_distinct settings trace rows history scheduler =
+    → All HasLowIndex (wanted rows) → All HasDistinctWishes (open_requests settings trace rows (state history) scheduler)
+open_distinct settings trace rows history scheduler low =
     let patient : Settings = record settings { give_up = length history + 1 } in
     let all : List Request = open_requests settings trace rows (state history) scheduler in
     let tried : (request : Request) → is_worked_on patient history request ≡ true =
     λ request. let few : failed history request.job ≤ 0 + length history = failed_within request.job 0 history in
     ap not (lt-leb (length history + 1) (failed history request.job) (omega (arith, few))) in
     subst (All HasDistinctWishes) (requests_from_open patient trace rows history scheduler ∙ all_kept (is_worked_on patient history) tried all)
-    (requests_distinct patient trace rows history scheduler)
+    (requests_distinct patient trace rows history scheduler low)

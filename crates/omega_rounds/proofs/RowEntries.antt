@@ -1,12 +1,12 @@
 -- The entries of rows.
-use Rattle.std.proofs.Common.{ℕ, true, false, List, [], ◌++◌, Option, Some, None}
+use Rattle.std.proofs.Common.{true, false, List, [], ◌∷◌, map}
 use Rattle.std.specs.Prelude.{◌==◌, All, if◌then◌else◌}
-use Rattle.std.proofs.lemmas.List.Elements.{All-append, All-cons, All-nil}
-use Rattle.omega_model.specs.Cell.{Cell, task_at}
+use Rattle.std.proofs.lemmas.List.Elements.{All-cons, All-nil}
+use Rattle.omega_model.proofs.RowEnds.{end_task, stopped_by, stops}
+use Rattle.omega_model.specs.Cell.{Cell}
 use Rattle.omega_model.specs.Fields.{MachineFields, AttrFields, TaskFields, DiskFields}
-use Rattle.omega_model.specs.ExtraTasks.{ends_of_extras}
 use Rattle.omega_model.specs.RowEntries.{row_entries, task_entries}
-use Rattle.omega_model.specs.Wanted.{WantedTask, attr_entry, capacity_from, end_of, ends, machine_entry}
+use Rattle.omega_model.specs.Wanted.{WantedTask, attr_entry, capacity_from, machine_entry}
 use Rattle.omega_model.specs.declared.cells.Task.{Task}
 use Rattle.omega_model.specs.declared.entries.Entry.{Entry}
 use Rattle.omega_model.specs.declared.entries.Entry.TheVariants.{Round as RoundEntry, MachineAdd, MachineUpdate, MachineRemove, AttrSet, AttrDelete, End, Commit}
@@ -29,20 +29,13 @@ machine_is_of_row disks row = elim (row.code == 0) as (λ test. IsOfRow (if test
 attr_is_of_row : (row : AttrFields) → IsOfRow (attr_entry row)
 attr_is_of_row row = elim row.deleted as (λ test. IsOfRow (if test then AttrDelete row.machine row.name else AttrSet row.machine row.name row.value)) [ true ↦ tt | false ↦ tt ]
 
-end_is_of_row : (task : Option Task) → All IsOfRow (end_of task)
-end_is_of_row None = All-nil IsOfRow
-end_is_of_row (Some task) = All-cons IsOfRow (End task.key task.machine) [] tt (All-nil IsOfRow)
-
--- extra tasks end by entries of the row too
-extra_are_of_row : (cell : Cell) (left : List WantedTask) (job : ℕ) → All IsOfRow (ends_of_extras cell left job)
-extra_are_of_row cell left job = All-nil IsOfRow
+-- tasks end by entries of a row, extras too
+ends_are_of_row : (some : List Task) → All IsOfRow (map end_task some)
+ends_are_of_row [] = All-nil IsOfRow
+ends_are_of_row (task ∷ some) = All-cons IsOfRow (end_task task) (map end_task some) tt (ends_are_of_row some)
 
 task_is_of_row : (cell : Cell) (left : List WantedTask) (row : TaskFields) → All IsOfRow (task_entries cell left row)
-task_is_of_row cell left row = elim (ends row.code) as (λ test. All IsOfRow (if test then end_of (task_at cell.tasks row.key) ++ ends_of_extras cell left row.key.job else [])) [
-  | true ↦ All-append IsOfRow (end_of (task_at cell.tasks row.key)) (ends_of_extras cell left row.key.job) (end_is_of_row (task_at cell.tasks row.key))
-      (extra_are_of_row cell left row.key.job)
-  | false ↦ All-nil IsOfRow
-]
+task_is_of_row cell left row = rw (stops cell left row) (ends_are_of_row (stopped_by cell left row))
 
 -- the entries of a row are neither rounds nor commits
 pub are_of_row : (disks : List DiskFields) (cell : Cell) (left : List WantedTask) (row : Row) → All IsOfRow (row_entries disks cell left row)

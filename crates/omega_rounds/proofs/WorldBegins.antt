@@ -149,7 +149,7 @@ module _ (settings : Settings) (all : List Round) (asked : Asked) (begun old_pla
   asked_later : (place : ℕ) (trace : TraceTables) → IsInRunOf stage trace
       → (let a : Asked = record asked { tasks = tasks } in a) ≡ asked_after settings trace (rows_begun (later_at place))
   asked_later place trace made =
-      ap₂ (λ (s : Source) (ts : List WantedTask). let a : Asked = record { jobs = s.jobs; constraints = s.constraints; disks = s.disks; tasks = ts } in a) made (tasks_later place)
+      ap₂ (λ (s : Source) (ts : List WantedTask). let a : Asked = record s.asked { tasks = ts } in a) made (tasks_later place)
 
   -- what is asked then is what some trace asks for
   pub is_asked : IsAsked (record asked { tasks = tasks })
@@ -165,7 +165,7 @@ module _ (settings : Settings) (all : List Round) (asked : Asked) (begun old_pla
 
     -- the entries of the round's rows
     pub after_is : (trace : TraceTables) → IsInRunOf stage trace → after ≡ (opened trace (rows_begun stage) before round).history
-    after_is trace made = history trace (rows_begun stage) (ap (λ (s : Source). s.disks) made) world.asked
+    after_is trace made = history trace (rows_begun stage) (ap (λ (s : Source). s.asked.disks) made) world.asked
 
     seat_later : (number : ℕ) (was seat : Seat) → IsSeat settings before number was → BeginsSeat (record asked { tasks = tasks }) after number was seat
         → IsSeat settings after number seat

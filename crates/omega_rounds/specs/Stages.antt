@@ -1,34 +1,23 @@
 -- Where a world stands in the run of its trace.
-use Rattle.std.specs.Prelude.{◌≡◌, ◌+◌, ℕ, List, Option, map, take, slice_get, option_and_then}
-use Rattle.omega_model.specs.Feed.{feed, rounds}
-use Rattle.omega_model.specs.Fields.{ConstraintFields, DiskFields}
+use Rattle.std.specs.Prelude.{◌≡◌, ◌+◌, ℕ, List, [], Option, take, slice_get, option_and_then}
+use Rattle.omega_model.specs.Feed.{rounds}
 use Rattle.omega_model.specs.Lawful.{rows_of}
-use Rattle.omega_model.specs.Requests.{jobs_in_order}
 use Rattle.omega_model.specs.World.{World}
 use Rattle.omega_model.specs.declared.entries.Entry.{Entry}
 use Rattle.omega_model.specs.declared.rows.Row.{Row}
 use Rattle.omega_model.specs.declared.rows.Round.{Round}
 use Rattle.omega_model.specs.declared.rows.TraceTables.{TraceTables}
 use Rattle.omega_model.specs.declared.settings.Settings.{Settings}
-use Rattle.omega_feed.specs.Asked.{Asked, routed}
-use Rattle.omega_feed.specs.declared.jobs.RoutedJob.{RoutedJob}
+use Rattle.omega_feed.specs.Asked.{Asked, asked_after}
 
--- what a world has of its trace: the rounds, the jobs with their schedulers, the constraints of tasks and
--- the disks of machines
+-- what a world has of its trace: the rounds, and what the trace asks for before its first row
 pub record Source : Type 0 where
   pub rounds : List Round
-  pub jobs : List RoutedJob
-  pub constraints : List ConstraintFields
-  pub disks : List DiskFields
+  pub asked : Asked
 
 -- what a world has of this trace under these settings
 abbrev pub source_of : Settings → TraceTables → Source
-source_of settings trace = record {
-  rounds = rounds trace settings.window;
-  jobs = map (routed settings trace) (jobs_in_order (feed trace));
-  constraints = trace.constraints;
-  disks = trace.disks;
-}
+source_of settings trace = record { rounds = rounds trace settings.window; asked = asked_after settings trace [] }
 
 -- where a world stands in its run: the settings, what it has of its trace, how many rounds have begun, and
 -- the place in the history after the rows of the last of them
@@ -42,7 +31,7 @@ pub record Stage : Type 0 where
 abbrev pub stage_of : Settings → List Round → Asked → ℕ → ℕ → Stage
 stage_of settings all asked begun opened_at = record {
   settings = settings;
-  source = record { rounds = all; jobs = asked.jobs; constraints = asked.constraints; disks = asked.disks };
+  source = record { rounds = all; asked = record asked { tasks = [] } };
   begun = begun;
   opened_at = opened_at;
 }

@@ -9,7 +9,7 @@ ghost use Rattle.omega_model.specs.RowEntries.{row_entries};
 ghost use Rattle.omega_model.specs.Wanted.{wanted as wanted_tasks, wanted_after};
 ghost use Rattle.omega_model.specs.declared.rows.Row.{Row};
 ghost use Rattle.omega_model.specs.declared.rows.TraceTables.{TraceTables};
-ghost use Rattle.omega_rounds.specs.Opening.{BeginAll, HaveNoWork, IsAsked, MayFeed, MayFeedAll, has_work};
+ghost use Rattle.omega_rounds.specs.Opening.{BeginAll, HasLowTask, HaveNoWork, IsAsked, MayFeed, MayFeedAll, has_work};
 
 use crate::seat::Seat;
 use omega_board::Board;
@@ -52,7 +52,17 @@ fn apply_row(alloc: Global, cell: &mut Cell, wanted: &Wanted, row: &Row) -> Resu
         ++ row_entries wanted.now.disks (state cell.old.history) wanted.now.tasks row.now) }
 {
     let entries = wanted.entries(alloc, row, cell.board())?;
+    check_row(row);
     feed_all(alloc, cell, entries)
+}
+
+// The task of a row is none of the extras, as the row's type says.
+fn check_row(row: &Row)
+    ensures { HasLowTask row.now }
+{
+    if let Row::Task(row) = row {
+        let _key = &row.key;
+    }
 }
 
 // Appends entries in order.
@@ -115,6 +125,7 @@ pub(crate) fn begin_all(
     requires no_work { HaveNoWork seats.old.items }
     ensures { OnOk result (BeginAll wanted.now cell.now.history seats.old.items seats.new.items) }
 {
+    wanted.check_low();
     for i in 0..seats.len() {
         let requests = wanted.requests(alloc, i as u32, cell.board())?;
         seats[i].begin(requests)?;

@@ -15,7 +15,7 @@ begin-requires-clause-no_work c =
 
 pub begin-requires-clause-distinct : goal.begin-requires-clause-distinct
 begin-requires-clause-distinct c =
-    asked_distinct c.args.wanted.now c.args.cell.now.history _ c.loop-i.i c.in_ok-requests.requests c.requires.asked c.board.ensures.current c.in_ok-requests.ensures
+    asked_distinct c.args.wanted.now c.args.cell.now.history _ c.loop-i.i c.in_ok-requests.requests c.requires.asked c.check_low.ensures c.board.ensures.current c.in_ok-requests.ensures
 
 pub loop-i-preserved : goal.loop-i-preserved
 loop-i-preserved c =
