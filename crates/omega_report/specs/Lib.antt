@@ -4,8 +4,6 @@ pub mod Lines
 pub mod Pages
 pub mod Readings
 pub mod Spelling
-pub mod Shares
-pub mod Telling
 pub mod Tallies
 pub mod Failing
 pub mod Passing

@@ -17,13 +17,10 @@ mod lines;
 mod page;
 mod pass;
 mod reporting;
-mod shares;
 mod so_far;
 mod tally;
-mod telling;
 #[cfg(test)]
 mod tests;
-mod totals;
 mod words;
 
 pub use laws::lawful_histories_apply;

@@ -8,8 +8,6 @@ ghost use Rattle.omega_model.specs.State.{displaced, step};
 ghost use Rattle.omega_model.specs.Touches.{touches};
 ghost use Rattle.omega_board.specs.Board.{cell_of};
 
-use crate::telling::{grow, tell_touched};
-use crate::totals::Totals;
 use omega_board::Board;
 use omega_model::{Entry, Keys, Need, NoMemory};
 use std::alloc::Global;
@@ -20,19 +18,14 @@ use std::marker::Model;
 #[derive(Drop)]
 pub struct CellSoFar {
     board: Board,
-    totals: Totals,
 }
 
 impl Model for CellSoFar {
-    ghost use Rattle.std.specs.Prelude.{◌≡◌};
-    ghost use Rattle.omega_board.specs.Board.{BoardState, cell_of};
-    ghost use Rattle.omega_report.specs.Shares.{shares_of};
+    ghost use Rattle.omega_board.specs.Board.{BoardState};
 
     ghost Value = { BoardState };
 
     ghost view = { λ c. record c.board { spare = 0 } };
-
-    ghost invariant = { λ c. c.totals.shares ≡ shares_of (cell_of c.board) };
 }
 
 impl CellSoFar {
@@ -42,7 +35,6 @@ impl CellSoFar {
     {
         CellSoFar {
             board: Board::new(alloc),
-            totals: Totals::new(alloc),
         }
     }
 
@@ -61,12 +53,7 @@ impl CellSoFar {
         ensures seqs { OnOk result ((id : ℕ) → seq_at self.new.table id ≡ seq_at self.old.table id + (if touches id entry.now then 1 else 0)) }
         ensures displaced { IfOk result (λ keys. keys ≡ keys_of (displaced self.old.tasks entry.now)) }
     {
-        self.totals.reserve()?;
-        let _ = self.board.running();
-        let displaced = self.board.apply_entry(alloc, entry)?;
-        grow(&mut self.totals, &self.board);
-        tell_touched(&mut self.totals, &self.board, entry);
-        Ok(displaced)
+        self.board.apply_entry(alloc, entry)
     }
 
     /// What is used on the machines that are up. Takes no memory, and time that doesn't depend on
@@ -74,7 +61,7 @@ impl CellSoFar {
     pub fn used(&self) -> Need
         ensures { result ≡ used_in (cell_of self.now) }
     {
-        self.totals.used()
+        self.board.machines().used()
     }
 
     /// What there is on the machines that are up. Takes no memory, and time that doesn't depend on
@@ -82,6 +69,6 @@ impl CellSoFar {
     pub fn capacity(&self) -> Need
         ensures { result ≡ capacity_in_all (cell_of self.now) }
     {
-        self.totals.capacity()
+        self.board.machines().capacity()
     }
 }
