@@ -1,3 +1,4 @@
+pub mod Crossing
 pub mod Owning
 pub mod Turning
 pub mod Standing

@@ -4,4 +4,4 @@ use Rattle.omega_io.specs.Gates.{hold_of}
 use Rattle.omega_io.proofs.held.HeldGate.new.Given as goal
 
 abbrev pub invariant-loop-hold : goal.invariant-loop-hold
-invariant-loop-hold l = (map hold_of l.holds.items ≡ take l.hold-index l.order.now) × (length l.order.now ≤ vec_capacity l.holds)
+invariant-loop-hold l = (map hold_of l.holds.items ≡ take l.hold-index l.order) × (length l.order ≤ vec_capacity l.holds)

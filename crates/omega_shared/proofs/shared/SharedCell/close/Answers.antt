@@ -30,9 +30,8 @@ returns-clause-commits c =
 
 pub returns-clause-others : goal.returns-clause-others
 returns-clause-others c =
-    rw (← c.self.view_is)
-    (no_others c.seats_of.result.items c.args.passes.items c.seats_of.ensures.passes (length c.self.inside.lock.first) c.close-held.result.cell.history
-    c.seats_of.ensures.seats c.close-held.ensures.seen c.close-held.ensures.own c.close-held.ensures.first)
+    no_others c.seats_of.result.items c.args.passes.items c.seats_of.ensures.passes (length c.self.inside.lock.first) c.close-held.result.cell.history
+    c.seats_of.ensures.seats c.close-held.ensures.seen c.close-held.ensures.own c.close-held.ensures.first
 
 pub returns-clause-first : goal.returns-clause-first
 returns-clause-first c =
