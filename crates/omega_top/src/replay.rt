@@ -1,5 +1,6 @@
 //! The run of a trace.
 ghost use Rattle.std.specs.Prelude.{◌≡◌, ◌≢◌, List, IfOk};
+ghost use Rattle.std.specs.Thread.{IsSync};
 ghost use Rattle.omega_cell.specs.Laws.{EvictionsGoDown, NoGangIsSplit};
 ghost use Rattle.omega_model.specs.Applying.{EachMayApply};
 ghost use Rattle.omega_model.specs.Lawful.{Lawful};
@@ -28,7 +29,8 @@ pub fn replayed<R: Threads + Wait + Sync, G: Gate + Sync>(
     trace: &TraceTables,
     gate: &G,
 ) -> Result<Entries, NoMemory>
-    requires { IsInRange settings.now }
+    requires range { IsInRange settings.now }
+    requires sync { IsSync R.row × IsSync G.row }
     ensures lawful { IfOk result (λ history. Lawful settings.now trace.now history) }
     ensures turns { settings.now.command ≢ Run → IfOk result (λ history. InTurns history) }
     ensures only { settings.now.command ≢ Run → IfOk result (λ history. IsTheOnly settings.now trace.now history) }
@@ -50,7 +52,8 @@ fn run_to_end<R: Threads + Wait + Sync, G: Gate + Sync>(
     world: World,
     gate: &G,
 ) -> Result<World, NoMemory>
-    requires { world.stage.begun ≡ 0 }
+    requires new { world.stage.begun ≡ 0 }
+    requires sync { IsSync R.row × IsSync G.row }
     ensures source { IfOk result (λ after. after.stage.source ≡ world.stage.source) }
     ensures settings { IfOk result (λ after. after.stage.settings ≡ world.stage.settings) }
     ensures lawful { IfOk result (λ after. (trace : TraceTables) → IsInRunOf world.stage trace

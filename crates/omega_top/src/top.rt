@@ -1,5 +1,6 @@
 //! The top call.
 ghost use Rattle.std.specs.Prelude.{◌≡◌, ◌≢◌, ◌⊎◌, [], ℕ, List, None, Some, map, IfSome};
+ghost use Rattle.std.specs.Thread.{IsSync};
 ghost use Rattle.omega_cell.specs.Laws.{EvictionsGoDown, NoGangIsSplit};
 ghost use Rattle.omega_io.specs.Edge.{Rose, Tells};
 ghost use Rattle.omega_model.specs.Legal.{Legal};
@@ -44,6 +45,7 @@ pub fn omega<R: Threads + Wait + Sync, T: Tables, K: Sink, G: Gate + Sync>(
     out: &mut K,
     gate: &G,
 ) -> Done
+    requires sync { IsSync R.row × IsSync G.row }
     ensures usage { result.status ≡ Usage → ¬ AreTaken (map (λ word. word.now) words.now) }
     ensures settings { IfSome result.settings (AreChosenBy (map (λ word. word.now) words.now)) }
     ensures no_settings { result.status ≡ Usage → result.settings ≡ None }
@@ -104,7 +106,8 @@ pub fn omega_with<R: Threads + Wait + Sync, T: Tables, K: Sink, G: Gate + Sync>(
     out: &mut K,
     gate: &G,
 ) -> Done
-    requires { IsInRange settings.now }
+    requires range { IsInRange settings.now }
+    requires sync { IsSync R.row × IsSync G.row }
     ensures settings { result.settings ≡ Some settings.now }
     ensures folder { T.entered tables.new ≡ T.entered tables.old }
 
@@ -165,7 +168,8 @@ fn replay_and_write<R: Threads + Wait + Sync, K: Sink, G: Gate + Sync>(
     out: &mut K,
     gate: &G,
 ) -> Done
-    requires { IsInRange settings.now }
+    requires range { IsInRange settings.now }
+    requires sync { IsSync R.row × IsSync G.row }
     ensures settings { result.settings ≡ Some settings.now }
     ensures ends { EndsRun result.status }
     ensures cause { result.status ≡ WriteFault → Rose (K.faults out.old) (K.faults out.new) }
