@@ -44,3 +44,5 @@ pub mod RoundFailures
 pub mod ClosedRounds
 pub mod PlayersBack
 pub mod TwoSteps
+pub mod PlayedTogether
+pub mod PlayersCross
