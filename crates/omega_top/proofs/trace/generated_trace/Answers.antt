@@ -1,5 +1,4 @@
-use Rattle.std.proofs.Common.{◌⊎◌, ◌<◌, ◌≤◌, ◌-◌, ◌^◌, arith, inl, inr}
-use Rattle.omega_io.specs.Edge.{Rose}
+use Rattle.std.proofs.Common.{arith}
 use Rattle.omega_model.specs.Draws.{new_generator, word_at}
 use Rattle.omega_model.specs.Generated.{generated}
 use Rattle.omega_top.proofs.Making.{wants_memory}
