@@ -44,3 +44,4 @@ pub mod RoundFailures
 pub mod ClosedRounds
 pub mod PlayersBack
 pub mod TwoSteps
+pub mod PlayersPlay

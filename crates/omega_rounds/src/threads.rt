@@ -165,7 +165,7 @@ fn apart(
     (seats, passes)
 }
 
-// All players play, each on a thread of its own.
+// All players play, one after the other.
 fn play_all<R: Threads + Wait + Sync, G: Gate + Sync>(
     rt: &R,
     alloc: Global,
