@@ -90,7 +90,7 @@ impl Desk {
     }
 
     /// How many requests are left of the round's work. Takes no memory.
-    pub fn left(&self) -> u128
+    pub fn request_count(&self) -> u128
         ensures { result ≡ length self.now.requests }
     {
         u128::from(self.present.is_some()) + self.waiting.len() as u128

@@ -48,7 +48,7 @@ pub record MayPlay (settings : Settings) (shared : TableId) (player : Player) : 
   pub seat : IsSeat settings player.pass.seen player.pass.number player.seat
   pub turns : 2 * to_do_of player.seat ≤ player.pass.turns
 
--- a player has played: what its pass has seen goes on from before, and beside that its seat is still that of
+-- a player has played: its pass has seen no less than before, and beside what it has seen its seat is still that of
 -- its scheduler, its desk is right wherever it was, and its commits may stand where they do wherever those
 -- before could. Unless it met want of memory, nothing is left at its desk, and its scheduler has not synced
 -- since its last commit

@@ -13,7 +13,7 @@ use Rattle.omega_rounds.specs.Players.{IsOwnDesk, OwnMayStand}
 use Rattle.omega_rounds.specs.Seats.{IsSeat, synced_of}
 use Rattle.omega_rounds.specs.declared.player.Player.{Player}
 
--- a player plays on: its pass is the same one and has seen more. Beside that its seat is still that of its
+-- a player plays on: its pass is the same one and has seen no less than before. Beside that its seat is still that of its
 -- scheduler, its desk is right wherever it was, and its commits may stand where they do wherever those before
 -- could
 pub record PlaysOn (settings : Settings) (old new : Player) : Type 0 where

@@ -112,8 +112,8 @@ fn has_room_for(board: &Board, machine: u64) -> bool
     machines.len() < MOST_MACHINES || machines.position(machine).is_some()
 }
 
-/// Hands each scheduler what it is asked to place on the cell. Costs the wanted tasks that don't run
-/// and the extras that are asked for, and for each scheduler a look at the jobs that have any.
+/// Hands each scheduler what it is asked to place on the cell. Costs the wanted tasks, also those that
+/// run, the extra tasks, and for each scheduler a look at the jobs that have any.
 pub(crate) fn begin_all(
     alloc: Global,
     seats: &mut Vec<Seat>,

@@ -33,7 +33,9 @@ use std::thread::{Threads, join_mut};
 ///
 /// The history is lawful for the settings and the trace, in whatever order the schedulers came to the
 /// cell. Nothing is said of that order, of time, nor that plans of different schedulers are made at
-/// the same time. Costs what `in_turns` costs, and for each sync and each commit a turn at the cell.
+/// the same time. On a history of 2^63 entries or more the schedulers work one after the other without
+/// threads, and the gate isn't asked. Costs the attempts, of which another order may need more, for each
+/// sync and each commit a turn at the cell, and for each round in which somebody has work the threads.
 pub fn on_threads<R: Threads + Wait + Sync, G: Gate + Sync>(
     rt: &R,
     world: World,
@@ -112,7 +114,7 @@ fn most_requests(seats: &[Seat]) -> u128
 {
     let mut most = 0;
     for seat in seats {
-        most = most.max(seat.desk.left());
+        most = most.max(seat.desk.request_count());
     }
     most
 }

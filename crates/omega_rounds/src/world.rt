@@ -193,7 +193,7 @@ impl World {
 
     /// Plays the round that is under way to its end, with a thread for each scheduler; on a history of
     /// 2^63 entries or more without threads. Where memory runs out the world is gone. May wait. Costs
-    /// the attempts.
+    /// the attempts, and the threads unless nobody has work.
     pub(crate) fn play_on_threads<R: Threads + Wait + Sync, G: Gate + Sync>(
         self,
         rt: &R,
