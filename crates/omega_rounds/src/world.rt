@@ -205,6 +205,9 @@ impl World {
         ensures stage { IfOk result (λ after. after.stage ≡ self.stage) }
         ensures done { IfOk result IsDone }
     {
+        if self.first_at_work().is_none() {
+            return Ok(self);
+        }
         if self.cell.history().len() as u64 >= 1 << 63 {
             return self.play_alone();
         }
