@@ -44,5 +44,3 @@ pub mod RoundFailures
 pub mod ClosedRounds
 pub mod PlayersBack
 pub mod TwoSteps
-pub mod PlayedTogether
-pub mod PlayersCross

@@ -8,7 +8,6 @@ ghost use Rattle.omega_model.specs.Ranges.{IsInRange};
 ghost use Rattle.omega_model.specs.declared.rows.TraceTables.{TraceTables};
 ghost use Rattle.omega_shared.specs.Passes.{new_pass};
 ghost use Rattle.omega_rounds.specs.Closed.{AreBack, Suffice};
-ghost use Rattle.omega_rounds.specs.Players.{HavePlayed, MayPlay};
 ghost use Rattle.omega_rounds.specs.Seats.{IsSeat};
 ghost use Rattle.omega_rounds.specs.Stages.{IsInRunOf};
 ghost use Rattle.omega_rounds.specs.declared.seat.Seat.{Seat};
@@ -16,6 +15,7 @@ ghost use Rattle.omega_rounds.specs.declared.seat.Seat.{Seat};
 use crate::player::Player;
 use crate::seat::Seat;
 use crate::steps::RoundStep;
+use crate::together::play_all;
 use crate::world::World;
 use omega_cell::Cell;
 use omega_io::Gate;
@@ -23,7 +23,7 @@ use omega_model::{NoMemory, Settings};
 use omega_shared::{Pass, SharedCell};
 use std::alloc::Global;
 use std::sync::Wait;
-use std::thread::{Threads, join_mut};
+use std::thread::Threads;
 
 /// Runs all rounds of a new world to their end, with a thread for each scheduler. In each round the
 /// schedulers share the cell: each makes attempts until it has no work, and an attempt is a sync, a
@@ -165,47 +165,6 @@ fn apart(
         passes.push_reserved(pass);
     }
     (seats, passes)
-}
-
-// All players play, each on a thread of its own: the halves of a list at the same time, down to one
-// player. Where no thread can be made the halves play one after the other.
-fn play_all<R: Threads + Wait + Sync, G: Gate + Sync>(
-    rt: &R,
-    alloc: Global,
-    settings: &Settings,
-    shared: &SharedCell,
-    players: &mut [Player],
-    gate: &G,
-)
-    requires range { IsInRange settings.now }
-    requires sync { IsSync R.row × IsSync G.row }
-    requires may_play { All (MayPlay settings.now shared.now.of) players.old }
-    ensures played { HavePlayed settings.now players.old players.new }
-{
-    if players.len() == 0 {
-        return;
-    }
-    if players.len() == 1 {
-        players[0].play(rt, alloc, settings, shared, gate);
-        return;
-    }
-    let half = players.len() / 2;
-    let (left, right) = players.split_at_mut(half);
-    join_mut(
-        rt,
-        &mut ||
-            requires range { IsInRange settings.now }
-            requires sync { IsSync R.row × IsSync G.row }
-            requires may_play { All (MayPlay settings.now shared.now.of) left.now }
-            ensures played { HavePlayed settings.entry.now left.entry.now left.exit.now }
-        { play_all(rt, alloc, settings, shared, left, gate) },
-        &mut ||
-            requires range { IsInRange settings.now }
-            requires sync { IsSync R.row × IsSync G.row }
-            requires may_play { All (MayPlay settings.now shared.now.of) right.now }
-            ensures played { HavePlayed settings.entry.now right.entry.now right.exit.now }
-        { play_all(rt, alloc, settings, shared, right, gate) },
-    );
 }
 
 // Shares a cell. Where memory runs out the cell is gone.
