@@ -1,6 +1,6 @@
 -- Desks of a round after one more commit.
-use Rattle.std.proofs.Common.{◌≡◌, ◌≢◌, ◌≤◌, ◌+◌, ℕ, Bool, true, false, List, [], ◌∷◌, ◌++◌, length, take, Option, Some, None, refl, sym, ap, ap₂, subst, arith, ◌∙◌, inl, inr, ◌==◌, if◌then◌else◌}
-use Rattle.std.specs.Prelude.{option_map, slice_get}
+use Rattle.std.proofs.Common.{◌≡◌, ◌≢◌, ◌≤◌, ◌+◌, ℕ, Bool, true, false, List, [], ◌∷◌, ◌++◌, length, Option, Some, refl, sym, ap, ap₂, subst, ◌∙◌, ◌==◌, if◌then◌else◌}
+use Rattle.std.specs.Prelude.{option_map}
 use Rattle.std.specs.List.{All}
 use Rattle.std.proofs.lemmas.Bool.{eq-eqb, ne_eqb}
 use Rattle.std.proofs.lemmas.List.Elements.{All-cons, All-head, All-tail}
@@ -9,12 +9,11 @@ use Rattle.omega_model.proofs.Standing.{after_entry-other, has_left-other, stand
 use Rattle.omega_model.specs.Requests.{failed}
 use Rattle.omega_model.specs.Routing.{scheduler_of}
 use Rattle.omega_model.specs.State.{reply_of}
-use Rattle.omega_model.specs.Work.{Agrees, AgreesWithFirst, HasLeft, IsDue, Standing, after_entry, after_outcomes, ends_request, failing_after, failing_with, fresh, is_commit_of, moved_on, outcomes_of, rest_of, standing_of}
+use Rattle.omega_model.specs.Work.{Agrees, IsDue, Standing, after_entry, after_outcomes, ends_request, failing_after, failing_with, fresh, is_commit_of, moved_on, rest_of, standing_of}
 use Rattle.omega_model.specs.declared.claims.Judgement.{Judgement}
 use Rattle.omega_model.specs.declared.claims.Outcome.{Outcome}
 use Rattle.omega_model.specs.declared.claims.Txn.{Txn}
 use Rattle.omega_model.specs.declared.entries.Entry.{Entry}
-use Rattle.omega_model.specs.declared.entries.Entry.TheVariants.{Commit}
 use Rattle.omega_model.specs.declared.rows.Row.{Row}
 use Rattle.omega_model.specs.declared.rows.TraceTables.{TraceTables}
 use Rattle.omega_model.specs.declared.settings.Settings.{Settings}

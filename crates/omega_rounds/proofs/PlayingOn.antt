@@ -1,9 +1,10 @@
 -- A player that plays on, by what its turns bring.
-use Rattle.std.proofs.Common.{◌≡◌, ◌≢◌, ◌≤◌, ◌<◌, ◌+◌, ◌*◌, ◌-◌, ℕ, zero, suc, Bool, true, false, List, [], ◌∷◌, ◌++◌, length, length-append, Option, Some, None, refl, sym, ap, subst, arith, ◌∙◌}
+use Rattle.std.proofs.Common.{◌≡◌, ◌≤◌, ◌<◌, ◌+◌, ◌-◌, ℕ, Bool, true, false, List, [], ◌∷◌, length, length-append, Some, None, refl, sym, ap, subst, arith, ◌∙◌}
 use Rattle.std.specs.Prelude.{slice_get, if◌then◌else◌}
+use Rattle.atomic_table.specs.Seated.{TableId}
 use Rattle.omega_model.proofs.Growing.{by_place_push_where}
+use Rattle.omega_model.specs.Draws.{drawn_start}
 use Rattle.omega_model.specs.Lawful.{after_last}
-use Rattle.omega_model.specs.Policy.{schedulers}
 use Rattle.omega_model.specs.Work.{after_outcomes, commits_of}
 use Rattle.omega_model.specs.declared.claims.Reply.{Reply}
 use Rattle.omega_model.specs.declared.claims.Txn.{Txn}
@@ -11,50 +12,26 @@ use Rattle.omega_model.specs.declared.entries.Entry.{Entry}
 use Rattle.omega_model.specs.declared.rows.Row.{Row}
 use Rattle.omega_model.specs.declared.rows.TraceTables.{TraceTables}
 use Rattle.omega_model.specs.declared.settings.Settings.{Settings}
+use Rattle.omega_model.specs.declared.wishes.Request.{Request}
 use Rattle.omega_copy.specs.Copies.{CopyOf}
-use Rattle.omega_desk.specs.Desks.{DeskState, IsSameDesk, left_at}
+use Rattle.omega_desk.specs.Desks.{AnswersFirst, DeskState, IsSameDesk, left_at}
 use Rattle.omega_shared.specs.Commits.{GoesOnWithout, commit_after}
+use Rattle.omega_shared.specs.Passes.{PassState}
 use Rattle.omega_shared.specs.Turns.{Commits, SpendsTurn}
-use Rattle.omega_rounds.specs.NextCommit.{attempt}
-use Rattle.omega_rounds.specs.Players.{IsOwnDesk, MayStand, OwnMayStand}
-use Rattle.omega_rounds.specs.PlayingOn.{PlansFirst, PlaysOn}
+use Rattle.omega_rounds.specs.NextCommit.{attempt, attempt_txn}
+use Rattle.omega_rounds.specs.Players.{HasPlayed, IsOwnDesk, MayPlay, MayStand, OwnMayStand}
+use Rattle.omega_rounds.specs.PlayingOn.{IsSynced, PlansFirst, PlaysOn}
 use Rattle.omega_rounds.specs.Seats.{IsSeat, synced_of, to_do_of}
 use Rattle.omega_rounds.specs.SeatSteps.{CommitsFirst}
 use Rattle.omega_rounds.specs.declared.player.Player.{Player}
 use Rattle.omega_rounds.specs.declared.seat.Seat.{Seat}
+use Rattle.omega_rounds.proofs.Attempted.{start_of_seat}
 use Rattle.omega_rounds.proofs.DeskCommits.{own_desk_own}
 use Rattle.omega_rounds.proofs.LastCommits.{after_last-within}
-use Rattle.omega_rounds.proofs.SeatCommits.{IsCommitting, commits_first, fewer_left, seat_after}
+use Rattle.omega_rounds.proofs.SeatCommits.{IsCommitting, answers_first, commits_first, fewer_left, first_some, seat_after}
 use Rattle.omega_rounds.proofs.Without.{after_last-without, attempt_without, desk_without, longer_without, seat_without, stand_without}
 
 module _ (settings : Settings) where
-  -- before its first turn
-  pub plays_on_self : (player : Player) → IsSeat settings player.pass.seen player.pass.number player.seat → PlaysOn settings player player
-  plays_on_self player seat = record {
-    of = refl;
-    number = refl;
-    first_length = refl;
-    within = omega arith;
-    seat = seat;
-    desk = λ trace rows opened_at within is. is;
-    commits = λ opened_at within stand. stand;
-  }
-
-  -- and then further
-  pub plays_on_more : (old mid new : Player) → PlaysOn settings old mid → PlaysOn settings mid new → PlaysOn settings old new
-  plays_on_more old mid new one two =
-      let first : length old.pass.seen ≤ length mid.pass.seen = one.within in
-      let second : length mid.pass.seen ≤ length new.pass.seen = two.within in
-      record {
-        of = two.of ∙ one.of;
-        number = two.number ∙ one.number;
-        first_length = two.first_length ∙ one.first_length;
-        within = omega (arith, first, second);
-        seat = two.seat;
-        desk = λ trace rows opened_at within is. two.desk trace rows opened_at (omega (arith, first, within)) (one.desk trace rows opened_at within is);
-        commits = λ opened_at within stand. two.commits opened_at (omega (arith, first, within)) (one.commits opened_at within stand);
-      }
-
   -- a turn after which the pass has seen commits of others, the desk is as before, and the copy stands for
   -- what the pass has seen
   pub plays_on_without : (old new : Player) → IsSeat settings old.pass.seen old.pass.number old.seat
@@ -88,17 +65,48 @@ module _ (settings : Settings) where
 -- a copy of a seat that has synced
 pub synced_seen : (seat : Seat) (count : ℕ) → synced_of seat ≡ Some count → (seat.synced ≡ true) × (seat.copy.seen ≡ count)
 synced_seen seat count is = by_synced seat.synced refl is where
-    by_synced : (synced : Bool) → seat.synced ≡ synced → (if synced then Some seat.copy.seen else None) ≡ Some count
-        → (seat.synced ≡ true) × (seat.copy.seen ≡ count)
-    by_synced true same is = (same, cc)
-    by_synced false same is = absurd (cc)
+  by_synced : (synced : Bool) → seat.synced ≡ synced → (if synced then Some seat.copy.seen else None) ≡ Some count
+      → (seat.synced ≡ true) × (seat.copy.seen ≡ count)
+  by_synced true same is = (same, cc)
+  by_synced false same is = absurd (cc)
+
+-- what is planned on the copy for the first request at the desk
+pub plans_first : (settings : Settings) (player : Player) (number start : ℕ) (request : Request) (txn : Txn)
+    → IsSeat settings player.pass.seen player.pass.number player.seat → number ≡ player.pass.number
+    → Some request ≡ slice_get player.seat.desk.requests 0
+    → start ≡ drawn_start player.seat.desk.settings player.seat.desk.scheduler player.seat.desk.attempts (length player.seat.copy.board.table)
+    → ((history : List Entry) → CopyOf player.seat.copy history
+    → start ≡ drawn_start settings number (commits_of number history) (length player.seat.copy.board.table)
+    → txn ≡ attempt_txn settings history number player.seat.copy.seen request)
+    → PlansFirst player txn
+plans_first settings player number start request txn seat same first drawn planned =
+    let parts = first_some player.seat.desk.requests request first in
+    let begins : start ≡ drawn_start settings player.pass.number (commits_of player.pass.number player.pass.seen) (length player.seat.copy.board.table) =
+    drawn ∙ start_of_seat settings player.pass.seen player.pass.number player.seat _ seat in
+    record {
+      request = request;
+      rest = parts.0;
+      work = parts.1;
+      is = planned player.pass.seen seat.copy
+          (subst (λ (n : ℕ). start ≡ drawn_start settings n (commits_of n player.pass.seen) (length player.seat.copy.board.table)) (sym same) begins)
+          ∙ ap (λ (n : ℕ). attempt_txn settings player.pass.seen n player.seat.copy.seen request) same
+          ∙ ap (λ (s : Settings). attempt_txn s player.pass.seen player.pass.number player.seat.copy.seen request) (sym seat.settings);
+    }
+
+-- what a commit was answered is for the first request at the desk
+pub takes_answers : (old : Player) → IsSeat old.seat.desk.settings old.pass.seen old.pass.number old.seat
+    → (new : PassState) (txn : Txn) (reply : Reply) → PlansFirst old txn → Commits old.pass new old.seat.copy.seen txn reply
+    → AnswersFirst old.seat.desk.requests reply.outcomes
+takes_answers old seat new txn reply plans did =
+    answers_first old.seat.desk.settings old.pass.number did.before did.before old.seat.copy.seen old.seat.desk.requests plans.request txn reply.outcomes
+    (sym (ap (λ (rs : List Request). slice_get rs 0) plans.work))
+    (plans.is ∙ attempt_without old.pass.number old.pass.seen did.before did.others old.seat.desk.settings old.seat.copy.seen plans.request seat.copy.within)
+    did.answers.outcomes
 
 -- a player before a commit, and what its pass and its desk say after it
 pub record PlayerCommits (old new : Player) (txn : Txn) (reply : Reply) : Type 0 where
-  pub seat : IsSeat old.seat.desk.settings old.pass.seen old.pass.number old.seat
-  pub tries : 1 ≤ old.seat.desk.settings.tries
-  pub known : old.pass.number < schedulers old.seat.desk.settings
-  pub all : synced_of old.seat ≡ Some (length old.pass.seen)
+  pub shared : TableId
+  pub synced : IsSynced shared old
   pub plans : PlansFirst old txn
   pub turn : SpendsTurn old.pass new.pass
   pub commits : Commits old.pass new.pass old.seat.copy.seen txn reply
@@ -126,15 +134,15 @@ module _ (old new : Player) (txn : Txn) (reply : Reply) (did : PlayerCommits old
 
   -- the seat beside what was there before the commit
   seat_before : IsSeat settings before number old.seat
-  seat_before = seat_without number old.pass.seen before did.commits.others settings old.seat did.seat
+  seat_before = seat_without number old.pass.seen before did.commits.others settings old.seat did.synced.seat
 
   committing : IsCommitting settings number before new.pass.seen old.seat new.seat.desk did.plans.request txn reply.outcomes
   committing = record {
     seat = seat_before;
-    tries = did.tries;
-    synced = (synced_seen old.seat (length old.pass.seen) did.all).0;
-    first = sym (ap (λ rs. slice_get rs 0) did.plans.work);
-    is = did.plans.is ∙ attempt_without number old.pass.seen before did.commits.others settings old.seat.copy.seen did.plans.request did.seat.copy.within;
+    tries = did.synced.range.tries.0;
+    synced = (synced_seen old.seat (length old.pass.seen) did.synced.all).0;
+    first = sym (ap (λ (rs : List Request). slice_get rs 0) did.plans.work);
+    is = did.plans.is ∙ attempt_without number old.pass.seen before did.commits.others settings old.seat.copy.seen did.plans.request did.synced.seat.copy.within;
     appended = did.commits.commit_seen;
     outcome = did.commits.answers.outcomes;
     same = did.same;
@@ -154,7 +162,7 @@ module _ (old new : Player) (txn : Txn) (reply : Reply) (did : PlayerCommits old
   pub fewer_after : to_do_of new.seat < to_do_of old.seat
   fewer_after =
       subst (λ (seat : Seat). to_do_of seat < to_do_of old.seat) next_is
-      (fewer_left settings number before new.pass.seen old.seat next reply.place did.tries seat_before seat_next first_next)
+      (fewer_left settings number before new.pass.seen old.seat next reply.place did.synced.range.tries.0 seat_before seat_next first_next)
 
   -- the history before the commit is no shorter than what was seen
   longer : length old.pass.seen ≤ length before
@@ -164,7 +172,7 @@ module _ (old new : Player) (txn : Txn) (reply : Reply) (did : PlayerCommits old
   commit_stands : (opened_at : ℕ) → opened_at ≤ length old.pass.seen → OwnMayStand settings opened_at number old.pass.seen
       → OwnMayStand settings opened_at number new.pass.seen
   commit_stands opened_at within stand =
-      let seen : old.seat.copy.seen ≡ length old.pass.seen = (synced_seen old.seat (length old.pass.seen) did.all).1 in
+      let seen : old.seat.copy.seen ≡ length old.pass.seen = (synced_seen old.seat (length old.pass.seen) did.synced.all).1 in
       let last : after_last number before ≤ length old.pass.seen =
       subst (λ (n : ℕ). n ≤ length old.pass.seen) (sym (after_last-without number old.pass.seen before did.commits.others))
       (after_last-within number old.pass.seen) in
@@ -174,7 +182,7 @@ module _ (old new : Player) (txn : Txn) (reply : Reply) (did : PlayerCommits old
       (attempt settings before number old.seat.copy.seen first_next.request)
       (stand_without number old.pass.seen before did.commits.others settings opened_at stand)
       (λ same. record {
-        known = did.known;
+        known = did.synced.known;
         there = omega (arith, seen, more);
         rows = omega (arith, seen, within);
         own = omega (arith, seen, last);
@@ -215,17 +223,24 @@ module _ (old new : Player) (txn : Txn) (reply : Reply) (did : PlayerCommits old
         commit_longer = subst (λ (h : List Entry). length before ≤ length h) (sym did.commits.commit_seen)
             (let count = length-append before (commit_after before number old.seat.copy.seen txn ∷ []) in omega (arith, count))
 
--- where a request is left, so is an attempt
-pub some_to_do : (settings : Settings) (history : List Entry) (number : ℕ) (seat : Seat) → IsSeat settings history number seat
-    → seat.desk.requests ≢ [] → 1 ≤ to_do_of seat
-some_to_do settings history number seat is work =
-    subst (λ (s : Settings). 1 ≤ length seat.desk.requests * s.tries - seat.desk.taken) (sym is.settings)
-    (some_left settings.tries seat.desk.taken (length seat.desk.requests) is.tries (some seat.desk.requests work)) where
-      some : {X : Type 0} (items : List X) → items ≢ [] → 1 ≤ length items
-      some [] none = absurd (none refl)
-      some (item ∷ items) none = omega arith
+-- a player in the middle of its round: it has played on so far, may play on, and has met no want of memory since
+pub record IsPlaying (settings : Settings) (shared : TableId) (old now : Player) : Type 0 where
+  pub plays_on : PlaysOn settings old now
+  pub may_play : MayPlay settings shared now
+  pub failed : now.failed ≡ old.failed
+  pub spent : synced_of old.seat ≡ None → synced_of now.seat ≡ None
 
-      some_left : (tries taken count : ℕ) → taken < tries → 1 ≤ count → 1 ≤ count * tries - taken
-      some_left tries taken zero few more = absurd (omega arith)
-      some_left tries taken (suc count) few more = 
-          let all : (suc count) * tries ≡ count * tries + tries = grind (arith) in rw all (omega (arith, few))
+-- at its end it has played, whether or not it had met want of memory before
+pub played_all : (chosen : Settings) (shared : TableId) (old now : Player) (failed : Bool) → IsPlaying chosen shared old now
+    → now.seat.desk.requests ≡ [] → HasPlayed chosen old (record { seat = now.seat; pass = now.pass; failed = failed })
+played_all chosen shared old now failed is none = record {
+  of = is.plays_on.of;
+  number = is.plays_on.number;
+  first_length = is.plays_on.first_length;
+  within = is.plays_on.within;
+  seat = is.plays_on.seat;
+  desk = is.plays_on.desk;
+  commits = is.plays_on.commits;
+  no_work = λ ok. none;
+  spent = λ ok before. is.spent;
+}

@@ -1,5 +1,5 @@
 -- What a scheduler does in a round on a thread of its own, said of its pass alone.
-use Rattle.std.specs.Prelude.{◌≡◌, ◌≤◌, ◌<◌, ◌*◌, ℕ, Bool, true, false, List, [], Option, Some, None, All, Unit, length, slice_get, take}
+use Rattle.std.specs.Prelude.{◌≡◌, ◌≤◌, ◌<◌, ◌*◌, ℕ, false, List, [], Some, None, All, length, slice_get, take}
 use Rattle.atomic_table.specs.Seated.{TableId}
 use Rattle.omega_desk.specs.Counts.{count_of}
 use Rattle.omega_desk.specs.Desks.{DeskState}
@@ -42,8 +42,8 @@ OwnMayStand settings opened_at scheduler history =
 
 -- a player may play in a round on this shared cell: its seat is that of its scheduler beside what its pass has
 -- seen, and its pass has two turns for each attempt that it can still make
-pub record MayPlay (settings : Settings) (of : TableId) (player : Player) : Type 0 where
-  pub of : player.pass.of ≡ of
+pub record MayPlay (settings : Settings) (shared : TableId) (player : Player) : Type 0 where
+  pub of : player.pass.of ≡ shared
   pub known : player.pass.number < schedulers settings
   pub seat : IsSeat settings player.pass.seen player.pass.number player.seat
   pub turns : 2 * to_do_of player.seat ≤ player.pass.turns

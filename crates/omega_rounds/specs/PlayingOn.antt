@@ -1,5 +1,8 @@
 -- What a scheduler on a thread of its own has done so far in a round, and what its attempt is.
-use Rattle.std.specs.Prelude.{◌≡◌, ◌≤◌, ℕ, List, ◌∷◌, length}
+use Rattle.std.specs.Prelude.{◌≡◌, ◌≤◌, ◌<◌, ℕ, List, ◌∷◌, Some, length}
+use Rattle.atomic_table.specs.Seated.{TableId}
+use Rattle.omega_model.specs.Policy.{schedulers}
+use Rattle.omega_model.specs.Ranges.{IsInRange}
 use Rattle.omega_model.specs.declared.claims.Txn.{Txn}
 use Rattle.omega_model.specs.declared.rows.Row.{Row}
 use Rattle.omega_model.specs.declared.rows.TraceTables.{TraceTables}
@@ -7,7 +10,7 @@ use Rattle.omega_model.specs.declared.settings.Settings.{Settings}
 use Rattle.omega_model.specs.declared.wishes.Request.{Request}
 use Rattle.omega_rounds.specs.NextCommit.{attempt_txn}
 use Rattle.omega_rounds.specs.Players.{IsOwnDesk, OwnMayStand}
-use Rattle.omega_rounds.specs.Seats.{IsSeat}
+use Rattle.omega_rounds.specs.Seats.{IsSeat, synced_of}
 use Rattle.omega_rounds.specs.declared.player.Player.{Player}
 
 -- a player plays on: its pass is the same one and has seen more. Beside that its seat is still that of its
@@ -32,3 +35,13 @@ pub record PlansFirst (player : Player) (txn : Txn) : Type 0 where
   pub rest : List Request
   pub work : player.seat.desk.requests ≡ request ∷ rest
   pub is : txn ≡ attempt_txn player.seat.desk.settings player.pass.seen player.pass.number player.seat.copy.seen request
+
+-- a player may commit on this shared cell: it has a turn left and is one of the schedulers of its settings, and
+-- its copy has taken over all that its pass has seen
+pub record IsSynced (shared : TableId) (player : Player) : Type 0 where
+  pub range : IsInRange player.seat.desk.settings
+  pub of : player.pass.of ≡ shared
+  pub left : 0 < player.pass.turns
+  pub known : player.pass.number < schedulers player.seat.desk.settings
+  pub seat : IsSeat player.seat.desk.settings player.pass.seen player.pass.number player.seat
+  pub all : synced_of player.seat ≡ Some (length player.pass.seen)

@@ -1,10 +1,9 @@
 //! A scheduler's part in a round that is played on threads.
-ghost use Rattle.std.specs.Prelude.{◌≡◌, ◌≢◌, ◌<◌, ◌≤◌, ◌+◌, ◌^◌, [], None, Some, length, IfOk, OnOk};
-ghost use Rattle.omega_copy.specs.Copies.{CopyOf};
+ghost use Rattle.std.specs.Prelude.{◌≡◌, ◌≢◌, ◌<◌, ◌+◌, ◌^◌, [], None, Some, length, IfOk, OnOk};
 ghost use Rattle.omega_model.specs.Policy.{schedulers};
 ghost use Rattle.omega_model.specs.Ranges.{IsInRange};
 ghost use Rattle.omega_rounds.specs.Players.{HasPlayed, MayPlay};
-ghost use Rattle.omega_rounds.specs.PlayingOn.{PlansFirst, PlaysOn};
+ghost use Rattle.omega_rounds.specs.PlayingOn.{IsSynced, PlansFirst, PlaysOn};
 ghost use Rattle.omega_rounds.specs.Seats.{IsSeat, synced_of, to_do_of};
 
 use crate::planned::planned;
@@ -76,12 +75,7 @@ impl Player {
     }
 
     // A turn in which the copy takes over the history. Where memory runs out the seat is as before.
-    fn sync<R: Wait>(
-        &mut self,
-        rt: &R,
-        alloc: Global,
-        shared: &SharedCell,
-    ) -> Result<(), NoMemory>
+    fn sync<R: Wait>(&mut self, rt: &R, alloc: Global, shared: &SharedCell) -> Result<(), NoMemory>
         requires of { self.old.pass.of ≡ shared.now.of }
         requires left { 0 < self.old.pass.turns }
         requires seat { IsSeat self.old.seat.desk.settings self.old.pass.seen self.old.pass.number self.old.seat }
@@ -130,12 +124,7 @@ impl Player {
         shared: &SharedCell,
         txn: Txn,
     ) -> Result<(), NoMemory>
-        requires range { IsInRange self.old.seat.desk.settings }
-        requires of { self.old.pass.of ≡ shared.now.of }
-        requires left { 0 < self.old.pass.turns }
-        requires known { self.old.pass.number < schedulers self.old.seat.desk.settings }
-        requires seat { IsSeat self.old.seat.desk.settings self.old.pass.seen self.old.pass.number self.old.seat }
-        requires all { synced_of self.old.seat ≡ Some (length self.old.pass.seen) }
+        requires synced { IsSynced shared.now.of self.old }
         requires plans { PlansFirst self.old txn }
         requires few { length txn.claims < 2 ^ 32 }
         requires short { self.old.seat.copy.seen + 1 < 2 ^ 64 }
