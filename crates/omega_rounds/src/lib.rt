@@ -13,6 +13,7 @@ mod planned;
 mod player;
 mod seat;
 mod steps;
+mod together;
 mod turns;
 mod world;
 
