@@ -6,16 +6,11 @@ use Rattle.omega_desk.proofs.desk.Desk.TheSendSync as desk
 use Rattle.omega_fit.proofs.index.FitIndex.TheSendSync as index
 use Rattle.omega_shared.proofs.Crossing.{board_send, pass_send}
 use Rattle.omega_rounds.specs.contracts.player.Player as Player
-use Rattle.omega_rounds.specs.contracts.seat.Seat as Seat
 
 -- a scheduler's copy
 copy_send : IsSend PrivateCopy.the_row
 copy_send = search (board_send, index.the_send, trial.the_send, sendable) depth 20
 
--- a scheduler's seat
-seat_send : IsSend Seat.the_row
-seat_send = search (copy_send, desk.the_send, sendable) depth 20
-
--- a player
+-- a player, with its seat
 pub player_send : IsSend Player.the_row
-player_send = search (seat_send, pass_send, sendable) depth 20
+player_send = search (copy_send, desk.the_send, pass_send, sendable) depth 40
