@@ -1,3 +1,5 @@
+mod Crossing
+mod PlayersTogether
 pub mod Places
 pub mod RowEntries
 pub mod LastCommits

@@ -231,9 +231,9 @@ pub record IsPlaying (settings : Settings) (shared : TableId) (old now : Player)
   pub spent : synced_of old.seat ≡ None → synced_of now.seat ≡ None
 
 -- at its end it has played, whether or not it had met want of memory before
-pub played_all : (settings : Settings) (shared : TableId) (old now : Player) (failed : Bool) → IsPlaying settings shared old now
-    → now.seat.desk.requests ≡ [] → HasPlayed settings old (record { seat = now.seat; pass = now.pass; failed = failed })
-played_all settings shared old now failed is none = record {
+pub played_all : (chosen : Settings) (shared : TableId) (old now : Player) (failed : Bool) → IsPlaying chosen shared old now
+    → now.seat.desk.requests ≡ [] → HasPlayed chosen old (record { seat = now.seat; pass = now.pass; failed = failed })
+played_all chosen shared old now failed is none = record {
   of = is.plays_on.of;
   number = is.plays_on.number;
   first_length = is.plays_on.first_length;

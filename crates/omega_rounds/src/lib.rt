@@ -14,6 +14,7 @@ mod player;
 mod seat;
 mod steps;
 mod threads;
+mod together;
 mod turns;
 mod world;
 

@@ -74,7 +74,6 @@ fn one_pass(rt: HostRuntime) {
 
 // The cell that two callers leave who each take all their turns on a thread of their own, if there is
 // memory.
-#[tactic(auto, using(crate::proofs::Crossing::pass_send, crate::proofs::Crossing::shared_sync))]
 fn commit_together<R: Threads + Wait + Sync>(rt: &R, alloc: Global, turns: u32) -> Option<Cell> {
     let Ok((shared, mut passes)) = SharedCell::share(rt, alloc, Cell::new(alloc), 2, turns) else {
         return None;
