@@ -1,4 +1,4 @@
-use Rattle.omega_rounds.proofs.PlayersPlay.{played_all, played_first, played_next}
+use Rattle.omega_rounds.proofs.PlayersPlay.{played_all, played_first}
 use Rattle.omega_rounds.proofs.threads.play_all.Goals as goal
 
 pub loop-player-init : goal.loop-player-init
