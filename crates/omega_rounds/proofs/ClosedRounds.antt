@@ -1,15 +1,14 @@
 -- A world whose schedulers worked in a round on threads, once their shared cell is closed.
-use Rattle.std.proofs.Common.{◌≡◌, ◌≤◌, ◌<◌, ℕ, zero, suc, Bool, true, false, List, [], ◌∷◌, ◌++◌, length, take, drop, get_or, Option, Some, None, refl, sym, ap, subst, arith, ◌∙◌, inl, inr, ◌==◌, cond}
-use Rattle.std.specs.Prelude.{◌⊎◌, slice_get}
-use Rattle.std.specs.List.{All}
+use Rattle.std.proofs.Common.{◌≡◌, ◌≤◌, ◌<◌, ℕ, zero, suc, true, List, [], ◌∷◌, ◌++◌, length, take, drop, get_or, Some, None, refl, sym, ap, subst, arith, ◌∙◌, inl, inr}
+use Rattle.std.specs.Prelude.{slice_get}
 use Rattle.std.proofs.lemmas.Bool.{both_ways, cases_lt, eqb-true}
-use Rattle.std.proofs.lemmas.List.{length-append, length-drop, length-take-le, take-append-le}
+use Rattle.std.proofs.lemmas.List.{take-append-le}
 use Rattle.std.proofs.lemmas.Option.{get_or_from_slice_get, slice_get_cases, slice_get_within}
 use Rattle.omega_model.specs.Lawful.{IsCommitOfRound, RoundSoFar, Underway, opened}
 use Rattle.omega_model.specs.Policy.{schedulers}
-use Rattle.omega_model.specs.Stepping.{EachIsBetween, IsInRound, rows_end}
+use Rattle.omega_model.specs.Stepping.{IsInRound, rows_end}
 use Rattle.omega_model.specs.Wanted.{WantedTask}
-use Rattle.omega_model.specs.Work.{HasLeft, is_commit_of}
+use Rattle.omega_model.specs.Work.{is_commit_of}
 use Rattle.omega_model.specs.World.{NobodySynced, World}
 use Rattle.omega_model.specs.declared.entries.Entry.{Entry}
 use Rattle.omega_model.specs.declared.entries.Entry.TheVariants.{Round as RoundEntry, MachineAdd, MachineUpdate, MachineRemove, AttrSet, AttrDelete, End, Commit}
@@ -17,11 +16,9 @@ use Rattle.omega_model.specs.declared.rows.Row.{Row}
 use Rattle.omega_model.specs.declared.rows.Round.{Round}
 use Rattle.omega_model.specs.declared.rows.TraceTables.{TraceTables}
 use Rattle.omega_model.specs.declared.settings.Settings.{Settings}
-use Rattle.omega_model.specs.declared.wishes.Request.{Request}
-use Rattle.omega_desk.specs.Desks.{DeskState}
 use Rattle.omega_rounds.specs.Closed.{AreBack, IsBack, IsCommitOfOne, IsDone}
 use Rattle.omega_rounds.specs.InRound.{rows_before, rows_now}
-use Rattle.omega_rounds.specs.Keeping.{HasBegun, HasNotBegun, IsLawful, IsWorld, world_at}
+use Rattle.omega_rounds.specs.Keeping.{HasBegun, IsLawful, IsWorld, world_at}
 use Rattle.omega_rounds.specs.Players.{IsOwnDesk, MayStand, OwnMayStand}
 use Rattle.omega_rounds.specs.Seats.{IsDeskOf, synced_of}
 use Rattle.omega_rounds.specs.Stages.{IsInRunOf, Stage, rows_begun}

@@ -1,5 +1,5 @@
 -- Rounds that are worked to their end one after the other.
-use Rattle.std.proofs.Common.{◌≡◌, ◌<◌, ◌+◌, ◌-◌, ℕ, length, Some, refl, sym, ap, subst, arith, ◌∙◌}
+use Rattle.std.proofs.Common.{◌≡◌, ◌<◌, ◌-◌, ℕ, length, refl, sym, ap, subst, arith, ◌∙◌}
 use Rattle.std.proofs.lemmas.Option.{slice_get_within}
 use Rattle.omega_model.specs.World.{NobodySynced}
 use Rattle.omega_model.specs.declared.rows.TraceTables.{TraceTables}

@@ -1,12 +1,10 @@
 -- Rounds that are played one after the other.
-use Rattle.std.proofs.Common.{◌≡◌, ◌+◌, ℕ, List, [], ◌++◌, length, take, Some, refl, sym, ap, subst, ◌∙◌, add-one}
-use Rattle.std.specs.Prelude.{slice_get}
+use Rattle.std.proofs.Common.{◌≡◌, ℕ, List, ◌++◌, length, take, sym, ap, subst, ◌∙◌, add-one}
 use Rattle.std.proofs.lemmas.Option.{none-some}
-use Rattle.omega_model.specs.Lawful.{opened, rows_of}
+use Rattle.omega_model.specs.Lawful.{rows_of}
 use Rattle.omega_model.specs.Stepping.{BeginsRound}
 use Rattle.omega_model.specs.Turns.{InTurns}
 use Rattle.omega_model.specs.declared.entries.Entry.{Entry}
-use Rattle.omega_model.specs.declared.rows.Row.{Row}
 use Rattle.omega_model.specs.declared.rows.Round.{Round}
 use Rattle.omega_model.specs.declared.rows.TraceTables.{TraceTables}
 use Rattle.omega_rounds.specs.Going.{IsRoundOver, OpensRound, ReachesRound}

@@ -1,6 +1,6 @@
 -- Players before their round, and the seats that they bring back from it.
 use Rattle.std.proofs.Common.{◌≡◌, ◌≤◌, ◌<◌, ◌*◌, ◌-◌, ℕ, true, false, List, length, drop, get_or, map, Option, Some, None, refl, sym, ap, subst, arith, ◌∙◌, inl, inr}
-use Rattle.std.specs.Prelude.{◌⊎◌, All, Any, option_map, slice_get}
+use Rattle.std.specs.Prelude.{All, Any, option_map, slice_get}
 use Rattle.std.specs.List.{list_any}
 use Rattle.std.proofs.lemmas.Bool.{both_ways}
 use Rattle.std.proofs.lemmas.List.{length-map}

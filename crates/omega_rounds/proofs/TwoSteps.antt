@@ -1,5 +1,5 @@
 -- A scheduler that has work makes an attempt in two steps at most.
-use Rattle.std.proofs.Common.{◌≡◌, ◌<◌, ℕ, Bool, false, true, List, Option, Some, None, refl, sym, ap, subst, arith, ◌∙◌}
+use Rattle.std.proofs.Common.{◌≡◌, ◌<◌, ℕ, false, true, List, Some, None, refl, sym, ap, subst, arith, ◌∙◌}
 use Rattle.std.proofs.lemmas.Bool.{both_ways}
 use Rattle.omega_model.specs.World.{IsIdle, Syncs}
 use Rattle.omega_model.specs.declared.entries.Entry.{Entry}

@@ -1,11 +1,9 @@
-use Rattle.std.proofs.Common.{sym, subst}
-use Rattle.omega_model.specs.Lawful.{Lawful}
+use Rattle.std.proofs.Common.{subst}
 use Rattle.omega_model.specs.declared.rows.TraceTables.{TraceTables}
-use Rattle.omega_model.specs.declared.settings.Settings.{Settings}
 use Rattle.omega_rounds.specs.Going.{GoesOn, MovesOn}
-use Rattle.omega_rounds.specs.Stages.{IsInRunOf, WorldState}
+use Rattle.omega_rounds.specs.Stages.{IsInRunOf}
 use Rattle.omega_rounds.specs.declared.steps.RoundStep.{RoundStep}
-use Rattle.omega_rounds.proofs.EndedRounds.{begun_some, ended_idle, ended_more, ended_none, fewer_rounds, nobody_begun, same_run}
+use Rattle.omega_rounds.proofs.EndedRounds.{begun_some, ended_more, ended_none, nobody_begun}
 use Rattle.omega_rounds.proofs.threads.on_threads.Goals as goal
 
 pub loop-next-init : goal.loop-next-init

@@ -1,13 +1,12 @@
 use Rattle.std.proofs.Common.{◌≡◌, ◌<◌, ◌∙◌, ℕ, true, List, ◌++◌, drop, length, map, take, sym, ap, subst}
-use Rattle.std.specs.Prelude.{All, Any, Some, slice_get}
+use Rattle.std.specs.Prelude.{All, Any}
 use Rattle.std.specs.List.{list_any}
 use Rattle.std.proofs.Math.Seq.{take-append_seam}
 use Rattle.omega_lock.specs.Lists.{StartsWith}
-use Rattle.omega_model.specs.Policy.{schedulers}
 use Rattle.omega_model.specs.Work.{is_commit_of}
 use Rattle.omega_model.specs.declared.entries.Entry.{Entry}
 use Rattle.omega_shared.specs.Commits.{GoesOnWithout}
-use Rattle.omega_shared.specs.Passes.{PassState, new_pass}
+use Rattle.omega_shared.specs.Passes.{PassState}
 use Rattle.omega_rounds.specs.Closed.{AreBack, Suffice}
 use Rattle.omega_rounds.specs.Players.{HavePlayed, MayPlay}
 use Rattle.omega_rounds.specs.declared.player.Player.{Player}

@@ -1,4 +1,4 @@
-use Rattle.std.proofs.Common.{◌≡◌, ◌++◌, false, length}
+use Rattle.std.proofs.Common.{◌≡◌, ◌++◌, false}
 use Rattle.std.specs.Prelude.{All, map, vec_capacity}
 use Rattle.std.specs.Vec.Iter.{into_iter_items}
 use Rattle.omega_rounds.proofs.threads.players_of.Given as goal

@@ -1,13 +1,12 @@
-use Rattle.std.proofs.Common.{◌≡◌, ◌∙◌, List, sym, ap, subst}
+use Rattle.std.proofs.Common.{sym, subst}
 use Rattle.omega_model.specs.Lawful.{Lawful}
 use Rattle.omega_model.specs.Turns.{InTurns}
-use Rattle.omega_model.specs.declared.entries.Entry.{Entry}
 use Rattle.omega_model.specs.declared.rows.TraceTables.{TraceTables}
 use Rattle.omega_model.specs.declared.settings.Settings.{Settings}
-use Rattle.omega_rounds.specs.Going.{GoesOn, MovesOn, ReachesRound}
+use Rattle.omega_rounds.specs.Going.{GoesOn, MovesOn}
 use Rattle.omega_rounds.specs.Stages.{IsInRunOf, WorldState}
 use Rattle.omega_rounds.specs.declared.steps.RoundStep.{RoundStep}
-use Rattle.omega_rounds.proofs.EndedRounds.{ended_idle, fewer_rounds, same_run}
+use Rattle.omega_rounds.proofs.EndedRounds.{same_run}
 use Rattle.omega_rounds.proofs.PlayedRounds.{played_more, played_none}
 use Rattle.omega_rounds.proofs.TurnOrder.{only_history}
 use Rattle.omega_rounds.proofs.turns.in_turns.Goals as goal

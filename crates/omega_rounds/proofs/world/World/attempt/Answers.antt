@@ -1,6 +1,6 @@
-use Rattle.std.proofs.Common.{◌≡◌, ◌∙◌, subst, sym}
+use Rattle.std.proofs.Common.{◌∙◌, subst, sym}
 use Rattle.omega_rounds.specs.Stages.{IsInRunOf, Stage}
-use Rattle.omega_rounds.proofs.TwoSteps.{one_step, two_steps}
+use Rattle.omega_rounds.proofs.TwoSteps.{two_steps}
 use Rattle.omega_rounds.proofs.world.World.attempt.Goals as goal
 
 pub step-requires : goal.step-requires

@@ -1,4 +1,4 @@
-use Rattle.std.proofs.Common.{◌≡◌, ◌<◌, subst, sym}
+use Rattle.std.proofs.Common.{◌<◌, subst, sym}
 use Rattle.omega_model.specs.World.{NobodySynced}
 use Rattle.omega_rounds.specs.Stages.{WorldState, stage_of, world_of}
 use Rattle.omega_rounds.proofs.ClosedRounds.{closed_done, world_closed}
