@@ -136,7 +136,7 @@ module _ (settings : Settings) (of : TableId) (turns : ℕ) (first : List Entry)
     module _
         (succeeded : (place : ℕ) (player : Player) → slice_get after place ≡ Some player → player.failed ≡ false)
         (history : List Entry) (begins : StartsWith history first)
-        (others : All (λ (pass : PassState). pass.first_length ≡ length first → GoesOnWithout pass.number pass.seen history) (map (λ (player : Player). player.pass) after))
+        (others : All (λ (pass : PassState). GoesOnWithout pass.number pass.seen history) (map (λ (player : Player). player.pass) after))
         (commits : All (λ entry. Any (λ (pass : PassState). is_commit_of pass.number entry ≡ true) (map (λ (player : Player). player.pass) after)) (drop (length first) history)) where
       since : All (IsCommitOfOne (length seats)) (drop (length first) history)
       since = λ place entry inside.
@@ -188,10 +188,9 @@ module _ (settings : Settings) (of : TableId) (turns : ℕ) (first : List Entry)
       goes_on number player here was is did =
           let seen : List PassState = map (λ (p : Player). p.pass) after in
           let there : slice_get seen number ≡ Some player.pass = mapped_at (λ (p : Player). p.pass) after seen number player refl here in
-          let began : player.pass.first_length ≡ length first = did.first_length ∙ ap (λ (p : PassState). p.first_length) is.pass in
-          subst (λ (p : PassState). p.first_length ≡ length first → GoesOnWithout p.number p.seen history)
+          subst (λ (p : PassState). GoesOnWithout p.number p.seen history)
           (get_or_from_slice_get seen number player.pass player.pass there)
-          (others number player.pass (slice_get_within seen number player.pass there)) began
+          (others number player.pass (slice_get_within seen number player.pass there))
 
       -- all are back
       pub are_back : AreBack settings first history seats (map (λ (player : Player). player.seat) after)

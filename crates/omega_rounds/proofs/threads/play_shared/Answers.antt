@@ -48,9 +48,8 @@ returns g c =
     let history : List Entry = c.close.result.history in
     let after : List Player = c.play_all.new.players in
     let same : c.in_ok-shared.shared.first ≡ first = c.in_ok-shared.ensures.first in
-    let others : All (λ (pass : PassState). pass.first_length ≡ length first → GoesOnWithout pass.number pass.seen history) (map (λ (player : Player). player.pass) after) =
-    subst (All (λ (pass : PassState). pass.first_length ≡ length first → GoesOnWithout pass.number pass.seen history)) passes
-    (subst (λ (h : List Entry). All (λ (pass : PassState). pass.first_length ≡ length h → GoesOnWithout pass.number pass.seen history) c.apart-seats.result.1.items) same c.close.ensures.others) in
+    let others : All (λ (pass : PassState). GoesOnWithout pass.number pass.seen history) (map (λ (player : Player). player.pass) after) =
+    subst (All (λ (pass : PassState). GoesOnWithout pass.number pass.seen history)) passes c.close.ensures.others in
     let commits : All (λ entry. Any (λ (pass : PassState). is_commit_of pass.number entry ≡ true) (map (λ (player : Player). player.pass) after)) (drop (length first) history) =
     subst (λ (all : List PassState). All (λ entry. Any (λ (pass : PassState). is_commit_of pass.number entry ≡ true) all) (drop (length first) history)) passes
     (subst (λ (h : List Entry). All (λ entry. Any (λ (pass : PassState). is_commit_of pass.number entry ≡ true) c.apart-seats.result.1.items) (drop (length h) history)) same c.close.ensures.commits) in
