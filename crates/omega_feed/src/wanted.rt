@@ -133,13 +133,6 @@ impl Wanted {
         }
     }
 
-    /// Says of the wanted tasks that none has the index of an extra. Costs nothing.
-    pub fn check_low(&self)
-        ensures { All HasLowIndex self.now.tasks }
-    {
-        let _tasks = &self.tasks;
-    }
-
     /// The entries of the row that was taken last, on the cell of a board. Costs the logarithm of the
     /// number of tasks that are wanted or run, and the running tasks of a job that the row leaves
     /// without a wanted task.
@@ -164,9 +157,10 @@ impl Wanted {
         scheduler: u32,
         board: &Board,
     ) -> Result<Requests, NoMemory>
-        ensures { IfOk result (λ requests. (settings : Settings) (trace : TraceTables) (rows : List Row)
+        ensures requests { IfOk result (λ requests. (settings : Settings) (trace : TraceTables) (rows : List Row)
             → self.now ≡ asked_after settings trace rows
             → requests ≡ open_requests settings trace rows (cell_of board.now) scheduler) }
+        ensures low { All HasLowIndex self.now.tasks }
     {
         self.requests_on(alloc, scheduler, board)
     }

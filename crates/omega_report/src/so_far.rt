@@ -53,7 +53,7 @@ impl CellSoFar {
         ensures seqs { OnOk result ((id : ℕ) → seq_at self.new.table id ≡ seq_at self.old.table id + (if touches id entry.now then 1 else 0)) }
         ensures displaced { IfOk result (λ keys. keys ≡ keys_of (displaced self.old.tasks entry.now)) }
     {
-        self.board.apply_entry(alloc, entry)
+        Ok(self.board.apply_entry(alloc, entry)?)
     }
 
     /// What is used on the machines that are up. Takes no memory, and time that doesn't depend on
