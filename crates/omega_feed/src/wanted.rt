@@ -162,7 +162,15 @@ impl Wanted {
             → requests ≡ open_requests settings trace rows (cell_of board.now) scheduler) }
         ensures low { All HasLowIndex self.now.tasks }
     {
+        self.check_low();
         self.requests_on(alloc, scheduler, board)
+    }
+
+    // What the type keeps of the wanted tasks: none has the index of an extra.
+    fn check_low(&self)
+        ensures { All HasLowIndex self.now.tasks }
+    {
+        let _tasks = &self.tasks;
     }
 
     /// The requests of a scheduler on the cell of a board.

@@ -1,6 +1,4 @@
-use Rattle.std.proofs.Common.{◌∙◌, ap, subst}
-use Rattle.std.specs.List.{All}
-use Rattle.omega_model.specs.ExtraTasks.{HasLowIndex}
+use Rattle.std.proofs.Common.{◌∙◌, ap}
 use Rattle.omega_board.specs.Board.{cell_of}
 use Rattle.omega_feed.specs.Asked.{Asked, asked_requests}
 use Rattle.omega_feed.proofs.AskedAfter.{asked_open, if_ok_weaker}
@@ -14,6 +12,3 @@ returns-clause-requests c =
     ∙ ap (λ (asks : Asked). asked_requests asks (cell_of c.args.board.now) c.args.scheduler) asked
     ∙ asked_open settings trace rows (cell_of c.args.board.now) c.args.scheduler)
     c.requests_on.ensures
-
-pub returns-clause-low : goal.returns-clause-low
-returns-clause-low c = subst (λ (asked : Asked). All HasLowIndex asked.tasks) c.self.view_is c.self.invariant.low
