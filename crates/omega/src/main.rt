@@ -12,7 +12,18 @@ use std::env;
 use std::process::ExitCode;
 
 fn main(rt: HostRuntime) -> ExitCode {
-    let status = run(&rt);
+    let mut tables = FolderTables::new(&rt);
+    let mut out = StdoutSink::new(&rt);
+    let status = match arguments(&rt) {
+        Ok(texts) => match words_of(&rt, texts.as_slice()) {
+            Ok(words) => {
+                let words = words.as_slice();
+                omega(&rt, rt.alloc(), words, &mut tables, &mut out, &PassGate).status
+            }
+            Err(NoMemory) => Status::NoMemory,
+        },
+        Err(status) => status,
+    };
     let line = fault_line(&status);
     if !line.as_bytes().is_empty() {
         // Where even this can't be written, the exit status still tells.
@@ -21,32 +32,18 @@ fn main(rt: HostRuntime) -> ExitCode {
     ExitCode::from(exit_status(&status))
 }
 
-// Calls the top call with the words that follow the program's name. Words that can't be had as
-// text are words that are refused.
-fn run(rt: &HostRuntime) -> Status {
+// The program's name and its words. Words that can't be had as text are words that are refused.
+fn arguments(rt: &HostRuntime) -> Result<Vec<String>, Status> {
     let Ok(arguments) = env::args(rt) else {
-        return Status::Usage;
+        return Err(Status::Usage);
     };
     let mut texts = Vec::new(rt.alloc());
     for argument in arguments {
         if texts.push(argument).is_err() {
-            return Status::NoMemory;
+            return Err(Status::NoMemory);
         }
     }
-    let Ok(words) = words_of(rt, texts.as_slice()) else {
-        return Status::NoMemory;
-    };
-    let mut tables = FolderTables::new(rt);
-    let mut out = StdoutSink::new(rt);
-    let done = omega(
-        rt,
-        rt.alloc(),
-        words.as_slice(),
-        &mut tables,
-        &mut out,
-        &PassGate,
-    );
-    done.status
+    Ok(texts)
 }
 
 // The words after the first.

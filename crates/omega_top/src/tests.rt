@@ -1,6 +1,8 @@
 //! Whole runs over tables and a sink in memory, whose reads and writes are cut or fail, and what is
 //! said of refusals that no run in a folder shows. All other runs are the folders of `tests/`.
 
+ghost use Rattle.std.specs.Thread.{IsSync};
+
 mod held;
 
 use crate::{exit_status, fault_line, omega};
@@ -8,7 +10,9 @@ use omega_io::{MemorySink, MemoryTables, PassGate, Tables};
 use omega_model::{Bytes, Cause, Done, Kind, NoMemory, Seq, Settings, Status, Table};
 use std::alloc::Global;
 use std::process::Abort;
+use std::sync::Wait;
 use std::test::Fail;
+use std::thread::Threads;
 
 // Room for every report of these tests, in bytes.
 const ROOM: u64 = 1000;
@@ -57,14 +61,17 @@ fn tables_of(alloc: Global, machines: &str, tasks: &str) -> Result<MemoryTables,
 }
 
 // A run with these words, whose sink has room for so many bytes.
-fn run(
-    rt: &HostRuntime,
+fn run<R: Threads + Wait + Sync>(
+    rt: &R,
+    alloc: Global,
     words: &[&str],
     tables: &mut MemoryTables,
     room: u64,
-) -> Result<Ran, NoMemory> {
-    let mut sink = MemorySink::new(rt.alloc(), room)?;
-    let done = omega(rt, rt.alloc(), words, tables, &mut sink, &PassGate);
+) -> Result<Ran, NoMemory>
+    requires { IsSync R.row }
+{
+    let mut sink = MemorySink::new(alloc, room)?;
+    let done = omega(rt, alloc, words, tables, &mut sink, &PassGate);
     Ok(Ran {
         done,
         written: sink.into_bytes(),
@@ -82,7 +89,7 @@ fn expect(rt: &impl Abort, ran: &Ran, status: Status, entries: usize, report: &[
 fn answers_the_settings_of_its_words(rt: HostRuntime) -> Result<(), Fail> {
     let mut tables = tables_of(rt.alloc(), MACHINE, TASK)?;
     let words = ["replay", "--tries", "2", "--tables", "a b"];
-    let ran = run(&rt, &words, &mut tables, ROOM)?;
+    let ran = run(&rt, rt.alloc(), &words, &mut tables, ROOM)?;
     expect(&rt, &ran, Status::Done, 3, REPORT.as_bytes());
     let settings = Settings {
         tries: 2,
@@ -110,7 +117,7 @@ fn failing_table(call: u64) -> Option<Table> {
 fn each_read_fails(rt: HostRuntime) -> Result<(), Fail> {
     for call in 0..59 {
         let mut tables = tables_of(rt.alloc(), MACHINE, TASK)?.cut(1).fail_at(call);
-        let ran = run(&rt, &["replay"], &mut tables, ROOM)?;
+        let ran = run(&rt, rt.alloc(), &["replay"], &mut tables, ROOM)?;
         match failing_table(call) {
             Some(table) => {
                 expect(&rt, &ran, Status::ReadFault(table), 0, b"");
@@ -127,7 +134,7 @@ fn each_size_of_sink(rt: HostRuntime) -> Result<(), Fail> {
     let whole = REPORT.len();
     for room in 0..526 {
         let mut tables = tables_of(rt.alloc(), MACHINE, TASK)?.cut(1);
-        let ran = run(&rt, &["replay"], &mut tables, room)?;
+        let ran = run(&rt, rt.alloc(), &["replay"], &mut tables, room)?;
         let written = whole.min(room as usize);
         let status = if written < whole {
             Status::WriteFault
@@ -153,7 +160,7 @@ fn reads_fail_before_and_behind_bad_rows(rt: HostRuntime) -> Result<(), Fail> {
     ];
     for (machines, failing, status) in cases {
         let mut tables = tables_of(rt.alloc(), machines, MACHINE)?.fail_at(failing);
-        let ran = run(&rt, &["replay"], &mut tables, ROOM)?;
+        let ran = run(&rt, rt.alloc(), &["replay"], &mut tables, ROOM)?;
         expect(&rt, &ran, status, 0, b"");
     }
     Ok(())

@@ -92,7 +92,11 @@ fn placed_by(history: &[Entry], number: u32) -> usize {
     let mut placed = 0;
     for entry in history {
         if let Some((_, reply)) = commit_by(entry, number) {
-            if reply.as_slice().iter().any(|judgement| judgement.verdict.is_placed()) {
+            if reply
+                .as_slice()
+                .iter()
+                .any(|judgement| judgement.verdict.is_placed())
+            {
                 placed += 1;
             }
         }
@@ -105,10 +109,10 @@ fn placed_by(history: &[Entry], number: u32) -> usize {
 fn first_is_stale(history: &[Entry], number: u32, entries: u64) -> bool {
     for entry in history {
         if let Some((seen, reply)) = commit_by(entry, number) {
-            let changed = reply
-                .as_slice()
-                .iter()
-                .any(|judgement| matches!(judgement.verdict, Verdict::Changed { .. }));
+            let changed = reply.as_slice().iter().any(|judgement| matches!(
+                judgement.verdict,
+                Verdict::Changed { .. }
+            ));
             return seen == entries && changed;
         }
     }
