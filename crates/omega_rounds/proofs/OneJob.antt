@@ -47,9 +47,9 @@ module _ (settings : Settings) (trace : TraceTables) where
   extras_of_job : (cell : Cell) (asked : List WantedTask) (job : ℕ) → Each (IsOfJob job) (wishes_for_extras settings trace cell asked job)
   extras_of_job cell asked job =
       of_names (wishes_for_extras settings trace cell asked job) (extras_are settings trace cell asked job).each where
-      of_names : (wishes : List Wish) → Each (IsExtraOf job) (names_of wishes) → Each (IsOfJob job) wishes
-      of_names [] each = tt
-      of_names (wish ∷ wishes) each = (each.0.0, of_names wishes each.1)
+        of_names : (wishes : List Wish) → Each (IsExtraOf job) (names_of wishes) → Each (IsOfJob job) wishes
+        of_names [] each = tt
+        of_names (wish ∷ wishes) each = (each.0.0, of_names wishes each.1)
 
   wishes_of_job : (cell : Cell) (asked : List WantedTask) (job : ℕ) → Each (IsOfJob job) (wishes_of settings trace cell asked job)
   wishes_of_job cell asked job =
