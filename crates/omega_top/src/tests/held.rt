@@ -1,8 +1,7 @@
 //! Runs on threads in which a gate holds schedulers, so that they really plan beside each other.
 
-use super::tables_of;
-use crate::omega;
-use omega_io::{HeldGate, MemorySink, Point};
+use super::{run_past, tables_of};
+use omega_io::{HeldGate, Point};
 use omega_model::{Entry, Judgements, Status, Verdict};
 use std::test::Fail;
 
@@ -45,11 +44,10 @@ fn two_held_schedulers_plan_beside_each_other(rt: HostRuntime) -> Result<(), Fai
     let alloc = rt.alloc();
     let gate = HeldGate::new(alloc, &BOTH_PLAN_FIRST, LOOKS)?;
     let mut tables = tables_of(alloc, MACHINE, TWO_TASKS)?;
-    let mut sink = MemorySink::new(alloc, ROOM)?;
     let words = ["run", "--rule", "coarse"];
-    let done = omega(&rt, alloc, &words, &mut tables, &mut sink, &gate);
-    assert_eq!(rt; done.status, Status::Done);
-    assert_eq!(rt; sink.into_bytes().as_slice(), TWO_REPORT.as_bytes());
+    let ran = run_past(&rt, alloc, &words, &mut tables, ROOM, &gate)?;
+    assert_eq!(rt; ran.done.status, Status::Done);
+    assert_eq!(rt; ran.written.as_slice(), TWO_REPORT.as_bytes());
     assert!(rt; !gate.ran_out());
     Ok(())
 }
@@ -124,13 +122,11 @@ fn three_held_schedulers_plan_beside_each_other(rt: HostRuntime) -> Result<(), F
     let alloc = rt.alloc();
     let gate = HeldGate::new(alloc, &THREE_PLAN_FIRST, LOOKS)?;
     let mut tables = tables_of(alloc, MACHINE, THREE_TASKS)?;
-    let mut sink = MemorySink::new(alloc, ROOM)?;
     let words = ["run", "--rule", "coarse", "--batch", "2"];
-    let done = omega(&rt, alloc, &words, &mut tables, &mut sink, &gate);
-    assert_eq!(rt; done.status, Status::Done);
-    let written = sink.into_bytes();
-    assert!(rt; written.as_slice().starts_with(THREE_BEGIN.as_bytes()));
-    let history = done.history.as_slice();
+    let ran = run_past(&rt, alloc, &words, &mut tables, ROOM, &gate)?;
+    assert_eq!(rt; ran.done.status, Status::Done);
+    assert!(rt; ran.written.as_slice().starts_with(THREE_BEGIN.as_bytes()));
+    let history = ran.done.history.as_slice();
     assert!(rt; first_is_stale(history, 0, 2));
     for number in 0..3 {
         assert_eq!(rt; placed_by(history, number), 1);
