@@ -205,6 +205,22 @@ fn asked_of(
     Ok(told)
 }
 
+// The same under a policy of extra tasks, of which a cap is one of half the cell.
+fn asked_under(
+    alloc: Global,
+    board: &Board,
+    policy: Extra,
+    scheduler: u32,
+    activities: &[u8],
+    rows: &[(u8, u16, u32)],
+) -> Result<Vec<u64>, NoMemory> {
+    match policy {
+        Extra::Max => asked_of(alloc, board, &SETTINGS, scheduler, activities, rows),
+        Extra::Relative => asked_of(alloc, board, &RELATIVE, scheduler, activities, rows),
+        Extra::Cap(_) => asked_of(alloc, board, &CAPPED, scheduler, activities, rows),
+    }
+}
+
 // The same for many lists of rows, each answer behind a 99.
 fn asked_each(
     alloc: Global,
@@ -349,16 +365,16 @@ fn jobs_with_activities_get_extras(rt: HostRuntime) -> Result<(), NoMemory> {
     let alloc = rt.alloc();
     let (none, one) = (Board::new(alloc), running(alloc, 2_147_483_648)?);
     let mut all = Vec::new(alloc);
-    for (board, settings, scheduler, activities, rows) in [
-        (&none, &SETTINGS, 2, [9, 4], [(0, 0, 2), (0, 1, 7)]),
-        (&none, &SETTINGS, 1, [9, 4], [(0, 0, 2), (0, 1, 7)]),
-        (&none, &SETTINGS, 2, [9, 4], [(0, 0, 2), (4, 0, 7)]),
-        (&none, &RELATIVE, 2, [0, 9], [(0, 0, 2), (2, 1, 7)]),
-        (&one, &SETTINGS, 2, [0, 4], [(0, 0, 2), (2, 1, 7)]),
-        (&one, &CAPPED, 2, [0, 9], [(0, 0, 3), (2, 1, 7)]),
+    for (board, policy, scheduler, activities, rows) in [
+        (&none, Extra::Max, 2, [9, 4], [(0, 0, 2), (0, 1, 7)]),
+        (&none, Extra::Max, 1, [9, 4], [(0, 0, 2), (0, 1, 7)]),
+        (&none, Extra::Max, 2, [9, 4], [(0, 0, 2), (4, 0, 7)]),
+        (&none, Extra::Relative, 2, [0, 9], [(0, 0, 2), (2, 1, 7)]),
+        (&one, Extra::Max, 2, [0, 4], [(0, 0, 2), (2, 1, 7)]),
+        (&one, Extra::Cap(50), 2, [0, 9], [(0, 0, 3), (2, 1, 7)]),
     ] {
         all.push(99)?;
-        let told = asked_of(alloc, board, settings, scheduler, &activities, &rows)?;
+        let told = asked_under(alloc, board, policy, scheduler, &activities, &rows)?;
         all.extend_from_slice(told.as_slice())?;
     }
     let (a, b, c) = (2_147_483_648, 2_147_483_649, 2_147_483_650);
