@@ -26,16 +26,6 @@ const SETTINGS: Settings = Settings {
     jobs: 0,
 };
 
-const RELATIVE: Settings = Settings {
-    extra: Extra::Relative,
-    ..SETTINGS
-};
-
-const CAPPED: Settings = Settings {
-    extra: Extra::Cap(50),
-    ..SETTINGS
-};
-
 fn machine_row(time: u32, machine: u64, code: u8) -> MachineRow {
     MachineRow {
         time: u64::from(time),
@@ -205,22 +195,6 @@ fn asked_of(
     Ok(told)
 }
 
-// The same under a policy of extra tasks, of which a cap is one of half the cell.
-fn asked_under(
-    alloc: Global,
-    board: &Board,
-    policy: Extra,
-    scheduler: u32,
-    activities: &[u8],
-    rows: &[(u8, u16, u32)],
-) -> Result<Vec<u64>, NoMemory> {
-    match policy {
-        Extra::Max => asked_of(alloc, board, &SETTINGS, scheduler, activities, rows),
-        Extra::Relative => asked_of(alloc, board, &RELATIVE, scheduler, activities, rows),
-        Extra::Cap(_) => asked_of(alloc, board, &CAPPED, scheduler, activities, rows),
-    }
-}
-
 // The same for many lists of rows, each answer behind a 99.
 fn asked_each(
     alloc: Global,
@@ -357,32 +331,6 @@ fn rows_give_entries(rt: HostRuntime) -> Result<(), NoMemory> {
     let told = entries_of_rows(alloc, &busy(alloc)?)?;
     let want: [u64; 18] = [1, 7, 2, 7, 3, 7, 4, 8, 5, 9, 6, 4, 6, 4, 6, 4, 6, 4];
     assert_eq!(rt; told.as_slice(), want.as_slice());
-    Ok(())
-}
-
-#[test]
-fn jobs_with_activities_get_extras(rt: HostRuntime) -> Result<(), NoMemory> {
-    let alloc = rt.alloc();
-    let (none, one) = (Board::new(alloc), running(alloc, 2_147_483_648)?);
-    let mut all = Vec::new(alloc);
-    for (board, policy, scheduler, activities, rows) in [
-        (&none, Extra::Max, 2, [9, 4], [(0, 0, 2), (0, 1, 7)]),
-        (&none, Extra::Max, 1, [9, 4], [(0, 0, 2), (0, 1, 7)]),
-        (&none, Extra::Max, 2, [9, 4], [(0, 0, 2), (4, 0, 7)]),
-        (&none, Extra::Relative, 2, [0, 9], [(0, 0, 2), (2, 1, 7)]),
-        (&one, Extra::Max, 2, [0, 4], [(0, 0, 2), (2, 1, 7)]),
-        (&one, Extra::Cap(50), 2, [0, 9], [(0, 0, 3), (2, 1, 7)]),
-    ] {
-        all.push(99)?;
-        let told = asked_under(alloc, board, policy, scheduler, &activities, &rows)?;
-        all.extend_from_slice(told.as_slice())?;
-    }
-    let (a, b, c) = (2_147_483_648, 2_147_483_649, 2_147_483_650);
-    let want: [u64; 49] = [
-        99, 1, 0, 2, 0, 1, 7, 0, a, 2, 0, b, 2, 0, 99, 99, 99, 1, 0, 2, 0, a, 2, 0, b, 2, 0, c, 2,
-        0, 99, 1, 0, 2, 0, b, 2, 0, c, 2, 0, 99, 1, 0, 3, 0, b, 3, 0,
-    ];
-    assert_eq!(rt; all.as_slice(), want.as_slice());
     Ok(())
 }
 
