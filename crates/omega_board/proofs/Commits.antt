@@ -52,9 +52,3 @@ placed_listed cell ((claim, judgement) ∷ decided) id places any =
           subst (λ n. IsTrue (is_listed n cell.machines)) (eqb-true _ _ parts.1) (up_listed cell.machines claim.machine up)
       | inr h ↦ placed_listed (after_claim cell (claim, judgement)) decided id places.1 h
     ]
-
--- the claim at a place
-pub claim_at : (claims : List Claim) (i : ℕ) → i < length claims → (claim : Claim) × (claim ≡ get_or claims i claim)
-claim_at [] i below = absurd (omega arith)
-claim_at (c ∷ claims) zero below = (c, refl)
-claim_at (c ∷ claims) (suc i) below = claim_at claims i (omega arith)

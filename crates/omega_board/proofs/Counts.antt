@@ -1,10 +1,9 @@
 -- How often machines were touched.
-use Rattle.std.proofs.Common.{◌≡◌, ℕ, zero, suc, ◌+◌, ◌-◌, ◌<◌, ◌≤◌, Bool, true, false, ◌||◌, ◌&&◌, List, [], ◌∷◌, ◌++◌, length, get_or, take, drop, min, Option, Some, None, is_some, IsTrue, refl, sym, ap, ap₂, ◌∙◌, subst, arith, if◌then◌else◌, ◌==◌, ◌⊎◌, inl, inr}
+use Rattle.std.proofs.Common.{◌≡◌, ℕ, zero, suc, ◌+◌, ◌-◌, ◌<◌, ◌≤◌, Bool, true, false, ◌||◌, ◌&&◌, List, [], ◌∷◌, ◌++◌, length, get_or, take, min, Option, Some, None, is_some, IsTrue, refl, sym, ap, ap₂, ◌∙◌, subst, arith, if◌then◌else◌, ◌==◌, ◌⊎◌, inl, inr}
 use Rattle.std.specs.List.{list_any, zip}
 use Rattle.std.specs.Option.{option_map, option_map_or}
 use Rattle.std.proofs.Math.Bool.{or-false}
 use Rattle.std.proofs.lemmas.Bool.{both_ways, eqb-true, eq-eqb, or_right}
-use Rattle.std.proofs.lemmas.List.{drop_more}
 use Rattle.std.proofs.lemmas.List.Folds.{list_any-append}
 use Rattle.omega_model.specs.Machines.{is_listed}
 use Rattle.omega_model.specs.Touches.{is_placed, places_on}
@@ -30,10 +29,6 @@ seq_touched table id other listed =
     own = ap (λ o. option_map_or (λ (s : MachineState). s.seq) o 0) (state_changed id touched (λ s. refl) table) ∙ by (state_at table id) (sym (listed_state table id) ∙ listed)
 
 -- the pairs of two lists, one more at a time
-pub zip_more : {X Y : Type 0} (xs : List X) (ys : List Y) (i : ℕ) (d : X) (e : Y) → i < length xs → i < length ys
-    → zip (drop i xs) (drop i ys) ≡ (get_or xs i d, get_or ys i e) ∷ zip (drop (i + 1) xs) (drop (i + 1) ys)
-zip_more xs ys i d e below_xs below_ys = ap₂ zip (drop_more xs i d below_xs) (drop_more ys i e below_ys)
-
 pub zip_take : {X Y : Type 0} (xs : List X) (ys : List Y) (i : ℕ) (d : X) (e : Y) → i < length xs → i < length ys
     → zip (take (i + 1) xs) (take (i + 1) ys) ≡ zip (take i xs) (take i ys) ++ (get_or xs i d, get_or ys i e) ∷ []
 zip_take [] ys i d e below_xs below_ys = absurd (omega arith)
@@ -43,22 +38,9 @@ zip_take (x ∷ xs) (y ∷ ys) (suc i) d e below_xs below_ys =
     let next : suc i + 1 ≡ suc (i + 1) = omega arith in
     rw next (ap (λ ps. (x, y) ∷ ps) (zip_take xs ys i d e (omega arith) (omega arith)))
 
-zip-nil : (X Y : Type 0) (zs : List X) → let none : List Y = [] in zip zs none ≡ []
-zip-nil X Y [] = refl
-zip-nil X Y (z ∷ zs) = refl
-
 nil-zip : (X Y : Type 0) (ys : List Y) (i : ℕ) → let none : List X = [] in zip (take i none) (take i ys) ≡ zip none ys
 nil-zip X Y ys zero = refl
 nil-zip X Y ys (suc i) = refl
-
-pub zip_past : {X Y : Type 0} (xs : List X) (ys : List Y) (i : ℕ) → min (length xs) (length ys) ≤ i → zip (drop i xs) (drop i ys) ≡ []
-zip_past [] [] zero past = refl
-zip_past [] (y ∷ ys) zero past = refl
-zip_past (x ∷ xs) [] zero past = refl
-zip_past (x ∷ xs) (y ∷ ys) zero past = absurd (omega arith)
-zip_past [] ys (suc i) past = refl
-zip_past {X} {Y} (x ∷ xs) [] (suc i) past = zip-nil X Y (drop i xs)
-zip_past (x ∷ xs) (y ∷ ys) (suc i) past = zip_past xs ys i (omega arith)
 
 -- nothing is left of pairs where one of the lists is at its end
 pub zipped_out : {X Y : Type 0} (xs : List X) (ys : List Y) → (xs ≡ []) ⊎ (ys ≡ []) → zip xs ys ≡ []

@@ -24,7 +24,7 @@ by_place_front C P (a ∷ xs) ys all (suc place) y is here =
     by_place_front (λ at. C (suc at)) (λ before. P (a ∷ before)) xs ys (λ at z found allowed. all (suc at) z found allowed) place y is here
 
 -- of entries without a commit of a scheduler the first is none, and the others have none
-none_among : (scheduler : ℕ) (entry : Entry) (later : List Entry) → commits_of scheduler (entry ∷ later) ≡ 0
+pub none_among : (scheduler : ℕ) (entry : Entry) (later : List Entry) → commits_of scheduler (entry ∷ later) ≡ 0
     → (is_commit_of scheduler entry ≡ false) × (commits_of scheduler later ≡ 0)
 none_among scheduler entry later none =
     let split : commits_of scheduler (entry ∷ later) ≡ cond (is_commit_of scheduler entry) 1 0 + commits_of scheduler later =

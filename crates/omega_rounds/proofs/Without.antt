@@ -2,9 +2,8 @@
 use Rattle.std.proofs.Common.{◌≡◌, ◌≤◌, ◌+◌, ℕ, false, cond, List, [], ◌∷◌, ◌++◌, length, take, refl, sym, ap, subst, ◌∙◌, arith, append_assoc, append-nil, length-append}
 use Rattle.std.proofs.lemmas.Bool.{eqb-false}
 use Rattle.std.proofs.lemmas.List.{take-append-le}
-use Rattle.std.proofs.lemmas.List.Sums.{sum_by-cons}
 use Rattle.omega_model.proofs.Growing.{by_place_push_where}
-use Rattle.omega_model.proofs.Lists.{by_answer}
+use Rattle.omega_model.proofs.Remaining.{none_among}
 use Rattle.omega_model.specs.Lawful.{after_last}
 use Rattle.omega_model.specs.Work.{commits_of, is_commit_of}
 use Rattle.omega_model.specs.declared.entries.Entry.{Entry}
@@ -24,23 +23,13 @@ use Rattle.omega_rounds.proofs.CommitCounts.{commits_other, copy_grown}
 use Rattle.omega_rounds.proofs.DeskCommits.{own_desk_other}
 use Rattle.omega_rounds.proofs.LastCommits.{after_last-none}
 
--- of entries without a commit of a scheduler the first is none, and the others have none
-none_in_both : (scheduler : ℕ) (entry : Entry) (later : List Entry) → commits_of scheduler (entry ∷ later) ≡ 0
-    → (is_commit_of scheduler entry ≡ false) × (commits_of scheduler later ≡ 0)
-none_in_both scheduler entry later none =
-    let sum : cond (is_commit_of scheduler entry) 1 0 + commits_of scheduler later ≡ 0 =
-    sym (sum_by-cons (λ (e : Entry). cond (is_commit_of scheduler e) 1 0) entry later) ∙ none in
-    by_answer (is_commit_of scheduler entry)
-    (λ t. absurd (let some : 1 + commits_of scheduler later ≡ 0 = rw t at sum in omega (arith, some)))
-    (λ f. (f, let rest : 0 + commits_of scheduler later ≡ 0 = rw f at sum in omega (arith, rest)))
-
 -- what stays with each entry that is no commit of a scheduler stays in a history that goes on without one
 module _ (scheduler : ℕ) (P : List Entry → Type 0)
     (stays : (history : List Entry) (entry : Entry) → is_commit_of scheduler entry ≡ false → P history → P (history ++ entry ∷ [])) where
   stays_after : (history later : List Entry) → commits_of scheduler later ≡ 0 → P history → P (history ++ later)
   stays_after history [] none holds = subst P (sym (append-nil history)) holds
   stays_after history (entry ∷ later) none holds =
-      let parts = none_in_both scheduler entry later none in
+      let parts = none_among scheduler entry later none in
       subst P (append_assoc history (entry ∷ []) later)
       (stays_after (history ++ entry ∷ []) later parts.1 (stays history entry parts.0 holds))
 

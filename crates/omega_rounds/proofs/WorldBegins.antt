@@ -7,6 +7,7 @@ use Rattle.std.proofs.lemmas.Option.{slice_get_cases, slice_get_within}
 use Rattle.std.proofs.Math.Seq.{take-length}
 use Rattle.std.proofs.Math.ListN.{drop_of_length-le}
 use Rattle.omega_feed.specs.Asked.{Asked, asked_after}
+use Rattle.omega_running.proofs.Lists.{filter_where}
 use Rattle.omega_model.proofs.Lists.{each_map}
 use Rattle.omega_model.proofs.OpenRequests.{requests_from_open}
 use Rattle.omega_model.specs.Feed.{rounds}
@@ -87,11 +88,6 @@ none_to_do seats idle = sum_of_none to_do_of seats (λ number seat here. nothing
       let all : length seat.desk.requests ≡ 0 = ap (λ (l : List Request). length l) none in
       subst (λ (n : ℕ). n * seat.desk.settings.tries - seat.desk.taken ≡ 0) (sym all) (omega arith)
 
--- tests that agree on each item keep the same
-same_kept : {X : Type 0} (p q : X → Bool) (xs : List X) → Each (λ x. p x ≡ q x) xs → filter p xs ≡ filter q xs
-same_kept p q [] each = refl
-same_kept p q (x ∷ xs) each = rw (each.0, same_kept p q xs each.1) refl
-
 -- the desk of a scheduler as a round begins
 module _ (settings : Settings) (trace : TraceTables) (before : List Entry) (rows : List Row) (base : List Entry) (scheduler : ℕ) (old new : DeskState)
     (failures : (job : ℕ) → scheduler_of settings trace job ≡ scheduler → failed base job ≡ count_of old.counts job)
@@ -100,7 +96,7 @@ module _ (settings : Settings) (trace : TraceTables) (before : List Entry) (rows
   begun_requests =
       let all : List Request = all_requests settings trace rows (state base) scheduler in
       requests_from_open settings trace rows base scheduler
-      ∙ same_kept (is_worked_on settings base) (λ request. not (nat_le settings.give_up (count_of old.counts request.job))) all
+      ∙ filter_where (is_worked_on settings base) (λ request. not (nat_le settings.give_up (count_of old.counts request.job))) all
       (each_map (IsRoutedTo settings trace scheduler) (λ request. is_worked_on settings base request ≡ not (nat_le settings.give_up (count_of old.counts request.job)))
       (λ request own. ap (λ (n : ℕ). not (nat_le settings.give_up n)) (failures request.job own)) all (open_own settings trace rows base scheduler))
       ∙ sym (ap (λ (s : Standing). s.requests) left)

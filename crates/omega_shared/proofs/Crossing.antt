@@ -78,9 +78,6 @@ lock_sync E g = lock.the_sync Held.the_row E g held_send
 held_send_maybe : IsSend (Maybe.the_row Held.the_row)
 held_send_maybe = search (held_send, sendable) depth 20
 
-seat_inside_sync : (E : RattleType) (g : Ghosts (Held.the_row).Denot E.Denot) → IsSync (SeatInside.the_row Held.the_row E g)
-seat_inside_sync E g = search (held_send_maybe, token_sync, sendable) depth 20
-
 seat_sync : (E : RattleType) (g : Ghosts (Held.the_row).Denot E.Denot) → IsSync (Seat.the_row Held.the_row E g)
 seat_sync E g = search (held_send, held_send_maybe, token_sync, sendable) depth 20
 
