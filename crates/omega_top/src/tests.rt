@@ -3,8 +3,10 @@
 
 ghost use Rattle.std.specs.Thread.{IsSync};
 
+mod held;
+
 use crate::{exit_status, fault_line, omega};
-use omega_io::{MemorySink, MemoryTables, PassGate, Tables};
+use omega_io::{Gate, MemorySink, MemoryTables, PassGate, Tables};
 use omega_model::{Bytes, Cause, Done, Kind, NoMemory, Seq, Settings, Status, Table};
 use std::alloc::Global;
 use std::process::Abort;
@@ -58,7 +60,26 @@ fn tables_of(alloc: Global, machines: &str, tasks: &str) -> Result<MemoryTables,
     Ok(MemoryTables::new(alloc, tables))
 }
 
-// A run with these words, whose sink has room for so many bytes.
+// A run with these words past a gate, whose sink has room for so many bytes.
+fn run_past<R: Threads + Wait + Sync, G: Gate + Sync>(
+    rt: &R,
+    alloc: Global,
+    words: &[&str],
+    tables: &mut MemoryTables,
+    room: u64,
+    gate: &G,
+) -> Result<Ran, NoMemory>
+    requires { IsSync R.row × IsSync G.row }
+{
+    let mut sink = MemorySink::new(alloc, room)?;
+    let done = omega(rt, alloc, words, tables, &mut sink, gate);
+    Ok(Ran {
+        done,
+        written: sink.into_bytes(),
+    })
+}
+
+// The same past a gate that holds nobody.
 fn run<R: Threads + Wait + Sync>(
     rt: &R,
     alloc: Global,
@@ -68,12 +89,7 @@ fn run<R: Threads + Wait + Sync>(
 ) -> Result<Ran, NoMemory>
     requires { IsSync R.row }
 {
-    let mut sink = MemorySink::new(alloc, room)?;
-    let done = omega(rt, alloc, words, tables, &mut sink, &PassGate);
-    Ok(Ran {
-        done,
-        written: sink.into_bytes(),
-    })
+    run_past(rt, alloc, words, tables, room, &PassGate)
 }
 
 // Sees that a run ended so, with a history of so many entries and these bytes written.

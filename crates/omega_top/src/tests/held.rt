@@ -1,0 +1,146 @@
+//! Runs on threads in which a gate holds schedulers, so that their plans stand beside each other.
+//!
+//! Each held scheduler has planned before any other commits. So nobody holds a turn from its plan to
+//! its commit, and what a commit had seen shows that nobody syncs and plans again just before it.
+
+use super::{run_past, tables_of};
+use omega_io::{HeldGate, Point};
+use omega_model::{Entry, Judgements, Status, Verdict};
+use std::test::Fail;
+
+// A scheduler that is held at a point until another has come to a point.
+type Order = (u32, Point, u32, Point);
+
+// How often a held scheduler looks at most.
+const LOOKS: u64 = 200_000_000;
+
+// Room for each report, in bytes.
+const ROOM: u64 = 2000;
+
+// One machine, on which the tasks of each run fit together.
+const MACHINE: &str = "0,1,0,p,1,1\n";
+
+// A task of a service and one of a batch job.
+const TWO_TASKS: &str = "0,,4,0,,0,u,2,9,0.4,0.4,,0\n0,,5,0,,0,u,0,1,0.4,0.4,,0\n";
+
+// Both plan, and then the scheduler of batch jobs commits first.
+const BOTH_PLAN_FIRST: [Order; 2] = [
+    (1, Point::Planned, 0, Point::Planned),
+    (0, Point::Planned, 1, Point::Committed),
+];
+
+const REPORT_OF_TWO: &str = "omega 2
+round 0
+commit 1 2 5
+place 5 0 1
+commit 0 2 4
+refuse 4 0 1 changed 2 1
+commit 0 4 4
+place 4 0 1
+use cpu 800000000 1000000000 mem 800000000 1000000000 disk 0 1000000000000
+entries 5 rounds 1
+scheduler 0 commits 2 empty 0 placing 1 conflicted 1 placed 1 refused 1 withdrawn 0 evicted 0
+scheduler 1 commits 1 empty 0 placing 1 conflicted 0 placed 1 refused 0 withdrawn 0 evicted 0
+scheduler 2 commits 0 empty 0 placing 0 conflicted 0 placed 0 refused 0 withdrawn 0 evicted 0
+use cpu 800000000 1000000000 mem 800000000 1000000000 disk 0 1000000000000
+waiting 0 abandoned 0
+";
+
+#[test]
+fn two_held_schedulers_plan_beside_each_other(rt: HostRuntime) -> Result<(), Fail> {
+    let alloc = rt.alloc();
+    let gate = HeldGate::new(alloc, &BOTH_PLAN_FIRST, LOOKS)?;
+    let mut tables = tables_of(alloc, MACHINE, TWO_TASKS)?;
+    let words = ["run", "--rule", "coarse"];
+    let ran = run_past(&rt, alloc, &words, &mut tables, ROOM, &gate)?;
+    assert!(rt; !gate.ran_out());
+    assert_eq!(rt; ran.done.status, Status::Done);
+    assert_eq!(rt; ran.written.as_slice(), REPORT_OF_TWO.as_bytes());
+    Ok(())
+}
+
+// A task of a service and two of batch jobs, each of which has a scheduler of its own.
+const THREE_TASKS: &str =
+    "0,,4,0,,0,u,2,1,0.3,0.3,,0\n0,,6,0,,0,u,0,1,0.3,0.3,,0\n0,,5,0,,0,u,0,1,0.3,0.3,,0\n";
+
+// All three plan on the same state, and then commit one after the other: 2, 1, 0.
+const ALL_PLAN_FIRST: [Order; 4] = [
+    (2, Point::Planned, 0, Point::Planned),
+    (2, Point::Planned, 1, Point::Planned),
+    (1, Point::Planned, 2, Point::Committed),
+    (0, Point::Planned, 1, Point::Committed),
+];
+
+// How the report of all three begins, before the first commit of scheduler 0. Scheduler 1 tries again
+// meanwhile, so nothing is said of what comes behind.
+const BEGINNING_OF_THREE: &str = "omega 2
+round 0
+commit 2 2 5
+place 5 0 1
+commit 1 2 6
+refuse 6 0 1 changed 2 1
+";
+
+#[test]
+fn three_held_schedulers_plan_beside_each_other(rt: HostRuntime) -> Result<(), Fail> {
+    let alloc = rt.alloc();
+    let gate = HeldGate::new(alloc, &ALL_PLAN_FIRST, LOOKS)?;
+    let mut tables = tables_of(alloc, MACHINE, THREE_TASKS)?;
+    let words = ["run", "--rule", "coarse", "--batch", "2"];
+    let ran = run_past(&rt, alloc, &words, &mut tables, ROOM, &gate)?;
+    assert!(rt; !gate.ran_out());
+    assert_eq!(rt; ran.done.status, Status::Done);
+    assert!(rt; ran.written.as_slice().starts_with(BEGINNING_OF_THREE.as_bytes()));
+    let history = ran.done.history.as_slice();
+    assert!(rt; is_first_stale(history, 0, 2));
+    for number in 0..3 {
+        assert_eq!(rt; placing_commits(history, number), 1);
+    }
+    Ok(())
+}
+
+// Of a commit of a scheduler: how many entries its copy had seen, and what is answered.
+fn commit_by(entry: &Entry, number: u32) -> Option<(u64, &Judgements)> {
+    match entry {
+        Entry::Commit {
+            scheduler,
+            seen,
+            reply,
+            ..
+        } if *scheduler == number => Some((*seen, reply)),
+        _ => None,
+    }
+}
+
+// Whether a scheduler's first commit was planned on so many entries, and has a claim that is refused
+// since its machine has changed.
+fn is_first_stale(history: &[Entry], number: u32, entries: u64) -> bool {
+    match history.iter().find_map(|entry| commit_by(entry, number)) {
+        Some((seen, reply)) => seen == entries && has_changed(reply),
+        None => false,
+    }
+}
+
+// Whether a claim is refused since its machine has changed.
+fn has_changed(reply: &Judgements) -> bool {
+    reply
+        .as_slice()
+        .iter()
+        .any(|judgement| matches!(judgement.verdict, Verdict::Changed { .. }))
+}
+
+// How many commits of a scheduler place a task.
+fn placing_commits(history: &[Entry], number: u32) -> usize {
+    history.iter().filter(|entry| places(entry, number)).count()
+}
+
+// Whether an entry is a commit of a scheduler that places a task.
+fn places(entry: &Entry, number: u32) -> bool {
+    match commit_by(entry, number) {
+        Some((_, reply)) => reply
+            .as_slice()
+            .iter()
+            .any(|judgement| judgement.verdict.is_placed()),
+        None => false,
+    }
+}
