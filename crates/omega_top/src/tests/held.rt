@@ -3,10 +3,15 @@
 //! Each held scheduler has planned before any other commits. So nobody holds a turn from its plan to
 //! its commit, and what a commit had seen shows that nobody syncs and plans again just before it.
 
-use super::{run_past, tables_of};
+ghost use Rattle.std.specs.Thread.{IsSync};
+
+use super::{Ran, run_past, tables_of};
 use omega_io::{HeldGate, Point};
-use omega_model::{Entry, Judgements, Status, Verdict};
+use omega_model::{Entry, Judgements, NoMemory, Status, Verdict};
+use std::alloc::Global;
+use std::sync::Wait;
 use std::test::Fail;
+use std::thread::Threads;
 
 // A scheduler that is held at a point until another has come to a point.
 type Order = (u32, Point, u32, Point);
@@ -19,6 +24,23 @@ const ROOM: u64 = 2000;
 
 // One machine, on which the tasks of each run fit together.
 const MACHINE: &str = "0,1,0,p,1,1\n";
+
+// A run of these tasks with these words, in which a gate of this order holds schedulers, and whether
+// a hold has ended by its bound.
+fn run_held<R: Threads + Wait + Sync>(
+    rt: &R,
+    alloc: Global,
+    words: &[&str],
+    tasks: &str,
+    order: &[Order],
+) -> Result<(Ran, bool), NoMemory>
+    requires { IsSync R.row }
+{
+    let gate = HeldGate::new(alloc, order, LOOKS)?;
+    let mut tables = tables_of(alloc, MACHINE, tasks)?;
+    let ran = run_past(rt, alloc, words, &mut tables, ROOM, &gate)?;
+    Ok((ran, gate.ran_out()))
+}
 
 // A task of a service and one of a batch job.
 const TWO_TASKS: &str = "0,,4,0,,0,u,2,9,0.4,0.4,,0\n0,,5,0,,0,u,0,1,0.4,0.4,,0\n";
@@ -48,12 +70,9 @@ waiting 0 abandoned 0
 
 #[test]
 fn two_held_schedulers_plan_beside_each_other(rt: HostRuntime) -> Result<(), Fail> {
-    let alloc = rt.alloc();
-    let gate = HeldGate::new(alloc, &BOTH_PLAN_FIRST, LOOKS)?;
-    let mut tables = tables_of(alloc, MACHINE, TWO_TASKS)?;
     let words = ["run", "--rule", "coarse"];
-    let ran = run_past(&rt, alloc, &words, &mut tables, ROOM, &gate)?;
-    assert!(rt; !gate.ran_out());
+    let (ran, ran_out) = run_held(&rt, rt.alloc(), &words, TWO_TASKS, &BOTH_PLAN_FIRST)?;
+    assert!(rt; !ran_out);
     assert_eq!(rt; ran.done.status, Status::Done);
     assert_eq!(rt; ran.written.as_slice(), REPORT_OF_TWO.as_bytes());
     Ok(())
@@ -83,14 +102,15 @@ refuse 6 0 1 changed 2 1
 
 #[test]
 fn three_held_schedulers_plan_beside_each_other(rt: HostRuntime) -> Result<(), Fail> {
-    let alloc = rt.alloc();
-    let gate = HeldGate::new(alloc, &ALL_PLAN_FIRST, LOOKS)?;
-    let mut tables = tables_of(alloc, MACHINE, THREE_TASKS)?;
     let words = ["run", "--rule", "coarse", "--batch", "2"];
-    let ran = run_past(&rt, alloc, &words, &mut tables, ROOM, &gate)?;
-    assert!(rt; !gate.ran_out());
+    let (ran, ran_out) = run_held(&rt, rt.alloc(), &words, THREE_TASKS, &ALL_PLAN_FIRST)?;
+    assert!(rt; !ran_out);
     assert_eq!(rt; ran.done.status, Status::Done);
-    assert!(rt; ran.written.as_slice().starts_with(BEGINNING_OF_THREE.as_bytes()));
+    assert!(rt;
+        ran.written
+            .as_slice()
+            .starts_with(BEGINNING_OF_THREE.as_bytes())
+    );
     let history = ran.done.history.as_slice();
     assert!(rt; is_first_stale(history, 0, 2));
     for number in 0..3 {
@@ -123,10 +143,7 @@ fn is_first_stale(history: &[Entry], number: u32, entries: u64) -> bool {
 
 // Whether a claim is refused since its machine has changed.
 fn has_changed(reply: &Judgements) -> bool {
-    reply
-        .as_slice()
-        .iter()
-        .any(|judgement| matches!(judgement.verdict, Verdict::Changed { .. }))
+    reply.as_slice().iter().any(|judgement| matches!(judgement.verdict, Verdict::Changed { .. }))
 }
 
 // How many commits of a scheduler place a task.
