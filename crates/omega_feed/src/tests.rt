@@ -1,7 +1,7 @@
 ghost use Rattle.std.specs.Prelude.{◌<◌};
 ghost use Rattle.omega_model.specs.Ranges.{IsInRange};
 
-use crate::{Wanted, rounds};
+use crate::{OpenJobs, Wanted, feed, rounds};
 use omega_board::Board;
 use omega_model::{
     ActivityRow, AttrRow, Bytes, Claim, Claims, Command, Constraint, ConstraintRow, Entry, Extra,
@@ -136,12 +136,12 @@ fn mixed(alloc: Global) -> Result<TraceTables, NoMemory> {
 fn rounds_are_windows_with_a_row(rt: HostRuntime) -> Result<(), NoMemory> {
     let alloc = rt.alloc();
     let tables = mixed(alloc)?;
-    let by_ten = told(alloc, rounds(alloc, &tables, 10)?.as_slice())?;
+    let by_ten = told(alloc, rounds(alloc, feed(alloc, &tables)?, 10)?.as_slice())?;
     let want: [u64; 20] = [
         0, 1, 12, 2, 22, 3, 34, 1, 11, 1, 13, 2, 21, 3, 32, 3, 33, 2, 3, 31,
     ];
     assert_eq!(rt; by_ten.as_slice(), want.as_slice());
-    let by_five = told(alloc, rounds(alloc, &tables, 5)?.as_slice())?;
+    let by_five = told(alloc, rounds(alloc, feed(alloc, &tables)?, 5)?.as_slice())?;
     let want: [u64; 21] = [
         0, 1, 12, 2, 22, 3, 34, 1, 1, 11, 1, 13, 2, 21, 3, 32, 3, 33, 5, 3, 31,
     ];
