@@ -52,12 +52,7 @@ impl OpenJobs {
     /// have no activities or no wanted task. A refused call leaves what is open. Costs the wanted tasks
     /// of the open jobs at most, each times the logarithm of the number of all, since a job's first task
     /// that waits decides; and memory for those that stay open.
-    pub fn settle(
-        &mut self,
-        alloc: Global,
-        wanted: &Wanted,
-        board: &Board,
-    ) -> Result<(), NoMemory>
+    pub fn settle(&mut self, alloc: Global, wanted: &Wanted, board: &Board) -> Result<(), NoMemory>
         requires { OthersAreQuiet self.old wanted.now board.now.tasks }
         ensures ok { OnOk result (OthersAreQuiet self.new wanted.now board.now.tasks) }
         ensures fewer { StayOpen self.new self.old }
