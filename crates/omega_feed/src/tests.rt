@@ -205,11 +205,28 @@ impl Asking {
             .requests(alloc, scheduler, board, &self.open_jobs)?;
         tell_requests(told, requests.as_slice())
     }
-}
 
-// The requests of scheduler 1 after task rows of job 1: each a code, an index and a need.
-fn asked(alloc: Global, board: &Board, rows: &[(u8, u16, u32)]) -> Result<Vec<u64>, NoMemory> {
-    asked_of(alloc, board, &SETTINGS, 1, &[], rows)
+    // The same once the quiet jobs are closed, and behind a 99 once job 1 is open again.
+    fn tell_settled(
+        self,
+        alloc: Global,
+        scheduler: u32,
+        board: &Board,
+    ) -> Result<Vec<u64>, NoMemory> {
+        let Asking {
+            wanted,
+            mut open_jobs,
+        } = self;
+        let mut told = Vec::new(alloc);
+        open_jobs.settle(alloc, &wanted, board)?;
+        let requests = wanted.requests(alloc, scheduler, board, &open_jobs)?;
+        tell_requests(&mut told, requests.as_slice())?;
+        told.push(99)?;
+        open_jobs.reopen(&wanted, 1)?;
+        let requests = wanted.requests(alloc, scheduler, board, &open_jobs)?;
+        tell_requests(&mut told, requests.as_slice())?;
+        Ok(told)
+    }
 }
 
 // Task rows of job 1, and rows of its activities.
@@ -231,24 +248,21 @@ fn job_trace(
     Ok(tables)
 }
 
-// The requests of a scheduler after these rows, where the job has these activities.
-fn asked_of(
+// What is wanted after task rows of job 1, each a code, an index and a need, and the job's activities.
+fn asking_for(
     alloc: Global,
-    board: &Board,
-    settings: &Settings,
-    scheduler: u32,
     activities: &[u8],
     rows: &[(u8, u16, u32)],
-) -> Result<Vec<u64>, NoMemory>
-    requires { IsInRange settings.now }
-{
+) -> Result<Asking, NoMemory> {
     let tables = job_trace(alloc, activities, rows)?;
-    let mut asking = Asking::new(alloc, &tables, settings)?;
-    for row in tables.tasks.as_slice() {
-        asking = asking.take(&Row::Task(*row))?;
-    }
+    let asking = Asking::new(alloc, &tables, &SETTINGS)?;
+    take_all(asking, &feed(alloc, &tables)?)
+}
+
+// The requests of scheduler 1 after task rows of job 1.
+fn asked(alloc: Global, board: &Board, rows: &[(u8, u16, u32)]) -> Result<Vec<u64>, NoMemory> {
     let mut told = Vec::new(alloc);
-    asking.tell(alloc, &mut told, scheduler, board)?;
+    asking_for(alloc, &[], rows)?.tell(alloc, &mut told, 1, board)?;
     Ok(told)
 }
 
@@ -341,6 +355,20 @@ fn codes_say_what_is_wanted(rt: HostRuntime) -> Result<(), NoMemory> {
     let all = asked_each(alloc, &busy(alloc)?, cases.as_slice())?;
     let want: [u64; 9] = [99, 1, 1, 7, 0, 2, 5, 0, 99];
     assert_eq!(rt; all.as_slice(), want.as_slice());
+    Ok(())
+}
+
+#[test]
+fn what_waits_stays_open(rt: HostRuntime) -> Result<(), NoMemory> {
+    let alloc = rt.alloc();
+    let board = busy(alloc)?;
+    let told = asking_for(alloc, &[], &[(0, 0, 2)])?.tell_settled(alloc, 1, &board)?;
+    assert_eq!(rt; told.as_slice(), [99].as_slice());
+    let told = asking_for(alloc, &[], &[(0, 0, 2), (0, 2, 5)])?.tell_settled(alloc, 1, &board)?;
+    assert_eq!(rt; told.as_slice(), [1, 2, 5, 0, 99, 1, 2, 5, 0].as_slice());
+    let told = asking_for(alloc, &[2], &[(0, 0, 2)])?.tell_settled(alloc, 2, &board)?;
+    let want: [u64; 9] = [1, 2_147_483_648, 2, 0, 99, 1, 2_147_483_648, 2, 0];
+    assert_eq!(rt; told.as_slice(), want.as_slice());
     Ok(())
 }
 
