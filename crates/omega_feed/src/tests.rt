@@ -1,5 +1,6 @@
-ghost use Rattle.std.specs.Prelude.{◌≡◌, ◌<◌};
+ghost use Rattle.std.specs.Prelude.{◌<◌};
 ghost use Rattle.omega_model.specs.Ranges.{IsInRange};
+ghost use Rattle.omega_feed.specs.Open.{OthersAreQuiet};
 
 use crate::{OpenJobs, Wanted, feed, rounds};
 use omega_board::Board;
@@ -192,7 +193,7 @@ impl Asking {
         Ok(Asking { wanted, open_jobs })
     }
 
-    // The requests of a scheduler on a board, each as its job and its wishes.
+    // The requests of a scheduler on a board.
     fn tell(
         &self,
         alloc: Global,
@@ -200,33 +201,56 @@ impl Asking {
         scheduler: u32,
         board: &Board,
     ) -> Result<(), NoMemory> {
-        let requests = self
-            .wanted
-            .requests(alloc, scheduler, board, &self.open_jobs)?;
-        tell_requests(told, requests.as_slice())
+        tell_open(alloc, told, &self.wanted, &self.open_jobs, scheduler, board)
     }
 
-    // The same once the quiet jobs are closed, and behind a 99 once job 1 is open again.
+    // The same once the quiet jobs are closed.
     fn tell_settled(
         self,
         alloc: Global,
+        told: &mut Vec<u64>,
         scheduler: u32,
         board: &Board,
-    ) -> Result<Vec<u64>, NoMemory> {
+    ) -> Result<(), NoMemory> {
         let Asking {
             wanted,
             mut open_jobs,
         } = self;
-        let mut told = Vec::new(alloc);
         open_jobs.settle(alloc, &wanted, board)?;
-        let requests = wanted.requests(alloc, scheduler, board, &open_jobs)?;
-        tell_requests(&mut told, requests.as_slice())?;
-        told.push(99)?;
-        open_jobs.reopen(&wanted, 1)?;
-        let requests = wanted.requests(alloc, scheduler, board, &open_jobs)?;
-        tell_requests(&mut told, requests.as_slice())?;
-        Ok(told)
+        tell_open(alloc, told, &wanted, &open_jobs, scheduler, board)
     }
+
+    // The same once the quiet jobs are closed and job 1 is open again.
+    fn tell_reopened(
+        self,
+        alloc: Global,
+        told: &mut Vec<u64>,
+        scheduler: u32,
+        board: &Board,
+    ) -> Result<(), NoMemory> {
+        let Asking {
+            wanted,
+            mut open_jobs,
+        } = self;
+        open_jobs.settle(alloc, &wanted, board)?;
+        open_jobs.reopen(&wanted, 1)?;
+        tell_open(alloc, told, &wanted, &open_jobs, scheduler, board)
+    }
+}
+
+// The requests of a scheduler on a board, each as its job and its wishes.
+fn tell_open(
+    alloc: Global,
+    told: &mut Vec<u64>,
+    wanted: &Wanted,
+    open_jobs: &OpenJobs,
+    scheduler: u32,
+    board: &Board,
+) -> Result<(), NoMemory>
+    requires { OthersAreQuiet open_jobs.now wanted.now board.now.tasks }
+{
+    let requests = wanted.requests(alloc, scheduler, board, open_jobs)?;
+    tell_requests(told, requests.as_slice())
 }
 
 // Task rows of job 1, and rows of its activities.
@@ -358,15 +382,31 @@ fn codes_say_what_is_wanted(rt: HostRuntime) -> Result<(), NoMemory> {
     Ok(())
 }
 
+// The requests of a scheduler after task rows of job 1 and its activities, once quiet jobs are closed,
+// and behind a 99 once job 1 is open again.
+fn settled(
+    alloc: Global,
+    board: &Board,
+    scheduler: u32,
+    activities: &[u8],
+    rows: &[(u8, u16, u32)],
+) -> Result<Vec<u64>, NoMemory> {
+    let mut told = Vec::new(alloc);
+    asking_for(alloc, activities, rows)?.tell_settled(alloc, &mut told, scheduler, board)?;
+    told.push(99)?;
+    asking_for(alloc, activities, rows)?.tell_reopened(alloc, &mut told, scheduler, board)?;
+    Ok(told)
+}
+
 #[test]
 fn what_waits_stays_open(rt: HostRuntime) -> Result<(), NoMemory> {
     let alloc = rt.alloc();
     let board = busy(alloc)?;
-    let told = asking_for(alloc, &[], &[(0, 0, 2)])?.tell_settled(alloc, 1, &board)?;
+    let told = settled(alloc, &board, 1, &[], &[(0, 0, 2)])?;
     assert_eq!(rt; told.as_slice(), [99].as_slice());
-    let told = asking_for(alloc, &[], &[(0, 0, 2), (0, 2, 5)])?.tell_settled(alloc, 1, &board)?;
+    let told = settled(alloc, &board, 1, &[], &[(0, 0, 2), (0, 2, 5)])?;
     assert_eq!(rt; told.as_slice(), [1, 2, 5, 0, 99, 1, 2, 5, 0].as_slice());
-    let told = asking_for(alloc, &[2], &[(0, 0, 2)])?.tell_settled(alloc, 2, &board)?;
+    let told = settled(alloc, &board, 2, &[2], &[(0, 0, 2)])?;
     let want: [u64; 9] = [1, 2_147_483_648, 2, 0, 99, 1, 2_147_483_648, 2, 0];
     assert_eq!(rt; told.as_slice(), want.as_slice());
     Ok(())
