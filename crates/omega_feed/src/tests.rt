@@ -1,7 +1,8 @@
 ghost use Rattle.std.specs.Prelude.{◌<◌};
 ghost use Rattle.omega_model.specs.Ranges.{IsInRange};
+ghost use Rattle.omega_feed.specs.Open.{OthersAreQuiet};
 
-use crate::{Wanted, rounds};
+use crate::{OpenJobs, Wanted, feed, rounds};
 use omega_board::Board;
 use omega_model::{
     ActivityRow, AttrRow, Bytes, Claim, Claims, Command, Constraint, ConstraintRow, Entry, Extra,
@@ -9,6 +10,7 @@ use omega_model::{
     Settings, Spec, TaskKey, TaskRow, TraceTables, Verdict, Wish,
 };
 use std::alloc::Global;
+use std::marker::Model;
 
 const SETTINGS: Settings = Settings {
     command: Command::Replay,
@@ -136,12 +138,12 @@ fn mixed(alloc: Global) -> Result<TraceTables, NoMemory> {
 fn rounds_are_windows_with_a_row(rt: HostRuntime) -> Result<(), NoMemory> {
     let alloc = rt.alloc();
     let tables = mixed(alloc)?;
-    let by_ten = told(alloc, rounds(alloc, &tables, 10)?.as_slice())?;
+    let by_ten = told(alloc, rounds(alloc, feed(alloc, &tables)?, 10)?.as_slice())?;
     let want: [u64; 20] = [
         0, 1, 12, 2, 22, 3, 34, 1, 11, 1, 13, 2, 21, 3, 32, 3, 33, 2, 3, 31,
     ];
     assert_eq!(rt; by_ten.as_slice(), want.as_slice());
-    let by_five = told(alloc, rounds(alloc, &tables, 5)?.as_slice())?;
+    let by_five = told(alloc, rounds(alloc, feed(alloc, &tables)?, 5)?.as_slice())?;
     let want: [u64; 21] = [
         0, 1, 12, 2, 22, 3, 34, 1, 1, 11, 1, 13, 2, 21, 3, 32, 3, 33, 5, 3, 31,
     ];
@@ -149,9 +151,106 @@ fn rounds_are_windows_with_a_row(rt: HostRuntime) -> Result<(), NoMemory> {
     Ok(())
 }
 
-// The requests of scheduler 1 after task rows of job 1: each a code, an index and a need.
-fn asked(alloc: Global, board: &Board, rows: &[(u8, u16, u32)]) -> Result<Vec<u64>, NoMemory> {
-    asked_of(alloc, board, &SETTINGS, 1, &[], rows)
+// What is wanted after some rows, with the jobs of which something may have to be placed on any
+// cell, as none was closed.
+#[derive(Drop)]
+struct Asking {
+    wanted: Wanted,
+    open_jobs: OpenJobs,
+}
+
+impl Model for Asking {
+    ghost use Rattle.std.specs.Prelude.{List};
+    ghost use Rattle.std.specs.BTreeSet.{BTreeSet};
+    ghost use Rattle.omega_model.specs.declared.cells.Task.{Task};
+    ghost use Rattle.omega_feed.specs.Asked.{Asked};
+    ghost use Rattle.omega_feed.specs.Open.{OthersAreQuiet};
+
+    ghost Value = { Asked };
+
+    ghost view = { λ asking. asking.wanted };
+
+    ghost invariant = { λ asking. (tasks : List Task) → OthersAreQuiet asking.open_jobs asking.wanted tasks };
+}
+
+impl Asking {
+    fn new(alloc: Global, tables: &TraceTables, settings: &Settings) -> Result<Asking, NoMemory>
+        requires { IsInRange settings.now }
+    {
+        let rows = feed(alloc, tables)?;
+        Ok(Asking {
+            wanted: Wanted::new(alloc, tables, &rows, settings)?,
+            open_jobs: OpenJobs::new(alloc),
+        })
+    }
+
+    fn take(self, row: &Row) -> Result<Asking, NoMemory> {
+        let Asking {
+            mut wanted,
+            mut open_jobs,
+        } = self;
+        wanted.take(row, &mut open_jobs)?;
+        Ok(Asking { wanted, open_jobs })
+    }
+
+    // The requests of a scheduler on a board.
+    fn tell(
+        &self,
+        alloc: Global,
+        told: &mut Vec<u64>,
+        scheduler: u32,
+        board: &Board,
+    ) -> Result<(), NoMemory> {
+        tell_open(alloc, told, &self.wanted, &self.open_jobs, scheduler, board)
+    }
+
+    // The same once the quiet jobs are closed.
+    fn tell_settled(
+        self,
+        alloc: Global,
+        told: &mut Vec<u64>,
+        scheduler: u32,
+        board: &Board,
+    ) -> Result<(), NoMemory> {
+        let Asking {
+            wanted,
+            mut open_jobs,
+        } = self;
+        open_jobs.settle(alloc, &wanted, board)?;
+        tell_open(alloc, told, &wanted, &open_jobs, scheduler, board)
+    }
+
+    // The same once the quiet jobs are closed and job 1 is open again.
+    fn tell_reopened(
+        self,
+        alloc: Global,
+        told: &mut Vec<u64>,
+        scheduler: u32,
+        board: &Board,
+    ) -> Result<(), NoMemory> {
+        let Asking {
+            wanted,
+            mut open_jobs,
+        } = self;
+        open_jobs.settle(alloc, &wanted, board)?;
+        open_jobs.reopen(&wanted, 1)?;
+        tell_open(alloc, told, &wanted, &open_jobs, scheduler, board)
+    }
+}
+
+// The requests of a scheduler on a board, each as its job and its wishes.
+fn tell_open(
+    alloc: Global,
+    told: &mut Vec<u64>,
+    wanted: &Wanted,
+    open_jobs: &OpenJobs,
+    scheduler: u32,
+    board: &Board,
+) -> Result<(), NoMemory>
+    requires { OthersAreQuiet open_jobs.now wanted.now board.now.tasks }
+{
+    let requests = wanted.requests(alloc, scheduler, board, open_jobs)?;
+    tell_requests(told, requests.as_slice())
 }
 
 // Task rows of job 1, and rows of its activities.
@@ -173,25 +272,21 @@ fn job_trace(
     Ok(tables)
 }
 
-// The requests of a scheduler after these rows, where the job has these activities.
-fn asked_of(
+// What is wanted after task rows of job 1, each a code, an index and a need, and the job's activities.
+fn asking_for(
     alloc: Global,
-    board: &Board,
-    settings: &Settings,
-    scheduler: u32,
     activities: &[u8],
     rows: &[(u8, u16, u32)],
-) -> Result<Vec<u64>, NoMemory>
-    requires { IsInRange settings.now }
-{
+) -> Result<Asking, NoMemory> {
     let tables = job_trace(alloc, activities, rows)?;
-    let mut wanted = Wanted::new(alloc, &tables, settings)?;
-    for row in tables.tasks.as_slice() {
-        wanted.take(&Row::Task(*row))?;
-    }
+    let asking = Asking::new(alloc, &tables, &SETTINGS)?;
+    take_all(asking, &feed(alloc, &tables)?)
+}
+
+// The requests of scheduler 1 after task rows of job 1.
+fn asked(alloc: Global, board: &Board, rows: &[(u8, u16, u32)]) -> Result<Vec<u64>, NoMemory> {
     let mut told = Vec::new(alloc);
-    let requests = wanted.requests(alloc, scheduler, board)?;
-    tell_requests(&mut told, requests.as_slice())?;
+    asking_for(alloc, &[], rows)?.tell(alloc, &mut told, 1, board)?;
     Ok(told)
 }
 
@@ -287,6 +382,36 @@ fn codes_say_what_is_wanted(rt: HostRuntime) -> Result<(), NoMemory> {
     Ok(())
 }
 
+// The requests of a scheduler after task rows of job 1 and its activities, once quiet jobs are closed,
+// and behind a 99 once job 1 is open again.
+fn settled(
+    alloc: Global,
+    board: &Board,
+    scheduler: u32,
+    activities: &[u8],
+    rows: &[(u8, u16, u32)],
+) -> Result<Vec<u64>, NoMemory> {
+    let mut told = Vec::new(alloc);
+    asking_for(alloc, activities, rows)?.tell_settled(alloc, &mut told, scheduler, board)?;
+    told.push(99)?;
+    asking_for(alloc, activities, rows)?.tell_reopened(alloc, &mut told, scheduler, board)?;
+    Ok(told)
+}
+
+#[test]
+fn what_waits_stays_open(rt: HostRuntime) -> Result<(), NoMemory> {
+    let alloc = rt.alloc();
+    let board = busy(alloc)?;
+    let told = settled(alloc, &board, 1, &[], &[(0, 0, 2)])?;
+    assert_eq!(rt; told.as_slice(), [99].as_slice());
+    let told = settled(alloc, &board, 1, &[], &[(0, 0, 2), (0, 2, 5)])?;
+    assert_eq!(rt; told.as_slice(), [1, 2, 5, 0, 99, 1, 2, 5, 0].as_slice());
+    let told = settled(alloc, &board, 2, &[2], &[(0, 0, 2)])?;
+    let want: [u64; 9] = [1, 2_147_483_648, 2, 0, 99, 1, 2_147_483_648, 2, 0];
+    assert_eq!(rt; told.as_slice(), want.as_slice());
+    Ok(())
+}
+
 // Each entry as the number of its kind and its machine.
 fn tell_entries(told: &mut Vec<u64>, entries: &[Entry]) -> Result<(), NoMemory> {
     for entry in entries {
@@ -317,10 +442,13 @@ fn entries_of_rows(alloc: Global, board: &Board) -> Result<Vec<u64>, NoMemory> {
         rows.push(Row::Task(task_row(0, 1, 0, code, 2)))?;
         rows.push(Row::Task(task_row(0, 1, 1, code, 2)))?;
     }
-    let wanted = Wanted::new(alloc, &TraceTables::new(alloc), &SETTINGS)?;
+    let asking = Asking::new(alloc, &TraceTables::new(alloc), &SETTINGS)?;
     let mut told = Vec::new(alloc);
     for row in rows.as_slice() {
-        tell_entries(&mut told, wanted.entries(alloc, row, board)?.as_slice())?;
+        tell_entries(
+            &mut told,
+            asking.wanted.entries(alloc, row, board)?.as_slice(),
+        )?;
     }
     Ok(told)
 }
@@ -337,13 +465,14 @@ fn rows_give_entries(rt: HostRuntime) -> Result<(), NoMemory> {
 // The entries of the last of these rows of job 1.
 fn ended_by(alloc: Global, board: &Board, rows: &[(u8, u16, u32)]) -> Result<Vec<u64>, NoMemory> {
     let tables = job_trace(alloc, &[], rows)?;
-    let mut wanted = Wanted::new(alloc, &tables, &SETTINGS)?;
+    let mut asking = Asking::new(alloc, &tables, &SETTINGS)?;
     let mut told = Vec::new(alloc);
     for row in tables.tasks.as_slice() {
         let row = Row::Task(*row);
-        wanted.take(&row)?;
+        asking = asking.take(&row)?;
         told.clear();
-        tell_entries(&mut told, wanted.entries(alloc, &row, board)?.as_slice())?;
+        let entries = asking.wanted.entries(alloc, &row, board)?;
+        tell_entries(&mut told, entries.as_slice())?;
     }
     Ok(told)
 }
@@ -417,45 +546,34 @@ fn late_first_row(alloc: Global) -> Result<TraceTables, NoMemory> {
 fn asked_by_round(alloc: Global, tables: &TraceTables, window: u64) -> Result<Vec<u64>, NoMemory>
     requires { 0 < window }
 {
-    let cut = rounds(alloc, tables, window)?;
-    let mut wanted = Wanted::new(alloc, tables, &SETTINGS)?;
+    let cut = rounds(alloc, feed(alloc, tables)?, window)?;
+    let mut asking = Asking::new(alloc, tables, &SETTINGS)?;
     let mut told = Vec::new(alloc);
     for round in cut.as_slice() {
-        tell_round(alloc, &mut told, &mut wanted, round)?;
+        asking = take_all(asking, round.rows.as_slice())?;
+        tell_round(alloc, &mut told, &asking, round.number)?;
     }
     Ok(told)
 }
 
-// The number of a round, and what is asked once its rows are taken.
+fn take_all(mut asking: Asking, rows: &[Row]) -> Result<Asking, NoMemory> {
+    for row in rows {
+        asking = asking.take(row)?;
+    }
+    Ok(asking)
+}
+
+// The number of a round, and what is asked after its rows.
 fn tell_round(
     alloc: Global,
     told: &mut Vec<u64>,
-    wanted: &mut Wanted,
-    round: &Round,
-) -> Result<(), NoMemory> {
-    told.push(round.number)?;
-    take_all(wanted, round.rows.as_slice())?;
-    tell_asked(alloc, told, wanted, 0)?;
-    tell_asked(alloc, told, wanted, 1)
-}
-
-// What a scheduler is asked, where nothing runs.
-fn tell_asked(
-    alloc: Global,
-    told: &mut Vec<u64>,
-    wanted: &Wanted,
-    scheduler: u32,
+    asking: &Asking,
+    number: u64,
 ) -> Result<(), NoMemory> {
     let board = Board::new(alloc);
-    let requests = wanted.requests(alloc, scheduler, &board)?;
-    tell_requests(told, requests.as_slice())
-}
-
-fn take_all(wanted: &mut Wanted, rows: &[Row]) -> Result<(), NoMemory> {
-    for row in rows {
-        wanted.take(row)?;
-    }
-    Ok(())
+    told.push(number)?;
+    asking.tell(alloc, told, 0, &board)?;
+    asking.tell(alloc, told, 1, &board)
 }
 
 #[test]
