@@ -1,0 +1,166 @@
+-- The jobs that aren't open stay quiet while a history goes on, where those are opened whose tasks its entries may stop.
+use Rattle.std.proofs.Common.{◌≡◌, ◌≤◌, ◌+◌, ℕ, zero, suc, Bool, true, false, List, [], ◌∷◌, ◌++◌, length, take, drop, Some, refl, sym, ap, subst, arith, ◌∙◌, inl, inr}
+use Rattle.std.specs.Prelude.{slice_get}
+use Rattle.std.specs.BTreeSet as set
+use Rattle.std.specs.BTreeSet.{BTreeSet}
+use Rattle.std.specs.List.{All, fold, AllByRecursion as Each}
+use Rattle.std.specs.Ordering.{nat_cmp}
+use Rattle.std.proofs.lemmas.Bool.{both_ways, eqb-true, or_from}
+use Rattle.std.proofs.lemmas.List.{take-append-drop, take-append-le}
+use Rattle.std.proofs.lemmas.List.Elements.{All-append, All-cons, All-from_recursion, All-head, All-nil, All-tail, All-weaker}
+use Rattle.std.proofs.lemmas.List.Sums.{fold-append}
+use Rattle.omega_cell.specs.Cells.{is_commit}
+use Rattle.omega_feed.specs.Asked.{Asked, is_task_of}
+use Rattle.omega_feed.specs.Index.{job_at}
+use Rattle.omega_feed.specs.Open.{IsOpen, IsQuiet, OthersAreQuiet, StayOpen}
+use Rattle.omega_lock.specs.Lists.{StartsWith}
+use Rattle.omega_model.proofs.Growing.{state_push}
+use Rattle.omega_model.proofs.InOrder.{key_same}
+use Rattle.omega_model.proofs.Lists.{by_answer}
+use Rattle.omega_model.specs.Cell.{Cell, empty_cell}
+use Rattle.omega_model.specs.Keys.{is_among, same_key}
+use Rattle.omega_model.specs.Lawful.{IsCommitOfRound}
+use Rattle.omega_model.specs.State.{state, step, tasks_after}
+use Rattle.omega_model.specs.Wanted.{WantedTask}
+use Rattle.omega_model.specs.declared.cells.Task.{Task}
+use Rattle.omega_model.specs.declared.cells.TaskKey.{TaskKey}
+use Rattle.omega_model.specs.declared.entries.Entry.{Entry}
+use Rattle.omega_model.specs.declared.entries.Entry.TheVariants.{Round as RoundEntry, MachineAdd, MachineUpdate, MachineRemove, AttrSet, AttrDelete, End, Commit}
+use Rattle.omega_model.specs.declared.settings.Settings.{Settings}
+use Rattle.omega_rounds.specs.Keeping.{IsWorld, WereQuiet}
+use Rattle.omega_rounds.specs.Reopening.{OpensJobs, may_stop}
+use Rattle.omega_rounds.specs.Stages.{Stage}
+use Rattle.omega_rounds.specs.declared.seat.Seat.{Seat}
+use Rattle.omega_rounds.proofs.RunOn.{Runs, runs_after}
+use Rattle.omega_rounds.proofs.Worlds.{rows_within}
+
+-- what isn't open then wasn't before
+closed_before : (before after : BTreeSet ℕ) (place : ℕ) → StayOpen before after → set.contains nat_cmp after place ≡ false
+    → set.contains nat_cmp before place ≡ false
+closed_before before after place stay closed =
+    by_answer (set.contains nat_cmp before place) (λ t. absurd (both_ways _ closed (stay place t))) (λ f. f)
+
+-- no job is opened
+pub opens_none : (places : BTreeSet ℕ) (asked : Asked) → OpensJobs places places asked []
+opens_none places asked = record { stay = λ place there. there; opened = All-nil _ }
+
+-- one is
+pub opens_one : (before after : BTreeSet ℕ) (asked : Asked) (key : TaskKey) → StayOpen before after → IsOpen after asked key.job
+    → OpensJobs before after asked (key ∷ [])
+opens_one before after asked key stay opened = record { stay = stay; opened = All-cons _ key [] opened (All-nil _) }
+
+-- some are, and then others
+pub opens_more : (before middle after : BTreeSet ℕ) (asked : Asked) (keys more : List TaskKey) → OpensJobs before middle asked keys
+    → OpensJobs middle after asked more → OpensJobs before after asked (keys ++ more)
+opens_more before middle after asked keys more some others = record {
+  stay = λ place there. others.stay place (some.stay place there);
+  opened = All-append (λ key. IsOpen after asked key.job) keys more
+      (All-weaker (λ key. IsOpen middle asked key.job) (λ key. IsOpen after asked key.job)
+      (λ key opened place here. others.stay place (opened place here)) keys some.opened)
+      others.opened;
+}
+
+-- a task of a job that isn't open is none of those whose jobs are
+not_among : (places : BTreeSet ℕ) (asked : Asked) (keys : List TaskKey) (key : TaskKey) (place : ℕ) → job_at asked.jobs place ≡ Some key.job
+    → set.contains nat_cmp places place ≡ false → All (λ other. IsOpen places asked other.job) keys
+    → is_among key keys ≡ false
+not_among places asked [] key place here closed opened = refl
+not_among places asked (first ∷ keys) key place here closed opened =
+    let P : TaskKey → Type 0 = λ other. IsOpen places asked other.job in
+    or_from (same_key key first) (is_among key keys)
+    (by_answer (same_key key first)
+    (λ t. absurd (both_ways _ closed (All-head P first keys opened place (subst (λ (k : TaskKey). job_at asked.jobs place ≡ Some k.job) (key_same key first t) here))))
+    (λ f. f))
+    (not_among places asked keys key place here closed (All-tail P first keys opened))
+
+module _ (before after : BTreeSet ℕ) (asked : Asked) where
+  -- after an entry the jobs that aren't open are quiet, where those are open whose tasks it may stop
+  pub quiet_next : (tasks : List Task) (entry : Entry) → OthersAreQuiet before asked tasks → OpensJobs before after asked (may_stop tasks entry)
+      → OthersAreQuiet after asked (tasks_after tasks entry)
+  quiet_next tasks entry quiet opens place job here closed =
+      let is : IsQuiet asked tasks job = quiet place job here (closed_before before after place opens.stay closed) in
+      record {
+        running = All-weaker (λ (task : WantedTask). is_task_of job task ≡ true → Runs tasks task.key)
+            (λ (task : WantedTask). is_task_of job task ≡ true → Runs (tasks_after tasks entry) task.key)
+            (λ task runs own.
+            let named : job_at asked.jobs place ≡ Some task.key.job = here ∙ ap Some (sym (eqb-true task.key.job job own)) in
+            runs_after tasks entry task.key (not_among after asked (may_stop tasks entry) task.key place named closed opens.opened) (runs own))
+            asked.tasks is.running;
+        no_extras = is.no_extras;
+      }
+
+  -- so they are in a history with one more entry
+  pub quiet_fed : (history next : List Entry) (entry : Entry) → OthersAreQuiet before asked (state history).tasks
+      → OpensJobs before after asked (may_stop (state history).tasks entry) → next ≡ history ++ entry ∷ []
+      → OthersAreQuiet after asked (state next).tasks
+  quiet_fed history next entry quiet opens fed =
+      subst (λ (h : List Entry). OthersAreQuiet after asked (state h).tasks) (sym fed)
+      (subst (λ (cell : Cell). OthersAreQuiet after asked cell.tasks) (sym (state_push history entry))
+      (quiet_next (state history).tasks entry quiet opens))
+
+  -- and after one more of some entries
+  pub quiet_stepped : (cell : Cell) (some : List Entry) (entry : Entry) → OthersAreQuiet before asked (fold step cell some).tasks
+      → OpensJobs before after asked (may_stop (fold step cell some).tasks entry)
+      → OthersAreQuiet after asked (fold step cell (some ++ entry ∷ [])).tasks
+  quiet_stepped cell some entry quiet opens =
+      subst (λ (now : Cell). OthersAreQuiet after asked now.tasks) (sym (fold-append step cell some (entry ∷ [])))
+      (quiet_next (fold step cell some).tasks entry quiet opens)
+
+-- the state after a beginning of a history, and then the rest of it
+pub state_split : (n : ℕ) (history : List Entry) → fold step (state (take n history)) (drop n history) ≡ state history
+state_split n history = sym (fold-append step empty_cell (take n history) (drop n history)) ∙ ap state (take-append-drop n history)
+
+-- what holds at all places from one on holds of the rest of a list
+each_dropped : {X : Type 0} (P : X → Type 0) (n : ℕ) (xs : List X) → ((place : ℕ) (x : X) → slice_get xs place ≡ Some x → n ≤ place → P x)
+    → Each P (drop n xs)
+each_dropped P zero [] holds = tt
+each_dropped P zero (x ∷ xs) holds =
+    (holds zero x refl (omega arith), each_dropped P zero xs (λ place y is past. holds (suc place) y is (omega arith)))
+each_dropped P (suc n) [] holds = tt
+each_dropped P (suc n) (x ∷ xs) holds = each_dropped P n xs (λ place y is past. holds (suc place) y is (omega (arith, past)))
+
+-- an entry of a round behind its rows is a commit
+of_round : (settings : Settings) (opened_at : ℕ) (before : List Entry) (entry : Entry) → IsCommitOfRound settings opened_at before entry
+    → is_commit entry ≡ true
+of_round settings opened_at before (RoundEntry number) is = absurd is
+of_round settings opened_at before (MachineAdd machine cap) is = absurd is
+of_round settings opened_at before (MachineUpdate machine cap) is = absurd is
+of_round settings opened_at before (MachineRemove machine) is = absurd is
+of_round settings opened_at before (AttrSet machine name value) is = absurd is
+of_round settings opened_at before (AttrDelete machine name) is = absurd is
+of_round settings opened_at before (End key machine) is = absurd is
+of_round settings opened_at before (Commit scheduler seen txn reply) is = refl
+
+module _ (stage : Stage) (tasks : List WantedTask) (history : List Entry) (seats : List Seat) (world : IsWorld stage tasks history seats) where
+  -- the rows of the round that is under way end within the history
+  pub opened_within : stage.opened_at ≤ length history
+  opened_within = elim (world.lawful world.made.0 world.made.1).run [
+    | inl none ↦ let start : stage.opened_at ≡ 0 = none.start in omega (arith, start)
+    | inr has ↦
+        subst (λ (n : ℕ). n ≤ length history) (sym has.rows)
+        (rows_within stage.settings world.made.0 history has.in_round.underway)
+  ]
+
+  commit_since : (place : ℕ) (entry : Entry) → slice_get history place ≡ Some entry → stage.opened_at ≤ place → is_commit entry ≡ true
+  commit_since place entry here past = elim (world.lawful world.made.0 world.made.1).run [
+    | inl none ↦
+        let nothing : slice_get [] place ≡ Some entry = subst (λ (h : List Entry). slice_get h place ≡ Some entry) none.is_new.empty here in
+        absurd (cc)
+    | inr has ↦
+        of_round stage.settings _ (take place history) entry
+        (has.in_round.underway.begun.commits place entry here (subst (λ (n : ℕ). n ≤ place) has.rows past))
+  ]
+
+  -- the entries since then are commits
+  pub commits_since : All (λ entry. is_commit entry ≡ true) (drop stage.opened_at history)
+  commits_since =
+      All-from_recursion (λ entry. is_commit entry ≡ true) (drop stage.opened_at history)
+      (each_dropped (λ entry. is_commit entry ≡ true) stage.opened_at history commit_since)
+
+  -- what was quiet where they end stays so while the history goes on
+  pub were_quiet : (places : BTreeSet ℕ) (asked : Asked) (later : List Entry) → StartsWith later history
+      → WereQuiet places asked stage.opened_at history → WereQuiet places asked stage.opened_at later
+  were_quiet places asked later more quiet =
+      let same : take stage.opened_at later ≡ take stage.opened_at history =
+      ap (take stage.opened_at) more.1 ∙ take-append-le stage.opened_at history more.0 opened_within in
+      subst (λ (h : List Entry). OthersAreQuiet places asked (state h).tasks) (sym same) quiet
