@@ -3,10 +3,10 @@ use Rattle.std.proofs.Common.{◌≡◌, ◌≤◌, ◌+◌, ℕ, zero, suc, Boo
 use Rattle.std.specs.Prelude.{slice_get}
 use Rattle.std.specs.BTreeSet as set
 use Rattle.std.specs.BTreeSet.{BTreeSet}
-use Rattle.std.specs.List.{All, fold, AllByRecursion as Each}
+use Rattle.std.specs.List.{All, fold, list_any, AllByRecursion as Each}
 use Rattle.std.specs.Ordering.{nat_cmp}
 use Rattle.std.proofs.lemmas.Bool.{both_ways, eqb-true, or_from}
-use Rattle.std.proofs.lemmas.List.{take-append-drop, take-append-le}
+use Rattle.std.proofs.lemmas.List.{append-nil, take-append-drop, take-append-le, take_all}
 use Rattle.std.proofs.lemmas.List.Elements.{All-append, All-cons, All-from_recursion, All-head, All-nil, All-tail, All-weaker}
 use Rattle.std.proofs.lemmas.List.Sums.{fold-append}
 use Rattle.omega_cell.specs.Cells.{is_commit}
@@ -29,8 +29,11 @@ use Rattle.omega_model.specs.declared.entries.Entry.TheVariants.{Round as RoundE
 use Rattle.omega_model.specs.declared.settings.Settings.{Settings}
 use Rattle.omega_rounds.specs.Keeping.{IsWorld, WereQuiet}
 use Rattle.omega_rounds.specs.Reopening.{OpensJobs, may_stop}
+use Rattle.omega_rounds.specs.SeatSteps.{SeatSteps}
 use Rattle.omega_rounds.specs.Stages.{Stage}
 use Rattle.omega_rounds.specs.declared.seat.Seat.{Seat}
+use Rattle.omega_rounds.specs.declared.steps.Stepped.{Stepped}
+use Rattle.omega_rounds.specs.declared.steps.Stepped.TheVariants.{Synced, Committed, Idle}
 use Rattle.omega_rounds.proofs.RunOn.{Runs, runs_after}
 use Rattle.omega_rounds.proofs.Worlds.{rows_within}
 
@@ -98,6 +101,13 @@ module _ (before after : BTreeSet ℕ) (asked : Asked) where
       (subst (λ (cell : Cell). OthersAreQuiet after asked cell.tasks) (sym (state_push history entry))
       (quiet_next (state history).tasks entry quiet opens))
 
+  -- also where those are opened by a board that stands for the history
+  pub quiet_fed_on : (history next : List Entry) (entry : Entry) (cell : Cell) → cell ≡ state history → OthersAreQuiet before asked (state history).tasks
+      → OpensJobs before after asked (may_stop cell.tasks entry) → next ≡ history ++ entry ∷ []
+      → OthersAreQuiet after asked (state next).tasks
+  quiet_fed_on history next entry cell current quiet opens fed =
+      quiet_fed history next entry quiet (subst (λ (now : Cell). OpensJobs before after asked (may_stop now.tasks entry)) current opens) fed
+
   -- and after one more of some entries
   pub quiet_stepped : (cell : Cell) (some : List Entry) (entry : Entry) → OthersAreQuiet before asked (fold step cell some).tasks
       → OpensJobs before after asked (may_stop (fold step cell some).tasks entry)
@@ -107,7 +117,7 @@ module _ (before after : BTreeSet ℕ) (asked : Asked) where
       (quiet_next (fold step cell some).tasks entry quiet opens)
 
 -- the state after a beginning of a history, and then the rest of it
-pub state_split : (n : ℕ) (history : List Entry) → fold step (state (take n history)) (drop n history) ≡ state history
+state_split : (n : ℕ) (history : List Entry) → fold step (state (take n history)) (drop n history) ≡ state history
 state_split n history = sym (fold-append step empty_cell (take n history) (drop n history)) ∙ ap state (take-append-drop n history)
 
 -- what holds at all places from one on holds of the rest of a list
@@ -164,3 +174,42 @@ module _ (stage : Stage) (tasks : List WantedTask) (history : List Entry) (seats
       let same : take stage.opened_at later ≡ take stage.opened_at history =
       ap (take stage.opened_at) more.1 ∙ take-append-le stage.opened_at history more.0 opened_within in
       subst (λ (h : List Entry). OthersAreQuiet places asked (state h).tasks) (sym same) quiet
+
+-- a history that is the same goes on from itself
+pub goes_on_same : (before after : List Entry) → after ≡ before → StartsWith after before
+goes_on_same before after same = ([], same ∙ sym (append-nil before))
+
+-- a step of a seat lets the history go on
+pub goes_on_step : (settings : Settings) (scheduler : ℕ) (before after : List Entry) (old new : Seat) (stepped : Stepped)
+    → SeatSteps settings scheduler before old after new stepped → StartsWith after before
+goes_on_step settings scheduler before after old new Idle did = goes_on_same before after did.history
+goes_on_step settings scheduler before after old new Synced did = goes_on_same before after did.history
+goes_on_step settings scheduler before after old new (Committed place) did = (_, did.appended)
+
+-- what is quiet on a board is quiet on the state for which it stands
+pub quiet_on : (places : BTreeSet ℕ) (asked : Asked) (one other : Cell) → one ≡ other → OthersAreQuiet places asked one.tasks
+    → OthersAreQuiet places asked other.tasks
+quiet_on places asked one other same quiet = subst (λ (cell : Cell). OthersAreQuiet places asked cell.tasks) same quiet
+
+-- where a round's rows end at the end of a history, what is quiet there is so on its state
+pub quiet_at_end : (places : BTreeSet ℕ) (asked : Asked) (history whole : List Entry) → whole ≡ history → OthersAreQuiet places asked (state history).tasks
+    → WereQuiet places asked (length whole) history
+quiet_at_end places asked history whole same quiet =
+    subst (λ (h : List Entry). OthersAreQuiet places asked (state h).tasks)
+    (sym (take_all (length whole) history (let long : length whole ≡ length history = ap (λ (h : List Entry). length h) same in omega (arith, long)))) quiet
+
+-- what is quiet on the state at a place of a history, and then after the rest of it, is so on its state
+pub since_place : (places : BTreeSet ℕ) (asked : Asked) (n : ℕ) (history rest : List Entry) → rest ≡ drop n history
+    → OthersAreQuiet places asked (fold step (state (take n history)) rest).tasks
+    → OthersAreQuiet places asked (state history).tasks
+since_place places asked n history rest same quiet =
+    subst (λ (cell : Cell). OthersAreQuiet places asked cell.tasks) (ap (λ (es : List Entry). fold step (state (take n history)) es) same ∙ state_split n history) quiet
+
+-- where no task is wanted all jobs are quiet
+pub none_wanted : (places : BTreeSet ℕ) (asked : Asked) (tasks : List Task) → asked.tasks ≡ [] → OthersAreQuiet places asked tasks
+none_wanted places asked tasks none place job here closed =
+    let P : WantedTask → Type 0 = λ task. is_task_of job task ≡ true → Runs tasks task.key in
+    record {
+      running = subst (All P) (sym none) (All-nil P);
+      no_extras = inr (ap (list_any (is_task_of job)) none);
+    }

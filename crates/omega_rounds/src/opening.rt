@@ -93,9 +93,26 @@ fn feed_all(
     ensures quiet { OnOk result (OthersAreQuiet open_jobs.new wanted.now (state cell.new.history).tasks) }
 {
     for entry in entries.into_items() {
-        reopen_stopped(alloc, open_jobs, wanted, cell.board(), &entry)?;
-        feed(alloc, cell, entry)?;
+        feed_one(alloc, cell, wanted, open_jobs, entry)?;
     }
+    Ok(())
+}
+
+// Appends an entry, and opens the jobs of the tasks that it may stop.
+fn feed_one(
+    alloc: Global,
+    cell: &mut Cell,
+    wanted: &Wanted,
+    open_jobs: &mut OpenJobs,
+    entry: Entry,
+) -> Result<(), NoMemory>
+    requires may { MayFeed cell.old.history entry }
+    requires quiet { OthersAreQuiet open_jobs.old wanted.now (state cell.old.history).tasks }
+    ensures history { OnOk result (cell.new.history ≡ cell.old.history ++ entry ∷ []) }
+    ensures quiet { OnOk result (OthersAreQuiet open_jobs.new wanted.now (state cell.new.history).tasks) }
+{
+    reopen_stopped(alloc, open_jobs, wanted, cell.board(), &entry)?;
+    feed(alloc, cell, entry)?;
     Ok(())
 }
 
