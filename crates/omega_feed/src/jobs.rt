@@ -4,12 +4,12 @@ ghost use Rattle.omega_model.specs.Feed.{feed};
 ghost use Rattle.omega_model.specs.Ranges.{IsInRange};
 ghost use Rattle.omega_model.specs.Requests.{jobs_in_order};
 ghost use Rattle.omega_model.specs.Routing.{scheduler_for};
+ghost use Rattle.omega_model.specs.declared.rows.TraceTables.{TraceTables};
 ghost use Rattle.omega_feed.specs.Asked.{home, routed, with_job};
 ghost use Rattle.omega_feed.specs.Index.{job_at};
 
 use crate::activities::JobActivities;
-use crate::ordered::feed;
-use omega_model::{NoMemory, Row, Settings, TraceTables};
+use omega_model::{NoMemory, Row, Settings};
 use std::alloc::Global;
 use std::collections::BTreeMap;
 use std::marker::Model;
@@ -53,19 +53,19 @@ impl Jobs {
     }
 
     /// The jobs of a trace in order of their first task row, each with its scheduler, where these are
-    /// its activities. Costs a sort of the rows by time, and two look-ups for each task row.
+    /// its feed and its activities. Costs two look-ups for each task row.
     pub fn of(
         alloc: Global,
-        tables: &TraceTables,
+        rows: &[Row],
         settings: &Settings,
         activities: &JobActivities,
     ) -> Result<Jobs, NoMemory>
-        requires settings { IsInRange settings.now }
-        requires activities { activities.now ≡ tables.now.activities }
-        ensures { IfOk result (λ jobs. jobs ≡ map (routed settings.now tables.now) (jobs_in_order (feed tables.now))) }
+        requires { IsInRange settings.now }
+        ensures { (trace : TraceTables) → rows.now ≡ feed trace → activities.now ≡ trace.activities
+            → IfOk result (λ jobs. jobs ≡ map (routed settings.now trace) (jobs_in_order (feed trace))) }
     {
         let mut jobs = Jobs::new(alloc);
-        for row in feed(alloc, tables)? {
+        for row in rows {
             if let Row::Task(row) = row {
                 let job = row.key.job;
                 let scheduler = home(settings, activities, row.class, job);

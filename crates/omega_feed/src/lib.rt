@@ -1,8 +1,9 @@
 //! The rows of a trace in the order in which they happen, and what they ask for.
 //!
-//! `rounds` puts the rows of the events in order and cuts them into windows of time. `Wanted` takes
-//! them one by one, knows which tasks are to run, and says what each row does to the cell and what a
-//! scheduler is asked to place, the extra tasks of MapReduce jobs among it.
+//! `feed` puts the rows of the events in order, and `rounds` cuts them into windows of time. `Wanted`
+//! takes them one by one, knows which tasks are to run, and says what each row does to the cell and
+//! what a scheduler is asked to place, the extra tasks of MapReduce jobs among it. `OpenJobs` are the
+//! jobs of which something may have to be placed; only those are looked at.
 #![tactic(auto)]
 
 mod activities;
@@ -11,13 +12,15 @@ mod disks;
 mod entries;
 mod extras;
 mod jobs;
+mod open_jobs;
 mod ordered;
 mod tasks;
 mod unplaced;
 mod wanted;
 
 pub use jobs::RoutedJob;
-pub use ordered::rounds;
+pub use open_jobs::OpenJobs;
+pub use ordered::{feed, rounds};
 pub use unplaced::{WaitingTasks, waiting};
 pub use wanted::Wanted;
 

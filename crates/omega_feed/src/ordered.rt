@@ -2,6 +2,7 @@
 ghost use Rattle.std.specs.Prelude.{◌≡◌, ◌<◌, ◌/◌, ◌++◌, ◌∷◌, [], map, IfOk, OnOk};
 ghost use Rattle.omega_model.specs.Feed.{by_time, time_of, event_rows, feed, rounds, round_number};
 ghost use Rattle.omega_model.specs.declared.rows.Row.TheVariants.{Machine, Attr, Task};
+ghost use Rattle.omega_model.specs.declared.rows.TraceTables.{TraceTables};
 ghost use Rattle.omega_feed.specs.Cut.{closed};
 
 use omega_model::{
@@ -10,17 +11,17 @@ use omega_model::{
 use std::alloc::Global;
 use std::mem;
 
-/// The rounds of a trace: its rows in order of time, then of table, then of row, cut where the time
-/// divided by the window changes. A window without a row is no round. The window is in microseconds.
-/// Copies each row once, and costs one sort by time besides.
-pub fn rounds(alloc: Global, tables: &TraceTables, window: u64) -> Result<Rounds, NoMemory>
+/// The rounds of a trace with this feed: the rows are cut where the time divided by the window changes.
+/// A window without a row is no round. The window is in microseconds. Costs the rows.
+pub fn rounds(alloc: Global, events: Vec<Row>, window: u64) -> Result<Rounds, NoMemory>
     requires { 0 < window }
-    ensures { IfOk result (λ rounds'. rounds' ≡ rounds tables.now window) }
+    ensures { (trace : TraceTables) → events.items ≡ feed trace
+        → IfOk result (λ rounds'. rounds' ≡ rounds trace window) }
 {
     let mut done = Rounds::new(alloc);
     let mut number = 0;
     let mut rows = Rows::new(alloc);
-    for row in feed(alloc, tables)? {
+    for row in events {
         let next = time_of(&row) / window;
         if next != number {
             close(&mut done, number, mem::replace(&mut rows, Rows::new(alloc)))?;

@@ -1,7 +1,7 @@
-ghost use Rattle.std.specs.Prelude.{◌<◌};
+ghost use Rattle.std.specs.Prelude.{◌≡◌, ◌<◌};
 ghost use Rattle.omega_model.specs.Ranges.{IsInRange};
 
-use crate::{Wanted, rounds};
+use crate::{OpenJobs, Wanted, feed, rounds};
 use omega_board::Board;
 use omega_model::{
     ActivityRow, AttrRow, Bytes, Claim, Claims, Command, Constraint, ConstraintRow, Entry, Extra,
@@ -9,6 +9,7 @@ use omega_model::{
     Settings, Spec, TaskKey, TaskRow, TraceTables, Verdict, Wish,
 };
 use std::alloc::Global;
+use std::marker::Model;
 
 const SETTINGS: Settings = Settings {
     command: Command::Replay,
@@ -136,17 +137,74 @@ fn mixed(alloc: Global) -> Result<TraceTables, NoMemory> {
 fn rounds_are_windows_with_a_row(rt: HostRuntime) -> Result<(), NoMemory> {
     let alloc = rt.alloc();
     let tables = mixed(alloc)?;
-    let by_ten = told(alloc, rounds(alloc, &tables, 10)?.as_slice())?;
+    let by_ten = told(alloc, rounds(alloc, feed(alloc, &tables)?, 10)?.as_slice())?;
     let want: [u64; 20] = [
         0, 1, 12, 2, 22, 3, 34, 1, 11, 1, 13, 2, 21, 3, 32, 3, 33, 2, 3, 31,
     ];
     assert_eq!(rt; by_ten.as_slice(), want.as_slice());
-    let by_five = told(alloc, rounds(alloc, &tables, 5)?.as_slice())?;
+    let by_five = told(alloc, rounds(alloc, feed(alloc, &tables)?, 5)?.as_slice())?;
     let want: [u64; 21] = [
         0, 1, 12, 2, 22, 3, 34, 1, 1, 11, 1, 13, 2, 21, 3, 32, 3, 33, 5, 3, 31,
     ];
     assert_eq!(rt; by_five.as_slice(), want.as_slice());
     Ok(())
+}
+
+// What is wanted after some rows, with the jobs of which something may have to be placed on any
+// cell, as none was closed.
+#[derive(Drop)]
+struct Asking {
+    wanted: Wanted,
+    open_jobs: OpenJobs,
+}
+
+impl Model for Asking {
+    ghost use Rattle.std.specs.Prelude.{List};
+    ghost use Rattle.std.specs.BTreeSet.{BTreeSet};
+    ghost use Rattle.omega_model.specs.declared.cells.Task.{Task};
+    ghost use Rattle.omega_feed.specs.Asked.{Asked};
+    ghost use Rattle.omega_feed.specs.Open.{OthersAreQuiet};
+
+    ghost Value = { Asked };
+
+    ghost view = { λ asking. asking.wanted };
+
+    ghost invariant = { λ asking. (tasks : List Task) → OthersAreQuiet asking.open_jobs asking.wanted tasks };
+}
+
+impl Asking {
+    fn new(alloc: Global, tables: &TraceTables, settings: &Settings) -> Result<Asking, NoMemory>
+        requires { IsInRange settings.now }
+    {
+        let rows = feed(alloc, tables)?;
+        Ok(Asking {
+            wanted: Wanted::new(alloc, tables, &rows, settings)?,
+            open_jobs: OpenJobs::new(alloc),
+        })
+    }
+
+    fn take(self, row: &Row) -> Result<Asking, NoMemory> {
+        let Asking {
+            mut wanted,
+            mut open_jobs,
+        } = self;
+        wanted.take(row, &mut open_jobs)?;
+        Ok(Asking { wanted, open_jobs })
+    }
+
+    // The requests of a scheduler on a board, each as its job and its wishes.
+    fn tell(
+        &self,
+        alloc: Global,
+        told: &mut Vec<u64>,
+        scheduler: u32,
+        board: &Board,
+    ) -> Result<(), NoMemory> {
+        let requests = self
+            .wanted
+            .requests(alloc, scheduler, board, &self.open_jobs)?;
+        tell_requests(told, requests.as_slice())
+    }
 }
 
 // The requests of scheduler 1 after task rows of job 1: each a code, an index and a need.
@@ -185,13 +243,12 @@ fn asked_of(
     requires { IsInRange settings.now }
 {
     let tables = job_trace(alloc, activities, rows)?;
-    let mut wanted = Wanted::new(alloc, &tables, settings)?;
+    let mut asking = Asking::new(alloc, &tables, settings)?;
     for row in tables.tasks.as_slice() {
-        wanted.take(&Row::Task(*row))?;
+        asking = asking.take(&Row::Task(*row))?;
     }
     let mut told = Vec::new(alloc);
-    let requests = wanted.requests(alloc, scheduler, board)?;
-    tell_requests(&mut told, requests.as_slice())?;
+    asking.tell(alloc, &mut told, scheduler, board)?;
     Ok(told)
 }
 
@@ -317,10 +374,13 @@ fn entries_of_rows(alloc: Global, board: &Board) -> Result<Vec<u64>, NoMemory> {
         rows.push(Row::Task(task_row(0, 1, 0, code, 2)))?;
         rows.push(Row::Task(task_row(0, 1, 1, code, 2)))?;
     }
-    let wanted = Wanted::new(alloc, &TraceTables::new(alloc), &SETTINGS)?;
+    let asking = Asking::new(alloc, &TraceTables::new(alloc), &SETTINGS)?;
     let mut told = Vec::new(alloc);
     for row in rows.as_slice() {
-        tell_entries(&mut told, wanted.entries(alloc, row, board)?.as_slice())?;
+        tell_entries(
+            &mut told,
+            asking.wanted.entries(alloc, row, board)?.as_slice(),
+        )?;
     }
     Ok(told)
 }
@@ -337,13 +397,14 @@ fn rows_give_entries(rt: HostRuntime) -> Result<(), NoMemory> {
 // The entries of the last of these rows of job 1.
 fn ended_by(alloc: Global, board: &Board, rows: &[(u8, u16, u32)]) -> Result<Vec<u64>, NoMemory> {
     let tables = job_trace(alloc, &[], rows)?;
-    let mut wanted = Wanted::new(alloc, &tables, &SETTINGS)?;
+    let mut asking = Asking::new(alloc, &tables, &SETTINGS)?;
     let mut told = Vec::new(alloc);
     for row in tables.tasks.as_slice() {
         let row = Row::Task(*row);
-        wanted.take(&row)?;
+        asking = asking.take(&row)?;
         told.clear();
-        tell_entries(&mut told, wanted.entries(alloc, &row, board)?.as_slice())?;
+        let entries = asking.wanted.entries(alloc, &row, board)?;
+        tell_entries(&mut told, entries.as_slice())?;
     }
     Ok(told)
 }
@@ -417,45 +478,34 @@ fn late_first_row(alloc: Global) -> Result<TraceTables, NoMemory> {
 fn asked_by_round(alloc: Global, tables: &TraceTables, window: u64) -> Result<Vec<u64>, NoMemory>
     requires { 0 < window }
 {
-    let cut = rounds(alloc, tables, window)?;
-    let mut wanted = Wanted::new(alloc, tables, &SETTINGS)?;
+    let cut = rounds(alloc, feed(alloc, tables)?, window)?;
+    let mut asking = Asking::new(alloc, tables, &SETTINGS)?;
     let mut told = Vec::new(alloc);
     for round in cut.as_slice() {
-        tell_round(alloc, &mut told, &mut wanted, round)?;
+        asking = take_all(asking, round.rows.as_slice())?;
+        tell_round(alloc, &mut told, &asking, round.number)?;
     }
     Ok(told)
 }
 
-// The number of a round, and what is asked once its rows are taken.
+fn take_all(mut asking: Asking, rows: &[Row]) -> Result<Asking, NoMemory> {
+    for row in rows {
+        asking = asking.take(row)?;
+    }
+    Ok(asking)
+}
+
+// The number of a round, and what is asked after its rows.
 fn tell_round(
     alloc: Global,
     told: &mut Vec<u64>,
-    wanted: &mut Wanted,
-    round: &Round,
-) -> Result<(), NoMemory> {
-    told.push(round.number)?;
-    take_all(wanted, round.rows.as_slice())?;
-    tell_asked(alloc, told, wanted, 0)?;
-    tell_asked(alloc, told, wanted, 1)
-}
-
-// What a scheduler is asked, where nothing runs.
-fn tell_asked(
-    alloc: Global,
-    told: &mut Vec<u64>,
-    wanted: &Wanted,
-    scheduler: u32,
+    asking: &Asking,
+    number: u64,
 ) -> Result<(), NoMemory> {
     let board = Board::new(alloc);
-    let requests = wanted.requests(alloc, scheduler, &board)?;
-    tell_requests(told, requests.as_slice())
-}
-
-fn take_all(wanted: &mut Wanted, rows: &[Row]) -> Result<(), NoMemory> {
-    for row in rows {
-        wanted.take(row)?;
-    }
-    Ok(())
+    told.push(number)?;
+    asking.tell(alloc, told, 0, &board)?;
+    asking.tell(alloc, told, 1, &board)
 }
 
 #[test]

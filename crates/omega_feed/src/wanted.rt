@@ -1,20 +1,23 @@
 //! What a trace asks for, row by row.
-ghost use Rattle.std.specs.Prelude.{◌≡◌, ◌<◌, ◌++◌, ◌∷◌, [], All, List, map, not, IfOk, OnOk, OnErr};
-ghost use Rattle.std.specs.List.{filter};
+ghost use Rattle.std.specs.Prelude.{◌≡◌, ◌<◌, ◌++◌, ◌∷◌, ◌↔◌, ◌⊎◌, ℕ, false, [], Some, None, All, List, map, IfOk, IsTrue, OnOk, OnErr};
+ghost use Rattle.std.specs.List.{filter, list_any};
 ghost use Rattle.omega_model.specs.Applying.{CapacityIsInRange};
 ghost use Rattle.omega_model.specs.OpenRequests.{open_requests};
+ghost use Rattle.omega_model.specs.Feed.{feed};
 ghost use Rattle.omega_model.specs.Ranges.{IsInRange};
 ghost use Rattle.omega_model.specs.Cell.{task_at};
 ghost use Rattle.omega_model.specs.ExtraTasks.{HasLowIndex, first_extra};
 ghost use Rattle.omega_model.specs.Requests.{is_running};
 ghost use Rattle.omega_model.specs.RowEntries.{row_entries};
 ghost use Rattle.omega_model.specs.Wanted.{wanted_after, wanted_after_task, with_wanted, is_named};
+ghost use Rattle.omega_model.specs.declared.cells.Task.{Task};
 ghost use Rattle.omega_model.specs.declared.rows.Row.{Row};
 ghost use Rattle.omega_model.specs.declared.rows.TraceTables.{TraceTables};
 ghost use Rattle.omega_model.specs.declared.settings.Settings.{Settings};
 ghost use Rattle.omega_board.specs.Board.{cell_of};
-ghost use Rattle.omega_feed.specs.Asked.{activities_in, asked_after, asked_extra, asked_requests, asked_wish, asked_wishes, extras_after};
-ghost use Rattle.omega_feed.specs.Index.{place_request, wanted_task};
+ghost use Rattle.omega_feed.specs.Asked.{activities_in, asked_after, asked_extra, asked_requests, asked_wish, asked_wishes, extras_after, is_task_of};
+ghost use Rattle.omega_feed.specs.Index.{job_at, place_request, wanted_task};
+ghost use Rattle.omega_feed.specs.Open.{IsOpen, IsQuietAt, OthersAreQuiet, StayOpen};
 
 use crate::activities::JobActivities;
 use crate::constraints::TaskConstraints;
@@ -22,6 +25,7 @@ use crate::disks::MachineDisks;
 use crate::entries::entries_of;
 use crate::extras::{extra_count, free_indexes, running_extras};
 use crate::jobs::{Jobs, RoutedJob};
+use crate::open_jobs::OpenJobs;
 use crate::tasks::{Change, WantedTasks};
 use omega_board::Board;
 use omega_model::{
@@ -30,11 +34,9 @@ use omega_model::{
 };
 use omega_running::Running;
 use std::alloc::Global;
-use std::collections::BTreeSet;
 use std::marker::Model;
 
-/// What a trace asks for after some of its rows. `active` has the places of all jobs that have a
-/// wanted task. Every wanted task has an index below those of extras.
+/// What a trace asks for after some of its rows.
 #[derive(Drop)]
 pub struct Wanted {
     jobs: Jobs,
@@ -43,7 +45,6 @@ pub struct Wanted {
     activities: JobActivities,
     extra: Extra,
     tasks: WantedTasks,
-    active: BTreeSet<usize>,
 }
 
 impl Model for Wanted {
@@ -51,86 +52,107 @@ impl Model for Wanted {
 
     ghost Value = { Asked };
 
-    ghost use Rattle.omega_feed.specs.Index.{AreWanted};
-
     ghost view = { λ wanted. record { jobs = wanted.jobs; constraints = wanted.constraints; disks = wanted.disks; activities = wanted.activities; extra = wanted.extra; tasks = wanted.tasks } };
-
-    ghost invariant = { λ wanted. AreWanted wanted.active wanted.jobs wanted.tasks };
 }
 
 impl Wanted {
-    /// What a trace asks for before its first row: no task is wanted. Costs a sort of the rows by
-    /// time and a look-up for each task row and each constraint.
-    pub fn new(alloc: Global, tables: &TraceTables, settings: &Settings) -> Result<Wanted, NoMemory>
-        requires { IsInRange settings.now }
+    /// What a trace with this feed asks for before its first row: no task is wanted. Costs a look-up
+    /// for each task row and each constraint.
+    pub fn new(
+        alloc: Global,
+        tables: &TraceTables,
+        rows: &[Row],
+        settings: &Settings,
+    ) -> Result<Wanted, NoMemory>
+        requires settings { IsInRange settings.now }
+        requires rows { rows.now ≡ feed tables.now }
         ensures { IfOk result (λ wanted. wanted ≡ asked_after settings.now tables.now []) }
     {
         let activities = JobActivities::new(alloc, &tables.activities)?;
         Ok(Wanted {
-            jobs: Jobs::of(alloc, tables, settings, &activities)?,
+            jobs: Jobs::of(alloc, rows, settings, &activities)?,
             constraints: TaskConstraints::new(alloc, &tables.constraints)?,
             disks: MachineDisks::new(alloc, &tables.disks)?,
             activities,
             extra: settings.extra,
             tasks: WantedTasks::new(alloc),
-            active: BTreeSet::new(alloc),
         })
     }
 
-    /// Applies a row: what it submits, schedules or updates is wanted as it says, and what ends in it
-    /// is not. A refused call leaves everything as it was. Costs the logarithm of the number of tasks
-    /// and of jobs.
-    pub fn take(&mut self, row: &Row) -> Result<(), NoMemory>
+    /// Applies a row: what it submits, schedules or updates is wanted as it says, and its job is opened;
+    /// what ends in it is not wanted any more. A refused call leaves what is wanted, and may have opened
+    /// a job. Costs the logarithm of the number of tasks and of jobs.
+    pub fn take(&mut self, row: &Row, open_jobs: &mut OpenJobs) -> Result<(), NoMemory>
         ensures ok { OnOk result (self.new ≡ record self.old { tasks = wanted_after self.old.tasks row.now }) }
         ensures err { OnErr result (self.new ≡ self.old) }
         ensures asked { (settings : Settings) (trace : TraceTables) (rows : List Row)
             → self.old ≡ asked_after settings trace rows
             → OnOk result (self.new ≡ asked_after settings trace (rows ++ row.now ∷ [])) }
+        ensures quiet { (tasks : List Task) → OthersAreQuiet open_jobs.old self.old tasks
+            → OnOk result (OthersAreQuiet open_jobs.new self.new tasks) }
+        ensures stay { StayOpen open_jobs.old open_jobs.new }
     {
         match row {
-            Row::Task(row) => self.take_task(row),
+            Row::Task(row) => self.take_task(row, open_jobs),
             _ => Ok(()),
         }
     }
 
-    fn take_task(&mut self, row: &TaskRow) -> Result<(), NoMemory>
+    fn take_task(&mut self, row: &TaskRow, open_jobs: &mut OpenJobs) -> Result<(), NoMemory>
         ensures ok { OnOk result (self.new ≡ record self.old { tasks = wanted_after_task self.old.tasks row.now }) }
         ensures err { OnErr result (self.new ≡ self.old) }
+        ensures quiet { (tasks : List Task) → OthersAreQuiet open_jobs.old self.old tasks
+            → OnOk result (OthersAreQuiet open_jobs.new self.new tasks) }
+        ensures stay { StayOpen open_jobs.old open_jobs.new }
     {
         match self.tasks.change_of(row) {
-            Change::Want => self.want(row.key, row.spec),
+            Change::Want => self.want(row.key, row.spec, open_jobs),
             Change::End => {
-                self.end(row.key);
+                self.tasks.remove(row.key);
                 Ok(())
             }
             Change::Keep => Ok(()),
         }
     }
 
-    fn want(&mut self, key: TaskKey, spec: Spec) -> Result<(), NoMemory>
+    /// A task is wanted, or wanted otherwise, and its job is opened.
+    fn want(&mut self, key: TaskKey, spec: Spec, open_jobs: &mut OpenJobs) -> Result<(), NoMemory>
         requires { key.index < first_extra }
         ensures ok { OnOk result (self.new ≡ record self.old { tasks = with_wanted key spec self.old.tasks }) }
         ensures err { OnErr result (self.new ≡ self.old) }
+        ensures opened { OnOk result (IsOpen open_jobs.new self.old key.job) }
+        ensures stay { StayOpen open_jobs.old open_jobs.new }
     {
-        if let Some(place) = self.jobs.place(key.job) {
-            self.active.insert(place)?;
-        }
-        self.tasks.insert(key, spec)?;
-        self.tasks.check_low();
-        Ok(())
+        open_jobs.reopen(self, key.job)?;
+        self.tasks.insert(key, spec)
     }
 
-    fn end(&mut self, key: TaskKey)
-        ensures { self.new ≡ record self.old { tasks = filter (λ task. not (is_named key task)) self.old.tasks } }
+    /// The place of a job among all jobs of the trace: the only one at which it stands, `None` exactly
+    /// where there is none. Costs the logarithm of their number.
+    pub(crate) fn place(&self, job: u64) -> Option<usize>
+        ensures { (place : ℕ) → (result ≡ Some place) ↔ (job_at self.now.jobs place ≡ Some job) }
     {
-        self.tasks.remove(key);
-        self.tasks.check_low();
-        if self.tasks.has_job(key.job) {
-            return;
-        }
-        if let Some(place) = self.jobs.place(key.job) {
-            self.active.remove(&place);
-        }
+        self.jobs.place(job)
+    }
+
+    /// Whether the job at a place is quiet on the cell of a board: none of its wanted tasks waits, and
+    /// it has no activities or no wanted task. Costs the wanted tasks of the job up to the first that
+    /// waits, each times the logarithm of the number of all.
+    pub(crate) fn is_quiet_at(&self, place: usize, board: &Board) -> bool
+        ensures { IsTrue result → IsQuietAt self.now board.now.tasks place }
+    {
+        let Some(RoutedJob { job, .. }) = self.jobs.at(place) else {
+            return true;
+        };
+        self.gets_no_extras(job) && self.tasks.all_run(job, board.running())
+    }
+
+    /// Whether a job gets no extras on any cell: it has no activities, or no task of it is wanted.
+    fn gets_no_extras(&self, job: u64) -> bool
+        ensures { IsTrue result → (activities_in self.now.activities job ≡ None)
+            ⊎ (list_any (is_task_of job) self.now.tasks ≡ false) }
+    {
+        self.activities.of(job).is_none() || !self.tasks.has_job(job)
     }
 
     /// The entries of the row that was taken last, on the cell of a board. Costs the logarithm of the
@@ -147,43 +169,26 @@ impl Wanted {
     /// task row, each with its wanted tasks that don't run, by index, and then its extras. A job for
     /// which this is nothing is left out, one that is given up is not.
     ///
-    /// Costs the wanted tasks of the scheduler's jobs, also those that run, each times the logarithm
-    /// of the number of all, and the jobs that have any. A job with activities costs besides its
-    /// running tasks and its extras, each times the same logarithm; the number of machines costs
+    /// Only open jobs are looked at. Costs their number, and the wanted tasks of those that are the
+    /// scheduler's, each times the logarithm of the number of all. A job with activities costs besides
+    /// its running tasks and its extras, each times the same logarithm; the number of machines costs
     /// nothing.
     pub fn requests(
         &self,
         alloc: Global,
         scheduler: u32,
         board: &Board,
+        open_jobs: &OpenJobs,
     ) -> Result<Requests, NoMemory>
+        requires quiet { OthersAreQuiet open_jobs.now self.now board.now.tasks }
         ensures requests { IfOk result (λ requests. (settings : Settings) (trace : TraceTables) (rows : List Row)
             → self.now ≡ asked_after settings trace rows
             → requests ≡ open_requests settings trace rows (cell_of board.now) scheduler) }
         ensures low { All HasLowIndex self.now.tasks }
     {
-        self.check_low();
-        self.requests_on(alloc, scheduler, board)
-    }
-
-    // What the type keeps of the wanted tasks: none has the index of an extra.
-    fn check_low(&self)
-        ensures { All HasLowIndex self.now.tasks }
-    {
-        let _tasks = &self.tasks;
-    }
-
-    /// The requests of a scheduler on the cell of a board.
-    fn requests_on(
-        &self,
-        alloc: Global,
-        scheduler: u32,
-        board: &Board,
-    ) -> Result<Requests, NoMemory>
-        ensures { IfOk result (λ requests. requests ≡ asked_requests self.now (cell_of board.now) scheduler) }
-    {
+        self.tasks.check_low();
         let mut requests = Requests::new(alloc);
-        for place in self.active.iter() {
+        for place in open_jobs.places().iter() {
             if let Some(request) = self.request_at(alloc, *place, scheduler, board)? {
                 requests.push(request)?;
             }

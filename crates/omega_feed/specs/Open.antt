@@ -1,0 +1,34 @@
+-- The jobs of which something may have to be placed, by their places among all jobs.
+use Rattle.std.specs.Prelude.{◌≡◌, ◌⊎◌, ℕ, true, false, All, List, Some, None}
+use Rattle.std.specs.BTreeSet as set
+use Rattle.std.specs.BTreeSet.{BTreeSet}
+use Rattle.std.specs.List.{list_any}
+use Rattle.std.specs.Ordering.{nat_cmp}
+use Rattle.omega_model.specs.Cell.{task_at}
+use Rattle.omega_model.specs.Requests.{is_running}
+use Rattle.omega_model.specs.declared.cells.Task.{Task}
+use Rattle.omega_feed.specs.Asked.{Asked, activities_in, is_task_of}
+use Rattle.omega_feed.specs.Index.{job_at}
+
+-- nothing of a job waits: each of its wanted tasks runs, and it gets no extras, since it has no
+-- activities or no task of it is wanted
+pub record IsQuiet (asked : Asked) (tasks : List Task) (job : ℕ) : Type 0 where
+  pub running : All (λ task. is_task_of job task ≡ true → is_running (task_at tasks task.key) ≡ true) asked.tasks
+  pub no_extras : (activities_in asked.activities job ≡ None) ⊎ (list_any (is_task_of job) asked.tasks ≡ false)
+
+-- if a job stands at a place, it is quiet
+abbrev pub IsQuietAt : Asked → List Task → ℕ → Type 0
+IsQuietAt asked tasks place = (job : ℕ) → job_at asked.jobs place ≡ Some job → IsQuiet asked tasks job
+
+-- each job at a place that isn't open is quiet
+abbrev pub OthersAreQuiet : BTreeSet ℕ → Asked → List Task → Type 0
+OthersAreQuiet open_places asked tasks = (place job : ℕ) → job_at asked.jobs place ≡ Some job
+    → set.contains nat_cmp open_places place ≡ false → IsQuiet asked tasks job
+
+-- the place of a job is open, if it stands at one
+abbrev pub IsOpen : BTreeSet ℕ → Asked → ℕ → Type 0
+IsOpen open_places asked job = (place : ℕ) → job_at asked.jobs place ≡ Some job → set.contains nat_cmp open_places place ≡ true
+
+-- what was open is open
+abbrev pub StayOpen : BTreeSet ℕ → BTreeSet ℕ → Type 0
+StayOpen before after = (place : ℕ) → set.contains nat_cmp before place ≡ true → set.contains nat_cmp after place ≡ true

@@ -1,0 +1,77 @@
+//! The jobs of which something may have to be placed.
+ghost use Rattle.std.specs.Prelude.{◌≡◌, [], IsTrue, OnErr, OnOk};
+ghost use Rattle.omega_feed.specs.Open.{IsOpen, OthersAreQuiet, StayOpen};
+
+use crate::wanted::Wanted;
+use omega_board::Board;
+use omega_model::NoMemory;
+use std::alloc::Global;
+use std::collections::BTreeSet;
+use std::marker::Model;
+
+/// The jobs of which something may have to be placed, by their places among all jobs. All others are
+/// quiet: each of their wanted tasks runs, and they get no extras.
+#[derive(Drop)]
+pub struct OpenJobs {
+    places: BTreeSet<usize>,
+}
+
+impl Model for OpenJobs {
+    ghost use Rattle.std.specs.Prelude.{ℕ};
+    ghost use Rattle.std.specs.BTreeSet.{BTreeSet};
+
+    ghost Value = { BTreeSet ℕ };
+
+    ghost view = { λ jobs. jobs.places };
+}
+
+impl OpenJobs {
+    /// None is open. Takes no memory.
+    pub fn new(alloc: Global) -> OpenJobs
+        ensures { result.keys ≡ [] }
+    {
+        OpenJobs {
+            places: BTreeSet::new(alloc),
+        }
+    }
+
+    /// Opens a job, if the trace has it. A refused call leaves what is open. Costs the logarithm of the
+    /// number of jobs.
+    pub fn reopen(&mut self, wanted: &Wanted, job: u64) -> Result<(), NoMemory>
+        ensures stay { StayOpen self.old self.new }
+        ensures ok { OnOk result (IsOpen self.new wanted.now job) }
+        ensures err { OnErr result (self.new ≡ self.old) }
+    {
+        if let Some(place) = wanted.place(job) {
+            self.places.insert(place)?;
+        }
+        Ok(())
+    }
+
+    /// Closes the jobs that are quiet on the cell of a board: none of their wanted tasks waits, and they
+    /// have no activities or no wanted task. A refused call leaves what is open. Costs the wanted tasks
+    /// of the open jobs at most, each times the logarithm of the number of all, since a job's first task
+    /// that waits decides; and memory for those that stay open.
+    pub fn settle(&mut self, alloc: Global, wanted: &Wanted, board: &Board) -> Result<(), NoMemory>
+        requires { OthersAreQuiet self.old wanted.now board.now.tasks }
+        ensures ok { OnOk result (OthersAreQuiet self.new wanted.now board.now.tasks) }
+        ensures fewer { StayOpen self.new self.old }
+        ensures err { OnErr result (self.new ≡ self.old) }
+    {
+        let mut places = BTreeSet::new(alloc);
+        for place in self.places.iter() {
+            if !wanted.is_quiet_at(*place, board) {
+                places.insert(*place)?;
+            }
+        }
+        self.places = places;
+        Ok(())
+    }
+
+    /// The places of the open jobs, in order.
+    pub(crate) fn places(&self) -> &BTreeSet<usize>
+        ensures { result.now ≡ self.now }
+    {
+        &self.places
+    }
+}
