@@ -129,5 +129,5 @@ fn reopen_on(
     ensures { OnOk result (OpensJobs open_jobs.old open_jobs.new wanted.now (keys_of (ranked_on machine board.now.tasks))) }
 {
     let keys = board.running().on_machine(alloc, machine)?;
-    reopen_jobs(open_jobs, wanted, &keys)
+    reopen_jobs(open_jobs, wanted, keys.as_slice())
 }
