@@ -50,7 +50,7 @@ opens_none places asked = record { stay = λ place there. there; opened = All-ni
 -- one is
 pub opens_one : (before after : BTreeSet ℕ) (asked : Asked) (key : TaskKey) → StayOpen before after → IsOpen after asked key.job
     → OpensJobs before after asked (key ∷ [])
-opens_one before after asked key stay opened = record { stay = stay; opened = All-cons _ key [] opened (All-nil _) }
+opens_one before after asked key stay opened = record { stay = stay; opened = All-cons (λ other. IsOpen after asked other.job) key [] opened (All-nil _) }
 
 -- some are, and then others
 pub opens_more : (before middle after : BTreeSet ℕ) (asked : Asked) (keys more : List TaskKey) → OpensJobs before middle asked keys
