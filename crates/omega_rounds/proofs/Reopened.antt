@@ -1,12 +1,13 @@
 -- The jobs that aren't open stay quiet while a history goes on, where those are opened whose tasks its entries may stop.
-use Rattle.std.proofs.Common.{◌≡◌, ◌≤◌, ◌+◌, ℕ, zero, suc, Bool, true, false, List, [], ◌∷◌, ◌++◌, length, take, drop, Some, refl, sym, ap, subst, arith, ◌∙◌, inl, inr}
+use Rattle.std.proofs.Common.{◌≡◌, ◌≤◌, ◌<◌, ◌+◌, ℕ, zero, suc, Bool, true, false, List, [], ◌∷◌, ◌++◌, length, take, drop, get_or, Some, refl, sym, ap, subst, arith, ◌∙◌, inl, inr}
 use Rattle.std.specs.Prelude.{slice_get}
 use Rattle.std.specs.BTreeSet as set
 use Rattle.std.specs.BTreeSet.{BTreeSet}
-use Rattle.std.specs.List.{All, fold, list_any, AllByRecursion as Each}
+use Rattle.std.specs.List.{All, flat_map, fold, list_any, AllByRecursion as Each}
 use Rattle.std.specs.Ordering.{nat_cmp}
 use Rattle.std.proofs.lemmas.Bool.{both_ways, eqb-true, or_from}
-use Rattle.std.proofs.lemmas.List.{append-nil, take-append-drop, take-append-le, take_all}
+use Rattle.std.proofs.lemmas.Grind.{flat_map-append}
+use Rattle.std.proofs.lemmas.List.{append-nil, take-append-drop, take-append-le, take_all, take_more}
 use Rattle.std.proofs.lemmas.List.Elements.{All-append, All-cons, All-from_recursion, All-head, All-nil, All-tail, All-weaker}
 use Rattle.std.proofs.lemmas.List.Sums.{fold-append}
 use Rattle.omega_cell.specs.Cells.{is_commit}
@@ -24,6 +25,7 @@ use Rattle.omega_model.specs.State.{state, step, tasks_after}
 use Rattle.omega_model.specs.Wanted.{WantedTask}
 use Rattle.omega_model.specs.declared.cells.Task.{Task}
 use Rattle.omega_model.specs.declared.cells.TaskKey.{TaskKey}
+use Rattle.omega_model.specs.declared.claims.Judgement.{Judgement}
 use Rattle.omega_model.specs.declared.entries.Entry.{Entry}
 use Rattle.omega_model.specs.declared.entries.Entry.TheVariants.{Round as RoundEntry, MachineAdd, MachineUpdate, MachineRemove, AttrSet, AttrDelete, End, Commit}
 use Rattle.omega_model.specs.declared.settings.Settings.{Settings}
@@ -48,12 +50,12 @@ pub opens_none : (places : BTreeSet ℕ) (asked : Asked) → OpensJobs places pl
 opens_none places asked = record { stay = λ place there. there; opened = All-nil _ }
 
 -- one is
-pub opens_one : (before after : BTreeSet ℕ) (asked : Asked) (key : TaskKey) → StayOpen before after → IsOpen after asked key.job
+opens_one : (before after : BTreeSet ℕ) (asked : Asked) (key : TaskKey) → StayOpen before after → IsOpen after asked key.job
     → OpensJobs before after asked (key ∷ [])
 opens_one before after asked key stay opened = record { stay = stay; opened = All-cons (λ other. IsOpen after asked other.job) key [] opened (All-nil _) }
 
 -- some are, and then others
-pub opens_more : (before middle after : BTreeSet ℕ) (asked : Asked) (keys more : List TaskKey) → OpensJobs before middle asked keys
+opens_more : (before middle after : BTreeSet ℕ) (asked : Asked) (keys more : List TaskKey) → OpensJobs before middle asked keys
     → OpensJobs middle after asked more → OpensJobs before after asked (keys ++ more)
 opens_more before middle after asked keys more some others = record {
   stay = λ place there. others.stay place (some.stay place there);
@@ -62,6 +64,29 @@ opens_more before middle after asked keys more some others = record {
       (λ key opened place here. others.stay place (opened place here)) keys some.opened)
       others.opened;
 }
+
+-- one more of some keys is
+pub opens_next : (before middle after : BTreeSet ℕ) (asked : Asked) (keys : List TaskKey) (i : ℕ) (key : TaskKey) → i < length keys
+    → OpensJobs before middle asked (take i keys) → StayOpen middle after → IsOpen after asked (get_or keys i key).job
+    → OpensJobs before after asked (take (i + 1) keys)
+opens_next before middle after asked keys i key within some stay opened =
+    subst (OpensJobs before after asked) (sym (take_more keys i key within))
+    (opens_more before middle after asked (take i keys) (get_or keys i key ∷ []) some (opens_one middle after asked (get_or keys i key) stay opened))
+
+-- so are those that one more of some judgements evicted
+pub opens_evicted : (before middle after : BTreeSet ℕ) (asked : Asked) (reply : List Judgement) (i : ℕ) (judgement : Judgement) → i < length reply
+    → OpensJobs before middle asked (flat_map (λ other. other.evicted) (take i reply))
+    → OpensJobs middle after asked (get_or reply i judgement).evicted
+    → OpensJobs before after asked (flat_map (λ other. other.evicted) (take (i + 1) reply))
+opens_evicted before middle after asked reply i judgement within some others =
+    let evicted : List Judgement → List TaskKey = λ js. flat_map (λ (other : Judgement). other.evicted) js in
+    let one : Judgement = get_or reply i judgement in
+    let all : evicted (take (i + 1) reply) ≡ evicted (take i reply) ++ one.evicted =
+    ap evicted (take_more reply i judgement within)
+    ∙ flat_map-append (λ (other : Judgement). other.evicted) (take i reply) (one ∷ [])
+    ∙ ap (λ (ks : List TaskKey). evicted (take i reply) ++ ks) (append-nil one.evicted) in
+    subst (OpensJobs before after asked) (sym all)
+    (opens_more before middle after asked (evicted (take i reply)) one.evicted some others)
 
 -- a task of a job that isn't open is none of those whose jobs are
 not_among : (places : BTreeSet ℕ) (asked : Asked) (keys : List TaskKey) (key : TaskKey) (place : ℕ) → job_at asked.jobs place ≡ Some key.job
@@ -109,12 +134,16 @@ module _ (before after : BTreeSet ℕ) (asked : Asked) where
       quiet_fed history next entry quiet (subst (λ (now : Cell). OpensJobs before after asked (may_stop now.tasks entry)) current opens) fed
 
   -- and after one more of some entries
-  pub quiet_stepped : (cell : Cell) (some : List Entry) (entry : Entry) → OthersAreQuiet before asked (fold step cell some).tasks
-      → OpensJobs before after asked (may_stop (fold step cell some).tasks entry)
-      → OthersAreQuiet after asked (fold step cell (some ++ entry ∷ [])).tasks
-  quiet_stepped cell some entry quiet opens =
-      subst (λ (now : Cell). OthersAreQuiet after asked now.tasks) (sym (fold-append step cell some (entry ∷ [])))
-      (quiet_next (fold step cell some).tasks entry quiet opens)
+  pub quiet_stepped : (cell : Cell) (entries : List Entry) (i : ℕ) (entry : Entry) → i < length entries
+      → OthersAreQuiet before asked (fold step cell (take i entries)).tasks
+      → OpensJobs before after asked (may_stop (fold step cell (take i entries)).tasks (get_or entries i entry))
+      → OthersAreQuiet after asked (fold step cell (take (i + 1) entries)).tasks
+  quiet_stepped cell entries i entry within quiet opens =
+      let one : Entry = get_or entries i entry in
+      let was : Cell = fold step cell (take i entries) in
+      subst (λ (now : Cell). OthersAreQuiet after asked now.tasks)
+      (sym (ap (λ (es : List Entry). fold step cell es) (take_more entries i entry within) ∙ fold-append step cell (take i entries) (one ∷ [])))
+      (quiet_next was.tasks one quiet opens)
 
 -- the state after a beginning of a history, and then the rest of it
 state_split : (n : ℕ) (history : List Entry) → fold step (state (take n history)) (drop n history) ≡ state history
