@@ -3,7 +3,8 @@ pub mod Cutting
 pub mod JobList
 pub mod TaskMap
 pub mod AskedAfter
-pub mod Places
+pub mod Quiet
+pub mod Settling
 pub mod Listing
 pub mod Lasting
 pub mod Picked

@@ -1,7 +1,8 @@
--- The requests of the jobs that have a wanted task are those of all jobs.
+-- The requests of the open jobs are those of all jobs.
 use Rattle.std.proofs.Common.{◌≡◌, ℕ, zero, suc, ◌+◌, ◌<◌, ◌≤◌, Bool, true, false, cond, not, ◌&&◌, ◌||◌, ◌==◌, List, [], ◌∷◌, ◌++◌, Option, Some, None, map, drop, refl, ap, sym, ◌∙◌, inl, inr, arith, add-one}
 use Rattle.std.specs.Prelude.{slice_get, option_and_then, option_map, is_some}
 use Rattle.std.specs.BTreeMap.{is_at}
+use Rattle.std.specs.BTreeSet as set
 use Rattle.std.specs.BTreeSet.{BTreeSet}
 use Rattle.std.specs.List.{AllByRecursion, filter, filter_map, list_any, cons_option}
 use Rattle.std.specs.List.Sorted.{IsStrictlySortedBy}
@@ -9,14 +10,16 @@ use Rattle.std.specs.Ordering.{nat_cmp}
 use Rattle.std.specs.declared.cmp.Ordering.TheVariants.{Less, Equal, Greater}
 use Rattle.std.proofs.lemmas.Map.Keys.{sorted_head, sorted_tail}
 use Rattle.std.proofs.lemmas.Bool.{lt-ltb, le-ltb, eq-eqb, ne_eqb, eqb-true, cases_eq, cases_order, cases_Bool, both_ways, or_cases}
+use Rattle.omega_model.proofs.Lists.{by_answer}
 use Rattle.omega_running.specs.Order.{Each}
-use Rattle.omega_running.proofs.Lists.{each_map, any_none}
-use Rattle.omega_model.specs.Cell.{Cell, task_at}
+use Rattle.omega_running.proofs.Lists.{any_none, each_map, each_of_all, filter_none}
+use Rattle.omega_model.specs.Cell.{Cell}
 use Rattle.omega_model.specs.ExtraTasks.{wanted_of}
-use Rattle.omega_model.specs.Requests.{request_of, is_running, is_waiting}
+use Rattle.omega_model.specs.Requests.{request_of, is_waiting}
 use Rattle.omega_model.specs.Wanted.{WantedTask}
 use Rattle.omega_feed.specs.Asked.{Asked, activities_in, is_task_of, asked_extras, asked_wish, asked_wishes, extras_after, job_request, asked_requests}
-use Rattle.omega_feed.specs.Index.{AreActive, place_request}
+use Rattle.omega_feed.specs.Index.{place_request}
+use Rattle.omega_feed.specs.Open.{IsQuiet, OthersAreQuiet, RunsIfOf}
 use Rattle.omega_feed.specs.declared.jobs.RoutedJob.{RoutedJob}
 
 -- numbers that rise
@@ -126,7 +129,7 @@ each_from_zero : (ps : List ℕ) → Each (λ p. 0 ≤ p) ps
 each_from_zero [] = tt
 each_from_zero (p ∷ ps) = (omega arith, each_from_zero ps)
 
-same_place : (p q : ℕ) → is_at (nat_cmp p) q ≡ (q == p)
+pub same_place : (p q : ℕ) → is_at (nat_cmp p) q ≡ (q == p)
 same_place p q =
     elim (cases_order p q) [
       | inl e ↦ rw (le-ltb p q (omega arith), eq-eqb p q e, eq-eqb q p (sym e)) refl
@@ -138,57 +141,64 @@ has_place : (p : ℕ) (ps : List ℕ) → list_any (is_at (nat_cmp p)) ps ≡ ha
 has_place p [] = refl
 has_place p (q ∷ ps) = ap (λ b. b || list_any (is_at (nat_cmp p)) ps) (same_place p q) ∙ ap (λ b. (q == p) || b) (has_place p ps)
 
--- a job without a wanted task has none that waits
-none_wait : (cell : Cell) (job : ℕ) (tasks : List WantedTask) → list_any (is_task_of job) tasks ≡ false → (filter (is_waiting cell job) tasks ≡ []) × (wanted_of job tasks ≡ [])
-none_wait cell job [] none = (refl, refl)
-none_wait cell job (task ∷ tasks) none = by_cases (task.key.job == job) none (none_wait cell job tasks) where
-  by_cases : (b : Bool) → (b || list_any (is_task_of job) tasks) ≡ false
-      → (list_any (is_task_of job) tasks ≡ false → (filter (is_waiting cell job) tasks ≡ []) × (wanted_of job tasks ≡ []))
-      → (cond (b && not (is_running (task_at cell.tasks task.key))) (task ∷ filter (is_waiting cell job) tasks) (filter (is_waiting cell job) tasks) ≡ [])
-      × (cond b (task ∷ wanted_of job tasks) (wanted_of job tasks) ≡ [])
+-- a job has none wanted, where none is wanted of it
+none_wanted : (job : ℕ) (tasks : List WantedTask) → list_any (is_task_of job) tasks ≡ false → wanted_of job tasks ≡ []
+none_wanted job [] none = refl
+none_wanted job (task ∷ tasks) none = by_cases (task.key.job == job) none (none_wanted job tasks) where
+  by_cases : (b : Bool) → (b || list_any (is_task_of job) tasks) ≡ false → (list_any (is_task_of job) tasks ≡ false → wanted_of job tasks ≡ [])
+      → cond b (task ∷ wanted_of job tasks) (wanted_of job tasks) ≡ []
   by_cases true e later = absurd (cc)
   by_cases false e later = later e
 
--- nor does it get extras
+-- without a wanted task there are no extras
 no_extras : (asked : Asked) (cell : Cell) (job : ℕ) (activities : Option ℕ) → extras_after asked cell job activities [] ≡ []
 no_extras asked cell job None = refl
 no_extras asked cell job (Some activities) = refl
 
--- a job with a request has a wanted task
-requested : (asked : Asked) (cell : Cell) (job : ℕ) → is_some (request_of job (asked_wishes asked cell job)) ≡ true → list_any (is_task_of job) asked.tasks ≡ true
-requested asked cell job some =
-    elim (cases_Bool (list_any (is_task_of job) asked.tasks)) [
+-- a task of a quiet job doesn't wait
+waits_not : (cell : Cell) (job : ℕ) (task : WantedTask) → RunsIfOf job cell.tasks task → is_waiting cell job task ≡ false
+waits_not cell job task runs = by_answer (is_task_of job task) (λ t. rw (t, runs t) refl) (λ f. rw f refl)
+
+-- a quiet job wishes for nothing
+quiet_wishes : (asked : Asked) (cell : Cell) (job : ℕ) → IsQuiet asked cell.tasks job → asked_wishes asked cell job ≡ []
+quiet_wishes asked cell job quiet =
+    let idle : filter (is_waiting cell job) asked.tasks ≡ [] =
+    filter_none (is_waiting cell job) asked.tasks
+    (each_map (RunsIfOf job cell.tasks) (λ task. is_waiting cell job task ≡ false) (waits_not cell job) asked.tasks
+    (each_of_all (RunsIfOf job cell.tasks) asked.tasks quiet.running)) in
+    let none : asked_extras asked cell job ≡ [] = elim quiet.no_extras [
+      | inl e ↦ ap (λ z. extras_after asked cell job z (wanted_of job asked.tasks)) e
+      | inr e ↦
+          ap (extras_after asked cell job (activities_in asked.activities job)) (none_wanted job asked.tasks e)
+          ∙ no_extras asked cell job (activities_in asked.activities job)
+    ] in
+    ap (λ z. map (asked_wish asked.constraints) z ++ asked_extras asked cell job) idle ∙ none
+
+-- each job with a request is open
+covered : (asked : Asked) (cell : Cell) (scheduler : ℕ) (places : BTreeSet ℕ) → OthersAreQuiet places asked cell.tasks
+    → (p : ℕ) → is_some (place_request asked cell scheduler p) ≡ true → has p places.keys ≡ true
+covered asked cell scheduler places quiet p some =
+    elim (cases_Bool (has p places.keys)) [
       | inl e ↦ e
-      | inr none ↦
-          let idle = none_wait cell job asked.tasks none in
-          let nothing : asked_wishes asked cell job ≡ [] =
-          ap (λ z. map (asked_wish asked.constraints) z ++ asked_extras asked cell job) idle.0
-          ∙ ap (extras_after asked cell job (activities_in asked.activities job)) idle.1
-          ∙ no_extras asked cell job (activities_in asked.activities job) in
-          absurd (both_ways _ (ap (λ z. is_some (request_of job z)) nothing) some)
-    ]
+      | inr closed ↦ absurd (by_cases (slice_get asked.jobs p) refl some (has_place p places.keys ∙ closed))
+    ] where
+      at_job : (job : RoutedJob) (b : Bool) → is_some (cond b (job_request asked cell job) None) ≡ true → IsQuiet asked cell.tasks job.job → ⊥
+      at_job job true s q = both_ways _ (ap (λ z. is_some (request_of job.job z)) (quiet_wishes asked cell job.job q)) s
+      at_job job false s q = both_ways _ refl s
 
-covered : (asked : Asked) (cell : Cell) (scheduler : ℕ) (active : BTreeSet ℕ) → AreActive active asked.jobs asked.tasks
-    → (p : ℕ) → is_some (place_request asked cell scheduler p) ≡ true → has p active.keys ≡ true
-covered asked cell scheduler active a p some = by_cases (slice_get asked.jobs p) refl some where
-  at_job : (job : RoutedJob) (b : Bool) → is_some (cond b (job_request asked cell job) None) ≡ true → list_any (is_task_of job.job) asked.tasks ≡ true
-  at_job job true s = requested asked cell job.job s
-  at_job job false s = absurd (cc)
+      by_cases : (o : Option RoutedJob) → slice_get asked.jobs p ≡ o
+          → is_some (option_and_then (λ (job : RoutedJob). cond (job.scheduler == scheduler) (job_request asked cell job) None) o) ≡ true
+          → set.contains nat_cmp places p ≡ false
+          → ⊥
+      by_cases None is s closed = both_ways _ refl s
+      by_cases (Some job) is s closed = at_job job (job.scheduler == scheduler) s (quiet p job.job (ap (option_map (λ (job : RoutedJob). job.job)) is) closed)
 
-  by_cases : (o : Option RoutedJob) → slice_get asked.jobs p ≡ o
-      → is_some (option_and_then (λ (job : RoutedJob). cond (job.scheduler == scheduler) (job_request asked cell job) None) o) ≡ true
-      → has p active.keys ≡ true
-  by_cases None is s = absurd (cc)
-  by_cases (Some job) is s =
-      sym (has_place p active.keys)
-      ∙ a job.job p (ap (option_map (λ (job : RoutedJob). job.job)) is) (at_job job (job.scheduler == scheduler) s)
-
--- the requests at the active places are all requests
-pub picked_requests : (asked : Asked) (cell : Cell) (scheduler : ℕ) (active : BTreeSet ℕ) → AreActive active asked.jobs asked.tasks
-    → IsStrictlySortedBy nat_cmp active.keys
-    → filter_map (place_request asked cell scheduler) active.keys ≡ asked_requests asked cell scheduler
-picked_requests asked cell scheduler active a sorted =
-    picked (λ job. cond (job.scheduler == scheduler) (job_request asked cell job) None) asked.jobs asked.jobs 0 active.keys refl
-    (up_from active.keys sorted) (each_from_zero active.keys)
-    (λ p h s. covered asked cell scheduler active a p s)
+-- the requests at the open places are all requests
+pub picked_requests : (asked : Asked) (cell : Cell) (scheduler : ℕ) (places : BTreeSet ℕ) → OthersAreQuiet places asked cell.tasks
+    → IsStrictlySortedBy nat_cmp places.keys
+    → filter_map (place_request asked cell scheduler) places.keys ≡ asked_requests asked cell scheduler
+picked_requests asked cell scheduler places quiet sorted =
+    picked (λ job. cond (job.scheduler == scheduler) (job_request asked cell job) None) asked.jobs asked.jobs 0 places.keys refl
+    (up_from places.keys sorted) (each_from_zero places.keys)
+    (λ p h s. covered asked cell scheduler places quiet p s)
     ∙ filter_map_chosen (λ job. job.scheduler == scheduler) (job_request asked cell) asked.jobs

@@ -1,20 +1,18 @@
 -- How what is asked for is kept so that it is found.
-use Rattle.std.specs.Prelude.{◌≡◌, ℕ, true, List, Option, Some, None, slice_get, option_map, option_and_then, ◌==◌, if◌then◌else◌, ◌↔◌, ◌<◌, not}
+use Rattle.std.specs.Prelude.{◌≡◌, ℕ, List, Option, Some, None, slice_get, option_map, option_and_then, ◌==◌, if◌then◌else◌, ◌↔◌, ◌<◌, not}
 use Rattle.std.specs.BTreeMap as tree
-use Rattle.std.specs.BTreeSet as set
 use Rattle.std.specs.BTreeMap.{BTreeMap}
-use Rattle.std.specs.BTreeSet.{BTreeSet}
-use Rattle.std.specs.List.{All, filter, list_any}
+use Rattle.std.specs.List.{All, filter}
 use Rattle.std.specs.Ordering.{nat_cmp, ordering_then}
 use Rattle.std.specs.declared.cmp.Ordering.{Ordering}
-use Rattle.omega_model.specs.ExtraTasks.{first_extra, HasLowIndex}
+use Rattle.omega_model.specs.ExtraTasks.{first_extra}
 use Rattle.omega_model.specs.Fields.{TaskFields}
 use Rattle.omega_model.specs.Wanted.{WantedTask, with_wanted, is_named}
 use Rattle.omega_model.specs.declared.cells.Spec.{Spec}
 use Rattle.omega_model.specs.declared.cells.TaskKey.{TaskKey}
 use Rattle.omega_model.specs.Cell.{Cell}
 use Rattle.omega_model.specs.declared.wishes.Request.{Request}
-use Rattle.omega_feed.specs.Asked.{Asked, is_task_of, job_request}
+use Rattle.omega_feed.specs.Asked.{Asked, job_request}
 use Rattle.omega_feed.specs.declared.jobs.RoutedJob.{RoutedJob}
 use Rattle.omega_feed.specs.declared.tasks.Change.{Change}
 use Rattle.omega_feed.specs.declared.tasks.Change.TheVariants.{Want, End, Keep}
@@ -45,15 +43,6 @@ job_at jobs place = option_map (λ job. job.job) (slice_get jobs place)
 -- the map gives for each job the place at which it stands, which is the only one
 abbrev pub AreFound : BTreeMap ℕ ℕ → List RoutedJob → Type 0
 AreFound places jobs = (job place : ℕ) → (tree.get nat_cmp places job ≡ Some place) ↔ (job_at jobs place ≡ Some job)
-
--- the place of each job that has a wanted task is among these
-abbrev pub AreActive : BTreeSet ℕ → List RoutedJob → List WantedTask → Type 0
-AreActive places jobs tasks = (job place : ℕ) → job_at jobs place ≡ Some job → list_any (is_task_of job) tasks ≡ true → set.contains nat_cmp places place ≡ true
-
--- what is kept of the wanted tasks: the places of their jobs, and that none is an extra
-pub record AreWanted (places : BTreeSet ℕ) (jobs : List RoutedJob) (tasks : List WantedTask) : Type 0 where
-  pub active : AreActive places jobs tasks
-  pub low : All HasLowIndex tasks
 
 -- the request of the job at a place, if it stands there and is this scheduler's
 abbrev pub place_request : Asked → Cell → ℕ → ℕ → Option Request

@@ -6,14 +6,19 @@ use Rattle.std.specs.List.{list_any}
 use Rattle.std.specs.Ordering.{nat_cmp}
 use Rattle.omega_model.specs.Cell.{task_at}
 use Rattle.omega_model.specs.Requests.{is_running}
+use Rattle.omega_model.specs.Wanted.{WantedTask}
 use Rattle.omega_model.specs.declared.cells.Task.{Task}
 use Rattle.omega_feed.specs.Asked.{Asked, activities_in, is_task_of}
 use Rattle.omega_feed.specs.Index.{job_at}
 
+-- if a wanted task is of this job, it is among the running ones
+abbrev pub RunsIfOf : ℕ → List Task → WantedTask → Type 0
+RunsIfOf job tasks task = is_task_of job task ≡ true → is_running (task_at tasks task.key) ≡ true
+
 -- nothing of a job waits: each of its wanted tasks runs, and it gets no extras, since it has no
 -- activities or no task of it is wanted
 pub record IsQuiet (asked : Asked) (tasks : List Task) (job : ℕ) : Type 0 where
-  pub running : All (λ task. is_task_of job task ≡ true → is_running (task_at tasks task.key) ≡ true) asked.tasks
+  pub running : All (RunsIfOf job tasks) asked.tasks
   pub no_extras : (activities_in asked.activities job ≡ None) ⊎ (list_any (is_task_of job) asked.tasks ≡ false)
 
 -- if a job stands at a place, it is quiet
@@ -22,12 +27,12 @@ IsQuietAt asked tasks place = (job : ℕ) → job_at asked.jobs place ≡ Some j
 
 -- each job at a place that isn't open is quiet
 abbrev pub OthersAreQuiet : BTreeSet ℕ → Asked → List Task → Type 0
-OthersAreQuiet open_places asked tasks = (place job : ℕ) → job_at asked.jobs place ≡ Some job
-    → set.contains nat_cmp open_places place ≡ false → IsQuiet asked tasks job
+OthersAreQuiet places asked tasks = (place job : ℕ) → job_at asked.jobs place ≡ Some job
+    → set.contains nat_cmp places place ≡ false → IsQuiet asked tasks job
 
 -- the place of a job is open, if it stands at one
 abbrev pub IsOpen : BTreeSet ℕ → Asked → ℕ → Type 0
-IsOpen open_places asked job = (place : ℕ) → job_at asked.jobs place ≡ Some job → set.contains nat_cmp open_places place ≡ true
+IsOpen places asked job = (place : ℕ) → job_at asked.jobs place ≡ Some job → set.contains nat_cmp places place ≡ true
 
 -- what was open is open
 abbrev pub StayOpen : BTreeSet ℕ → BTreeSet ℕ → Type 0

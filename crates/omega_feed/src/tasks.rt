@@ -1,14 +1,13 @@
 //! The wanted tasks.
-ghost use Rattle.std.specs.Prelude.{◌≡◌, [], true, All, List, not, map, ◌<◌, IfOk, IsTrue, OnOk, OnErr};
+ghost use Rattle.std.specs.Prelude.{◌≡◌, [], All, List, not, map, ◌<◌, IfOk, IsTrue, OnOk, OnErr};
 ghost use Rattle.std.specs.List.{filter, list_any};
-ghost use Rattle.omega_model.specs.Cell.{task_at};
 ghost use Rattle.omega_model.specs.ExtraTasks.{HasLowIndex, first_extra, is_wanted, wanted_of};
 ghost use Rattle.omega_model.specs.ReportCounts.{waits};
-ghost use Rattle.omega_model.specs.Requests.{is_running};
 ghost use Rattle.omega_model.specs.Wanted.{wanted_after, wanted_after_task, with_wanted, is_named};
 ghost use Rattle.omega_model.specs.declared.cells.Machine.{Machine};
 ghost use Rattle.omega_feed.specs.Asked.{is_task_of};
 ghost use Rattle.omega_feed.specs.Index.{changed_by, wanted_task};
+ghost use Rattle.omega_feed.specs.Open.{RunsIfOf};
 
 use omega_model::{NoMemory, Row, Spec, TaskKey, TaskRow};
 use omega_running::Running;
@@ -154,8 +153,7 @@ impl WantedTasks {
     /// Whether each wanted task of a job runs. Costs the wanted tasks of the job up to the first that
     /// doesn't run, each times the logarithm of the number of those that run.
     pub fn all_run(&self, job: u64, running: &Running) -> bool
-        ensures { IsTrue result → All (λ task. is_task_of job task ≡ true
-            → is_running (task_at running.now.tasks task.key) ≡ true) self.now }
+        ensures { IsTrue result → All (RunsIfOf job running.now.tasks) self.now }
     {
         let (first, last) = keys_of(job);
         for (key, _spec) in self.specs.range(first..=last) {

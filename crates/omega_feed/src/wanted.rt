@@ -17,7 +17,7 @@ ghost use Rattle.omega_model.specs.declared.settings.Settings.{Settings};
 ghost use Rattle.omega_board.specs.Board.{cell_of};
 ghost use Rattle.omega_feed.specs.Asked.{activities_in, asked_after, asked_extra, asked_requests, asked_wish, asked_wishes, extras_after, is_task_of};
 ghost use Rattle.omega_feed.specs.Index.{job_at, place_request, wanted_task};
-ghost use Rattle.omega_feed.specs.Open.{IsOpen, IsQuietAt, OthersAreQuiet, StayOpen};
+ghost use Rattle.omega_feed.specs.Open.{IsQuietAt, OthersAreQuiet, StayOpen};
 
 use crate::activities::JobActivities;
 use crate::constraints::TaskConstraints;
@@ -120,11 +120,13 @@ impl Wanted {
         requires { key.index < first_extra }
         ensures ok { OnOk result (self.new ≡ record self.old { tasks = with_wanted key spec self.old.tasks }) }
         ensures err { OnErr result (self.new ≡ self.old) }
-        ensures opened { OnOk result (IsOpen open_jobs.new self.old key.job) }
+        ensures quiet { (tasks : List Task) → OthersAreQuiet open_jobs.old self.old tasks
+            → OnOk result (OthersAreQuiet open_jobs.new self.new tasks) }
         ensures stay { StayOpen open_jobs.old open_jobs.new }
     {
         open_jobs.reopen(self, key.job)?;
-        self.tasks.insert(key, spec)
+        self.tasks.insert(key, spec)?;
+        Ok(())
     }
 
     /// The place of a job among all jobs of the trace: the only one at which it stands, `None` exactly

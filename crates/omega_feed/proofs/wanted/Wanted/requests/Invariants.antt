@@ -2,7 +2,7 @@ use Rattle.std.proofs.Common.{◌≡◌, ◌++◌}
 use Rattle.std.specs.List.{filter_map}
 use Rattle.omega_board.specs.Board.{cell_of}
 use Rattle.omega_feed.specs.Index.{place_request}
-use Rattle.omega_feed.proofs.wanted.Wanted.requests_on.Given as goal
+use Rattle.omega_feed.proofs.wanted.Wanted.requests.Given as goal
 
 abbrev pub invariant-loop-place : goal.invariant-loop-place
 invariant-loop-place l =
