@@ -74,15 +74,14 @@ opens_next before middle after asked keys i key within some stay opened =
     (opens_more before middle after asked (take i keys) (get_or keys i key ∷ []) some (opens_one middle after asked (get_or keys i key) stay opened))
 
 -- so are those that one more of some judgements evicted
-pub opens_evicted : (before middle after : BTreeSet ℕ) (asked : Asked) (reply : List Judgement) (i : ℕ) (judgement : Judgement) → i < length reply
+pub opens_evicted : (before middle after : BTreeSet ℕ) (asked : Asked) (reply : List Judgement) (i : ℕ) (one : Judgement) → one ≡ get_or reply i one → i < length reply
     → OpensJobs before middle asked (flat_map (λ other. other.evicted) (take i reply))
-    → OpensJobs middle after asked (get_or reply i judgement).evicted
+    → OpensJobs middle after asked one.evicted
     → OpensJobs before after asked (flat_map (λ other. other.evicted) (take (i + 1) reply))
-opens_evicted before middle after asked reply i judgement within some others =
+opens_evicted before middle after asked reply i one is within some others =
     let evicted : List Judgement → List TaskKey = λ js. flat_map (λ (other : Judgement). other.evicted) js in
-    let one : Judgement = get_or reply i judgement in
     let all : evicted (take (i + 1) reply) ≡ evicted (take i reply) ++ one.evicted =
-    ap evicted (take_more reply i judgement within)
+    ap evicted (take_more reply i one within ∙ ap (λ (j : Judgement). take i reply ++ j ∷ []) (sym is))
     ∙ flat_map-append (λ (other : Judgement). other.evicted) (take i reply) (one ∷ [])
     ∙ ap (λ (ks : List TaskKey). evicted (take i reply) ++ ks) (append-nil one.evicted) in
     subst (OpensJobs before after asked) (sym all)
@@ -134,15 +133,14 @@ module _ (before after : BTreeSet ℕ) (asked : Asked) where
       quiet_fed history next entry quiet (subst (λ (now : Cell). OpensJobs before after asked (may_stop now.tasks entry)) current opens) fed
 
   -- and after one more of some entries
-  pub quiet_stepped : (cell : Cell) (entries : List Entry) (i : ℕ) (entry : Entry) → i < length entries
+  pub quiet_stepped : (cell : Cell) (entries : List Entry) (i : ℕ) (one : Entry) → one ≡ get_or entries i one → i < length entries
       → OthersAreQuiet before asked (fold step cell (take i entries)).tasks
-      → OpensJobs before after asked (may_stop (fold step cell (take i entries)).tasks (get_or entries i entry))
+      → OpensJobs before after asked (may_stop (fold step cell (take i entries)).tasks one)
       → OthersAreQuiet after asked (fold step cell (take (i + 1) entries)).tasks
-  quiet_stepped cell entries i entry within quiet opens =
-      let one : Entry = get_or entries i entry in
+  quiet_stepped cell entries i one is within quiet opens =
       let was : Cell = fold step cell (take i entries) in
       subst (λ (now : Cell). OthersAreQuiet after asked now.tasks)
-      (sym (ap (λ (es : List Entry). fold step cell es) (take_more entries i entry within) ∙ fold-append step cell (take i entries) (one ∷ [])))
+      (sym (ap (λ (es : List Entry). fold step cell es) (take_more entries i one within ∙ ap (λ (e : Entry). take i entries ++ e ∷ []) (sym is)) ∙ fold-append step cell (take i entries) (one ∷ [])))
       (quiet_next was.tasks one quiet opens)
 
 -- the state after a beginning of a history, and then the rest of it

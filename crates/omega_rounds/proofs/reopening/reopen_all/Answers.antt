@@ -11,7 +11,7 @@ loop-entry-init c = λ before quiet. quiet
 
 pub loop-entry-preserved : goal.loop-entry-preserved
 loop-entry-preserved c = λ before quiet.
-    quiet_stepped c.loop-entry.open_jobs c.reopen_evicted.new.open_jobs c.args.wanted.now before c.args.entries.now c.loop-entry.entry-index _ c.loop-entry-test.true
+    quiet_stepped c.loop-entry.open_jobs c.reopen_evicted.new.open_jobs c.args.wanted.now before c.args.entries.now c.loop-entry.entry-index c.entry-item.result c.entry-item.is c.loop-entry-test.true
     (c.loop-entry.invariant before quiet) (c.in_ok-reopen_evicted.ensures (fold step before (take c.loop-entry.entry-index c.args.entries.now)).tasks)
 
 pub returns : goal.returns

@@ -11,7 +11,8 @@ loop-judgement-init c = opens_none c.args.open_jobs.now c.args.wanted.now
 pub loop-judgement-preserved : goal.loop-judgement-preserved
 loop-judgement-preserved c =
     opens_evicted c.args.open_jobs.now c.loop-judgement.open_jobs c.reopen_jobs.new.open_jobs c.args.wanted.now c.args.reply.now
-    c.loop-judgement.judgement-index _ c.loop-judgement-test.true c.loop-judgement.invariant c.in_ok-reopen_jobs.ensures
+    c.loop-judgement.judgement-index c.judgement-item.result c.judgement-item.is c.loop-judgement-test.true c.loop-judgement.invariant
+    (subst (OpensJobs c.loop-judgement.open_jobs c.reopen_jobs.new.open_jobs c.args.wanted.now) c.as_slice.ensures c.in_ok-reopen_jobs.ensures)
 
 pub returns : goal.returns
 returns c =
