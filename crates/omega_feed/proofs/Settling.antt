@@ -1,5 +1,5 @@
 -- Open places that are looked at one after the other: those whose job is quiet go.
-use Rattle.std.proofs.Common.{◌≡◌, ℕ, Bool, true, cond, ◌||◌, List, [], ◌∷◌, refl, ap, sym, subst, ◌∙◌, ◌⊎◌, inl, inr}
+use Rattle.std.proofs.Common.{◌≡◌, ℕ, Bool, true, false, cond, ◌||◌, List, [], ◌∷◌, refl, ap, sym, subst, ◌∙◌, ◌⊎◌, inl, inr}
 use Rattle.std.specs.BTreeMap.{is_at}
 use Rattle.std.specs.BTreeSet as set
 use Rattle.std.specs.BTreeSet.{BTreeSet}
@@ -26,9 +26,9 @@ one_place p q at = eqb-true _ _ (sym (same_place p q) ∙ at)
 turned : (p q : ℕ) → is_at (nat_cmp p) q ≡ true → is_at (nat_cmp q) p ≡ true
 turned p q at = at_place q p (one_place p q at)
 
-either : (b c : Bool) → c ≡ true → cond b true c ≡ true
-either true c e = refl
-either false c e = e
+kept : (b c : Bool) → c ≡ true → cond b true c ≡ true
+kept true c e = refl
+kept false c e = e
 
 -- before the first place
 pub settled_none : (asked : Asked) (tasks : List Task) (all : List ℕ) (left : BTreeSet ℕ) → left.keys ≡ [] → AreSettled asked tasks all all left
@@ -47,7 +47,7 @@ module _ (asked : Asked) (tasks : List Task) (all : List ℕ) (q : ℕ) (rest : 
         | inl at ↦ inr (inl (u.0 p ∙ ap (λ b. cond b true (set.contains nat_cmp left p)) (turned p q at)))
         | inr later ↦ inl later
       ]
-      | inr (inl stays) ↦ inr (inl (u.0 p ∙ either (is_at (nat_cmp q) p) _ stays))
+      | inr (inl stays) ↦ inr (inl (u.0 p ∙ kept (is_at (nat_cmp q) p) _ stays))
       | inr (inr quiet) ↦ inr (inr quiet)
     ];
     fewer = λ p e.
@@ -65,7 +65,7 @@ module _ (asked : Asked) (tasks : List Task) (all : List ℕ) (q : ℕ) (rest : 
         | inl at ↦ inr (inr (subst (IsQuietAt asked tasks) (one_place p q at) quiet))
         | inr later ↦ inl later
       ]
-      | inr either ↦ inr either
+      | inr other ↦ inr other
     ];
     fewer = s.fewer;
     within = λ p e. s.within p (or_right (is_at (nat_cmp p) q) _ e);

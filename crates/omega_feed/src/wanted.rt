@@ -1,5 +1,5 @@
 //! What a trace asks for, row by row.
-ghost use Rattle.std.specs.Prelude.{◌≡◌, ◌<◌, ◌++◌, ◌∷◌, ◌↔◌, ◌⊎◌, ℕ, false, [], Some, None, All, List, map, IfOk, IsTrue, OnOk, OnErr};
+ghost use Rattle.std.specs.Prelude.{◌≡◌, ◌<◌, ◌++◌, ◌∷◌, ◌↔◌, ◌⊎◌, ℕ, false, [], Some, None, All, List, map, not, IfOk, IsTrue, OnOk, OnErr};
 ghost use Rattle.std.specs.List.{filter, list_any};
 ghost use Rattle.omega_model.specs.Applying.{CapacityIsInRange};
 ghost use Rattle.omega_model.specs.OpenRequests.{open_requests};

@@ -1,24 +1,16 @@
-use Rattle.std.proofs.Common.{◌≡◌, ℕ, Some, None}
-use Rattle.omega_feed.proofs.Places.{active_with, active_unknown}
+use Rattle.std.proofs.Common.{List, sym, subst}
+use Rattle.omega_model.specs.Wanted.{WantedTask}
+use Rattle.omega_feed.specs.Asked.{Asked}
+use Rattle.omega_feed.specs.Open.{IsOpen, OthersAreQuiet}
+use Rattle.omega_feed.proofs.Quiet.{others_with}
 use Rattle.omega_feed.proofs.wanted.Wanted.want.Goals as goal
-use Rattle.omega_feed.proofs.wanted.Wanted.want.Goals.{in-Some+in_ok-insert, in_default}
 
-nothing : (place : ℕ) → None ≡ Some place → ⊥
-nothing place e = cc
-
-pub invariant_of-self-2 : goal.invariant_of-self-2
-invariant_of-self-2 c =
-    let was = c.self.inside in
-    record {
-      active = elim c.match-place.branch [
-        | in-Some+in_ok-insert w ↦
-            rw (c.in_ok-insert-2.ensures.ok, w.self-inside-is)
-            (active_with was.active w.insert.new.self w.in-Some.place was.jobs was.tasks c.args.key c.args.spec
-            (λ place h. (w.in-Some.ensures place).1 h) w.in_ok-insert.ensures.updates c.self.invariant.active)
-        | in_default w ↦
-            rw (c.in_ok-insert-2.ensures.ok, w.self-inside-is)
-            (active_unknown was.active was.jobs was.tasks c.args.key c.args.spec
-            (λ place h. nothing place ((w.in_default.ensures place).1 h)) c.self.invariant.active)
-      ];
-      low = c.check_low.ensures;
-    }
+pub returns-clause-quiet : goal.returns-clause-quiet
+returns-clause-quiet c tasks quiet =
+    let kept = c.self.inside in
+    let was : Asked = record { jobs = kept.jobs; constraints = kept.constraints; disks = kept.disks; activities = kept.activities; extra = kept.extra; tasks = kept.tasks } in
+    let after = c.reopen.new.self in
+    let opened : IsOpen after was c.args.key.job = subst (λ (asked : Asked). IsOpen after asked c.args.key.job) (sym c.self.view_is) c.in_ok-reopen.ensures.ok in
+    let others : OthersAreQuiet c.args.open_jobs.now was tasks = subst (λ (asked : Asked). OthersAreQuiet c.args.open_jobs.now asked tasks) (sym c.self.view_is) quiet in
+    subst (λ (left : List WantedTask). OthersAreQuiet after (record was { tasks = left }) tasks) (sym c.in_ok-insert.ensures.ok)
+    (others_with c.args.open_jobs.now after was tasks c.args.key c.args.spec c.reopen.ensures.stay opened others)
