@@ -3,7 +3,7 @@ use Rattle.std.proofs.Common.{◌≡◌, ◌≤◌, ◌<◌, ◌+◌, ℕ, zero,
 use Rattle.std.specs.Prelude.{slice_get}
 use Rattle.std.specs.BTreeSet as set
 use Rattle.std.specs.BTreeSet.{BTreeSet}
-use Rattle.std.specs.List.{All, flat_map, fold, list_any, AllByRecursion as Each}
+use Rattle.std.specs.List.{All, flat_map, fold, AllByRecursion as Each}
 use Rattle.std.specs.Ordering.{nat_cmp}
 use Rattle.std.proofs.lemmas.Bool.{both_ways, eqb-true, or_from}
 use Rattle.std.proofs.lemmas.Grind.{flat_map-append}
@@ -11,9 +11,10 @@ use Rattle.std.proofs.lemmas.List.{append-nil, take-append-drop, take-append-le,
 use Rattle.std.proofs.lemmas.List.Elements.{All-append, All-cons, All-from_recursion, All-head, All-nil, All-tail, All-weaker}
 use Rattle.std.proofs.lemmas.List.Sums.{fold-append}
 use Rattle.omega_cell.specs.Cells.{is_commit}
-use Rattle.omega_feed.specs.Asked.{Asked, is_task_of}
+use Rattle.omega_feed.specs.Asked.{Asked}
 use Rattle.omega_feed.specs.Index.{job_at}
-use Rattle.omega_feed.specs.Open.{IsOpen, IsQuiet, OthersAreQuiet, StayOpen}
+use Rattle.omega_feed.specs.Open.{IsOpen, IsQuiet, OthersAreQuiet, RunsIfOf, StayOpen}
+use Rattle.omega_feed.proofs.Quiet.{still_quiet}
 use Rattle.omega_lock.specs.Lists.{StartsWith}
 use Rattle.omega_model.proofs.Growing.{state_push}
 use Rattle.omega_model.proofs.InOrder.{key_same}
@@ -36,14 +37,8 @@ use Rattle.omega_rounds.specs.Stages.{Stage}
 use Rattle.omega_rounds.specs.declared.seat.Seat.{Seat}
 use Rattle.omega_rounds.specs.declared.steps.Stepped.{Stepped}
 use Rattle.omega_rounds.specs.declared.steps.Stepped.TheVariants.{Synced, Committed, Idle}
-use Rattle.omega_rounds.proofs.RunOn.{Runs, runs_after}
+use Rattle.omega_rounds.proofs.RunOn.{runs_after}
 use Rattle.omega_rounds.proofs.Worlds.{rows_within}
-
--- what isn't open then wasn't before
-closed_before : (before after : BTreeSet ℕ) (place : ℕ) → StayOpen before after → set.contains nat_cmp after place ≡ false
-    → set.contains nat_cmp before place ≡ false
-closed_before before after place stay closed =
-    by_answer (set.contains nat_cmp before place) (λ t. absurd (both_ways _ closed (stay place t))) (λ f. f)
 
 -- no job is opened
 pub opens_none : (places : BTreeSet ℕ) (asked : Asked) → OpensJobs places places asked []
@@ -105,10 +100,9 @@ module _ (before after : BTreeSet ℕ) (asked : Asked) where
   pub quiet_next : (tasks : List Task) (entry : Entry) → OthersAreQuiet before asked tasks → OpensJobs before after asked (may_stop tasks entry)
       → OthersAreQuiet after asked (tasks_after tasks entry)
   quiet_next tasks entry quiet opens place job here closed =
-      let is : IsQuiet asked tasks job = quiet place job here (closed_before before after place opens.stay closed) in
+      let is : IsQuiet asked tasks job = still_quiet before after asked tasks opens.stay quiet place job here closed in
       record {
-        running = All-weaker (λ (task : WantedTask). is_task_of job task ≡ true → Runs tasks task.key)
-            (λ (task : WantedTask). is_task_of job task ≡ true → Runs (tasks_after tasks entry) task.key)
+        running = All-weaker (RunsIfOf job tasks) (RunsIfOf job (tasks_after tasks entry))
             (λ task runs own.
             let named : job_at asked.jobs place ≡ Some task.key.job = here ∙ ap Some (sym (eqb-true task.key.job job own)) in
             runs_after tasks entry task.key (not_among after asked (may_stop tasks entry) task.key place named closed opens.opened) (runs own))
@@ -231,12 +225,3 @@ pub since_place : (places : BTreeSet ℕ) (asked : Asked) (n : ℕ) (history res
     → OthersAreQuiet places asked (state history).tasks
 since_place places asked n history rest same quiet =
     subst (λ (cell : Cell). OthersAreQuiet places asked cell.tasks) (ap (λ (es : List Entry). fold step (state (take n history)) es) same ∙ state_split n history) quiet
-
--- where no task is wanted all jobs are quiet
-pub none_wanted : (places : BTreeSet ℕ) (asked : Asked) (tasks : List Task) → asked.tasks ≡ [] → OthersAreQuiet places asked tasks
-none_wanted places asked tasks none place job here closed =
-    let P : WantedTask → Type 0 = λ task. is_task_of job task ≡ true → Runs tasks task.key in
-    record {
-      running = subst (All P) (sym none) (All-nil P);
-      no_extras = inr (ap (list_any (is_task_of job)) none);
-    }

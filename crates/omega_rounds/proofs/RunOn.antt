@@ -23,7 +23,7 @@ use Rattle.omega_board.proofs.Tasks.{find_filtered, found_new, found_still}
 use Rattle.omega_rounds.specs.Reopening.{may_stop}
 
 -- the task of this name runs
-abbrev pub Runs : List Task → TaskKey → Type 0
+abbrev Runs : List Task → TaskKey → Type 0
 Runs tasks key = is_running (task_at tasks key) ≡ true
 
 -- a task that runs does so where others stand behind
