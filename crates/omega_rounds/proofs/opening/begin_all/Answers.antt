@@ -9,8 +9,8 @@ use Rattle.omega_rounds.proofs.opening.begin_all.Goals as goal
 pub loop-i-init : goal.loop-i-init
 loop-i-init c = begun_none c.args.wanted.now c.args.cell.now.history c.args.seats.now.items
 
-pub requests-requires : goal.requests-requires
-requests-requires c =
+pub requests-requires-clause-quiet : goal.requests-requires-clause-quiet
+requests-requires-clause-quiet c =
     subst (λ (cell : Cell). OthersAreQuiet c.args.open_jobs.now c.args.wanted.now cell.tasks) (sym c.board.ensures.current) c.requires.quiet
 
 pub begin-requires-clause-no_work : goal.begin-requires-clause-no_work

@@ -17,11 +17,11 @@ loop-row-init c = (
   subst (λ (h : List Entry). AreApplied c.args.wanted.now c.args.wanted.now (c.args.cell.now.history ++ Round c.args.round.now.number ∷ []) h [])
       (sym c.in_ok-feed.ensures) (applied_none c.args.wanted.now (c.args.cell.now.history ++ Round c.args.round.now.number ∷ [])),
   quiet_fed c.args.open_jobs.now c.args.open_jobs.now c.args.wanted.now c.args.cell.now.history c.feed.new.cell.history (Round c.args.round.now.number)
-      c.requires (opens_none c.args.open_jobs.now c.args.wanted.now) c.in_ok-feed.ensures,
+      c.requires.quiet (opens_none c.args.open_jobs.now c.args.wanted.now) c.in_ok-feed.ensures,
 )
 
-pub apply_row-requires : goal.apply_row-requires
-apply_row-requires c = c.in_ok-take.ensures.quiet _ c.loop-row.invariant.1
+pub apply_row-requires-clause-quiet : goal.apply_row-requires-clause-quiet
+apply_row-requires-clause-quiet c = c.in_ok-take.ensures.quiet _ c.loop-row.invariant.1
 
 pub loop-row-preserved : goal.loop-row-preserved
 loop-row-preserved c =
