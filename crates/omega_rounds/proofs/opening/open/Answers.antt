@@ -20,8 +20,8 @@ loop-row-init c = (
       c.requires.quiet (opens_none c.args.open_jobs.now c.args.wanted.now) c.in_ok-feed.ensures,
 )
 
-pub apply_row-requires-clause-quiet : goal.apply_row-requires-clause-quiet
-apply_row-requires-clause-quiet c = c.in_ok-take.ensures.quiet _ c.loop-row.invariant.1
+pub apply_row-requires : goal.apply_row-requires
+apply_row-requires c = record { quiet = c.in_ok-take.ensures.quiet _ c.loop-row.invariant.1 }
 
 pub loop-row-preserved : goal.loop-row-preserved
 loop-row-preserved c =
