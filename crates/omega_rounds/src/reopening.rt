@@ -33,11 +33,7 @@ pub(crate) fn reopen_since(
 }
 
 // Opens the jobs of the tasks that commits evicted.
-fn reopen_all(
-    open_jobs: &mut OpenJobs,
-    wanted: &Wanted,
-    entries: &[Entry],
-) -> Result<(), NoMemory>
+fn reopen_all(open_jobs: &mut OpenJobs, wanted: &Wanted, entries: &[Entry]) -> Result<(), NoMemory>
     requires { All (λ entry. is_commit entry ≡ true) entries.now }
     ensures { (before : CellBefore) → OthersAreQuiet open_jobs.old wanted.now before.tasks
         → OnOk result (OthersAreQuiet open_jobs.new wanted.now (fold step before entries.now).tasks) }
@@ -49,11 +45,7 @@ fn reopen_all(
 }
 
 // Opens the jobs of the tasks that a commit evicted.
-fn reopen_evicted(
-    open_jobs: &mut OpenJobs,
-    wanted: &Wanted,
-    entry: &Entry,
-) -> Result<(), NoMemory>
+fn reopen_evicted(open_jobs: &mut OpenJobs, wanted: &Wanted, entry: &Entry) -> Result<(), NoMemory>
     requires { is_commit entry.now ≡ true }
     ensures { (tasks : List Task) → OnOk result (OpensJobs open_jobs.old open_jobs.new wanted.now (may_stop tasks entry.now)) }
 {
@@ -78,11 +70,7 @@ fn reopen_judged(
 }
 
 // Opens the jobs of these tasks.
-fn reopen_jobs(
-    open_jobs: &mut OpenJobs,
-    wanted: &Wanted,
-    keys: &[TaskKey],
-) -> Result<(), NoMemory>
+fn reopen_jobs(open_jobs: &mut OpenJobs, wanted: &Wanted, keys: &[TaskKey]) -> Result<(), NoMemory>
     ensures { OnOk result (OpensJobs open_jobs.old open_jobs.new wanted.now keys.now) }
 {
     for key in keys {

@@ -29,10 +29,11 @@ loop-row-preserved c =
     let items = c.as_slice-row-items.result.now in
     let row = c.row-item.result in
     let more : take (i + 1) items ≡ take i items ++ row ∷ [] =
-    take_more items i row c.loop-row-test.true ∙ ap (λ r. take i items ++ r ∷ []) (sym c.row-item.is) in
-    (rw more (applied_more c.args.wanted.now c.loop-row.wanted c.take.new.self (c.args.cell.now.history ++ Round c.args.round.now.number ∷ [])
-    c.loop-row.cell.history c.apply_row.new.cell.history (take i items) row c.loop-row.invariant.0 c.in_ok-take.ensures.ok c.in_ok-apply_row.ensures.history),
-    c.in_ok-apply_row.ensures.quiet)
+    take_more items i row c.loop-row-test.true ∙ ap (λ r. take i items ++ r ∷ []) (sym c.row-item.is) in (
+      rw more (applied_more c.args.wanted.now c.loop-row.wanted c.take.new.self (c.args.cell.now.history ++ Round c.args.round.now.number ∷ [])
+          c.loop-row.cell.history c.apply_row.new.cell.history (take i items) row c.loop-row.invariant.0 c.in_ok-take.ensures.ok c.in_ok-apply_row.ensures.history),
+      c.in_ok-apply_row.ensures.quiet,
+    )
 
 pub returns-clause-history : goal.returns-clause-history
 returns-clause-history c trace rows disks tasks =
