@@ -1,5 +1,6 @@
-ghost use Rattle.std.specs.Prelude.{◌≡◌, ◌<◌};
+ghost use Rattle.std.specs.Prelude.{◌<◌};
 ghost use Rattle.omega_model.specs.Ranges.{IsInRange};
+ghost use Rattle.omega_feed.specs.Open.{OthersAreQuiet};
 
 use crate::{OpenJobs, Wanted, feed, rounds};
 use omega_board::Board;
@@ -192,7 +193,7 @@ impl Asking {
         Ok(Asking { wanted, open_jobs })
     }
 
-    // The requests of a scheduler on a board, each as its job and its wishes.
+    // The requests of a scheduler on a board.
     fn tell(
         &self,
         alloc: Global,
@@ -200,16 +201,56 @@ impl Asking {
         scheduler: u32,
         board: &Board,
     ) -> Result<(), NoMemory> {
-        let requests = self
-            .wanted
-            .requests(alloc, scheduler, board, &self.open_jobs)?;
-        tell_requests(told, requests.as_slice())
+        tell_open(alloc, told, &self.wanted, &self.open_jobs, scheduler, board)
+    }
+
+    // The same once the quiet jobs are closed.
+    fn tell_settled(
+        self,
+        alloc: Global,
+        told: &mut Vec<u64>,
+        scheduler: u32,
+        board: &Board,
+    ) -> Result<(), NoMemory> {
+        let Asking {
+            wanted,
+            mut open_jobs,
+        } = self;
+        open_jobs.settle(alloc, &wanted, board)?;
+        tell_open(alloc, told, &wanted, &open_jobs, scheduler, board)
+    }
+
+    // The same once the quiet jobs are closed and job 1 is open again.
+    fn tell_reopened(
+        self,
+        alloc: Global,
+        told: &mut Vec<u64>,
+        scheduler: u32,
+        board: &Board,
+    ) -> Result<(), NoMemory> {
+        let Asking {
+            wanted,
+            mut open_jobs,
+        } = self;
+        open_jobs.settle(alloc, &wanted, board)?;
+        open_jobs.reopen(&wanted, 1)?;
+        tell_open(alloc, told, &wanted, &open_jobs, scheduler, board)
     }
 }
 
-// The requests of scheduler 1 after task rows of job 1: each a code, an index and a need.
-fn asked(alloc: Global, board: &Board, rows: &[(u8, u16, u32)]) -> Result<Vec<u64>, NoMemory> {
-    asked_of(alloc, board, &SETTINGS, 1, &[], rows)
+// The requests of a scheduler on a board, each as its job and its wishes.
+fn tell_open(
+    alloc: Global,
+    told: &mut Vec<u64>,
+    wanted: &Wanted,
+    open_jobs: &OpenJobs,
+    scheduler: u32,
+    board: &Board,
+) -> Result<(), NoMemory>
+    requires { OthersAreQuiet open_jobs.now wanted.now board.now.tasks }
+{
+    let requests = wanted.requests(alloc, scheduler, board, open_jobs)?;
+    tell_requests(told, requests.as_slice())
 }
 
 // Task rows of job 1, and rows of its activities.
@@ -231,24 +272,21 @@ fn job_trace(
     Ok(tables)
 }
 
-// The requests of a scheduler after these rows, where the job has these activities.
-fn asked_of(
+// What is wanted after task rows of job 1, each a code, an index and a need, and the job's activities.
+fn asking_for(
     alloc: Global,
-    board: &Board,
-    settings: &Settings,
-    scheduler: u32,
     activities: &[u8],
     rows: &[(u8, u16, u32)],
-) -> Result<Vec<u64>, NoMemory>
-    requires { IsInRange settings.now }
-{
+) -> Result<Asking, NoMemory> {
     let tables = job_trace(alloc, activities, rows)?;
-    let mut asking = Asking::new(alloc, &tables, settings)?;
-    for row in tables.tasks.as_slice() {
-        asking = asking.take(&Row::Task(*row))?;
-    }
+    let asking = Asking::new(alloc, &tables, &SETTINGS)?;
+    take_all(asking, &feed(alloc, &tables)?)
+}
+
+// The requests of scheduler 1 after task rows of job 1.
+fn asked(alloc: Global, board: &Board, rows: &[(u8, u16, u32)]) -> Result<Vec<u64>, NoMemory> {
     let mut told = Vec::new(alloc);
-    asking.tell(alloc, &mut told, scheduler, board)?;
+    asking_for(alloc, &[], rows)?.tell(alloc, &mut told, 1, board)?;
     Ok(told)
 }
 
@@ -341,6 +379,36 @@ fn codes_say_what_is_wanted(rt: HostRuntime) -> Result<(), NoMemory> {
     let all = asked_each(alloc, &busy(alloc)?, cases.as_slice())?;
     let want: [u64; 9] = [99, 1, 1, 7, 0, 2, 5, 0, 99];
     assert_eq!(rt; all.as_slice(), want.as_slice());
+    Ok(())
+}
+
+// The requests of a scheduler after task rows of job 1 and its activities, once quiet jobs are closed,
+// and behind a 99 once job 1 is open again.
+fn settled(
+    alloc: Global,
+    board: &Board,
+    scheduler: u32,
+    activities: &[u8],
+    rows: &[(u8, u16, u32)],
+) -> Result<Vec<u64>, NoMemory> {
+    let mut told = Vec::new(alloc);
+    asking_for(alloc, activities, rows)?.tell_settled(alloc, &mut told, scheduler, board)?;
+    told.push(99)?;
+    asking_for(alloc, activities, rows)?.tell_reopened(alloc, &mut told, scheduler, board)?;
+    Ok(told)
+}
+
+#[test]
+fn what_waits_stays_open(rt: HostRuntime) -> Result<(), NoMemory> {
+    let alloc = rt.alloc();
+    let board = busy(alloc)?;
+    let told = settled(alloc, &board, 1, &[], &[(0, 0, 2)])?;
+    assert_eq!(rt; told.as_slice(), [99].as_slice());
+    let told = settled(alloc, &board, 1, &[], &[(0, 0, 2), (0, 2, 5)])?;
+    assert_eq!(rt; told.as_slice(), [1, 2, 5, 0, 99, 1, 2, 5, 0].as_slice());
+    let told = settled(alloc, &board, 2, &[2], &[(0, 0, 2)])?;
+    let want: [u64; 9] = [1, 2_147_483_648, 2, 0, 99, 1, 2_147_483_648, 2, 0];
+    assert_eq!(rt; told.as_slice(), want.as_slice());
     Ok(())
 }
 
