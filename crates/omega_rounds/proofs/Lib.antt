@@ -46,3 +46,5 @@ pub mod RoundFailures
 pub mod ClosedRounds
 pub mod PlayersBack
 pub mod TwoSteps
+pub mod RunOn
+pub mod Reopened

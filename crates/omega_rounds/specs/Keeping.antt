@@ -1,7 +1,11 @@
 -- What every world keeps.
-use Rattle.std.specs.Prelude.{◌≡◌, ◌⊎◌, ◌+◌, ◌≤◌, ℕ, List, Some, length, map, slice_get}
+use Rattle.std.specs.Prelude.{◌≡◌, ◌⊎◌, ◌+◌, ◌≤◌, ℕ, List, Some, length, map, slice_get, take}
+use Rattle.std.specs.BTreeSet.{BTreeSet}
+use Rattle.omega_feed.specs.Asked.{Asked}
+use Rattle.omega_feed.specs.Open.{OthersAreQuiet}
 use Rattle.omega_model.specs.Policy.{schedulers}
 use Rattle.omega_model.specs.Ranges.{IsInRange}
+use Rattle.omega_model.specs.State.{state}
 use Rattle.omega_model.specs.Stepping.{IsInRound, IsNew, rows_end}
 use Rattle.omega_model.specs.Wanted.{WantedTask, wanted}
 use Rattle.omega_model.specs.World.{World}
@@ -45,3 +49,8 @@ pub record IsWorld (stage : Stage) (tasks : List WantedTask) (history : List Ent
   pub each_seat : (scheduler : ℕ) (seat : Seat) → slice_get seats scheduler ≡ Some seat → IsSeat stage.settings history scheduler seat
   pub made : (trace : TraceTables) × IsInRunOf stage trace
   pub lawful : (trace : TraceTables) → IsInRunOf stage trace → IsLawful trace stage history seats
+
+-- the jobs that aren't open were quiet where the rows of the last round that has begun end; so they are on
+-- the empty history, where none has
+abbrev pub WereQuiet : BTreeSet ℕ → Asked → ℕ → List Entry → Type 0
+WereQuiet open_places asked opened_at history = OthersAreQuiet open_places asked (state (take opened_at history)).tasks

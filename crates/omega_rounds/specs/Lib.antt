@@ -17,3 +17,4 @@ pub mod Playing
 pub mod Players
 pub mod PlayingOn
 pub mod Closed
+pub mod Reopening

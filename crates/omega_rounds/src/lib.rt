@@ -11,6 +11,7 @@ mod laws;
 mod opening;
 mod planned;
 mod player;
+mod reopening;
 mod seat;
 mod steps;
 mod threads;

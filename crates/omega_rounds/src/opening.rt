@@ -2,6 +2,7 @@
 ghost use Rattle.std.specs.Prelude.{◌≡◌, ◌<◌, ◌^◌, ◌++◌, ◌∷◌, [], List, length, position, IfSome, IsTrue, OnOk};
 ghost use Rattle.std.specs.List.{fold};
 ghost use Rattle.omega_board.specs.Board.{cell_of};
+ghost use Rattle.omega_feed.specs.Open.{OthersAreQuiet};
 ghost use Rattle.omega_model.specs.Applying.{ListsOrHasRoom, machine_in};
 ghost use Rattle.omega_model.specs.Lawful.{opened};
 ghost use Rattle.omega_model.specs.State.{state};
@@ -11,26 +12,31 @@ ghost use Rattle.omega_model.specs.declared.rows.Row.{Row};
 ghost use Rattle.omega_model.specs.declared.rows.TraceTables.{TraceTables};
 ghost use Rattle.omega_rounds.specs.Opening.{BeginAll, HasLowTask, HaveNoWork, IsAsked, MayFeed, MayFeedAll, has_work};
 
+use crate::reopening::reopen_stopped;
 use crate::seat::Seat;
 use omega_board::Board;
 use omega_cell::Cell;
-use omega_feed::Wanted;
+use omega_feed::{OpenJobs, Wanted};
 use omega_model::{Entries, Entry, MOST_MACHINES, NoMemory, Round, Row};
 use std::alloc::Global;
 
-/// Appends a round's entry and those of its rows in order. More machines than a table holds are
-/// answered as want of memory. Costs the rows, and what their entries change.
+/// Appends a round's entry and those of its rows in order. Of the jobs that aren't open, those of which
+/// something may have to be placed then are opened. More machines than a table holds are answered as
+/// want of memory. Costs the rows, and what their entries change.
 pub(crate) fn open(
     alloc: Global,
     cell: &mut Cell,
     wanted: &mut Wanted,
+    open_jobs: &mut OpenJobs,
     round: &Round,
 ) -> Result<(), NoMemory>
+    requires quiet { OthersAreQuiet open_jobs.old wanted.old (state cell.old.history).tasks }
     ensures history { (trace : TraceTables) (rows : List Row) → wanted.old.disks ≡ trace.disks
         → wanted.old.tasks ≡ wanted_tasks rows
         → OnOk result (cell.new.history ≡ (opened trace rows cell.old.history round.now).history) }
     ensures wanted { OnOk result (wanted.new
         ≡ record wanted.old { tasks = fold wanted_after wanted.old.tasks round.now.rows }) }
+    ensures quiet { OnOk result (OthersAreQuiet open_jobs.new wanted.new (state cell.new.history).tasks) }
 {
     feed(
         alloc,
@@ -40,20 +46,28 @@ pub(crate) fn open(
         },
     )?;
     for row in round.rows.as_slice() {
-        wanted.take(row)?;
-        apply_row(alloc, cell, wanted, row)?;
+        wanted.take(row, open_jobs)?;
+        apply_row(alloc, cell, wanted, open_jobs, row)?;
     }
     Ok(())
 }
 
 // Appends the entries of the row that was taken last.
-fn apply_row(alloc: Global, cell: &mut Cell, wanted: &Wanted, row: &Row) -> Result<(), NoMemory>
-    ensures { OnOk result (cell.new.history ≡ cell.old.history
+fn apply_row(
+    alloc: Global,
+    cell: &mut Cell,
+    wanted: &Wanted,
+    open_jobs: &mut OpenJobs,
+    row: &Row,
+) -> Result<(), NoMemory>
+    requires quiet { OthersAreQuiet open_jobs.old wanted.now (state cell.old.history).tasks }
+    ensures history { OnOk result (cell.new.history ≡ cell.old.history
         ++ row_entries wanted.now.disks (state cell.old.history) wanted.now.tasks row.now) }
+    ensures quiet { OnOk result (OthersAreQuiet open_jobs.new wanted.now (state cell.new.history).tasks) }
 {
     let entries = wanted.entries(alloc, row, cell.board())?;
     check_row(row);
-    feed_all(alloc, cell, entries)
+    feed_all(alloc, cell, wanted, open_jobs, entries)
 }
 
 // The task of a row is none of the extras, as the row's type says.
@@ -65,14 +79,40 @@ fn check_row(row: &Row)
     }
 }
 
-// Appends entries in order.
-fn feed_all(alloc: Global, cell: &mut Cell, entries: Entries) -> Result<(), NoMemory>
-    requires { MayFeedAll cell.old.history entries }
-    ensures { OnOk result (cell.new.history ≡ cell.old.history ++ entries) }
+// Appends entries in order, and opens the jobs of the tasks that each of them may stop.
+fn feed_all(
+    alloc: Global,
+    cell: &mut Cell,
+    wanted: &Wanted,
+    open_jobs: &mut OpenJobs,
+    entries: Entries,
+) -> Result<(), NoMemory>
+    requires may { MayFeedAll cell.old.history entries }
+    requires quiet { OthersAreQuiet open_jobs.old wanted.now (state cell.old.history).tasks }
+    ensures history { OnOk result (cell.new.history ≡ cell.old.history ++ entries) }
+    ensures quiet { OnOk result (OthersAreQuiet open_jobs.new wanted.now (state cell.new.history).tasks) }
 {
     for entry in entries.into_items() {
-        feed(alloc, cell, entry)?;
+        feed_one(alloc, cell, wanted, open_jobs, entry)?;
     }
+    Ok(())
+}
+
+// Appends an entry, and opens the jobs of the tasks that it may stop.
+fn feed_one(
+    alloc: Global,
+    cell: &mut Cell,
+    wanted: &Wanted,
+    open_jobs: &mut OpenJobs,
+    entry: Entry,
+) -> Result<(), NoMemory>
+    requires may { MayFeed cell.old.history entry }
+    requires quiet { OthersAreQuiet open_jobs.old wanted.now (state cell.old.history).tasks }
+    ensures history { OnOk result (cell.new.history ≡ cell.old.history ++ entry ∷ []) }
+    ensures quiet { OnOk result (OthersAreQuiet open_jobs.new wanted.now (state cell.new.history).tasks) }
+{
+    reopen_stopped(alloc, open_jobs, wanted, cell.board(), &entry)?;
+    feed(alloc, cell, entry)?;
     Ok(())
 }
 
@@ -112,21 +152,23 @@ fn has_room_for(board: &Board, machine: u64) -> bool
     machines.len() < MOST_MACHINES || machines.position(machine).is_some()
 }
 
-/// Hands each scheduler what it is asked to place on the cell. Costs the wanted tasks, also those that
-/// run, the extra tasks, and for each scheduler a look at the jobs that have any.
+/// Hands each scheduler what it is asked to place on the cell. Costs the wanted tasks of the open jobs,
+/// also those that run, the extra tasks, and for each scheduler a look at the open jobs.
 pub(crate) fn begin_all(
     alloc: Global,
     seats: &mut Vec<Seat>,
     wanted: &Wanted,
+    open_jobs: &OpenJobs,
     cell: &Cell,
 ) -> Result<(), NoMemory>
     requires asked { IsAsked wanted.now }
+    requires quiet { OthersAreQuiet open_jobs.now wanted.now (state cell.now.history).tasks }
     requires few { length seats.old.items < 2 ^ 32 }
     requires no_work { HaveNoWork seats.old.items }
     ensures { OnOk result (BeginAll wanted.now cell.now.history seats.old.items seats.new.items) }
 {
     for i in 0..seats.len() {
-        let requests = wanted.requests(alloc, i as u32, cell.board())?;
+        let requests = wanted.requests(alloc, i as u32, cell.board(), open_jobs)?;
         seats[i].begin(requests)?;
     }
     Ok(())

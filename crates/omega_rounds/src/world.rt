@@ -17,11 +17,12 @@ ghost use Rattle.omega_rounds.specs.Playing.{IsAtStart, IsInSomeRun};
 ghost use Rattle.omega_rounds.specs.Stages.{IsInRunOf, first_stage, world_of};
 
 use crate::opening::{begin_all, first_at_work, open};
+use crate::reopening::reopen_since;
 use crate::seat::Seat;
 use crate::steps::{RoundStep, Stepped};
 use crate::threads::play_shared;
 use omega_cell::Cell;
-use omega_feed::{Wanted, rounds};
+use omega_feed::{OpenJobs, Wanted, feed, rounds};
 use omega_io::Gate;
 use omega_model::{Entries, Entry, NoMemory, Rounds, Settings, TraceTables};
 use std::alloc::Global;
@@ -45,6 +46,8 @@ pub struct World {
     /// The place in the history after the rows of the last round that has begun.
     opened_at: usize,
     wanted: Wanted,
+    /// The jobs of which something may have to be placed. All others were quiet at that place.
+    open_jobs: OpenJobs,
     cell: Cell,
     seats: Vec<Seat>,
 }
@@ -52,7 +55,7 @@ pub struct World {
 impl Model for World {
     ghost use Rattle.std.specs.Prelude.{map};
     ghost use Rattle.std.specs.List.{sum_by};
-    ghost use Rattle.omega_rounds.specs.Keeping.{IsWorld};
+    ghost use Rattle.omega_rounds.specs.Keeping.{IsWorld, WereQuiet};
     ghost use Rattle.omega_rounds.specs.Seats.{synced_of, to_do_of};
     ghost use Rattle.omega_rounds.specs.Stages.{WorldState, stage_of};
 
@@ -60,20 +63,22 @@ impl Model for World {
 
     ghost view = { λ w. record { stage = stage_of w.settings w.rounds w.wanted w.begun w.opened_at; history = w.cell.history; synced = map synced_of w.seats.items; to_do = sum_by to_do_of w.seats.items } };
 
-    ghost invariant = { λ w. IsWorld (stage_of w.settings w.rounds w.wanted w.begun w.opened_at) w.wanted.tasks w.cell.history w.seats.items };
+    ghost invariant = { λ w. IsWorld (stage_of w.settings w.rounds w.wanted w.begun w.opened_at) w.wanted.tasks w.cell.history w.seats.items
+        × WereQuiet w.open_jobs w.wanted w.opened_at w.cell.history };
 }
 
 impl World {
-    /// The world of a trace with the empty history, before its first round. Costs two sorts of the
-    /// rows by time, and copies each row and each constraint; the tables aren't needed any more.
+    /// The world of a trace with the empty history, before its first round. Costs a sort of the rows by
+    /// time, and copies each row and each constraint; the tables aren't needed any more.
     pub fn new(alloc: Global, settings: &Settings, tables: &TraceTables) -> Result<World, NoMemory>
         requires { IsInRange settings.now }
         ensures stage { IfOk result (λ world. world.stage ≡ first_stage settings.now tables.now) }
         ensures is_new { IfOk result (λ world. IsNew (world_of world)) }
         ensures to_do { IfOk result (λ world. world.to_do ≡ 0) }
     {
-        let rounds = rounds(alloc, tables, settings.window)?;
-        let wanted = Wanted::new(alloc, tables, settings)?;
+        let rows = feed(alloc, tables)?;
+        let wanted = Wanted::new(alloc, tables, &rows, settings)?;
+        let rounds = rounds(alloc, rows, settings.window)?;
         let seats = new_seats(alloc, settings)?;
         Ok(World {
             alloc,
@@ -82,6 +87,7 @@ impl World {
             begun: 0,
             opened_at: 0,
             wanted,
+            open_jobs: OpenJobs::new(alloc),
             cell: Cell::new(alloc),
             seats,
         })
@@ -116,7 +122,8 @@ impl World {
     /// Goes on to the next round, if nobody has work: appends the entries of its rows, and hands each
     /// scheduler its requests. Else names the first scheduler that has work, or says that no round is
     /// left; then the world is as it was. Where memory runs out the world is gone. Costs the rows of
-    /// the round and the requests, and a look at each scheduler.
+    /// the round, the entries since those of the round before it, the requests, and for each scheduler a
+    /// look at the jobs of which something may have to be placed.
     pub fn next_round(self) -> Result<(World, RoundStep), NoMemory>
         ensures settings { IfOk result (λ next. next.0.stage.settings ≡ self.stage.settings) }
         ensures source { IfOk result (λ next. next.0.stage.source ≡ self.stage.source) }
@@ -147,8 +154,9 @@ impl World {
             settings,
             rounds,
             begun,
-            opened_at: _,
+            opened_at,
             mut wanted,
+            mut open_jobs,
             mut cell,
             mut seats,
         } = self;
@@ -156,9 +164,11 @@ impl World {
             unreachable!()
         };
         let number = round.number;
-        open(alloc, &mut cell, &mut wanted, round)?;
+        reopen_since(&mut open_jobs, &wanted, &cell, opened_at)?;
+        open(alloc, &mut cell, &mut wanted, &mut open_jobs, round)?;
+        open_jobs.settle(alloc, &wanted, cell.board())?;
         let opened_at = cell.history().len();
-        begin_all(alloc, &mut seats, &wanted, &cell)?;
+        begin_all(alloc, &mut seats, &wanted, &open_jobs, &cell)?;
         let world = World {
             alloc,
             settings,
@@ -166,6 +176,7 @@ impl World {
             begun: begun + 1,
             opened_at,
             wanted,
+            open_jobs,
             cell,
             seats,
         };
@@ -218,6 +229,7 @@ impl World {
             begun,
             opened_at,
             wanted,
+            open_jobs,
             cell,
             seats,
         } = self;
@@ -229,6 +241,7 @@ impl World {
             begun,
             opened_at,
             wanted,
+            open_jobs,
             cell,
             seats,
         })

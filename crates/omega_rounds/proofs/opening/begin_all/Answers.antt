@@ -1,11 +1,17 @@
-use Rattle.std.proofs.Common.{◌≡◌, ◌≤◌, ◌<◌, length, Some, refl, arith}
+use Rattle.std.proofs.Common.{◌≡◌, ◌≤◌, ◌<◌, length, Some, refl, sym, arith}
 use Rattle.std.specs.Prelude.{slice_get}
 use Rattle.std.proofs.lemmas.Option.{slice_get_read}
 use Rattle.omega_rounds.proofs.Beginning.{asked_distinct, begun_all, begun_more, begun_none, idle_still, seat_begins}
+use Rattle.omega_rounds.proofs.Reopened.{quiet_on}
 use Rattle.omega_rounds.proofs.opening.begin_all.Goals as goal
 
 pub loop-i-init : goal.loop-i-init
 loop-i-init c = begun_none c.args.wanted.now c.args.cell.now.history c.args.seats.now.items
+
+pub requests-requires : goal.requests-requires
+requests-requires c = record {
+  quiet = quiet_on c.args.open_jobs.now c.args.wanted.now _ _ (sym c.board.ensures.current) c.requires.quiet;
+}
 
 pub begin-requires-clause-no_work : goal.begin-requires-clause-no_work
 begin-requires-clause-no_work c =

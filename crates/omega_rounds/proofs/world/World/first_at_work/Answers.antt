@@ -14,7 +14,7 @@ pub returns-in-Some-clause-first : goal.returns-in-Some-clause-first
 returns-in-Some-clause-first c =
     subst (λ (w : WorldState). (trace : TraceTables) → IsInRunOf w.stage trace → IsFirstAtWork trace w c.in-Some.scheduler) c.self.view_is
     (λ trace made. first_works trace (stage_of c.self.inside.settings c.self.inside.rounds c.self.inside.wanted c.self.inside.begun c.self.inside.opened_at) c.self.inside.wanted.tasks
-    c.self.inside.cell.history c.self.inside.seats.items c.self.invariant made c.in-Some.scheduler
+    c.self.inside.cell.history c.self.inside.seats.items c.self.invariant.0 made c.in-Some.scheduler
     (ap (λ (seats : List Seat). position has_work seats) (sym c.as_slice.ensures.value) ∙ sym c.first_at_work.ensures ∙ c.in-Some.is))
 
 pub returns-clause-none : goal.returns-clause-none
@@ -23,4 +23,4 @@ returns-clause-none c = λ same.
     idle_first c.self.inside.seats.items (ap (λ (seats : List Seat). position has_work seats) (sym c.as_slice.ensures.value) ∙ sym c.first_at_work.ensures ∙ c.in_default.is) in
     subst IsDone c.self.view_is
     (λ trace made. nobody_works trace (stage_of c.self.inside.settings c.self.inside.rounds c.self.inside.wanted c.self.inside.begun c.self.inside.opened_at) c.self.inside.wanted.tasks
-    c.self.inside.cell.history c.self.inside.seats.items c.self.invariant idle made)
+    c.self.inside.cell.history c.self.inside.seats.items c.self.invariant.0 idle made)

@@ -14,7 +14,7 @@ pub returns-in-Some-clause-run : goal.returns-in-Some-clause-run
 returns-in-Some-clause-run c =
     subst (λ (w : WorldState). (trace : TraceTables) → IsInRunOf w.stage trace → IsFirstAtWork trace w c.in-Some.scheduler) c.self.view_is
     (λ trace made. first_works trace (stage_of c.self.inside.settings c.self.inside.rounds c.self.inside.wanted c.self.inside.begun c.self.inside.opened_at) c.self.inside.wanted.tasks
-    c.self.inside.cell.history c.self.inside.seats.items c.self.invariant made c.in-Some.scheduler
+    c.self.inside.cell.history c.self.inside.seats.items c.self.invariant.0 made c.in-Some.scheduler
     (ap (λ (seats : List Seat). position has_work seats) (sym c.as_slice.ensures.value) ∙ sym c.first_at_work.ensures ∙ c.in-Some.is))
 
 pub returns-then-self-len-clause-run : goal.returns-then-self-len-clause-run
@@ -24,7 +24,7 @@ returns-then-self-len-clause-run c =
     let last : c.self.inside.begun ≡ length c.self.inside.rounds = c.if-self-len.true ∙ c.len.ensures in
     subst (λ (w : WorldState). (trace : TraceTables) → IsInRunOf w.stage trace → Lawful w.stage.settings trace w.history) c.self.view_is
     (λ trace made. run_over trace (stage_of c.self.inside.settings c.self.inside.rounds c.self.inside.wanted c.self.inside.begun c.self.inside.opened_at) c.self.inside.wanted.tasks
-    c.self.inside.cell.history c.self.inside.seats.items c.self.invariant made idle last)
+    c.self.inside.cell.history c.self.inside.seats.items c.self.invariant.0 made idle last)
 
 pub begin_round-requires-clause-no_work : goal.begin_round-requires-clause-no_work
 begin_round-requires-clause-no_work c =

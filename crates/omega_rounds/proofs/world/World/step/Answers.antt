@@ -8,6 +8,7 @@ use Rattle.omega_rounds.specs.Stages.{IsInRunOf, WorldState, rows_begun, stage_o
 use Rattle.omega_rounds.specs.declared.seat.Seat.{Seat}
 use Rattle.omega_rounds.specs.declared.steps.Stepped.{Stepped}
 use Rattle.omega_rounds.specs.declared.steps.Stepped.TheVariants.{Synced, Committed, Idle}
+use Rattle.omega_rounds.proofs.Reopened.{goes_on_same, goes_on_step, were_quiet}
 use Rattle.omega_rounds.proofs.WorldSteps.{LeavesAt, seen_as, state_at, step_is, to_do_after, world_after, world_kept}
 use Rattle.omega_rounds.proofs.world.World.step.Goals as goal
 
@@ -30,53 +31,64 @@ leaves old new Idle is = is
 pub step-requires-clause-seat : goal.step-requires-clause-seat
 step-requires-clause-seat c =
     let known = knows c.args.scheduler _ _ c.self.view_is c.requires in
-    c.self.invariant.each_seat c.args.scheduler c.index_mut-seat.result.now
-    (stands c.self.inside.seats.items (schedulers c.self.inside.settings) c.args.scheduler c.index_mut-seat.result.now c.self.invariant.count known c.index_mut-seat.ensures.value)
+    c.self.invariant.0.each_seat c.args.scheduler c.index_mut-seat.result.now
+    (stands c.self.inside.seats.items (schedulers c.self.inside.settings) c.args.scheduler c.index_mut-seat.result.now c.self.invariant.0.count known c.index_mut-seat.ensures.value)
 
 pub invariant_of-self : goal.invariant_of-self
 invariant_of-self c =
     let known = knows c.args.scheduler _ _ c.self.view_is c.requires in
-    world_kept (stage_of c.self.inside.settings c.self.inside.rounds c.self.inside.wanted c.self.inside.begun c.self.inside.opened_at) c.self.inside.wanted.tasks
-    c.self.inside.cell.history c.step.new.cell.history c.self.inside.seats.items c.args.scheduler c.index_mut-seat.result.now c.step.new.self c.self.invariant
-    (stands c.self.inside.seats.items (schedulers c.self.inside.settings) c.args.scheduler c.index_mut-seat.result.now c.self.invariant.count known c.index_mut-seat.ensures.value)
-    c.in_err-stepped.ensures.err c.in_err-stepped.ensures.desk c.in_err-stepped.ensures.synced c.step.ensures.seat
+    let stage = stage_of c.self.inside.settings c.self.inside.rounds c.self.inside.wanted c.self.inside.begun c.self.inside.opened_at in (
+      world_kept stage c.self.inside.wanted.tasks
+          c.self.inside.cell.history c.step.new.cell.history c.self.inside.seats.items c.args.scheduler c.index_mut-seat.result.now c.step.new.self c.self.invariant.0
+          (stands c.self.inside.seats.items (schedulers c.self.inside.settings) c.args.scheduler c.index_mut-seat.result.now c.self.invariant.0.count known c.index_mut-seat.ensures.value)
+          c.in_err-stepped.ensures.err c.in_err-stepped.ensures.desk c.in_err-stepped.ensures.synced c.step.ensures.seat,
+      were_quiet stage c.self.inside.wanted.tasks c.self.inside.cell.history c.self.inside.seats.items c.self.invariant.0
+          c.self.inside.open_jobs c.self.inside.wanted c.step.new.cell.history
+          (goes_on_same c.self.inside.cell.history c.step.new.cell.history c.in_err-stepped.ensures.err) c.self.invariant.1,
+    )
 
 pub returns-in_err-stepped-clause-err : goal.returns-in_err-stepped-clause-err
 returns-in_err-stepped-clause-err c =
     let known = knows c.args.scheduler _ _ c.self.view_is c.requires in
     on_err c.from_residual.result
     (seen_as (stage_of c.self.inside.settings c.self.inside.rounds c.self.inside.wanted c.self.inside.begun c.self.inside.opened_at) c.self.inside.wanted.tasks
-    c.self.inside.cell.history c.step.new.cell.history c.self.inside.seats.items c.args.scheduler c.index_mut-seat.result.now c.step.new.self c.self.invariant
-    (stands c.self.inside.seats.items (schedulers c.self.inside.settings) c.args.scheduler c.index_mut-seat.result.now c.self.invariant.count known c.index_mut-seat.ensures.value)
+    c.self.inside.cell.history c.step.new.cell.history c.self.inside.seats.items c.args.scheduler c.index_mut-seat.result.now c.step.new.self c.self.invariant.0
+    (stands c.self.inside.seats.items (schedulers c.self.inside.settings) c.args.scheduler c.index_mut-seat.result.now c.self.invariant.0.count known c.index_mut-seat.ensures.value)
     c.in_err-stepped.ensures.err c.in_err-stepped.ensures.desk c.in_err-stepped.ensures.synced
     ∙ c.self.view_is)
 
 pub invariant_of-self-2 : goal.invariant_of-self-2
 invariant_of-self-2 c =
     let known = knows c.args.scheduler _ _ c.self.view_is c.requires in
-    world_after (stage_of c.self.inside.settings c.self.inside.rounds c.self.inside.wanted c.self.inside.begun c.self.inside.opened_at) c.self.inside.wanted.tasks
-    c.self.inside.cell.history c.step.new.cell.history c.self.inside.seats.items c.args.scheduler c.index_mut-seat.result.now c.step.new.self c.self.invariant
-    (stands c.self.inside.seats.items (schedulers c.self.inside.settings) c.args.scheduler c.index_mut-seat.result.now c.self.invariant.count known c.index_mut-seat.ensures.value)
-    c.in_ok-stepped.stepped known c.step.ensures.seat c.in_ok-stepped.ensures.step
+    let stage = stage_of c.self.inside.settings c.self.inside.rounds c.self.inside.wanted c.self.inside.begun c.self.inside.opened_at in (
+      world_after stage c.self.inside.wanted.tasks
+          c.self.inside.cell.history c.step.new.cell.history c.self.inside.seats.items c.args.scheduler c.index_mut-seat.result.now c.step.new.self c.self.invariant.0
+          (stands c.self.inside.seats.items (schedulers c.self.inside.settings) c.args.scheduler c.index_mut-seat.result.now c.self.invariant.0.count known c.index_mut-seat.ensures.value)
+          c.in_ok-stepped.stepped known c.step.ensures.seat c.in_ok-stepped.ensures.step,
+      were_quiet stage c.self.inside.wanted.tasks c.self.inside.cell.history c.self.inside.seats.items c.self.invariant.0
+          c.self.inside.open_jobs c.self.inside.wanted c.step.new.cell.history
+          (goes_on_step c.self.inside.settings c.args.scheduler c.self.inside.cell.history c.step.new.cell.history c.index_mut-seat.result.now c.step.new.self
+          c.in_ok-stepped.stepped c.in_ok-stepped.ensures.step) c.self.invariant.1,
+    )
 
 pub returns-clause-step : goal.returns-clause-step
 returns-clause-step c =
     let known = knows c.args.scheduler _ _ c.self.view_is c.requires in
     let stage = stage_of c.self.inside.settings c.self.inside.rounds c.self.inside.wanted c.self.inside.begun c.self.inside.opened_at in
-    let here = stands c.self.inside.seats.items (schedulers c.self.inside.settings) c.args.scheduler c.index_mut-seat.result.now c.self.invariant.count known c.index_mut-seat.ensures.value in
+    let here = stands c.self.inside.seats.items (schedulers c.self.inside.settings) c.args.scheduler c.index_mut-seat.result.now c.self.invariant.0.count known c.index_mut-seat.ensures.value in
     subst (λ (w : WorldState). (trace : TraceTables) → IsInRunOf w.stage trace → StepsOn trace w c.args.scheduler (state_at stage c.step.new.cell.history (set c.self.inside.seats.items c.args.scheduler c.step.new.self)) c.in_ok-stepped.stepped) c.self.view_is
     (λ trace made. step_is c.self.inside.settings c.self.inside.cell.history c.step.new.cell.history c.args.scheduler c.index_mut-seat.result.now c.step.new.self
     trace (rows_begun stage) c.self.inside.opened_at c.self.inside.seats.items here c.in_ok-stepped.stepped c.in_ok-stepped.ensures.step
-    ((c.self.invariant.lawful trace made).desks c.args.scheduler c.index_mut-seat.result.now here))
+    ((c.self.invariant.0.lawful trace made).desks c.args.scheduler c.index_mut-seat.result.now here))
 
 pub returns-clause-to_do : goal.returns-clause-to_do
 returns-clause-to_do c =
     let known = knows c.args.scheduler _ _ c.self.view_is c.requires in
-    let here = stands c.self.inside.seats.items (schedulers c.self.inside.settings) c.args.scheduler c.index_mut-seat.result.now c.self.invariant.count known c.index_mut-seat.ensures.value in
+    let here = stands c.self.inside.seats.items (schedulers c.self.inside.settings) c.args.scheduler c.index_mut-seat.result.now c.self.invariant.0.count known c.index_mut-seat.ensures.value in
     let stage = stage_of c.self.inside.settings c.self.inside.rounds c.self.inside.wanted c.self.inside.begun c.self.inside.opened_at in
     let after = state_at stage c.step.new.cell.history (set c.self.inside.seats.items c.args.scheduler c.step.new.self) in
     subst (λ (w : WorldState). LeavesToDo w after c.in_ok-stepped.stepped) c.self.view_is
     (leaves (state_at stage c.self.inside.cell.history c.self.inside.seats.items) after c.in_ok-stepped.stepped
     (to_do_after c.self.inside.settings c.self.inside.cell.history c.step.new.cell.history c.args.scheduler c.index_mut-seat.result.now c.step.new.self
-    c.in_ok-stepped.stepped c.self.inside.seats.items here c.self.invariant.range.tries.0
-    (c.self.invariant.each_seat c.args.scheduler c.index_mut-seat.result.now here) c.step.ensures.seat c.in_ok-stepped.ensures.step))
+    c.in_ok-stepped.stepped c.self.inside.seats.items here c.self.invariant.0.range.tries.0
+    (c.self.invariant.0.each_seat c.args.scheduler c.index_mut-seat.result.now here) c.step.ensures.seat c.in_ok-stepped.ensures.step))

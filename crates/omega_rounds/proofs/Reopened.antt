@@ -1,0 +1,227 @@
+-- The jobs that aren't open stay quiet while a history goes on, where those are opened whose tasks its entries may stop.
+use Rattle.std.proofs.Common.{◌≡◌, ◌≤◌, ◌<◌, ◌+◌, ℕ, zero, suc, Bool, true, false, List, [], ◌∷◌, ◌++◌, length, take, drop, get_or, Some, refl, sym, ap, subst, arith, ◌∙◌, inl, inr}
+use Rattle.std.specs.Prelude.{slice_get}
+use Rattle.std.specs.BTreeSet as set
+use Rattle.std.specs.BTreeSet.{BTreeSet}
+use Rattle.std.specs.List.{All, flat_map, fold, AllByRecursion as Each}
+use Rattle.std.specs.Ordering.{nat_cmp}
+use Rattle.std.proofs.lemmas.Bool.{both_ways, eqb-true, or_from}
+use Rattle.std.proofs.lemmas.Grind.{flat_map-append}
+use Rattle.std.proofs.lemmas.List.{append-nil, take-append-drop, take-append-le, take_all, take_more}
+use Rattle.std.proofs.lemmas.List.Elements.{All-append, All-cons, All-from_recursion, All-head, All-nil, All-tail, All-weaker}
+use Rattle.std.proofs.lemmas.List.Sums.{fold-append}
+use Rattle.omega_cell.specs.Cells.{is_commit}
+use Rattle.omega_feed.specs.Asked.{Asked}
+use Rattle.omega_feed.specs.Index.{job_at}
+use Rattle.omega_feed.specs.Open.{IsOpen, IsQuiet, OthersAreQuiet, RunsIfOf, StayOpen}
+use Rattle.omega_feed.proofs.Quiet.{still_quiet}
+use Rattle.omega_lock.specs.Lists.{StartsWith}
+use Rattle.omega_model.proofs.Growing.{state_push}
+use Rattle.omega_model.proofs.InOrder.{key_same}
+use Rattle.omega_model.proofs.Lists.{by_answer}
+use Rattle.omega_model.specs.Cell.{Cell, empty_cell}
+use Rattle.omega_model.specs.Keys.{is_among, same_key}
+use Rattle.omega_model.specs.Lawful.{IsCommitOfRound}
+use Rattle.omega_model.specs.State.{state, step, tasks_after}
+use Rattle.omega_model.specs.Wanted.{WantedTask}
+use Rattle.omega_model.specs.declared.cells.Task.{Task}
+use Rattle.omega_model.specs.declared.cells.TaskKey.{TaskKey}
+use Rattle.omega_model.specs.declared.claims.Judgement.{Judgement}
+use Rattle.omega_model.specs.declared.entries.Entry.{Entry}
+use Rattle.omega_model.specs.declared.entries.Entry.TheVariants.{Round as RoundEntry, MachineAdd, MachineUpdate, MachineRemove, AttrSet, AttrDelete, End, Commit}
+use Rattle.omega_model.specs.declared.settings.Settings.{Settings}
+use Rattle.omega_rounds.specs.Keeping.{IsWorld, WereQuiet}
+use Rattle.omega_rounds.specs.Reopening.{OpensJobs, may_stop}
+use Rattle.omega_rounds.specs.SeatSteps.{SeatSteps}
+use Rattle.omega_rounds.specs.Stages.{Stage}
+use Rattle.omega_rounds.specs.declared.seat.Seat.{Seat}
+use Rattle.omega_rounds.specs.declared.steps.Stepped.{Stepped}
+use Rattle.omega_rounds.specs.declared.steps.Stepped.TheVariants.{Synced, Committed, Idle}
+use Rattle.omega_rounds.proofs.RunOn.{runs_after}
+use Rattle.omega_rounds.proofs.Worlds.{rows_within}
+
+-- no job is opened
+pub opens_none : (places : BTreeSet ℕ) (asked : Asked) → OpensJobs places places asked []
+opens_none places asked = record { stay = λ place there. there; opened = All-nil _ }
+
+-- one is
+opens_one : (before after : BTreeSet ℕ) (asked : Asked) (key : TaskKey) → StayOpen before after → IsOpen after asked key.job
+    → OpensJobs before after asked (key ∷ [])
+opens_one before after asked key stay opened = record { stay = stay; opened = All-cons (λ other. IsOpen after asked other.job) key [] opened (All-nil _) }
+
+-- some are, and then others
+opens_more : (before middle after : BTreeSet ℕ) (asked : Asked) (keys more : List TaskKey) → OpensJobs before middle asked keys
+    → OpensJobs middle after asked more → OpensJobs before after asked (keys ++ more)
+opens_more before middle after asked keys more some others = record {
+  stay = λ place there. others.stay place (some.stay place there);
+  opened = All-append (λ key. IsOpen after asked key.job) keys more
+      (All-weaker (λ key. IsOpen middle asked key.job) (λ key. IsOpen after asked key.job)
+      (λ key opened place here. others.stay place (opened place here)) keys some.opened)
+      others.opened;
+}
+
+-- one more of some keys is
+pub opens_next : (before middle after : BTreeSet ℕ) (asked : Asked) (keys : List TaskKey) (i : ℕ) (key : TaskKey) → i < length keys
+    → OpensJobs before middle asked (take i keys) → StayOpen middle after → IsOpen after asked (get_or keys i key).job
+    → OpensJobs before after asked (take (i + 1) keys)
+opens_next before middle after asked keys i key within some stay opened =
+    subst (OpensJobs before after asked) (sym (take_more keys i key within))
+    (opens_more before middle after asked (take i keys) (get_or keys i key ∷ []) some (opens_one middle after asked (get_or keys i key) stay opened))
+
+-- so are those that one more of some judgements evicted
+pub opens_evicted : (before middle after : BTreeSet ℕ) (asked : Asked) (reply : List Judgement) (i : ℕ) (one : Judgement) → one ≡ get_or reply i one → i < length reply
+    → OpensJobs before middle asked (flat_map (λ other. other.evicted) (take i reply))
+    → OpensJobs middle after asked one.evicted
+    → OpensJobs before after asked (flat_map (λ other. other.evicted) (take (i + 1) reply))
+opens_evicted before middle after asked reply i one is within some others =
+    let evicted : List Judgement → List TaskKey = λ js. flat_map (λ (other : Judgement). other.evicted) js in
+    let all : evicted (take (i + 1) reply) ≡ evicted (take i reply) ++ one.evicted =
+    ap evicted (take_more reply i one within ∙ ap (λ (j : Judgement). take i reply ++ j ∷ []) (sym is))
+    ∙ flat_map-append (λ (other : Judgement). other.evicted) (take i reply) (one ∷ [])
+    ∙ ap (λ (ks : List TaskKey). evicted (take i reply) ++ ks) (append-nil one.evicted) in
+    subst (OpensJobs before after asked) (sym all)
+    (opens_more before middle after asked (evicted (take i reply)) one.evicted some others)
+
+-- a task of a job that isn't open is none of those whose jobs are
+not_among : (places : BTreeSet ℕ) (asked : Asked) (keys : List TaskKey) (key : TaskKey) (place : ℕ) → job_at asked.jobs place ≡ Some key.job
+    → set.contains nat_cmp places place ≡ false → All (λ other. IsOpen places asked other.job) keys
+    → is_among key keys ≡ false
+not_among places asked [] key place here closed opened = refl
+not_among places asked (first ∷ keys) key place here closed opened =
+    let P : TaskKey → Type 0 = λ other. IsOpen places asked other.job in
+    or_from (same_key key first) (is_among key keys)
+    (by_answer (same_key key first)
+    (λ t. absurd (both_ways _ closed (All-head P first keys opened place (subst (λ (k : TaskKey). job_at asked.jobs place ≡ Some k.job) (key_same key first t) here))))
+    (λ f. f))
+    (not_among places asked keys key place here closed (All-tail P first keys opened))
+
+module _ (before after : BTreeSet ℕ) (asked : Asked) where
+  -- after an entry the jobs that aren't open are quiet, where those are open whose tasks it may stop
+  pub quiet_next : (tasks : List Task) (entry : Entry) → OthersAreQuiet before asked tasks → OpensJobs before after asked (may_stop tasks entry)
+      → OthersAreQuiet after asked (tasks_after tasks entry)
+  quiet_next tasks entry quiet opens place job here closed =
+      let is : IsQuiet asked tasks job = still_quiet before after asked tasks opens.stay quiet place job here closed in
+      record {
+        running = All-weaker (RunsIfOf job tasks) (RunsIfOf job (tasks_after tasks entry))
+            (λ task runs own.
+            let named : job_at asked.jobs place ≡ Some task.key.job = here ∙ ap Some (sym (eqb-true task.key.job job own)) in
+            runs_after tasks entry task.key (not_among after asked (may_stop tasks entry) task.key place named closed opens.opened) (runs own))
+            asked.tasks is.running;
+        no_extras = is.no_extras;
+      }
+
+  -- so they are in a history with one more entry
+  pub quiet_fed : (history next : List Entry) (entry : Entry) → OthersAreQuiet before asked (state history).tasks
+      → OpensJobs before after asked (may_stop (state history).tasks entry) → next ≡ history ++ entry ∷ []
+      → OthersAreQuiet after asked (state next).tasks
+  quiet_fed history next entry quiet opens fed =
+      subst (λ (h : List Entry). OthersAreQuiet after asked (state h).tasks) (sym fed)
+      (subst (λ (cell : Cell). OthersAreQuiet after asked cell.tasks) (sym (state_push history entry))
+      (quiet_next (state history).tasks entry quiet opens))
+
+  -- also where those are opened by a board that stands for the history
+  pub quiet_fed_on : (history next : List Entry) (entry : Entry) (cell : Cell) → cell ≡ state history → OthersAreQuiet before asked (state history).tasks
+      → OpensJobs before after asked (may_stop cell.tasks entry) → next ≡ history ++ entry ∷ []
+      → OthersAreQuiet after asked (state next).tasks
+  quiet_fed_on history next entry cell current quiet opens fed =
+      quiet_fed history next entry quiet (subst (λ (now : Cell). OpensJobs before after asked (may_stop now.tasks entry)) current opens) fed
+
+  -- and after one more of some entries
+  pub quiet_stepped : (cell : Cell) (entries : List Entry) (i : ℕ) (one : Entry) → one ≡ get_or entries i one → i < length entries
+      → OthersAreQuiet before asked (fold step cell (take i entries)).tasks
+      → OpensJobs before after asked (may_stop (fold step cell (take i entries)).tasks one)
+      → OthersAreQuiet after asked (fold step cell (take (i + 1) entries)).tasks
+  quiet_stepped cell entries i one is within quiet opens =
+      let was : Cell = fold step cell (take i entries) in
+      subst (λ (now : Cell). OthersAreQuiet after asked now.tasks)
+      (sym (ap (λ (es : List Entry). fold step cell es) (take_more entries i one within ∙ ap (λ (e : Entry). take i entries ++ e ∷ []) (sym is)) ∙ fold-append step cell (take i entries) (one ∷ [])))
+      (quiet_next was.tasks one quiet opens)
+
+-- the state after a beginning of a history, and then the rest of it
+state_split : (n : ℕ) (history : List Entry) → fold step (state (take n history)) (drop n history) ≡ state history
+state_split n history = sym (fold-append step empty_cell (take n history) (drop n history)) ∙ ap state (take-append-drop n history)
+
+-- what holds at all places from one on holds of the rest of a list
+each_dropped : {X : Type 0} (P : X → Type 0) (n : ℕ) (xs : List X) → ((place : ℕ) (x : X) → slice_get xs place ≡ Some x → n ≤ place → P x)
+    → Each P (drop n xs)
+each_dropped P zero [] holds = tt
+each_dropped P zero (x ∷ xs) holds =
+    (holds zero x refl (omega arith), each_dropped P zero xs (λ place y is past. holds (suc place) y is (omega arith)))
+each_dropped P (suc n) [] holds = tt
+each_dropped P (suc n) (x ∷ xs) holds = each_dropped P n xs (λ place y is past. holds (suc place) y is (omega (arith, past)))
+
+-- an entry of a round behind its rows is a commit
+of_round : (settings : Settings) (opened_at : ℕ) (before : List Entry) (entry : Entry) → IsCommitOfRound settings opened_at before entry
+    → is_commit entry ≡ true
+of_round settings opened_at before (RoundEntry number) is = absurd is
+of_round settings opened_at before (MachineAdd machine cap) is = absurd is
+of_round settings opened_at before (MachineUpdate machine cap) is = absurd is
+of_round settings opened_at before (MachineRemove machine) is = absurd is
+of_round settings opened_at before (AttrSet machine name value) is = absurd is
+of_round settings opened_at before (AttrDelete machine name) is = absurd is
+of_round settings opened_at before (End key machine) is = absurd is
+of_round settings opened_at before (Commit scheduler seen txn reply) is = refl
+
+module _ (stage : Stage) (tasks : List WantedTask) (history : List Entry) (seats : List Seat) (world : IsWorld stage tasks history seats) where
+  -- the rows of the round that is under way end within the history
+  pub opened_within : stage.opened_at ≤ length history
+  opened_within = elim (world.lawful world.made.0 world.made.1).run [
+    | inl none ↦ let start : stage.opened_at ≡ 0 = none.start in omega (arith, start)
+    | inr has ↦
+        subst (λ (n : ℕ). n ≤ length history) (sym has.rows)
+        (rows_within stage.settings world.made.0 history has.in_round.underway)
+  ]
+
+  commit_since : (place : ℕ) (entry : Entry) → slice_get history place ≡ Some entry → stage.opened_at ≤ place → is_commit entry ≡ true
+  commit_since place entry here past = elim (world.lawful world.made.0 world.made.1).run [
+    | inl none ↦
+        let nothing : slice_get [] place ≡ Some entry = subst (λ (h : List Entry). slice_get h place ≡ Some entry) none.is_new.empty here in
+        absurd (cc)
+    | inr has ↦
+        of_round stage.settings _ (take place history) entry
+        (has.in_round.underway.begun.commits place entry here (subst (λ (n : ℕ). n ≤ place) has.rows past))
+  ]
+
+  -- the entries since then are commits
+  pub commits_since : All (λ entry. is_commit entry ≡ true) (drop stage.opened_at history)
+  commits_since =
+      All-from_recursion (λ entry. is_commit entry ≡ true) (drop stage.opened_at history)
+      (each_dropped (λ entry. is_commit entry ≡ true) stage.opened_at history commit_since)
+
+  -- what was quiet where they end stays so while the history goes on
+  pub were_quiet : (places : BTreeSet ℕ) (asked : Asked) (later : List Entry) → StartsWith later history
+      → WereQuiet places asked stage.opened_at history → WereQuiet places asked stage.opened_at later
+  were_quiet places asked later more quiet =
+      let same : take stage.opened_at later ≡ take stage.opened_at history =
+      ap (take stage.opened_at) more.1 ∙ take-append-le stage.opened_at history more.0 opened_within in
+      subst (λ (h : List Entry). OthersAreQuiet places asked (state h).tasks) (sym same) quiet
+
+-- a history that is the same goes on from itself
+pub goes_on_same : (before after : List Entry) → after ≡ before → StartsWith after before
+goes_on_same before after same = ([], same ∙ sym (append-nil before))
+
+-- a step of a seat lets the history go on
+pub goes_on_step : (settings : Settings) (scheduler : ℕ) (before after : List Entry) (old new : Seat) (stepped : Stepped)
+    → SeatSteps settings scheduler before old after new stepped → StartsWith after before
+goes_on_step settings scheduler before after old new Idle did = goes_on_same before after did.history
+goes_on_step settings scheduler before after old new Synced did = goes_on_same before after did.history
+goes_on_step settings scheduler before after old new (Committed place) did = (_, did.appended)
+
+-- what is quiet on a board is quiet on the state for which it stands
+pub quiet_on : (places : BTreeSet ℕ) (asked : Asked) (one other : Cell) → one ≡ other → OthersAreQuiet places asked one.tasks
+    → OthersAreQuiet places asked other.tasks
+quiet_on places asked one other same quiet = subst (λ (cell : Cell). OthersAreQuiet places asked cell.tasks) same quiet
+
+-- where a round's rows end at the end of a history, what is quiet there is so on its state
+pub quiet_at_end : (places : BTreeSet ℕ) (asked : Asked) (history whole : List Entry) → whole ≡ history → OthersAreQuiet places asked (state history).tasks
+    → WereQuiet places asked (length whole) history
+quiet_at_end places asked history whole same quiet =
+    subst (λ (h : List Entry). OthersAreQuiet places asked (state h).tasks)
+    (sym (take_all (length whole) history (let long : length whole ≡ length history = ap (λ (h : List Entry). length h) same in omega (arith, long)))) quiet
+
+-- what is quiet on the state at a place of a history, and then after the rest of it, is so on its state
+pub since_place : (places : BTreeSet ℕ) (asked : Asked) (n : ℕ) (history rest : List Entry) → rest ≡ drop n history
+    → OthersAreQuiet places asked (fold step (state (take n history)) rest).tasks
+    → OthersAreQuiet places asked (state history).tasks
+since_place places asked n history rest same quiet =
+    subst (λ (cell : Cell). OthersAreQuiet places asked cell.tasks) (ap (λ (es : List Entry). fold step (state (take n history)) es) same ∙ state_split n history) quiet
