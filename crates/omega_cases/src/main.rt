@@ -1,0 +1,44 @@
+//! Cases of the library crates' calls: reads lines of calls, and prints the answer of each.
+//!
+//! A line is words: a subject, a call of it, and what the call is given. A line that begins with `#`
+//! and one without a byte are printed as they are, so that cases can have headings.
+#![tactic(auto)]
+
+mod fault;
+mod line;
+mod units;
+
+use fault::Fault;
+use std::alloc::Global;
+use std::io;
+use std::io::{BufRead, BufReader};
+
+fn main(rt: HostRuntime) -> io::Result<()> {
+    let alloc = rt.alloc();
+    for line in BufReader::new(alloc, rt.reader())?.lines(alloc) {
+        let line = line?;
+        let text = line.as_str();
+        if text.is_empty() || text.starts_with('#') {
+            println!(rt; "{text}")?;
+            continue;
+        }
+        match answer(alloc, text) {
+            Ok(answer) => println!(rt; "{answer}")?,
+            Err(fault) => println!(rt; "{fault}")?,
+        }
+    }
+    Ok(())
+}
+
+/// The answer of a line's call.
+fn answer(alloc: Global, text: &str) -> Result<String, Fault> {
+    let words = line::words_of(alloc, text)?;
+    let [subject, call, rest @ ..] = words.as_slice() else {
+        return Err(Fault::UnknownCall);
+    };
+    let call = line::text(call)?;
+    match line::text(subject)? {
+        "units" => units::answer(alloc, call, rest),
+        _ => Err(Fault::UnknownCall),
+    }
+}
