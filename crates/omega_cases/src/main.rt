@@ -4,6 +4,7 @@
 //! and one without a byte are printed as they are, so that cases can have headings.
 #![tactic(auto)]
 
+mod attrs;
 mod fault;
 mod line;
 mod units;
@@ -38,6 +39,7 @@ fn answer(alloc: Global, text: &str) -> Result<String, Fault> {
     };
     let call = line::text(call)?;
     match line::text(subject)? {
+        "attrs" => attrs::answer(alloc, call, rest),
         "units" => units::answer(alloc, call, rest),
         _ => Err(Fault::UnknownCall),
     }
