@@ -7,6 +7,7 @@
 mod attrs;
 mod fault;
 mod line;
+mod tables;
 mod units;
 
 use fault::Fault;
@@ -40,6 +41,7 @@ fn answer(alloc: Global, text: &str) -> Result<String, Fault> {
     let call = line::text(call)?;
     match line::text(subject)? {
         "attrs" => attrs::answer(alloc, call, rest),
+        "tables" => tables::answer(alloc, call, rest),
         "units" => units::answer(alloc, call, rest),
         _ => Err(Fault::UnknownCall),
     }
