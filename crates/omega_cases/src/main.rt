@@ -9,6 +9,7 @@ mod fault;
 mod line;
 mod tables;
 mod units;
+mod words;
 
 use fault::Fault;
 use std::alloc::Global;
@@ -43,6 +44,7 @@ fn answer(alloc: Global, text: &str) -> Result<String, Fault> {
         "attrs" => attrs::answer(alloc, call, rest),
         "tables" => tables::answer(alloc, call, rest),
         "units" => units::answer(alloc, call, rest),
+        "words" => words::answer(alloc, call, rest),
         _ => Err(Fault::UnknownCall),
     }
 }
