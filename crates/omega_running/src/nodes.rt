@@ -25,9 +25,9 @@ pub enum Tree {
 #[derive(Debug, Drop)]
 pub struct Node {
     left: Tree,
-    task: Task,
-    height: u8,
     right: Tree,
+    height: u8,
+    task: Task,
 }
 
 impl Node {
@@ -86,11 +86,15 @@ impl Tree {
             }
             Tree::Fork(mut node) => {
                 if order.precedes(&task, &node.task) {
+                    let before = node.left.height();
                     node.left = node.left.take().insert(order, task, room);
-                } else {
-                    node.right = node.right.take().insert(order, task, room);
+                    let after = node.left.height();
+                    return settled(node, before, after);
                 }
-                balanced(node)
+                let before = node.right.height();
+                node.right = node.right.take().insert(order, task, room);
+                let after = node.right.height();
+                settled(node, before, after)
             }
         }
     }
@@ -106,14 +110,18 @@ impl Tree {
             unreachable!()
         };
         if order.precedes(task, &node.task) {
+            let before = node.left.height();
             let (left, out) = node.left.take().remove(order, task);
+            let after = left.height();
             node.left = left;
-            return (balanced(node), out);
+            return (settled(node, before, after), out);
         }
         if order.precedes(&node.task, task) {
+            let before = node.right.height();
             let (right, out) = node.right.take().remove(order, task);
+            let after = right.height();
             node.right = right;
-            return (balanced(node), out);
+            return (settled(node, before, after), out);
         }
         let (left, right) = (node.left.take(), node.right.take());
         (joined(left, right), node)
@@ -210,6 +218,17 @@ fn fork(mut node: Box<Node>) -> Tree
     let height = node.left.height().max(node.right.height());
     node.height = height.saturating_add(1);
     Tree::Fork(node)
+}
+
+/// The tree of a node of which one side had the first height and has the second one now. Where they
+/// are the same, nothing changes above, and the other side isn't looked at.
+fn settled(node: Box<Node>, before: u8, after: u8) -> Tree
+    ensures { tasks_of result ≡ tasks_at node.value }
+{
+    if before == after {
+        return Tree::Fork(node);
+    }
+    balanced(node)
 }
 
 /// The tree of a node. Where one side is higher by more than one, tasks move to the other side.
