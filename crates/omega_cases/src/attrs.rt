@@ -1,6 +1,6 @@
 //! Placement constraints: the calls of `omega_attrs`.
 use crate::fault::Fault;
-use crate::line::text;
+use crate::values::text;
 use omega_attrs::{eligible, holds};
 use omega_model::{Attr, Attrs, Bytes, Constraint, Constraints, Copied, Op, Seq};
 use std::alloc::Global;
@@ -20,7 +20,10 @@ pub fn answer(alloc: Global, call: &str, words: &[Bytes]) -> Result<String, Faul
 
 /// The words before the first that is `on`, and those behind it.
 fn parted(words: &[Bytes]) -> (&[Bytes], &[Bytes]) {
-    match words.iter().position(|word| word.as_slice() == b"on".as_slice()) {
+    match words
+        .iter()
+        .position(|word| word.as_slice() == b"on".as_slice())
+    {
         Some(place) => (&words[..place], words.get(place + 1..).unwrap_or(&[])),
         None => (words, &[]),
     }

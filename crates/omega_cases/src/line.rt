@@ -1,10 +1,8 @@
-//! A line's words, and what single words say.
+//! A line's words.
 use crate::fault::Fault;
 use omega_model::{Bytes, Seq};
-use omega_units::read_u64;
 use std::alloc::Global;
 use std::mem;
-use std::str;
 
 /// Which part of an escape was read last.
 #[derive(Clone, Copy, Debug, PartialEq, Eq)]
@@ -120,21 +118,5 @@ fn hex_digit(byte: u8) -> Result<u8, Fault> {
         b'0'..=b'9' => Ok(byte - b'0'),
         b'a'..=b'f' => Ok(byte - b'a' + 10),
         _ => Err(Fault::BadLine),
-    }
-}
-
-/// A word that is text.
-pub fn text(word: &Bytes) -> Result<&str, Fault> {
-    match str::from_utf8(word.as_slice()) {
-        Ok(text) => Ok(text),
-        Err(_) => Err(Fault::UnknownCall),
-    }
-}
-
-/// A word that is a whole number.
-pub fn number(word: &Bytes) -> Result<u64, Fault> {
-    match read_u64(word.as_slice()) {
-        Ok(number) => Ok(number),
-        Err(_) => Err(Fault::UnknownCall),
     }
 }

@@ -6,9 +6,12 @@
 
 mod attrs;
 mod fault;
+mod fit;
 mod line;
+mod mapreduce;
 mod tables;
 mod units;
+mod values;
 mod words;
 
 use fault::Fault;
@@ -39,9 +42,11 @@ fn answer(alloc: Global, text: &str) -> Result<String, Fault> {
     let [subject, call, rest @ ..] = words.as_slice() else {
         return Err(Fault::UnknownCall);
     };
-    let call = line::text(call)?;
-    match line::text(subject)? {
+    let call = values::text(call)?;
+    match values::text(subject)? {
         "attrs" => attrs::answer(alloc, call, rest),
+        "fit" => fit::answer(alloc, call, rest),
+        "mapreduce" => mapreduce::answer(alloc, call, rest),
         "tables" => tables::answer(alloc, call, rest),
         "units" => units::answer(alloc, call, rest),
         "words" => words::answer(alloc, call, rest),

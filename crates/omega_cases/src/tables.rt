@@ -1,6 +1,6 @@
 //! Tables as text: the calls of `omega_tables`.
 use crate::fault::Fault;
-use crate::line::{number, text};
+use crate::values::{number, text};
 use omega_io::SteadyTables;
 use omega_model::{Bytes, Seq, Table, TraceTables};
 use omega_tables::{over_limit, parse_table, read_bytes, read_tables};

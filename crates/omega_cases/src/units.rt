@@ -1,6 +1,6 @@
 //! Numbers in text: the calls of `omega_units`.
 use crate::fault::Fault;
-use crate::line::number;
+use crate::values::number;
 use omega_model::{Bytes, Seq};
 use omega_units::{Rounding, push_u64, read_quantity, read_u64};
 use std::alloc::Global;

@@ -1,6 +1,6 @@
 //! The words of the command line: the calls of `omega_words`.
 use crate::fault::Fault;
-use crate::line::text;
+use crate::values::text;
 use omega_model::{Bytes, Settings};
 use omega_words::{WordsRefusal, read_words};
 use std::alloc::Global;
