@@ -10,6 +10,8 @@ pub enum Fault {
     BadLine,
     /// There is no such call, or it is given other words.
     UnknownCall,
+    /// A condition of the call doesn't hold, so it isn't made.
+    MayNot,
     NoMemory,
 }
 
@@ -18,6 +20,7 @@ impl fmt::Display for Fault {
         match self {
             Fault::BadLine => write!(f, "bad line"),
             Fault::UnknownCall => write!(f, "unknown call"),
+            Fault::MayNot => write!(f, "may not"),
             Fault::NoMemory => write!(f, "no memory"),
         }
     }

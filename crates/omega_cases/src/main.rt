@@ -5,10 +5,13 @@
 #![tactic(auto)]
 
 mod attrs;
+mod board;
 mod fault;
 mod fit;
 mod line;
 mod mapreduce;
+mod running;
+mod script;
 mod tables;
 mod units;
 mod values;
@@ -45,8 +48,10 @@ fn answer(alloc: Global, text: &str) -> Result<String, Fault> {
     let call = values::text(call)?;
     match values::text(subject)? {
         "attrs" => attrs::answer(alloc, call, rest),
+        "board" => board::answer(alloc, call, rest),
         "fit" => fit::answer(alloc, call, rest),
         "mapreduce" => mapreduce::answer(alloc, call, rest),
+        "running" => running::answer(alloc, call, rest),
         "tables" => tables::answer(alloc, call, rest),
         "units" => units::answer(alloc, call, rest),
         "words" => words::answer(alloc, call, rest),
