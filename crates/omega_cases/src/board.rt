@@ -55,7 +55,7 @@ impl Script for Steps {
 }
 
 /// A claim of a name, a machine, an amount, a precedence, a flag and victims.
-fn claim_of(alloc: Global, words: &[Bytes]) -> Result<Claim, Fault> {
+pub fn claim_of(alloc: Global, words: &[Bytes]) -> Result<Claim, Fault> {
     let [name, machine, amount, prec, flag, victims @ ..] = words else {
         return Err(Fault::UnknownCall);
     };

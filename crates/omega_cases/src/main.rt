@@ -6,6 +6,7 @@
 
 mod attrs;
 mod board;
+mod cell;
 mod fault;
 mod fit;
 mod line;
@@ -49,6 +50,7 @@ fn answer(alloc: Global, text: &str) -> Result<String, Fault> {
     match values::text(subject)? {
         "attrs" => attrs::answer(alloc, call, rest),
         "board" => board::answer(alloc, call, rest),
+        "cell" => cell::answer(alloc, call, rest),
         "fit" => fit::answer(alloc, call, rest),
         "mapreduce" => mapreduce::answer(alloc, call, rest),
         "running" => running::answer(alloc, call, rest),
