@@ -2,7 +2,7 @@
 use crate::fault::Fault;
 use crate::values::{number, text};
 use omega_io::SteadyTables;
-use omega_model::{Bytes, Seq, Table, TraceTables};
+use omega_model::{Bytes, Copied, Seq, Table, TraceTables};
 use omega_tables::{over_limit, parse_table, read_bytes, read_tables};
 use omega_units::push_u64;
 use std::alloc::Global;
@@ -11,8 +11,8 @@ use std::alloc::Global;
 /// rows of the table. `read TEXT ..`: the rows of the tables of these texts, in their order, or the
 /// refusal. `bytes TABLE TEXT ..`: the bytes of one of them. `limit TABLE COUNT FRONT BACK TEXT`: the
 /// limit that is passed by a table of so many lines, which differ in a number between front and
-/// back, and a table of attributes. `many COUNT FRONT BACK`: the refusal of so many such lines of
-/// machines.
+/// back, and a table of attributes. `many COUNT FRONT BACK TEXT ..`: how many such lines of
+/// machines are read, before the other tables, or the refusal.
 pub fn answer(alloc: Global, call: &str, words: &[Bytes]) -> Result<String, Fault> {
     match (call, words) {
         ("parse", [table, texts @ ..]) => parsed(alloc, table_of(table)?, texts),
@@ -22,9 +22,9 @@ pub fn answer(alloc: Global, call: &str, words: &[Bytes]) -> Result<String, Faul
             let lines = numbered(alloc, number(count)?, front.as_slice(), back.as_slice())?;
             limit(alloc, table_of(table)?, lines.as_slice(), attrs.as_slice())
         }
-        ("many", [count, front, back]) => {
+        ("many", [count, front, back, others @ ..]) => {
             let lines = numbered(alloc, number(count)?, front.as_slice(), back.as_slice())?;
-            many(alloc, &[lines])
+            many(alloc, lines, others)
         }
         _ => Err(Fault::UnknownCall),
     }
@@ -96,9 +96,14 @@ fn read(alloc: Global, texts: &[Bytes]) -> Result<String, Fault> {
     }
 }
 
-/// How many rows of machines are read, or the refusal.
-fn many(alloc: Global, texts: &[Bytes]) -> Result<String, Fault> {
-    let mut tables = tables_of(alloc, texts)?;
+/// How many rows of machines are read, before the other tables, or the refusal.
+fn many(alloc: Global, machines: Bytes, others: &[Bytes]) -> Result<String, Fault> {
+    let mut texts = Vec::new(alloc);
+    texts.push(machines)?;
+    for other in others {
+        texts.push(other.copy(alloc)?)?;
+    }
+    let mut tables = tables_of(alloc, texts.as_slice())?;
     match read_tables(alloc, &mut tables) {
         Ok(trace) => Ok(format!(in alloc; "{}", trace.machines.len())?),
         Err(refusal) => Ok(format!(in alloc; "{refusal:?}")?),
