@@ -19,6 +19,7 @@ mod values;
 mod words;
 
 use fault::Fault;
+use omega_model::Bytes;
 use std::alloc::Global;
 use std::io;
 use std::io::{BufRead, BufReader};
@@ -43,7 +44,12 @@ fn main(rt: HostRuntime) -> io::Result<()> {
 /// The answer of a line's call.
 fn answer(alloc: Global, text: &str) -> Result<String, Fault> {
     let words = line::words_of(alloc, text)?;
-    let [subject, call, rest @ ..] = words.as_slice() else {
+    answer_words(alloc, words.as_slice())
+}
+
+/// The answer of a call of these words: a subject, a call of it, and what the call is given.
+fn answer_words(alloc: Global, words: &[Bytes]) -> Result<String, Fault> {
+    let [subject, call, rest @ ..] = words else {
         return Err(Fault::UnknownCall);
     };
     let call = values::text(call)?;

@@ -47,9 +47,10 @@ fn settings_text(alloc: Global, settings: &Settings) -> Result<String, Fault> {
         machines,
         jobs,
     } = *settings;
-    let policy = format!(in alloc; "{rule:?} {mode:?} preempt {preempt:?} extra {extra:?}")?;
-    let limits = format!(in alloc; "tries {tries} give-up {give_up} window {window}")?;
-    let made = format!(in alloc; "machines {machines} jobs {jobs}")?;
-    let run = format!(in alloc; "{command:?} seed {seed} batch {batch}")?;
-    Ok(format!(in alloc; "{run} {policy} {limits} {format:?} {made}")?)
+    let mut text = String::new(alloc);
+    write!(text, "{command:?} seed {seed} batch {batch} ")?;
+    write!(text, "{rule:?} {mode:?} preempt {preempt:?} extra {extra:?} ")?;
+    write!(text, "tries {tries} give-up {give_up} window {window} ")?;
+    write!(text, "{format:?} machines {machines} jobs {jobs}")?;
+    Ok(text)
 }
