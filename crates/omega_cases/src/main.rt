@@ -5,8 +5,6 @@
 #![tactic(auto)]
 
 mod attrs;
-mod board;
-mod cell;
 mod fault;
 mod fit;
 mod line;
@@ -55,8 +53,6 @@ fn answer_words(alloc: Global, words: &[Bytes]) -> Result<String, Fault> {
     let call = values::text(call)?;
     match values::text(subject)? {
         "attrs" => attrs::answer(alloc, call, rest),
-        "board" => board::answer(alloc, call, rest),
-        "cell" => cell::answer(alloc, call, rest),
         "fit" => fit::answer(alloc, call, rest),
         "mapreduce" => mapreduce::answer(alloc, call, rest),
         "running" => running::answer(alloc, call, rest),

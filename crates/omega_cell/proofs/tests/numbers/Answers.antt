@@ -6,7 +6,7 @@ use Rattle.omega_model.specs.Touches.{seq}
 use Rattle.omega_model.specs.declared.claims.Claim.{Claim}
 use Rattle.omega_model.specs.declared.entries.Entry.{Entry}
 use Rattle.omega_board.proofs.Histories.{numbers_alike}
-use Rattle.omega_cases.proofs.cell.numbers.Goals as goal
+use Rattle.omega_cell.proofs.tests.numbers.Goals as goal
 
 of_all : (c : goal.After-loop-claim) → c.loop-claim.seqs.items ≡ map (λ (claim : Claim). seq c.args.cell.now.history claim.machine) c.args.claims.now
 of_all c =

@@ -1,7 +1,7 @@
 use Rattle.std.proofs.Common.{◌≡◌, ℕ, map, take}
 use Rattle.omega_machines.specs.Table.{seq_at}
 use Rattle.omega_model.specs.Touches.{seq}
-use Rattle.omega_cases.proofs.cell.numbers.Given as goal
+use Rattle.omega_cell.proofs.tests.numbers.Given as goal
 
 abbrev pub invariant-loop-claim : goal.invariant-loop-claim
 invariant-loop-claim l =
