@@ -49,7 +49,10 @@ fn settings_text(alloc: Global, settings: &Settings) -> Result<String, Fault> {
     } = *settings;
     let mut text = String::new(alloc);
     write!(text, "{command:?} seed {seed} batch {batch} ")?;
-    write!(text, "{rule:?} {mode:?} preempt {preempt:?} extra {extra:?} ")?;
+    write!(
+        text,
+        "{rule:?} {mode:?} preempt {preempt:?} extra {extra:?} "
+    )?;
     write!(text, "tries {tries} give-up {give_up} window {window} ")?;
     write!(text, "{format:?} machines {machines} jobs {jobs}")?;
     Ok(text)
