@@ -9,8 +9,6 @@ mod fault;
 mod fit;
 mod line;
 mod mapreduce;
-mod running;
-mod script;
 mod tables;
 mod units;
 mod values;
@@ -55,7 +53,6 @@ fn answer_words(alloc: Global, words: &[Bytes]) -> Result<String, Fault> {
         "attrs" => attrs::answer(alloc, call, rest),
         "fit" => fit::answer(alloc, call, rest),
         "mapreduce" => mapreduce::answer(alloc, call, rest),
-        "running" => running::answer(alloc, call, rest),
         "tables" => tables::answer(alloc, call, rest),
         "units" => units::answer(alloc, call, rest),
         "words" => words::answer(alloc, call, rest),

@@ -1,8 +1,7 @@
-//! What words say: texts, numbers, amounts, names of tasks.
+//! What words say: texts, numbers, amounts.
 use crate::fault::Fault;
-use omega_model::{Bytes, Keys, Need, Spec, TaskKey};
+use omega_model::{Bytes, Need};
 use omega_units::read_u64;
-use std::alloc::Global;
 use std::str;
 
 /// A text.
@@ -71,44 +70,4 @@ pub fn free(word: &Bytes) -> Result<Option<Need>, Fault> {
 /// Whether a word is the one that parts a line's steps.
 pub fn is_colon(word: &Bytes) -> bool {
     matches!(word.as_slice(), [b':'])
-}
-
-/// The name of a task, as `JOB/INDEX`.
-pub fn key(word: &Bytes) -> Result<TaskKey, Fault> {
-    let Some((job, index)) = text(word)?.split_once('/') else {
-        return Err(Fault::UnknownCall);
-    };
-    let Ok(index) = u32::try_from(units(index)?) else {
-        return Err(Fault::UnknownCall);
-    };
-    Ok(TaskKey {
-        job: units(job)?,
-        index,
-    })
-}
-
-/// Names of tasks.
-pub fn keys(alloc: Global, words: &[Bytes]) -> Result<Keys, Fault> {
-    let mut keys = Keys::new(alloc);
-    for word in words {
-        keys.push(key(word)?)?;
-    }
-    Ok(keys)
-}
-
-/// What a task asks for: an amount, a precedence below 256, and `differ` or `share`.
-pub fn spec(amount: &Bytes, prec: &Bytes, flag: &Bytes) -> Result<Spec, Fault> {
-    let Ok(prec) = u8::try_from(number(prec)?) else {
-        return Err(Fault::UnknownCall);
-    };
-    let differ = match text(flag)? {
-        "differ" => true,
-        "share" => false,
-        _ => return Err(Fault::UnknownCall),
-    };
-    Ok(Spec {
-        need: need(amount)?,
-        prec,
-        differ,
-    })
 }

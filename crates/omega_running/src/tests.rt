@@ -1,5 +1,3 @@
-//! What a line of `crates/omega_cases/stdin` is too short for: many tasks. All other cases stand there.
-
 use crate::Running;
 use omega_model::{Keys, Need, NoMemory, Spec, Task, TaskKey};
 use std::alloc::Global;
@@ -32,6 +30,55 @@ fn put(running: &mut Running, alloc: Global, task: Task) -> Result<bool, NoMemor
     }
     running.insert_reserved(task);
     Ok(true)
+}
+
+#[test]
+fn answers_by_key_by_machine_and_by_job(rt: HostRuntime) -> Result<(), NoMemory> {
+    let alloc = rt.alloc();
+    let mut running = Running::new(alloc);
+    assert_eq!(rt; running.count(), 0);
+    for task in [
+        task(7, 0, 3, 2),
+        task(7, 1, 3, 1),
+        task(5, 9, 3, 2),
+        task(7, 2, 4, 0),
+    ] {
+        assert!(rt; put(&mut running, alloc, task)?);
+    }
+    assert!(rt; !put(&mut running, alloc, task(7, 1, 9, 9))?);
+    assert_eq!(rt; running.count(), 4);
+    assert_eq!(rt; running.get(key(7, 1)), Some(&task(7, 1, 3, 1)));
+    assert_eq!(rt; running.get(key(7, 3)), None);
+
+    let mut gone = Keys::new(alloc);
+    let order = [key(7, 1), key(5, 9), key(7, 0)];
+    assert_eq!(rt; running.on_machine(alloc, 3)?.as_slice(), order.as_slice());
+    assert_eq!(rt; running.on_machine(alloc, 5)?.len(), 0);
+    let indexes = [key(7, 0), key(7, 1), key(7, 2)];
+    assert_eq!(rt; running.of_job(alloc, 7)?.as_slice(), indexes.as_slice());
+    assert_eq!(rt; running.other_of_job(7, 3, &gone), Some(key(7, 0)));
+    gone.push(key(7, 0))?;
+    assert_eq!(rt; running.other_of_job(7, 3, &gone), Some(key(7, 1)));
+    assert_eq!(rt; running.other_of_job(7, 4, &gone), Some(key(7, 2)));
+    assert_eq!(rt; running.other_of_job(5, 4, &gone), None);
+    gone.push(key(7, 1))?;
+    assert_eq!(rt; running.other_of_job(7, 3, &gone), None);
+
+    let copied = running.copy(alloc)?;
+    assert_eq!(rt; running.remove(key(7, 1)), Some(task(7, 1, 3, 1)));
+    assert_eq!(rt; running.remove(key(7, 1)), None);
+    assert_eq!(rt; running.count(), 3);
+    assert_eq!(rt;
+        running.on_machine(alloc, 3)?.as_slice(),
+        [key(5, 9), key(7, 0)].as_slice()
+    );
+    assert_eq!(rt;
+        running.of_job(alloc, 7)?.as_slice(),
+        [key(7, 0), key(7, 2)].as_slice()
+    );
+    assert_eq!(rt; copied.count(), 4);
+    assert_eq!(rt; copied.on_machine(alloc, 3)?.as_slice(), order.as_slice());
+    Ok(())
 }
 
 // 100,000 tasks on 10,000 machines: 1,000 jobs of 100 tasks, ten tasks on each machine. They come
