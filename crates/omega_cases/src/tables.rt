@@ -1,0 +1,143 @@
+//! Tables as text: the calls of `omega_tables`.
+use crate::fault::Fault;
+use crate::values::{number, text};
+use omega_io::SteadyTables;
+use omega_model::{Bytes, Copied, Seq, Table, TraceTables};
+use omega_tables::{over_limit, parse_table, read_bytes, read_tables};
+use omega_units::push_u64;
+use std::alloc::Global;
+
+/// `parse TABLE TEXT ..`: the refusals of the texts, each parsed behind those before it, and then the
+/// rows of the table. `read TEXT ..`: the rows of the tables of these texts, in their order, or the
+/// refusal. `bytes TABLE TEXT ..`: the bytes of one of them. `limit TABLE COUNT FRONT BACK TEXT`: the
+/// limit that is passed by a table of so many lines, which differ in a number between front and
+/// back, and a table of attributes. `many COUNT FRONT BACK TEXT ..`: how many such lines of
+/// machines are read, before the other tables, or the refusal.
+pub fn answer(alloc: Global, call: &str, words: &[Bytes]) -> Result<String, Fault> {
+    match (call, words) {
+        ("parse", [table, texts @ ..]) => parsed(alloc, table_of(table)?, texts),
+        ("read", _) => read(alloc, words),
+        ("bytes", [table, texts @ ..]) => bytes(alloc, table_of(table)?, texts),
+        ("limit", [table, count, front, back, attrs]) => {
+            let lines = numbered(alloc, number(count)?, front.as_slice(), back.as_slice())?;
+            limit(alloc, table_of(table)?, lines.as_slice(), attrs.as_slice())
+        }
+        ("many", [count, front, back, others @ ..]) => {
+            let lines = numbered(alloc, number(count)?, front.as_slice(), back.as_slice())?;
+            many(alloc, lines, others)
+        }
+        _ => Err(Fault::UnknownCall),
+    }
+}
+
+/// The table of a word.
+fn table_of(word: &Bytes) -> Result<Table, Fault> {
+    match text(word)? {
+        "machine_events" => Ok(Table::MachineEvents),
+        "machine_attributes" => Ok(Table::MachineAttributes),
+        "task_events" => Ok(Table::TaskEvents),
+        "task_constraints" => Ok(Table::TaskConstraints),
+        "mapreduce_jobs" => Ok(Table::MapreduceJobs),
+        "machine_disk" => Ok(Table::MachineDisk),
+        _ => Err(Fault::UnknownCall),
+    }
+}
+
+/// The refusals of texts of one table, and the rows.
+fn parsed(alloc: Global, table: Table, texts: &[Bytes]) -> Result<String, Fault> {
+    let mut trace = TraceTables::new(alloc);
+    let mut refusals = String::new(alloc);
+    for text in texts {
+        if let Err(refusal) = parse_table(alloc, table, text.as_slice(), &mut trace) {
+            let refusal = format!(in alloc; "{refusal:?} ")?;
+            refusals.push_str(refusal.as_str())?;
+        }
+    }
+    let rows = rows_of(alloc, table, &trace)?;
+    refusals.push_str(rows.as_str())?;
+    Ok(refusals)
+}
+
+/// The rows of one table.
+fn rows_of(alloc: Global, table: Table, trace: &TraceTables) -> Result<String, Fault> {
+    let rows = match table {
+        Table::MachineEvents => format!(in alloc; "{:?}", trace.machines.as_slice()),
+        Table::MachineAttributes => format!(in alloc; "{:?}", trace.attrs.as_slice()),
+        Table::TaskEvents => format!(in alloc; "{:?}", trace.tasks.as_slice()),
+        Table::TaskConstraints => format!(in alloc; "{:?}", trace.constraints.as_slice()),
+        Table::MapreduceJobs => format!(in alloc; "{:?}", trace.activities.as_slice()),
+        Table::MachineDisk => format!(in alloc; "{:?}", trace.disks.as_slice()),
+    };
+    Ok(rows?)
+}
+
+/// Tables of these texts, in their order. Those for which there is no text are empty.
+fn tables_of(alloc: Global, texts: &[Bytes]) -> Result<SteadyTables, Fault> {
+    let mut tables: [Bytes; 6] = [
+        Seq::new(alloc),
+        Seq::new(alloc),
+        Seq::new(alloc),
+        Seq::new(alloc),
+        Seq::new(alloc),
+        Seq::new(alloc),
+    ];
+    for (table, text) in tables.iter_mut().zip(texts) {
+        table.extend_from_slice(text.as_slice())?;
+    }
+    Ok(SteadyTables::new(alloc, tables))
+}
+
+/// The rows of all tables, or the refusal.
+fn read(alloc: Global, texts: &[Bytes]) -> Result<String, Fault> {
+    let mut tables = tables_of(alloc, texts)?;
+    match read_tables(alloc, &mut tables) {
+        Ok(trace) => Ok(format!(in alloc; "{trace:?}")?),
+        Err(refusal) => Ok(format!(in alloc; "{refusal:?}")?),
+    }
+}
+
+/// How many rows of machines are read, before the other tables, or the refusal.
+fn many(alloc: Global, machines: Bytes, others: &[Bytes]) -> Result<String, Fault> {
+    let mut texts = Vec::new(alloc);
+    texts.push(machines)?;
+    for other in others {
+        texts.push(other.copy(alloc)?)?;
+    }
+    let mut tables = tables_of(alloc, texts.as_slice())?;
+    match read_tables(alloc, &mut tables) {
+        Ok(trace) => Ok(format!(in alloc; "{}", trace.machines.len())?),
+        Err(refusal) => Ok(format!(in alloc; "{refusal:?}")?),
+    }
+}
+
+/// The bytes of one of the tables, or the refusal.
+fn bytes(alloc: Global, table: Table, texts: &[Bytes]) -> Result<String, Fault> {
+    let mut tables = tables_of(alloc, texts)?;
+    match read_bytes(alloc, &mut tables, table) {
+        Ok(bytes) => Ok(format!(in alloc; "{:?}", bytes.as_slice())?),
+        Err(refusal) => Ok(format!(in alloc; "{refusal:?}")?),
+    }
+}
+
+/// So many lines, which differ in a number from 0 on.
+fn numbered(alloc: Global, count: u64, front: &[u8], back: &[u8]) -> Result<Bytes, Fault> {
+    let mut lines = Seq::new(alloc);
+    for number in 0..count {
+        lines.extend_from_slice(front)?;
+        push_u64(&mut lines, number)?;
+        lines.extend_from_slice(back)?;
+    }
+    Ok(lines)
+}
+
+/// The limit that a table and one of attributes pass, or a refusal.
+fn limit(alloc: Global, table: Table, lines: &[u8], attrs: &[u8]) -> Result<String, Fault> {
+    let mut trace = TraceTables::new(alloc);
+    let first = parse_table(alloc, table, lines, &mut trace);
+    let second = parse_table(alloc, Table::MachineAttributes, attrs, &mut trace);
+    if first.is_err() || second.is_err() {
+        return Ok(format!(in alloc; "{first:?} {second:?}")?);
+    }
+    let passed = over_limit(alloc, &trace)?;
+    Ok(format!(in alloc; "{passed:?}")?)
+}

@@ -1,0 +1,59 @@
+//! The words of the command line: the calls of `omega_words`.
+use crate::fault::Fault;
+use crate::values::text;
+use omega_model::{Bytes, Settings};
+use omega_words::{WordsRefusal, read_words};
+use std::alloc::Global;
+
+/// `read WORD ..`: the settings and the folder of the words, or `usage`.
+pub fn answer(alloc: Global, call: &str, words: &[Bytes]) -> Result<String, Fault> {
+    match call {
+        "read" => read(alloc, words),
+        _ => Err(Fault::UnknownCall),
+    }
+}
+
+/// The settings and the folder of words.
+fn read(alloc: Global, words: &[Bytes]) -> Result<String, Fault> {
+    let mut texts = Vec::new(alloc);
+    for word in words {
+        texts.push(text(word)?)?;
+    }
+    match read_words(alloc, texts.as_slice()) {
+        Ok(parsed) => {
+            let settings = settings_text(alloc, &parsed.settings)?;
+            let folder = parsed.folder.as_str();
+            Ok(format!(in alloc; "{settings} folder {folder:?}")?)
+        }
+        Err(WordsRefusal::Usage) => Ok(format!(in alloc; "usage")?),
+        Err(WordsRefusal::NoMemory) => Err(Fault::NoMemory),
+    }
+}
+
+/// All settings, the command first.
+fn settings_text(alloc: Global, settings: &Settings) -> Result<String, Fault> {
+    let Settings {
+        command,
+        seed,
+        batch,
+        rule,
+        mode,
+        preempt,
+        extra,
+        tries,
+        give_up,
+        window,
+        format,
+        machines,
+        jobs,
+    } = *settings;
+    let mut text = String::new(alloc);
+    write!(text, "{command:?} seed {seed} batch {batch} ")?;
+    write!(
+        text,
+        "{rule:?} {mode:?} preempt {preempt:?} extra {extra:?} "
+    )?;
+    write!(text, "tries {tries} give-up {give_up} window {window} ")?;
+    write!(text, "{format:?} machines {machines} jobs {jobs}")?;
+    Ok(text)
+}
