@@ -75,6 +75,3 @@ fn whole(text: &[u8]) -> Option<u64>
 {
     read_u64(text).ok()
 }
-
-#[cfg(test)]
-mod tests;

@@ -11,8 +11,6 @@ mod index;
 mod needs;
 mod nodes;
 mod searching;
-#[cfg(test)]
-mod tests;
 
 pub use first::first_fit;
 pub use index::FitIndex;

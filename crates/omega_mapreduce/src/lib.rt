@@ -79,6 +79,3 @@ fn most_of(percent: u32, count: u32, need: u64, used: u64, cap: u64) -> u32
         None => count,
     }
 }
-
-#[cfg(test)]
-mod tests;

@@ -63,6 +63,3 @@ pub fn read_quantity(text: &[u8], rounding: Rounding) -> Result<u64, BadNumber>
     };
     decimal.units(rounding).ok_or(BadNumber)
 }
-
-#[cfg(test)]
-mod tests;

@@ -91,6 +91,3 @@ pub fn read_words(alloc: Global, words: &[&str]) -> Result<Parsed, WordsRefusal>
         Err(_) => Err(WordsRefusal::NoMemory),
     }
 }
-
-#[cfg(test)]
-mod tests;
