@@ -84,7 +84,7 @@ impl Both {
     /// Writes what is free at a position.
     fn put(&mut self, position: usize, amount: Option<Need>) -> Result<(), Fault> {
         if position >= self.index.len() {
-            return Err(Fault::UnknownCall);
+            return Err(Fault::MayNot);
         }
         self.index.put(position, amount);
         match self.list.get_mut(position) {
@@ -92,7 +92,7 @@ impl Both {
                 *place = amount;
                 Ok(())
             }
-            None => Err(Fault::UnknownCall),
+            None => Err(Fault::MayNot),
         }
     }
 
@@ -105,7 +105,7 @@ impl Both {
         answers: &mut String,
     ) -> Result<(), Fault> {
         if start > self.index.len() || start > self.list.len() {
-            return Err(Fault::UnknownCall);
+            return Err(Fault::MayNot);
         }
         let found = self
             .index
