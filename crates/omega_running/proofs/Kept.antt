@@ -27,14 +27,14 @@ absent_each p (x ∷ xs) e = go (p x) refl (absent_each p xs) e where
   go false h rest e = (h, rest e)
 
 -- what a filter leaves
-each_passes : {X : Type 0} (p : X → Bool) (xs : List X) → Each (λ x. p x ≡ true) (filter p xs)
+pub each_passes : {X : Type 0} (p : X → Bool) (xs : List X) → Each (λ x. p x ≡ true) (filter p xs)
 each_passes p [] = tt
 each_passes p (x ∷ xs) = go (p x) refl (each_passes p xs) where
   go : (b : Bool) → p x ≡ b → Each (λ y. p y ≡ true) (filter p xs) → Each (λ y. p y ≡ true) (cond b (x ∷ filter p xs) (filter p xs))
   go true h rest = (h, rest)
   go false h rest = rest
 
-each_filter : {X : Type 0} (P : X → Type 0) (p : X → Bool) (xs : List X) → Each P xs → Each P (filter p xs)
+pub each_filter : {X : Type 0} (P : X → Type 0) (p : X → Bool) (xs : List X) → Each P xs → Each P (filter p xs)
 each_filter P p [] e = tt
 each_filter P p (x ∷ xs) e = go (p x) (each_filter P p xs e.1) where
   go : (b : Bool) → Each P (filter p xs) → Each P (cond b (x ∷ filter p xs) (filter p xs))
@@ -42,14 +42,14 @@ each_filter P p (x ∷ xs) e = go (p x) (each_filter P p xs e.1) where
   go false rest = rest
 
 -- what holds of all that pass holds of all where they pass
-each_where : {X : Type 0} (P : X → Type 0) (p : X → Bool) (xs : List X) → Each P (filter p xs) → Each (λ x. p x ≡ true → P x) xs
+pub each_where : {X : Type 0} (P : X → Type 0) (p : X → Bool) (xs : List X) → Each P (filter p xs) → Each (λ x. p x ≡ true → P x) xs
 each_where P p [] e = tt
 each_where P p (x ∷ xs) e = go (p x) refl (each_where P p xs) e where
   go : (b : Bool) → p x ≡ b → (Each P (filter p xs) → Each (λ y. p y ≡ true → P y) xs) → Each P (cond b (x ∷ filter p xs) (filter p xs)) → Each (λ y. p y ≡ true → P y) (x ∷ xs)
   go true h rest e = (λ _. e.0, rest e.1)
   go false h rest e = (λ q. absurd (both_ways _ h q), rest e)
 
-filter_both : {X : Type 0} (p q : X → Bool) (xs : List X) → filter p (filter q xs) ≡ filter q (filter p xs)
+pub filter_both : {X : Type 0} (p q : X → Bool) (xs : List X) → filter p (filter q xs) ≡ filter q (filter p xs)
 filter_both p q [] = refl
 filter_both p q (x ∷ xs) = go (p x) (q x) refl refl (filter_both p q xs) where
   go : (a b : Bool) → p x ≡ a → q x ≡ b → filter p (filter q xs) ≡ filter q (filter p xs) → filter p (cond b (x ∷ filter q xs) (filter q xs)) ≡ filter q (cond a (x ∷ filter p xs) (filter p xs))
@@ -66,7 +66,7 @@ filter_same s p q xs ys f e =
     ∙ ap (filter q) e
     ∙ filter_both q s ys
 
-find_in_filter : {X : Type 0} (q s : X → Bool) (xs : List X) → ((x : X) → q x ≡ true → s x ≡ true) → find q (filter s xs) ≡ find q xs
+pub find_in_filter : {X : Type 0} (q s : X → Bool) (xs : List X) → ((x : X) → q x ≡ true → s x ≡ true) → find q (filter s xs) ≡ find q xs
 find_in_filter q s [] f = refl
 find_in_filter q s (x ∷ xs) f = go (s x) (q x) refl refl (find_in_filter q s xs f) where
   go : (a b : Bool) → s x ≡ a → q x ≡ b → find q (filter s xs) ≡ find q xs → find q (cond a (x ∷ filter s xs) (filter s xs)) ≡ cond b (Some x) (find q xs)
@@ -83,7 +83,7 @@ any_found p s q (x ∷ xs) y e h k = go (p x) (s x) refl refl (λ d. any_found p
   go false true g i rest e = or_right _ _ (rest e)
   go false false g i rest e = rest e
 
-any_unfilter : {X : Type 0} (s q : X → Bool) (xs : List X) → list_any q (filter s xs) ≡ true → list_any q xs ≡ true
+pub any_unfilter : {X : Type 0} (s q : X → Bool) (xs : List X) → list_any q (filter s xs) ≡ true → list_any q xs ≡ true
 any_unfilter s q [] e = e
 any_unfilter s q (x ∷ xs) e = go (s x) (any_unfilter s q xs) e where
   go : (a : Bool) → (list_any q (filter s xs) ≡ true → list_any q xs ≡ true) → list_any q (cond a (x ∷ filter s xs) (filter s xs)) ≡ true → (q x || list_any q xs) ≡ true
@@ -119,7 +119,7 @@ cut lt s t (x ∷ xs) u = go (lt t x) refl (cut lt s t xs u.1) where
       rw (filter_none (λ y. not (lt t y)) xs (each_map (λ y. lt t y ≡ true) (λ y. not (lt t y) ≡ false) (λ y q. not_from_true _ q) xs later), filter_every (λ y. lt t y) xs later) refl
   go false h rest = ap (λ ys. x ∷ ys) rest
 
-rises_put : {X : Type 0} (lt : X → X → Bool) → IsStrict lt → (t : X) (xs : List X) → Rises lt xs → Each (λ y. apart lt t y ≡ true) xs → Rises lt (put lt t xs)
+pub rises_put : {X : Type 0} (lt : X → X → Bool) → IsStrict lt → (t : X) (xs : List X) → Rises lt xs → Each (λ y. apart lt t y ≡ true) xs → Rises lt (put lt t xs)
 rises_put {X} lt s t xs u a =
     let p : X → Bool = λ y. not (lt t y) in
     let q : X → Bool = λ y. lt t y in
@@ -131,7 +131,7 @@ rises_put {X} lt s t xs u a =
     rises_join lt (filter p xs) (t ∷ filter q xs) (rises_filter lt p xs u) (behind, rises_filter lt q xs u)
     (each_map (λ y. lt y t ≡ true) (λ y. Each (λ z. lt y z ≡ true) (t ∷ filter q xs)) (λ y h. (h, each_map (λ z. lt t z ≡ true) (λ z. lt y z ≡ true) (λ z k. trans lt s y t z h k) (filter q xs) behind)) (filter p xs) front)
 
-irreflexive : {X : Type 0} (lt : X → X → Bool) → IsStrict lt → (a : X) → lt a a ≡ false
+pub irreflexive : {X : Type 0} (lt : X → X → Bool) → IsStrict lt → (a : X) → lt a a ≡ false
 irreflexive lt s a = false_from_ne_true _ (λ e. both_ways _ (s.asym a a e) e)
 
 or_comm : (a b : Bool) → (a || b) ≡ (b || a)
@@ -140,7 +140,7 @@ or_comm true false = refl
 or_comm false true = refl
 or_comm false false = refl
 
-or_no : (a : Bool) → (a || false) ≡ a
+pub or_no : (a : Bool) → (a || false) ≡ a
 or_no true = refl
 or_no false = refl
 
@@ -188,7 +188,7 @@ put_rises_too t by_key by_machine e same u =
     rises_put (precedes ByMachine) (strict ByMachine) t by_machine u far
 
 -- a filter that leaves t out of a list that t was put in
-skip_put : (lt : Task → Task → Bool) → IsStrict lt → (s : Task → Bool) (t : Task) (xs : List Task) → Rises lt xs → s t ≡ false → filter s (put lt t xs) ≡ filter s xs
+pub skip_put : (lt : Task → Task → Bool) → IsStrict lt → (s : Task → Bool) (t : Task) (xs : List Task) → Rises lt xs → s t ≡ false → filter s (put lt t xs) ≡ filter s xs
 skip_put lt o s t xs u h =
     filter-append s (filter (λ y. not (lt t y)) xs) (t ∷ filter (λ y. lt t y) xs)
     ∙ rw h (sym (filter-append s (filter (λ y. not (lt t y)) xs) (filter (λ y. lt t y) xs)))

@@ -5,3 +5,4 @@ pub mod InOrder
 pub mod AtFork
 pub mod Kept
 pub mod Ranked
+pub mod Spread

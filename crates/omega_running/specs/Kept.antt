@@ -1,10 +1,11 @@
 -- The running tasks as a caller sees them, and what holds of their two trees.
-use Rattle.std.specs.Prelude.{◌≡◌, ◌≤◌, ◌+◌, ℕ, List, length}
+use Rattle.std.specs.Prelude.{◌≡◌, ◌<◌, ◌≤◌, ◌+◌, ℕ, List, length}
 use Rattle.std.specs.List.{filter}
 use Rattle.omega_model.specs.Keys.{key_lt}
 use Rattle.omega_model.specs.Cell.{is_on}
 use Rattle.omega_model.specs.declared.cells.Task.{Task}
-use Rattle.omega_running.specs.declared.orders.Order.TheVariants.{ByMachine}
+use Rattle.omega_running.specs.declared.orders.Order.TheVariants.{ByKey, ByMachine}
+use Rattle.omega_running.specs.Forest.{SpreadTasks}
 use Rattle.omega_running.specs.Order.{Rises, IsInOrder}
 
 -- each task's key stands before the keys of all later tasks
@@ -16,10 +17,13 @@ pub record RunningTasks : Type 0 where
   pub tasks : List Task
   pub spare : ℕ
 
--- both lists are in order and have the same tasks on each machine, and all tasks can come back to the pool
-pub record AreKept (by_key by_machine : List Task) (count spare capacity : ℕ) : Type 0 where
-  pub keys_rise : KeysRise by_key
-  pub machines_rise : IsInOrder ByMachine by_machine
-  pub same : (machine : ℕ) → filter (is_on machine) by_machine ≡ filter (is_on machine) by_key
-  pub counted : count ≡ length by_key
+-- the two forests have the same tasks on each machine, trees for each task that there is or may come, and all tasks can come back to the pool
+pub record AreKept (by_key by_machine : SpreadTasks) (count spare capacity : ℕ) : Type 0 where
+  pub key_order : by_key.order ≡ ByKey
+  pub machine_order : by_machine.order ≡ ByMachine
+  pub keys_rise : KeysRise by_key.tasks
+  pub machines_rise : IsInOrder ByMachine by_machine.tasks
+  pub same : (machine : ℕ) → filter (is_on machine) by_machine.tasks ≡ filter (is_on machine) by_key.tasks
+  pub planted : 0 < count + spare → (0 < by_key.trees) × (0 < by_machine.trees)
+  pub counted : count ≡ length by_key.tasks
   pub room : count + spare ≤ capacity

@@ -1,4 +1,5 @@
 pub mod Order
 pub mod Tree
+pub mod Forest
 pub mod Kept
 pub mod Standing

@@ -6,6 +6,7 @@
 //! and taken out without memory.
 #![tactic(auto)]
 
+mod forest;
 mod nodes;
 mod orders;
 mod standing;

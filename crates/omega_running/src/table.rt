@@ -6,7 +6,8 @@ ghost use Rattle.omega_model.specs.Jobs.{is_of_job, other_of_job};
 ghost use Rattle.omega_running.specs.Kept.{KeysRise};
 ghost use Rattle.omega_running.specs.Standing.{stands_in};
 
-use crate::nodes::{Node, Tree};
+use crate::forest::Forest;
+use crate::nodes::Node;
 use crate::orders::Order;
 use crate::standing::same_task;
 use omega_model::{Keys, NoMemory, Seq, Task, TaskKey, Tasks};
@@ -24,8 +25,8 @@ struct Pair {
 /// and `spare`, for how many more there is room.
 #[derive(Debug, Drop)]
 pub struct Running {
-    by_key: Tree,
-    by_machine: Tree,
+    by_key: Forest,
+    by_machine: Forest,
     count: usize,
     pool: Vec<Pair>,
 }
@@ -33,13 +34,12 @@ pub struct Running {
 impl Model for Running {
     ghost use Rattle.std.specs.Prelude.{vec_len, vec_capacity};
     ghost use Rattle.omega_running.specs.Kept.{RunningTasks, AreKept};
-    ghost use Rattle.omega_running.specs.Tree.{tasks_of};
 
     ghost Value = { RunningTasks };
 
-    ghost view = { λ r. record { tasks = tasks_of r.by_key; spare = vec_len r.pool } };
+    ghost view = { λ r. record { tasks = r.by_key.tasks; spare = vec_len r.pool } };
 
-    ghost invariant = { λ r. AreKept (tasks_of r.by_key) (tasks_of r.by_machine) r.count (vec_len r.pool) (vec_capacity r.pool) };
+    ghost invariant = { λ r. AreKept r.by_key r.by_machine r.count (vec_len r.pool) (vec_capacity r.pool) };
 }
 
 impl Running {
@@ -49,8 +49,8 @@ impl Running {
         ensures spare { result.spare ≡ 0 }
     {
         Running {
-            by_key: Tree::Leaf,
-            by_machine: Tree::Leaf,
+            by_key: Forest::bare(alloc, Order::ByKey),
+            by_machine: Forest::bare(alloc, Order::ByMachine),
             count: 0,
             pool: Vec::new(alloc),
         }
@@ -89,6 +89,8 @@ impl Running {
         let Some(room) = self.count.checked_add(n - spare) else {
             return Err(NoMemory);
         };
+        self.by_key.plant(alloc)?;
+        self.by_machine.plant(alloc)?;
         self.pool.reserve(room)?;
         fill(&mut self.pool, alloc, n)
     }
@@ -104,11 +106,8 @@ impl Running {
         let Some(Pair { by_key, by_machine }) = self.pool.pop() else {
             unreachable!()
         };
-        self.by_key = self.by_key.take().insert(Order::ByKey, task, by_key);
-        self.by_machine = self
-            .by_machine
-            .take()
-            .insert(Order::ByMachine, task, by_machine);
+        self.by_key.insert(task, by_key);
+        self.by_machine.insert(task, by_machine);
         self.count += 1;
     }
 
@@ -133,10 +132,8 @@ impl Running {
         ensures tasks { self.new.tasks ≡ without (task.now.key ∷ []) self.old.tasks }
         ensures spare { self.new.spare ≡ self.old.spare + 1 }
     {
-        let (rest, by_key) = self.by_key.take().remove(Order::ByKey, task);
-        self.by_key = rest;
-        let (rest, by_machine) = self.by_machine.take().remove(Order::ByMachine, task);
-        self.by_machine = rest;
+        let by_key = self.by_key.remove(task);
+        let by_machine = self.by_machine.remove(task);
         self.count -= 1;
         self.pool.push_reserved(Pair { by_key, by_machine });
     }
@@ -147,8 +144,7 @@ impl Running {
         ensures { IfOk result (λ keys. keys ≡ keys_of (by_rank (filter (is_on machine) self.now.tasks))) }
     {
         let mut found = Vec::new(alloc);
-        self.by_machine
-            .collect(Order::ByMachine, machine, &mut found)?;
+        self.by_machine.collect(machine, &mut found)?;
         found.sort_unstable_by_key(|task| (task.spec.prec, task.key.job, task.key.index));
         keys_of(alloc, &found)
     }
@@ -159,8 +155,7 @@ impl Running {
         ensures { IfOk result (λ tasks. tasks ≡ filter (is_on machine) self.now.tasks) }
     {
         let mut found = Vec::new(alloc);
-        self.by_machine
-            .collect(Order::ByMachine, machine, &mut found)?;
+        self.by_machine.collect(machine, &mut found)?;
         Ok(Seq::of(found))
     }
 
@@ -181,7 +176,7 @@ impl Running {
         ensures { IfOk result (λ keys. keys ≡ keys_of (filter (is_of_job job) self.now.tasks)) }
     {
         let mut found = Vec::new(alloc);
-        self.by_key.collect(Order::ByKey, job, &mut found)?;
+        self.by_key.collect(job, &mut found)?;
         keys_of(alloc, &found)
     }
 
@@ -191,7 +186,7 @@ impl Running {
         ensures { IfOk result (λ tasks. tasks ≡ filter (is_of_job job) self.now.tasks) }
     {
         let mut found = Vec::new(alloc);
-        self.by_key.collect(Order::ByKey, job, &mut found)?;
+        self.by_key.collect(job, &mut found)?;
         Ok(Seq::of(found))
     }
 

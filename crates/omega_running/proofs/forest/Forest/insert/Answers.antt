@@ -1,0 +1,30 @@
+use Rattle.std.proofs.Common.{◌≡◌, ◌<◌, ◌%◌, ℕ, List, true, length, map, set, subst, ◌∙◌}
+use Rattle.omega_running.specs.declared.nodes.Tree.{Tree}
+use Rattle.omega_running.specs.Forest.{gathered}
+use Rattle.omega_running.specs.Order.{Each, IsInOrder, is_apart, lead, put_in}
+use Rattle.omega_running.specs.Tree.{tasks_of}
+use Rattle.omega_running.proofs.Spread.{AreNow, part, put_at, tree_at}
+use Rattle.omega_running.proofs.forest.Forest.insert.Goals as goal
+
+pub insert-requires : goal.insert-requires
+insert-requires c =
+    let trees = c.self.inside.trees.items in
+    let less : c.in-Some.place < length trees = rw (← c.self.view_is) at c.in-Some.ensures.within in
+    let is = tree_at trees c.in-Some.place c.index_mut-tree.result.now less c.index_mut-tree.ensures.value in
+    rw c.take.ensures.taken (subst (IsInOrder c.self.inside.order) is (part c.self.inside.order (length trees) (map tasks_of trees) c.in-Some.place c.self.invariant).rises)
+
+put : (c : goal.Joined-tree-insert) → AreNow c.self.inside.order (set c.self.inside.trees.items c.in-Some.place c.insert.result) (put_in c.self.inside.order c.args.task (gathered c.self.inside.order (map tasks_of c.self.inside.trees.items)))
+put c =
+    let order = c.self.inside.order in
+    let trees = c.self.inside.trees.items in
+    let less : c.in-Some.place < length trees = rw (← c.self.view_is) at c.in-Some.ensures.within in
+    let named : c.in-Some.place ≡ lead order c.args.task % length trees = rw (← c.self.view_is, c.lead.ensures) at c.in-Some.ensures.place in
+    let apart : Each (λ y. is_apart order c.args.task y ≡ true) (gathered order (map tasks_of trees)) = rw (← c.self.view_is) at c.requires.apart in
+    let new : tasks_of c.insert.result ≡ put_in order c.args.task (tasks_of c.index_mut-tree.result.now) = rw c.take.ensures.taken at c.insert.ensures.tasks in
+    put_at order trees c.in-Some.place c.args.task c.index_mut-tree.result.now c.insert.result named less c.self.invariant apart c.index_mut-tree.ensures.value new
+
+pub invariant_of-self : goal.invariant_of-self
+invariant_of-self c = (put c).spread
+
+pub returns-clause-tasks : goal.returns-clause-tasks
+returns-clause-tasks c = rw (← c.self.view_is) (put c).is

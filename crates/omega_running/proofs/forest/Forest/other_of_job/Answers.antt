@@ -1,0 +1,14 @@
+use Rattle.std.proofs.Common.{◌≡◌, ◌%◌, ap, ◌∙◌}
+use Rattle.std.specs.List.{filter}
+use Rattle.omega_model.specs.Jobs.{other_of_job}
+use Rattle.omega_running.specs.declared.orders.Order.TheVariants.{ByMachine}
+use Rattle.omega_running.specs.Forest.{is_at}
+use Rattle.omega_running.specs.Tree.{tasks_of}
+use Rattle.omega_running.proofs.Spread.{other_in_tree}
+use Rattle.omega_running.proofs.forest.Forest.other_of_job.Goals as goal
+
+pub returns : goal.returns
+returns c =
+    let now = c.args.self.now in
+    let part : tasks_of c.in_ok-tree.field-0.now ≡ filter (is_at ByMachine now.trees (c.args.machine % now.trees)) now.tasks = rw c.requires at c.in_ok-tree.ensures.part in
+    c.other_of_job.ensures ∙ ap (λ tasks. other_of_job tasks c.args.job c.args.machine c.args.gone.now) part ∙ other_in_tree now.trees c.args.job c.args.machine c.args.gone.now now.tasks

@@ -1,0 +1,31 @@
+-- What several trees of tasks in one order stand for.
+use Rattle.std.specs.Prelude.{◌≡◌, ◌+◌, ◌%◌, ◌==◌, ℕ, Bool, true, List, [], ◌∷◌}
+use Rattle.omega_model.specs.declared.cells.Task.{Task}
+use Rattle.omega_running.specs.declared.orders.Order.{Order}
+use Rattle.omega_running.specs.Order.{Each, IsInOrder, lead, put_in}
+
+-- tasks in an order, and among how many trees they are spread
+pub record SpreadTasks : Type 0 where
+  pub order : Order
+  pub tasks : List Task
+  pub trees : ℕ
+
+-- whether the tree at a place, of so many, is that of a task: by the number that the order sorts first
+abbrev pub is_at : Order → ℕ → ℕ → Task → Bool
+is_at order trees place task = lead order task % trees == place
+
+-- the tasks of a list in order with those of one more tree
+abbrev pub joined : Order → List Task → List Task → List Task
+joined order [] others = others
+joined order (task ∷ tasks) others = put_in order task (joined order tasks others)
+
+-- the tasks of all trees in order
+abbrev pub gathered : Order → List (List Task) → List Task
+gathered order [] = []
+gathered order (tasks ∷ rest) = joined order tasks (gathered order rest)
+
+-- each tree is in order and has tasks of its place alone; the first one's place is `place`
+abbrev pub IsSpread : Order → ℕ → ℕ → List (List Task) → Type 0
+IsSpread order trees place [] = Unit {0}
+IsSpread order trees place (tasks ∷ rest) =
+    IsInOrder order tasks × Each (λ task. is_at order trees place task ≡ true) tasks × IsSpread order trees (place + 1) rest

@@ -1,0 +1,177 @@
+//! Several balanced trees of tasks in one of the two orders.
+ghost use Rattle.std.specs.Prelude.{◌≡◌, ◌<◌, ◌≤◌, ◌%◌, ◌++◌, [], true, length, option_map, IfOk, IfSome, OnOk, IsTrue, None};
+ghost use Rattle.std.specs.List.{filter};
+ghost use Rattle.omega_model.specs.Cell.{task_at};
+ghost use Rattle.omega_model.specs.Jobs.{other_of_job};
+ghost use Rattle.omega_running.specs.declared.orders.Order.TheVariants.{ByKey, ByMachine};
+ghost use Rattle.omega_running.specs.declared.nodes.Tree.TheVariants.{Leaf};
+ghost use Rattle.omega_running.specs.Forest.{is_at};
+ghost use Rattle.omega_running.specs.Order.{Each, IsInOrder, has_place, is_apart, led_by, put_in, taken_out};
+ghost use Rattle.omega_running.specs.Tree.{tasks_of};
+
+use crate::nodes::{Node, Tree};
+use crate::orders::Order;
+use omega_model::{Keys, NoMemory, Task, TaskKey};
+use std::alloc::Global;
+use std::marker::Model;
+
+/// How many trees there are: a tree has about ten tasks where 150,000 run.
+const TREES: usize = 16_384;
+
+/// Tasks in one of the two orders. The tasks of a job, or those of a machine, stand in one tree,
+/// which the number of the job or the machine names, so that a way down is short however many
+/// tasks there are. A contract sees the list of the tasks, and how many trees there are: none until
+/// `plant`.
+#[derive(Debug, Drop)]
+pub struct Forest {
+    order: Order,
+    trees: Vec<Tree>,
+}
+
+impl Model for Forest {
+    ghost use Rattle.std.specs.Prelude.{length, map};
+    ghost use Rattle.omega_running.specs.Forest.{SpreadTasks, IsSpread, gathered};
+    ghost use Rattle.omega_running.specs.Tree.{tasks_of};
+
+    ghost Value = { SpreadTasks };
+
+    ghost view = { λ f. record { order = f.order; tasks = gathered f.order (map tasks_of f.trees.items); trees = length f.trees.items } };
+
+    ghost invariant = { λ f. IsSpread f.order (length f.trees.items) 0 (map tasks_of f.trees.items) };
+}
+
+impl Forest {
+    /// No task, and no tree. Takes no memory.
+    pub fn bare(alloc: Global, order: Order) -> Forest
+        ensures order { result.order ≡ order }
+        ensures tasks { result.tasks ≡ [] }
+        ensures trees { result.trees ≡ 0 }
+    {
+        Forest {
+            order,
+            trees: Vec::new(alloc),
+        }
+    }
+
+    /// Makes the trees, where there are none. The tasks stay as they are. Takes the memory of the
+    /// trees, once.
+    pub fn plant(&mut self, alloc: Global) -> Result<(), NoMemory>
+        ensures order { self.new.order ≡ self.old.order }
+        ensures tasks { self.new.tasks ≡ self.old.tasks }
+        ensures planted { OnOk result (0 < self.new.trees) }
+        ensures kept { self.old.trees ≤ self.new.trees }
+    {
+        if self.trees.is_empty() {
+            self.trees = leaves(alloc)?;
+        }
+        Ok(())
+    }
+
+    /// Where the tree of a job's or a machine's tasks is; `None` exactly where there is no tree.
+    fn place(&self, number: u64) -> Option<usize>
+        ensures none { result ≡ None → self.now.trees ≡ 0 }
+        ensures nothing { result ≡ None → self.now.tasks ≡ [] }
+        ensures place { IfSome result (λ place. place ≡ number % self.now.trees) }
+        ensures within { IfSome result (λ place. place < self.now.trees) }
+    {
+        if self.trees.is_empty() {
+            return None;
+        }
+        Some((number % self.trees.len() as u64) as usize)
+    }
+
+    /// The tree of a job's or a machine's tasks; `None` exactly where there is no tree.
+    fn tree(&self, number: u64) -> Option<&Tree>
+        ensures none { result ≡ None → self.now.tasks ≡ [] }
+        ensures ordered { IfSome result (λ tree. IsInOrder self.now.order (tasks_of tree.now)) }
+        ensures part { IfSome result (λ tree. tasks_of tree.now ≡ filter (is_at self.now.order self.now.trees (number % self.now.trees)) self.now.tasks) }
+    {
+        let place = self.place(number)?;
+        Some(&self.trees[place])
+    }
+
+    /// The task of this key. Goes down one way of one tree.
+    pub fn find(&self, key: TaskKey) -> Option<&Task>
+        requires { self.now.order ≡ ByKey }
+        ensures { option_map (λ task. task.now) result ≡ task_at self.now.tasks key }
+    {
+        self.tree(key.job)?.find(key)
+    }
+
+    /// Puts a task in, in the node that is handed in. Goes down one way of one tree.
+    pub fn insert(&mut self, task: Task, room: Box<Node>)
+        requires planted { 0 < self.old.trees }
+        requires apart { Each (λ other. is_apart self.old.order task other ≡ true) self.old.tasks }
+        ensures order { self.new.order ≡ self.old.order }
+        ensures tasks { self.new.tasks ≡ put_in self.old.order task self.old.tasks }
+        ensures trees { self.new.trees ≡ self.old.trees }
+    {
+        let Some(place) = self.place(self.order.lead(&task)) else {
+            unreachable!()
+        };
+        let tree = &mut self.trees[place];
+        *tree = tree.take().insert(self.order, task, room);
+    }
+
+    /// Takes out the task at this task's place, and gives its node back. Goes down one way of one
+    /// tree.
+    pub fn remove(&mut self, task: &Task) -> Box<Node>
+        requires { IsTrue (has_place self.old.order task.now self.old.tasks) }
+        ensures order { self.new.order ≡ self.old.order }
+        ensures tasks { self.new.tasks ≡ taken_out self.old.order task.now self.old.tasks }
+        ensures trees { self.new.trees ≡ self.old.trees }
+    {
+        let Some(place) = self.place(self.order.lead(task)) else {
+            unreachable!()
+        };
+        let tree = &mut self.trees[place];
+        let (rest, room) = tree.take().remove(self.order, task);
+        *tree = rest;
+        room
+    }
+
+    /// Appends the tasks of a job or of a machine. Costs these, and one way down of one tree.
+    pub fn collect(&self, number: u64, found: &mut Vec<Task>) -> Result<(), NoMemory>
+        ensures { OnOk result (found.new.items ≡ found.old.items ++ led_by self.now.order number self.now.tasks) }
+    {
+        match self.tree(number) {
+            Some(tree) => tree.collect(self.order, number, found),
+            None => Ok(()),
+        }
+    }
+
+    /// The first of the job's tasks on the machine that isn't in `gone`. Costs those up to it, each
+    /// looked up in `gone`, and one way down of one tree.
+    pub fn other_of_job(&self, job: u64, machine: u64, gone: &Keys) -> Option<TaskKey>
+        requires { self.now.order ≡ ByMachine }
+        ensures { result ≡ other_of_job self.now.tasks job machine gone.now }
+    {
+        self.tree(machine)?.other_of_job(job, machine, gone)
+    }
+
+    /// The same tasks in as many trees. Takes the memory of the trees and the nodes.
+    pub fn copy(&self, alloc: Global) -> Result<Forest, NoMemory>
+        ensures { IfOk result (λ copied. copied ≡ self.now) }
+    {
+        let mut trees = Vec::with_capacity(alloc, self.trees.len())?;
+        for tree in &self.trees {
+            trees.push_reserved(tree.copy(alloc)?);
+        }
+        Ok(Forest {
+            order: self.order,
+            trees,
+        })
+    }
+}
+
+/// Trees of no task.
+fn leaves(alloc: Global) -> Result<Vec<Tree>, NoMemory>
+    ensures some { IfOk result (λ trees. 0 < length trees.items) }
+    ensures empty { IfOk result (λ trees. Each (λ tree. tree ≡ Leaf) trees.items) }
+{
+    let mut trees = Vec::with_capacity(alloc, TREES)?;
+    for _tree in 0..TREES {
+        trees.push_reserved(Tree::Leaf);
+    }
+    Ok(trees)
+}
