@@ -1,5 +1,5 @@
 -- The two orders of tasks are strict, and what they say of keys, machines and jobs.
-use Rattle.std.proofs.Common.{◌≡◌, ◌≤◌, true, false, ◌||◌, ◌&&◌, not, eqb, ltb}
+use Rattle.std.proofs.Common.{◌≡◌, ◌≤◌, true, ◌||◌, ◌&&◌, not, eqb, ltb}
 use Rattle.omega_model.specs.Keys.{key_lt, same_key}
 use Rattle.omega_model.specs.Cell.{goes_before}
 use Rattle.omega_model.specs.declared.cells.TaskKey.{TaskKey}
@@ -8,7 +8,7 @@ use Rattle.omega_running.specs.declared.orders.Order.{Order}
 use Rattle.omega_running.specs.declared.orders.Order.TheVariants.{ByKey, ByMachine}
 use Rattle.omega_running.specs.Order.{precedes, is_apart, lead}
 use Rattle.omega_running.proofs.Strict.{IsStrict}
-use Rattle.omega_running.proofs.Lex.{lex_asym, lex_link, lex_apart, lt_asym, lt_link, lt_apart, lex_rises}
+use Rattle.omega_running.proofs.Lex.{lex_asym, lex_link, lex_apart, lt_link, lt_apart, lex_rises}
 use Rattle.omega_model.proofs.InOrder.{key_asym}
 
 pub key_link : (a b c : TaskKey) → key_lt a b ≡ true → (key_lt a c || key_lt c b) ≡ true

@@ -152,7 +152,7 @@ apart-sym : (order : Order) (a b : Task) → is_apart order a b ≡ is_apart ord
 apart-sym order a b = or_comm (precedes order a b) (precedes order b a)
 
 -- putting a task in whose key is absent
-apart_absent : (t : Task) (tasks : List Task) → task_at tasks t.key ≡ None → Each (λ y. is_apart ByKey t y ≡ true) tasks
+pub apart_absent : (t : Task) (tasks : List Task) → task_at tasks t.key ≡ None → Each (λ y. is_apart ByKey t y ≡ true) tasks
 apart_absent t tasks e =
     each_map (λ y. same_key y.key t.key ≡ false) (λ y. is_apart ByKey t y ≡ true)
     (λ y h. apart-sym ByKey t y ∙ key_apart y.key t.key ∙ not_from_false _ h) tasks (absent_each (λ y. same_key y.key t.key) tasks e)
@@ -179,13 +179,17 @@ apart_machines a b f = go (is_apart ByMachine a b) refl where
   go true h = h
   go false h = f (eqb-true _ _ (and_parts _ _ (not-false _ (sym (apart_by_machine a b) ∙ h))).0)
 
+-- a task whose key is absent stands at a place of its own, also by machine
+pub apart_by_machines : (t : Task) (by_key by_machine : List Task) → task_at by_key t.key ≡ None → filter (is_on t.machine) by_machine ≡ filter (is_on t.machine) by_key → Each (λ y. is_apart ByMachine t y ≡ true) by_machine
+apart_by_machines t by_key by_machine e same =
+    let on : Each (λ y. is_apart ByKey t y ≡ true) (filter (is_on t.machine) by_machine) = rw same (each_filter (λ y. is_apart ByKey t y ≡ true) (is_on t.machine) by_key (apart_absent t by_key e)) in
+    each_map (λ y. is_on t.machine y ≡ true → is_apart ByKey t y ≡ true) (λ y. is_apart ByMachine t y ≡ true)
+    (λ y f. apart_machines t y (λ m. let o : is_on t.machine y ≡ true = eq-eqb _ _ (sym m) in rw (same_machine t.machine t y (eq-eqb _ _ refl) o, same_machine t.machine y t o (eq-eqb _ _ refl)) (f o)))
+    by_machine (each_where (λ y. is_apart ByKey t y ≡ true) (is_on t.machine) by_machine on)
+
 pub put_rises_too : (t : Task) (by_key by_machine : List Task) → task_at by_key t.key ≡ None → filter (is_on t.machine) by_machine ≡ filter (is_on t.machine) by_key → IsInOrder ByMachine by_machine → IsInOrder ByMachine (put_in ByMachine t by_machine)
 put_rises_too t by_key by_machine e same u =
-    let on : Each (λ y. is_apart ByKey t y ≡ true) (filter (is_on t.machine) by_machine) = rw same (each_filter (λ y. is_apart ByKey t y ≡ true) (is_on t.machine) by_key (apart_absent t by_key e)) in
-    let far = each_map (λ y. is_on t.machine y ≡ true → is_apart ByKey t y ≡ true) (λ y. is_apart ByMachine t y ≡ true)
-    (λ y f. apart_machines t y (λ m. let o : is_on t.machine y ≡ true = eq-eqb _ _ (sym m) in rw (same_machine t.machine t y (eq-eqb _ _ refl) o, same_machine t.machine y t o (eq-eqb _ _ refl)) (f o)))
-    by_machine (each_where (λ y. is_apart ByKey t y ≡ true) (is_on t.machine) by_machine on) in
-    rises_put (precedes ByMachine) (strict ByMachine) t by_machine u far
+    rises_put (precedes ByMachine) (strict ByMachine) t by_machine u (apart_by_machines t by_key by_machine e same)
 
 -- a filter that leaves t out of a list that t was put in
 pub skip_put : (lt : Task → Task → Bool) → IsStrict lt → (s : Task → Bool) (t : Task) (xs : List Task) → Rises lt xs → s t ≡ false → filter s (put lt t xs) ≡ filter s xs

@@ -1,14 +1,13 @@
 -- Tasks that are spread over several trees: what is put into one tree, taken out of it or looked up in it is so for all of them.
-use Rattle.std.proofs.Common.{◌≡◌, ℕ, ◌<◌, ◌≤◌, ◌+◌, ◌%◌, Bool, true, false, ◌||◌, ◌&&◌, not, eqb, cond, List, [], ◌∷◌, ◌++◌, length, length-append, length-set, map, get_or, set, zero, suc, refl, ap, sym, subst, ◌∙◌, arith, inl, inr}
-use Rattle.std.specs.List.{filter, find, list_any}
-use Rattle.std.proofs.lemmas.Bool.{both_ways, eqb-true, eq-eqb, ne_eqb, and_parts, or_left, or_right, or_from, or_cases, not_from_true, not_from_false, not-false}
+use Rattle.std.proofs.Common.{◌≡◌, ℕ, ◌<◌, ◌≤◌, ◌+◌, ◌%◌, Bool, true, false, ◌||◌, ◌&&◌, not, eqb, cond, List, [], ◌∷◌, ◌++◌, length, length-append, length-set, map, get_or, set, zero, suc, refl, ap, sym, subst, ◌∙◌, arith}
+use Rattle.std.specs.List.{filter, list_any}
+use Rattle.std.proofs.lemmas.Bool.{both_ways, eqb-true, eq-eqb, ne_eqb, and_parts, or_left, or_right, or_from, not_from_true, not-false}
 use Rattle.std.proofs.lemmas.List.{length-map, get_or-map, get_or-set_same, get_or-set_other, map-set}
 use Rattle.std.proofs.lemmas.List.Elements.{filter-append}
 use Rattle.std.proofs.lemmas.List.Filters.{length-filter_both}
-use Rattle.std.proofs.Math.Nat.{mod-lt}
 use Rattle.std.specs.Option.{option_map}
 use Rattle.omega_model.specs.Keys.{same_key}
-use Rattle.omega_model.specs.Cell.{task_at, is_on, stays_on}
+use Rattle.omega_model.specs.Cell.{task_at, stays_on}
 use Rattle.omega_model.specs.Jobs.{is_of_job, other_of_job}
 use Rattle.omega_model.specs.declared.cells.TaskKey.{TaskKey}
 use Rattle.omega_model.specs.declared.cells.Task.{Task}
@@ -16,10 +15,10 @@ use Rattle.omega_running.specs.declared.orders.Order.{Order}
 use Rattle.omega_running.specs.declared.orders.Order.TheVariants.{ByKey, ByMachine}
 use Rattle.omega_running.specs.declared.nodes.Tree.{Tree}
 use Rattle.omega_running.specs.declared.nodes.Tree.TheVariants.{Leaf}
-use Rattle.omega_running.specs.Order.{Each, Rises, IsInOrder, precedes, is_apart, lead, put_in, taken_out, has_place, led_by}
+use Rattle.omega_running.specs.Order.{Each, IsInOrder, precedes, is_apart, lead, put_in, taken_out, has_place, led_by}
 use Rattle.omega_running.specs.Tree.{tasks_of}
 use Rattle.omega_running.specs.Forest.{is_at, joined, gathered, IsSpread}
-use Rattle.omega_running.proofs.Lists.{each_map, each_both, each_append, filter_none, filter_every}
+use Rattle.omega_running.proofs.Lists.{each_map, each_append, filter_none, filter_every}
 use Rattle.omega_running.proofs.Strict.{trans, ahead}
 use Rattle.omega_running.proofs.InOrder.{strict, apart_by_key, apart_by_machine}
 use Rattle.omega_running.proofs.Kept.{each_passes, each_filter, filter_both, irreflexive, rises_filter, rises_put, skip_put, find_in_filter}

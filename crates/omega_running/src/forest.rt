@@ -1,5 +1,5 @@
 //! Several balanced trees of tasks in one of the two orders.
-ghost use Rattle.std.specs.Prelude.{◌≡◌, ◌<◌, ◌≤◌, ◌%◌, ◌++◌, [], true, length, option_map, IfOk, IfSome, OnOk, IsTrue, None};
+ghost use Rattle.std.specs.Prelude.{◌≡◌, ◌<◌, ◌≤◌, ◌%◌, ◌++◌, [], true, length, map, option_map, IfOk, IfSome, OnOk, IsTrue, None};
 ghost use Rattle.std.specs.List.{filter};
 ghost use Rattle.omega_model.specs.Cell.{task_at};
 ghost use Rattle.omega_model.specs.Jobs.{other_of_job};
@@ -153,13 +153,9 @@ impl Forest {
     pub fn copy(&self, alloc: Global) -> Result<Forest, NoMemory>
         ensures { IfOk result (λ copied. copied ≡ self.now) }
     {
-        let mut trees = Vec::with_capacity(alloc, self.trees.len())?;
-        for tree in &self.trees {
-            trees.push_reserved(tree.copy(alloc)?);
-        }
         Ok(Forest {
             order: self.order,
-            trees,
+            trees: copies(alloc, &self.trees)?,
         })
     }
 }
@@ -174,4 +170,15 @@ fn leaves(alloc: Global) -> Result<Vec<Tree>, NoMemory>
         trees.push_reserved(Tree::Leaf);
     }
     Ok(trees)
+}
+
+/// Trees of the same tasks.
+fn copies(alloc: Global, trees: &[Tree]) -> Result<Vec<Tree>, NoMemory>
+    ensures { IfOk result (λ copied. map tasks_of copied.items ≡ map tasks_of trees.now) }
+{
+    let mut copied = Vec::new(alloc);
+    for tree in trees {
+        copied.push(tree.copy(alloc)?)?;
+    }
+    Ok(copied)
 }

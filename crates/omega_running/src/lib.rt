@@ -1,9 +1,9 @@
 //! The running tasks of a cell, found by key, by machine and by job.
 //!
 //! A caller sees them as a list in order of key, and a number: for how many more there is room.
-//! They are kept in two balanced trees, one in order of key and one in order of machine and key.
-//! The nodes of both are made by `reserve` and come back with `remove`, so that a task is put in
-//! and taken out without memory.
+//! They are kept twice, in order of key and in order of machine and key, each time in many small
+//! balanced trees: the job or the machine says in which one. The nodes of all trees are made by
+//! `reserve` and come back with `remove`, so that a task is put in and taken out without memory.
 #![tactic(auto)]
 
 mod forest;

@@ -1,5 +1,5 @@
 //! A balanced tree of tasks, in one of the two orders. It takes its nodes ready made.
-ghost use Rattle.std.specs.Prelude.{◌≡◌, ◌+◌, ◌∷◌, ◌++◌, [], length, option_map, IfOk, OnOk, IsTrue};
+ghost use Rattle.std.specs.Prelude.{◌≡◌, ◌∷◌, ◌++◌, [], option_map, IfOk, OnOk, IsTrue};
 ghost use Rattle.omega_model.specs.Cell.{task_at};
 ghost use Rattle.omega_model.specs.Jobs.{other_of_job};
 ghost use Rattle.omega_running.specs.declared.orders.Order.TheVariants.{ByKey, ByMachine};
@@ -74,8 +74,7 @@ impl Tree {
     /// Puts a task in, in the node that is handed in. Goes down one way.
     pub fn insert(self, order: Order, task: Task, mut room: Box<Node>) -> Tree
         requires { IsInOrder order (tasks_of self) }
-        ensures tasks { tasks_of result ≡ put_in order task (tasks_of self) }
-        ensures one_more { length (tasks_of result) ≡ length (tasks_of self) + 1 }
+        ensures { tasks_of result ≡ put_in order task (tasks_of self) }
     {
         match self {
             Tree::Leaf => {
@@ -103,8 +102,7 @@ impl Tree {
     pub fn remove(self, order: Order, task: &Task) -> (Tree, Box<Node>)
         requires ordered { IsInOrder order (tasks_of self) }
         requires there { IsTrue (has_place order task.now (tasks_of self)) }
-        ensures tasks { tasks_of result.0 ≡ taken_out order task.now (tasks_of self) }
-        ensures one_less { length (tasks_of result.0) + 1 ≡ length (tasks_of self) }
+        ensures { tasks_of result.0 ≡ taken_out order task.now (tasks_of self) }
     {
         let Tree::Fork(mut node) = self else {
             unreachable!()

@@ -1,6 +1,5 @@
-use Rattle.std.proofs.Common.{◌≡◌, ◌<◌, ◌+◌, ◌∷◌, ◌++◌, true, false, length, length-append, sym, ap, ◌∙◌, arith, rules}
+use Rattle.std.proofs.Common.{◌≡◌, ◌<◌, ◌+◌, ◌∷◌, true, false, length, length-append, sym, ap, ◌∙◌, arith, rules}
 use Rattle.omega_model.specs.Keys.{key_lt}
-use Rattle.omega_model.specs.declared.cells.Task.{Task}
 use Rattle.omega_running.specs.declared.orders.Order.TheVariants.{ByKey}
 use Rattle.omega_running.specs.Kept.{KeysRise}
 use Rattle.omega_running.proofs.AtFork.{at_middle, found_at_left, found_at_right, found_here}

@@ -1,4 +1,4 @@
-use Rattle.std.proofs.Common.{◌≡◌, ◌%◌, ap, ◌∙◌, sym, length, map}
+use Rattle.std.proofs.Common.{◌≡◌, ap, ◌∙◌, length, map}
 use Rattle.omega_running.specs.Forest.{gathered}
 use Rattle.omega_running.specs.Order.{led_by}
 use Rattle.omega_running.specs.Tree.{tasks_of}

@@ -1,5 +1,4 @@
-use Rattle.std.proofs.Common.{◌≡◌, ◌<◌, ◌%◌, ℕ, List, true, length, map, set, subst, ◌∙◌}
-use Rattle.omega_running.specs.declared.nodes.Tree.{Tree}
+use Rattle.std.proofs.Common.{◌≡◌, ◌<◌, ◌%◌, true, length, map, set, subst}
 use Rattle.omega_running.specs.Forest.{gathered}
 use Rattle.omega_running.specs.Order.{Each, IsInOrder, is_apart, lead, put_in}
 use Rattle.omega_running.specs.Tree.{tasks_of}
@@ -20,7 +19,7 @@ put c =
     let less : c.in-Some.place < length trees = rw (← c.self.view_is) at c.in-Some.ensures.within in
     let named : c.in-Some.place ≡ lead order c.args.task % length trees = rw (← c.self.view_is, c.lead.ensures) at c.in-Some.ensures.place in
     let apart : Each (λ y. is_apart order c.args.task y ≡ true) (gathered order (map tasks_of trees)) = rw (← c.self.view_is) at c.requires.apart in
-    let new : tasks_of c.insert.result ≡ put_in order c.args.task (tasks_of c.index_mut-tree.result.now) = rw c.take.ensures.taken at c.insert.ensures.tasks in
+    let new : tasks_of c.insert.result ≡ put_in order c.args.task (tasks_of c.index_mut-tree.result.now) = rw c.take.ensures.taken at c.insert.ensures in
     put_at order trees c.in-Some.place c.args.task c.index_mut-tree.result.now c.insert.result named less c.self.invariant apart c.index_mut-tree.ensures.value new
 
 pub invariant_of-self : goal.invariant_of-self

@@ -1,6 +1,5 @@
 use Rattle.std.proofs.Common.{◌≡◌, [], length, sym, ◌∙◌, rules}
 use Rattle.std.proofs.lemmas.List.{nil_from_length}
-use Rattle.omega_running.specs.declared.nodes.Tree.{Tree}
 use Rattle.omega_running.proofs.Spread.{leaves_are}
 use Rattle.omega_running.proofs.forest.Forest.plant.Goals as goal
 

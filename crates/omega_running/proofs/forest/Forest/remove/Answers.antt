@@ -1,5 +1,4 @@
-use Rattle.std.proofs.Common.{◌≡◌, ◌<◌, ◌%◌, ℕ, List, true, length, map, set, subst, sym, ◌∙◌}
-use Rattle.omega_running.specs.declared.nodes.Tree.{Tree}
+use Rattle.std.proofs.Common.{◌≡◌, ◌<◌, ◌%◌, true, length, map, set, subst}
 use Rattle.omega_running.specs.Forest.{gathered}
 use Rattle.omega_running.specs.Order.{IsInOrder, has_place, lead, taken_out}
 use Rattle.omega_running.specs.Tree.{tasks_of}
@@ -28,7 +27,7 @@ out c =
     let trees = c.self.inside.trees.items in
     let less : c.in-Some.place < length trees = rw (← c.self.view_is) at c.in-Some.ensures.within in
     let named : c.in-Some.place ≡ lead order c.args.task.now % length trees = rw (← c.self.view_is, c.lead.ensures) at c.in-Some.ensures.place in
-    let new : tasks_of c.remove-rest.result.0 ≡ taken_out order c.args.task.now (tasks_of c.index_mut-tree.result.now) = rw c.take.ensures.taken at c.remove-rest.ensures.tasks in
+    let new : tasks_of c.remove-rest.result.0 ≡ taken_out order c.args.task.now (tasks_of c.index_mut-tree.result.now) = rw c.take.ensures.taken at c.remove-rest.ensures in
     taken_at order trees c.in-Some.place c.args.task.now c.index_mut-tree.result.now c.remove-rest.result.0 named less c.self.invariant c.index_mut-tree.ensures.value new
 
 pub invariant_of-self : goal.invariant_of-self

@@ -1,6 +1,5 @@
-use Rattle.std.proofs.Common.{◌≡◌, ◌<◌, ◌%◌, ℕ, List, [], length, map, get_or, subst, sym, ap, ◌∙◌, arith}
+use Rattle.std.proofs.Common.{◌≡◌, ◌<◌, ◌%◌, length, map, subst, sym, ap, ◌∙◌}
 use Rattle.std.specs.List.{filter}
-use Rattle.omega_model.specs.declared.cells.Task.{Task}
 use Rattle.omega_running.specs.Forest.{is_at, gathered}
 use Rattle.omega_running.specs.Order.{IsInOrder}
 use Rattle.omega_running.specs.Tree.{tasks_of}

@@ -13,11 +13,11 @@ remove-left-requires t c =
     let there : has_place c.args.order c.args.task.now (tasks_of c.take.result) ≡ true = rw (c.take.ensures.taken, c.deref_mut.ensures.value) (place_at_left c.args.task.now f p c.requires.there) in
     search (rules, the_lemmas)
 
-pub returns-then-precedes-clause-tasks : goal.returns-then-precedes-clause-tasks
-returns-then-precedes-clause-tasks t c =
+pub returns-then-precedes : goal.returns-then-precedes
+returns-then-precedes t c =
     let f = at_fork c.requires.ordered c.in-Fork.is in
     let p : precedes c.args.order c.args.task.now c.in-Fork.node.value.task ≡ true = cc in
-    rw (c.settled.ensures, c.deref_mut-then-precedes.ensures.value, c.remove-left.ensures.tasks, c.take.ensures.taken, c.deref_mut.ensures.value) (sym (taken_at_left c.args.task.now f p))
+    rw (c.settled.ensures, c.deref_mut-then-precedes.ensures.value, c.remove-left.ensures, c.take.ensures.taken, c.deref_mut.ensures.value) (sym (taken_at_left c.args.task.now f p))
 
 pub remove-right-requires : goal.remove-right-requires
 remove-right-requires t c =
@@ -27,14 +27,14 @@ remove-right-requires t c =
     let there : has_place c.args.order c.args.task.now (tasks_of c.take-then-precedes-2.result) ≡ true = rw (c.take-then-precedes-2.ensures.taken, c.deref_mut-then-precedes-2.ensures.value) (place_at_right c.args.task.now f p c.requires.there) in
     search (rules, the_lemmas)
 
-pub returns-then-precedes-2-clause-tasks : goal.returns-then-precedes-2-clause-tasks
-returns-then-precedes-2-clause-tasks t c =
+pub returns-then-precedes-2 : goal.returns-then-precedes-2
+returns-then-precedes-2 t c =
     let f = at_fork c.requires.ordered c.in-Fork.is in
     let p : precedes c.args.order c.in-Fork.node.value.task c.args.task.now ≡ true = cc in
-    rw (c.settled-then-precedes-2.ensures, c.deref_mut-then-precedes-2-2.ensures.value, c.remove-right.ensures.tasks, c.take-then-precedes-2.ensures.taken, c.deref_mut-then-precedes-2.ensures.value) (sym (taken_at_right c.args.task.now f p))
+    rw (c.settled-then-precedes-2.ensures, c.deref_mut-then-precedes-2-2.ensures.value, c.remove-right.ensures, c.take-then-precedes-2.ensures.taken, c.deref_mut-then-precedes-2.ensures.value) (sym (taken_at_right c.args.task.now f p))
 
-pub returns-clause-tasks : goal.returns-clause-tasks
-returns-clause-tasks t c =
+pub returns : goal.returns
+returns t c =
     let f = at_fork c.requires.ordered c.in-Fork.is in
     let p : precedes c.args.order c.args.task.now c.in-Fork.node.value.task ≡ false = cc in
     let q : precedes c.args.order c.in-Fork.node.value.task c.args.task.now ≡ false = cc in
