@@ -1,5 +1,5 @@
 //! The jobs of which something may have to be placed.
-ghost use Rattle.std.specs.Prelude.{◌≡◌, [], IsTrue, OnErr, OnOk};
+ghost use Rattle.std.specs.Prelude.{◌≡◌, [], OnErr, OnOk};
 ghost use Rattle.omega_feed.specs.Open.{IsOpen, OthersAreQuiet, StayOpen};
 
 use crate::wanted::Wanted;

@@ -4,7 +4,7 @@
 //! left of it and what is right of it are trees in turn. The root moves only when the length
 //! reaches a power of two, and then the new place is the root of all: so one more place is told to
 //! the nodes above it alone.
-ghost use Rattle.std.specs.Prelude.{◌≡◌, ◌<◌, ◌≤◌, ◌-◌, ◌++◌, ◌∷◌, length, set, take};
+ghost use Rattle.std.specs.Prelude.{◌≡◌, ◌<◌, ◌≤◌, ◌-◌, ◌++◌, ◌∷◌, false, length, set, take};
 ghost use Rattle.omega_fit.specs.Needs.{greater};
 ghost use Rattle.omega_fit.specs.Tree.{frees, middle, root, Tree};
 
@@ -65,26 +65,41 @@ pub(crate) fn parted(slots: &[Slot]) -> (&[Slot], &Slot, &[Slot])
     (left, slot, right)
 }
 
-/// Writes what is free at a position, and tells the nodes above it.
+/// Tells a root the greatest of its tree. Answers whether it is another than before.
+fn tell(slot: &mut Slot, left: &[Slot], right: &[Slot]) -> bool
+    ensures told { slot.new ≡ record slot.old { most = greater (root left.now) (greater slot.old.free (root right.now)) } }
+    ensures kept { result ≡ false → slot.new.most ≡ slot.old.most }
+{
+    let most = most_of(left, slot.free, right);
+    let changes = most != slot.most;
+    slot.most = most;
+    changes
+}
+
+/// Writes what is free at a position, and tells the nodes above it, from below up to the first whose
+/// greatest stays. Answers whether that of the whole tree is another than before.
 #[tactic(auto, using(crate::proofs::Trees::tree_fork, crate::proofs::Trees::tree_parts, crate::proofs::Trees::tree_nil))]
-pub(crate) fn put_in(slots: &mut [Slot], position: usize, free: Option<Need>)
+pub(crate) fn put_in(slots: &mut [Slot], position: usize, free: Option<Need>) -> bool
     requires position { position < length slots.old }
     requires tree { Tree slots.old }
     ensures tree { Tree slots.new }
     ensures value { frees slots.new ≡ set (frees slots.old) position free }
+    ensures kept { result ≡ false → root slots.new ≡ root slots.old }
 {
     let half = middle(slots.len());
     let (left, rest) = slots.split_at_mut(half);
-    if let Some((slot, right)) = rest.split_first_mut() {
-        if position < half {
-            put_in(left, position, free);
-        } else if position == half {
-            slot.free = free;
-        } else {
-            put_in(right, position - half - 1, free);
-        }
-        slot.most = most_of(left, slot.free, right);
-    }
+    let Some((slot, right)) = rest.split_first_mut() else {
+        unreachable!()
+    };
+    let changes = if position < half {
+        put_in(left, position, free)
+    } else if position == half {
+        slot.free = free;
+        true
+    } else {
+        put_in(right, position - half - 1, free)
+    };
+    changes && tell(slot, left, right)
 }
 
 /// Makes a tree of any slots, in time linear in their number.

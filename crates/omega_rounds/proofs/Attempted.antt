@@ -1,5 +1,5 @@
 -- What is planned on a copy is what an attempt plans.
-use Rattle.std.proofs.Common.{◌≡◌, ◌≤◌, ◌<◌, ℕ, zero, suc, List, length, map, take, Result, Ok, Err, refl, ap, ◌∙◌, subst, arith}
+use Rattle.std.proofs.Common.{◌≡◌, ◌≤◌, ◌<◌, ℕ, zero, suc, List, length, map, take, Result, Ok, Err, refl, ap, ◌∙◌, arith}
 use Rattle.std.specs.Prelude.{IfOk}
 use Rattle.std.proofs.lemmas.List.{length-map}
 use Rattle.omega_model.specs.Cell.{Cell}
@@ -8,7 +8,6 @@ use Rattle.omega_model.specs.Planning.{plan_for}
 use Rattle.omega_model.specs.Policy.{policy_of}
 use Rattle.omega_model.specs.State.{state}
 use Rattle.omega_model.specs.Work.{commits_of}
-use Rattle.omega_model.specs.declared.cells.Machine.{Machine}
 use Rattle.omega_model.specs.declared.claims.Policy.{Policy}
 use Rattle.omega_model.specs.declared.claims.Txn.{Txn}
 use Rattle.omega_model.specs.declared.entries.Entry.{Entry}

@@ -1,20 +1,17 @@
 -- What a commit adds to what is counted and copied.
-use Rattle.std.proofs.Common.{◌≡◌, ◌≢◌, ◌≤◌, ◌+◌, ℕ, Bool, true, false, cond, List, [], ◌∷◌, ◌++◌, length, take, refl, sym, ap, subst, arith, ◌∙◌, inl, inr, ◌==◌, if◌then◌else◌, length-append, zero-add, add-zero}
-use Rattle.std.specs.List.{list_any, sum_by}
+use Rattle.std.proofs.Common.{◌≡◌, ◌≢◌, ◌≤◌, ◌+◌, ℕ, Bool, true, false, cond, List, [], ◌∷◌, ◌++◌, length, take, refl, sym, ap, arith, ◌∙◌, inl, inr, ◌==◌, if◌then◌else◌, length-append, add-zero}
+use Rattle.std.specs.List.{list_any}
 use Rattle.std.proofs.lemmas.Bool.{eq-eqb, ne_eqb}
 use Rattle.std.proofs.lemmas.Bool.Decides.{eqb_tells}
 use Rattle.std.proofs.lemmas.List.{take-append-le}
 use Rattle.std.proofs.lemmas.List.Sums.{sum_by-append, sum_by-cons}
 use Rattle.omega_model.proofs.Answered.{length-all_or_nothing, length-judgements}
 use Rattle.omega_model.proofs.Standing.{failed_push, placed_outcomes}
-use Rattle.omega_model.specs.Copy.{StandsFor}
 use Rattle.omega_model.specs.Reply.{admits, by_mode, judgements}
 use Rattle.omega_model.specs.Requests.{failed}
 use Rattle.omega_model.specs.State.{reply_of, state}
 use Rattle.omega_model.specs.Touches.{seq}
-use Rattle.omega_model.specs.Work.{commits_of, failing_after, failing_with, is_commit_of, outcomes_of}
-use Rattle.omega_model.specs.declared.cells.Machine.{Machine}
-use Rattle.omega_model.specs.declared.cells.Task.{Task}
+use Rattle.omega_model.specs.Work.{commits_of, failing_with, is_commit_of, outcomes_of}
 use Rattle.omega_model.specs.declared.claims.Judgement.{Judgement}
 use Rattle.omega_model.specs.declared.claims.Mode.{Mode}
 use Rattle.omega_model.specs.declared.claims.Mode.TheVariants.{Incremental, Gang}

@@ -5,12 +5,10 @@ use Rattle.std.specs.Prelude.{nat_le, slice_get, ◌⊎◌}
 use Rattle.std.proofs.lemmas.Bool.{eq-eqb, eqb-true}
 use Rattle.std.proofs.Math.Seq.{take-length}
 use Rattle.std.proofs.Math.ListN.{drop_of_length-le}
-use Rattle.omega_model.specs.Cell.{Cell}
-use Rattle.omega_model.specs.Judge.{judge}
 use Rattle.omega_model.specs.Keys.{same_key}
 use Rattle.omega_model.specs.Lawful.{IsCommitOfRound, RoundSoFar, opened}
 use Rattle.omega_model.specs.Policy.{policy_of, schedulers}
-use Rattle.omega_model.specs.Reply.{admits, after_claim, all_or_nothing, by_mode, first_refused, judgements, withdrawn_for}
+use Rattle.omega_model.specs.Reply.{admits, all_or_nothing, by_mode, first_refused, judgements, withdrawn_for}
 use Rattle.omega_model.specs.Requests.{requests}
 use Rattle.omega_model.specs.State.{reply_of, state}
 use Rattle.omega_model.specs.Touches.{is_placed}
@@ -21,7 +19,6 @@ use Rattle.omega_model.specs.declared.claims.Judgement.{Judgement}
 use Rattle.omega_model.specs.declared.claims.Mode.{Mode}
 use Rattle.omega_model.specs.declared.claims.Mode.TheVariants.{Gang}
 use Rattle.omega_model.specs.declared.claims.Outcome.{Outcome}
-use Rattle.omega_model.specs.declared.claims.Rule.{Rule}
 use Rattle.omega_model.specs.declared.claims.Txn.{Txn}
 use Rattle.omega_model.specs.declared.entries.Entry.{Entry}
 use Rattle.omega_model.specs.declared.entries.Entry.TheVariants.{Round as RoundEntry, MachineAdd, MachineUpdate, MachineRemove, AttrSet, AttrDelete, End, Commit}

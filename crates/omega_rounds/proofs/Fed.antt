@@ -1,5 +1,5 @@
 -- The entries of a round and of its rows may be fed to the cell.
-use Rattle.std.proofs.Common.{◌≡◌, ℕ, Bool, true, false, List, [], ◌∷◌, ◌++◌, map, Option, Some, refl, ap, subst, sym, ◌∙◌}
+use Rattle.std.proofs.Common.{◌≡◌, Bool, true, false, List, [], ◌∷◌, ◌++◌, map, Option, Some, refl, ap, subst, sym, ◌∙◌}
 use Rattle.std.specs.Prelude.{◌==◌, if◌then◌else◌, All, IsSomeAnd}
 use Rattle.std.proofs.lemmas.List.Elements.{All-head}
 use Rattle.omega_model.specs.Applying.{CapacityIsInRange}

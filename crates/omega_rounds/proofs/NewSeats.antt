@@ -1,6 +1,5 @@
 -- A world before its first round, and its seats.
 use Rattle.std.proofs.Common.{◌≡◌, ◌+◌, ℕ, List, [], ◌∷◌, ◌++◌, length, Some, None, refl, sym, ap, ap₂, subst, arith, ◌∙◌, inl, inr, length-append}
-use Rattle.std.specs.Prelude.{slice_get, option_map}
 use Rattle.std.specs.List.{All, sum_by}
 use Rattle.std.proofs.lemmas.List.Elements.{All-nil}
 use Rattle.omega_feed.specs.Asked.{Asked, asked_after}

@@ -1,21 +1,20 @@
 -- Turns of the schedulers of a world, one step after the other.
-use Rattle.std.proofs.Common.{◌≡◌, ◌≢◌, ◌≤◌, ◌<◌, ◌+◌, ℕ, suc, Bool, true, false, List, [], ◌∷◌, ◌++◌, length, take, Some, refl, sym, ap, ap₂, subst, arith, ◌∙◌, add-one}
-use Rattle.std.specs.Prelude.{◌||◌, slice_get}
-use Rattle.omega_model.specs.Lawful.{Lawful, opened, rows_of}
+use Rattle.std.proofs.Common.{◌≡◌, ◌≤◌, ◌<◌, ◌+◌, ℕ, Bool, true, false, List, ◌++◌, length, refl, sym, ap, subst, arith, ◌∙◌}
+use Rattle.std.specs.Prelude.{◌||◌}
+use Rattle.omega_model.specs.Lawful.{opened}
 use Rattle.omega_model.specs.Policy.{schedulers}
-use Rattle.omega_model.specs.Stepping.{BeginsRound, Step}
-use Rattle.omega_model.specs.Turns.{InTurns}
-use Rattle.omega_model.specs.World.{NobodySynced, StepAnswer}
+use Rattle.omega_model.specs.Stepping.{Step}
+use Rattle.omega_model.specs.World.{NobodySynced}
 use Rattle.omega_model.specs.declared.entries.Entry.{Entry}
 use Rattle.omega_model.specs.declared.rows.Row.{Row}
 use Rattle.omega_model.specs.declared.rows.Round.{Round}
 use Rattle.omega_model.specs.declared.rows.TraceTables.{TraceTables}
 use Rattle.omega_model.specs.declared.settings.Settings.{Settings}
-use Rattle.omega_rounds.specs.Going.{IsRoundOver, LeavesToDo, StepsOn, answer_of}
+use Rattle.omega_rounds.specs.Going.{IsRoundOver, LeavesToDo, answer_of}
 use Rattle.omega_rounds.specs.NextCommit.{NobodyHasWork}
 use Rattle.omega_rounds.specs.Passes.{Committing, IdleBelow, Syncing}
 use Rattle.omega_rounds.specs.Playing.{BeginsTurn, CommitsInTurn, CommitsTurn, IsRoundNow, PlaysRound, SyncsTurn, TakesTurnFrom, is_committed}
-use Rattle.omega_rounds.specs.Stages.{IsInRunOf, Stage, WorldState, next_stage, rows_begun, world_of}
+use Rattle.omega_rounds.specs.Stages.{IsInRunOf, Stage, WorldState, rows_begun, world_of}
 use Rattle.omega_rounds.specs.Taking.{Taking}
 use Rattle.omega_rounds.specs.declared.steps.Stepped.{Stepped}
 use Rattle.omega_rounds.specs.declared.steps.Stepped.TheVariants.{Synced, Committed, Idle}

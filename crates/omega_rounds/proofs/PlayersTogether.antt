@@ -1,5 +1,5 @@
 -- Players that have played in two parts have played as a whole.
-use Rattle.std.proofs.Common.{◌≡◌, ℕ, zero, suc, ◌+◌, ◌<◌, List, [], ◌∷◌, ◌++◌, length, refl, ap, sym, subst, ◌∙◌, arith, Some, None, length-append}
+use Rattle.std.proofs.Common.{◌≡◌, ℕ, zero, suc, List, [], ◌∷◌, ◌++◌, length, refl, ap, subst, ◌∙◌, arith, Some, length-append}
 use Rattle.std.specs.Prelude.{slice_get, unwrap_or}
 use Rattle.omega_model.specs.declared.settings.Settings.{Settings}
 use Rattle.omega_rounds.specs.declared.player.Player.{Player}

@@ -1,7 +1,6 @@
 -- What a scheduler is asked to place: requests for its own jobs, none before the first row, and none that
 -- wishes for a task twice.
-use Rattle.std.proofs.Common.{◌≡◌, ◌≤◌, ◌<◌, ◌+◌, ℕ, Bool, true, false, not, ◌&&◌, List, [], ◌∷◌, map, length, Option, Some, None, refl, sym, ap, subst, arith, ◌∙◌, ◌==◌, if◌then◌else◌}
-use Rattle.std.specs.Prelude.{nat_le}
+use Rattle.std.proofs.Common.{◌≡◌, ◌≤◌, ◌+◌, ℕ, Bool, true, not, List, [], ◌∷◌, length, Option, Some, None, refl, ap, subst, arith, ◌∙◌, ◌==◌}
 use Rattle.std.specs.List.{All, cons_option, filter, filter_map, fold, list_any, AllByRecursion as Each}
 use Rattle.std.proofs.lemmas.Bool.{and_parts, eqb-true, lt-leb}
 use Rattle.std.proofs.lemmas.List.Elements.{All-from_recursion}
@@ -10,7 +9,7 @@ use Rattle.omega_model.specs.ExtraTasks.{HasLowIndex, activities_of, wishes_afte
 use Rattle.omega_model.specs.Feed.{feed}
 use Rattle.omega_model.specs.OpenRequests.{is_worked_on, open_requests}
 use Rattle.omega_model.specs.Reply.{admits}
-use Rattle.omega_model.specs.Requests.{failed, failed_after, given_up, jobs_in_order, request_of, requests, wishes_of, works_on}
+use Rattle.omega_model.specs.Requests.{failed, failed_after, jobs_in_order, request_of, requests, wishes_of, works_on}
 use Rattle.omega_model.specs.Routing.{scheduler_of}
 use Rattle.omega_model.specs.State.{state}
 use Rattle.omega_model.specs.Wanted.{wanted}

@@ -1,6 +1,6 @@
 -- Which tasks run on after an entry: those that ran and that it may not stop.
-use Rattle.std.proofs.Common.{◌≡◌, ℕ, Bool, true, false, not, ◌||◌, ◌&&◌, ◌==◌, List, [], ◌∷◌, ◌++◌, Some, None, refl, sym, ap, subst, ◌∙◌}
-use Rattle.std.specs.List.{filter, find, flat_map, fold, list_any, zip}
+use Rattle.std.proofs.Common.{◌≡◌, Bool, true, false, List, [], ◌∷◌, ◌++◌, refl, sym, ap, subst, ◌∙◌}
+use Rattle.std.specs.List.{filter, flat_map, fold, zip}
 use Rattle.std.proofs.lemmas.Bool.{not_from_false, or_parts}
 use Rattle.std.proofs.lemmas.List.Folds.{list_any-append}
 use Rattle.omega_model.proofs.InOrder.{key_same}

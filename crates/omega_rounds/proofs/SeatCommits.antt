@@ -1,5 +1,5 @@
 -- A seat whose scheduler commits.
-use Rattle.std.proofs.Common.{◌≡◌, ◌≢◌, ◌≤◌, ◌<◌, ◌+◌, ℕ, Bool, true, false, List, [], ◌∷◌, ◌++◌, length, take, Bor, Option, Some, None, refl, sym, ap, ap₂, subst, arith, ◌∙◌, if◌then◌else◌}
+use Rattle.std.proofs.Common.{◌≡◌, ◌≤◌, ◌<◌, ◌+◌, ℕ, true, false, List, [], ◌∷◌, ◌++◌, length, take, Bor, Option, Some, None, refl, sym, ap, subst, ◌∙◌}
 use Rattle.std.specs.Prelude.{slice_get, option_map, is_some}
 use Rattle.omega_model.specs.State.{reply_of}
 use Rattle.omega_model.specs.Work.{Standing, after_outcomes, commits_of, moved_on, outcomes_of}
@@ -14,7 +14,7 @@ use Rattle.omega_desk.specs.Desks.{AnswersFirst, DeskState, IsSameDesk, left_at}
 use Rattle.omega_desk.specs.Walks.{are_wished}
 use Rattle.omega_rounds.specs.AttemptsLeft.{attempts_left}
 use Rattle.omega_rounds.specs.NextCommit.{attempt_txn}
-use Rattle.omega_rounds.specs.Seats.{IsSeat, synced_of, to_do_of}
+use Rattle.omega_rounds.specs.Seats.{IsSeat, to_do_of}
 use Rattle.omega_rounds.specs.SeatSteps.{CommitsFirst, attempt_outcomes}
 use Rattle.omega_rounds.specs.declared.seat.Seat.{Seat}
 use Rattle.omega_rounds.proofs.Answering.{planned_answers}

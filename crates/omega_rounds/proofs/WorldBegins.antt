@@ -1,7 +1,7 @@
 -- A world in which a round begins.
-use Rattle.std.proofs.Common.{◌≡◌, ◌≤◌, ◌<◌, ◌+◌, ◌*◌, ◌-◌, ℕ, zero, suc, Bool, true, false, not, List, [], ◌∷◌, ◌++◌, length, map, take, Option, Some, None, refl, sym, ap, ap₂, subst, arith, ◌∙◌, inl, inr, add-one, length-append}
-use Rattle.std.specs.Prelude.{◌⊎◌, nat_le, slice_get, option_map}
-use Rattle.std.specs.List.{All, filter, fold, sum_by, AllByRecursion as Each}
+use Rattle.std.proofs.Common.{◌≡◌, ◌≤◌, ◌<◌, ◌+◌, ◌*◌, ◌-◌, ℕ, suc, not, List, [], ◌∷◌, ◌++◌, length, take, Some, None, refl, sym, ap, ap₂, subst, arith, ◌∙◌, inl, inr, add-one}
+use Rattle.std.specs.Prelude.{nat_le, slice_get}
+use Rattle.std.specs.List.{All, fold, sum_by}
 use Rattle.std.proofs.lemmas.List.Sums.{fold-append}
 use Rattle.std.proofs.lemmas.Option.{slice_get_cases, slice_get_within}
 use Rattle.std.proofs.Math.Seq.{take-length}
@@ -17,7 +17,7 @@ use Rattle.omega_model.specs.Policy.{schedulers}
 use Rattle.omega_model.specs.Requests.{failed, requests}
 use Rattle.omega_model.specs.Routing.{scheduler_of}
 use Rattle.omega_model.specs.State.{state}
-use Rattle.omega_model.specs.Stepping.{BeginsRound, IsInRound}
+use Rattle.omega_model.specs.Stepping.{BeginsRound}
 use Rattle.omega_model.specs.Wanted.{WantedTask, wanted, wanted_after}
 use Rattle.omega_model.specs.Work.{HasLeft, Standing, commits_of, fresh}
 use Rattle.omega_model.specs.World.{World}
@@ -33,11 +33,11 @@ use Rattle.omega_desk.specs.Desks.{DeskState, left_at, open_requests}
 use Rattle.omega_rounds.specs.AttemptsLeft.{attempts_left}
 use Rattle.omega_rounds.specs.InRound.{RoundIsOver, rows_now}
 use Rattle.omega_rounds.specs.Keeping.{HasBegun, HasNotBegun, IsLawful, IsWorld, world_at}
-use Rattle.omega_rounds.specs.NextCommit.{HasNoWork, NobodyHasWork}
+use Rattle.omega_rounds.specs.NextCommit.{NobodyHasWork}
 use Rattle.omega_rounds.specs.Opening.{BeginAll, BeginsSeat, HaveNoWork, IsAsked}
 use Rattle.omega_rounds.specs.Playing.{IsAtStart}
 use Rattle.omega_rounds.specs.Seats.{IsDeskOf, IsRoutedTo, IsSeat, synced_of, to_do_of}
-use Rattle.omega_rounds.specs.Stages.{IsInRunOf, Source, Stage, next_stage, rows_begun, source_of, stage_of}
+use Rattle.omega_rounds.specs.Stages.{IsInRunOf, Source, Stage, next_stage, rows_begun, stage_of}
 use Rattle.omega_rounds.specs.declared.seat.Seat.{Seat}
 use Rattle.omega_rounds.proofs.OpenedEntries.{commits_opened, copy_opened, failed_opened}
 use Rattle.omega_rounds.proofs.Places.{take_next}

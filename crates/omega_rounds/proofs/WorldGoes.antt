@@ -1,8 +1,8 @@
 -- A world that doesn't go on to another round: a scheduler has work, or the run is over.
-use Rattle.std.proofs.Common.{◌≡◌, ◌≤◌, ◌<◌, ◌+◌, ℕ, suc, Bool, true, false, List, [], ◌∷◌, length, get_or, Option, Some, None, refl, sym, ap, ap₂, subst, arith, ◌∙◌, inl, inr, add-one}
+use Rattle.std.proofs.Common.{◌≡◌, ◌≤◌, ◌+◌, ℕ, suc, true, false, List, [], ◌∷◌, length, Some, None, refl, sym, ap, subst, arith, ◌∙◌, inl, inr}
 use Rattle.std.specs.Prelude.{is_some, slice_get}
 use Rattle.std.specs.List.{position}
-use Rattle.std.proofs.lemmas.Option.{slice_get_cases, slice_get_past, slice_get_within}
+use Rattle.std.proofs.lemmas.Option.{slice_get_cases, slice_get_past}
 use Rattle.omega_model.specs.Feed.{rounds}
 use Rattle.omega_model.specs.Lawful.{Lawful, Rounds}
 use Rattle.omega_model.specs.Policy.{schedulers}
@@ -16,10 +16,10 @@ use Rattle.omega_model.specs.declared.settings.Settings.{Settings}
 use Rattle.omega_model.specs.declared.wishes.Request.{Request}
 use Rattle.omega_rounds.specs.Going.{IsFirstAtWork}
 use Rattle.omega_rounds.specs.InRound.{RoundIsOver, rows_now}
-use Rattle.omega_rounds.specs.Keeping.{HasBegun, HasNotBegun, IsWorld, world_at}
+use Rattle.omega_rounds.specs.Keeping.{IsWorld, world_at}
 use Rattle.omega_rounds.specs.NextCommit.{NobodyHasWork}
 use Rattle.omega_rounds.specs.Opening.{HaveNoWork, has_work}
-use Rattle.omega_rounds.specs.Stages.{IsInRunOf, Source, Stage, rows_begun}
+use Rattle.omega_rounds.specs.Stages.{IsInRunOf, Source, Stage}
 use Rattle.omega_rounds.specs.declared.seat.Seat.{Seat}
 use Rattle.omega_rounds.proofs.SeatLists.{first_past, none_first, some_first}
 use Rattle.omega_rounds.proofs.WorldBegins.{nobody_works}

@@ -1,5 +1,5 @@
 -- A world after a step of a scheduler.
-use Rattle.std.proofs.Common.{◌≡◌, ◌≢◌, ◌≤◌, ◌<◌, ◌+◌, ℕ, suc, List, [], ◌∷◌, ◌++◌, length, map, set, take, Option, Some, None, refl, sym, ap, ap₂, subst, arith, ◌∙◌, inl, inr, add-one}
+use Rattle.std.proofs.Common.{◌≡◌, ◌≢◌, ◌≤◌, ◌<◌, ◌+◌, ℕ, List, [], ◌∷◌, ◌++◌, length, map, set, take, Option, Some, refl, sym, ap, ap₂, subst, arith, ◌∙◌, inl, inr, add-one}
 use Rattle.std.specs.Prelude.{◌⊎◌, slice_get, option_map}
 use Rattle.std.specs.List.{All, sum_by}
 use Rattle.std.proofs.lemmas.Bool.{ne_eqb}
@@ -8,29 +8,27 @@ use Rattle.std.proofs.lemmas.Grind.{flat_map-append}
 use Rattle.std.proofs.lemmas.List.{append-nil, length-set}
 use Rattle.std.proofs.lemmas.List.Elements.{All-head}
 use Rattle.omega_model.specs.Feed.{rounds}
-use Rattle.omega_model.specs.Lawful.{opened, rows_of}
+use Rattle.omega_model.specs.Lawful.{rows_of}
 use Rattle.omega_model.specs.Policy.{schedulers}
-use Rattle.omega_model.specs.Requests.{failed, requests}
-use Rattle.omega_model.specs.Routing.{scheduler_of}
-use Rattle.omega_model.specs.Stepping.{IsInRound, Step, rows_end}
+use Rattle.omega_model.specs.Requests.{requests}
+use Rattle.omega_model.specs.Stepping.{Step}
 use Rattle.omega_model.specs.Wanted.{WantedTask}
-use Rattle.omega_model.specs.Work.{HasLeft, Standing, commits_of, fresh, is_commit_of, standing_of}
-use Rattle.omega_model.specs.World.{StepAnswer, Steps, World}
+use Rattle.omega_model.specs.Work.{Standing, standing_of}
+use Rattle.omega_model.specs.World.{StepAnswer, World}
 use Rattle.omega_model.specs.declared.entries.Entry.{Entry}
 use Rattle.omega_model.specs.declared.rows.Row.{Row}
 use Rattle.omega_model.specs.declared.rows.Round.{Round}
 use Rattle.omega_model.specs.declared.rows.TraceTables.{TraceTables}
 use Rattle.omega_model.specs.declared.settings.Settings.{Settings}
-use Rattle.omega_model.specs.declared.wishes.Request.{Request}
 use Rattle.omega_desk.specs.Desks.{DeskState, left_at}
 use Rattle.omega_rounds.specs.AttemptsLeft.{attempts_left}
 use Rattle.omega_rounds.specs.Going.{answer_of}
-use Rattle.omega_rounds.specs.InRound.{StepsInRound, rows_before, rows_now}
+use Rattle.omega_rounds.specs.InRound.{StepsInRound, rows_now}
 use Rattle.omega_rounds.specs.Keeping.{HasBegun, HasNotBegun, IsLawful, IsWorld, world_at}
 use Rattle.omega_rounds.specs.NextCommit.{attempt, attempt_txn}
 use Rattle.omega_rounds.specs.Seats.{IsDeskOf, IsRoutedTo, IsSeat, synced_of, to_do_of}
-use Rattle.omega_rounds.specs.SeatSteps.{CommitsFirst, RestsSeat, SeatSteps, SyncsSeat}
-use Rattle.omega_rounds.specs.Stages.{IsInRunOf, Source, Stage, WorldState, rows_begun, source_of, synced_at}
+use Rattle.omega_rounds.specs.SeatSteps.{SeatSteps}
+use Rattle.omega_rounds.specs.Stages.{IsInRunOf, Source, Stage, WorldState, rows_begun, synced_at}
 use Rattle.omega_rounds.specs.declared.seat.Seat.{Seat}
 use Rattle.omega_rounds.specs.declared.steps.Stepped.{Stepped}
 use Rattle.omega_rounds.specs.declared.steps.Stepped.TheVariants.{Synced, Committed, Idle}

@@ -1,5 +1,5 @@
 -- What the calls of a world do.
-use Rattle.std.specs.Prelude.{◌≡◌, ◌+◌, ◌<◌, ℕ, Some, None, length, slice_get}
+use Rattle.std.specs.Prelude.{◌≡◌, ◌<◌, ℕ, Some, length, slice_get}
 use Rattle.omega_model.specs.Lawful.{Lawful}
 use Rattle.omega_model.specs.Policy.{schedulers}
 use Rattle.omega_model.specs.Stepping.{BeginsRound, Step}

@@ -1,5 +1,5 @@
 -- A world in which the schedulers take turns.
-use Rattle.std.specs.Prelude.{◌≡◌, ◌+◌, ◌≤◌, ◌<◌, ℕ, Bool, true, false, List, [], ◌++◌, length}
+use Rattle.std.specs.Prelude.{◌≡◌, ◌+◌, ℕ, Bool, true, false, List, [], ◌++◌, length}
 use Rattle.omega_model.specs.Lawful.{opened}
 use Rattle.omega_model.specs.Policy.{schedulers}
 use Rattle.omega_model.specs.Turns.{InTurns}

@@ -1,6 +1,5 @@
 -- A scheduler's seat: its desk, and its copy of the cell.
-use Rattle.std.specs.Prelude.{◌≡◌, ◌<◌, ℕ, List, Option, Some, None, All, if◌then◌else◌, length}
-use Rattle.std.specs.List.{sum_by}
+use Rattle.std.specs.Prelude.{◌≡◌, ◌<◌, ℕ, List, Option, Some, None, All, if◌then◌else◌}
 use Rattle.omega_model.specs.Requests.{failed}
 use Rattle.omega_model.specs.Routing.{scheduler_of}
 use Rattle.omega_model.specs.Work.{HasLeft, Standing, commits_of, standing_of}

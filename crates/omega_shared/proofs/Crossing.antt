@@ -15,7 +15,6 @@ use Rattle.omega_lock.proofs.lock.Lock.TheSendSync as lock
 use Rattle.omega_lock.proofs.seat.Seat.TheSendSync as seat
 use Rattle.omega_lock.specs.contracts.lock.Lock as Lock
 use Rattle.omega_lock.specs.contracts.seat.Seat as Seat
-use Rattle.omega_lock.specs.contracts.seat.Seat.TheInside as SeatInside
 use Rattle.omega_lock.specs.declared.counted.Counted.{Ghosts}
 use Rattle.omega_machines.proofs.table.MachineTable.TheSendSync as machines
 use Rattle.omega_model.proofs.entries.Entry.TheSendSync as entry

@@ -1,6 +1,6 @@
 -- What a seat has seen after its turn at the lock.
-use Rattle.std.proofs.Common.{◌≡◌, ◌≤◌, ℕ, false, List, [], ◌∷◌, ◌++◌, length, refl, sym, ap, ap₂, subst, ◌∙◌, arith, inl, inr, ⊎_elim}
-use Rattle.std.specs.Prelude.{Result, Ok, Err, OnOk, OnErr, IfOk, Some, ◌⊎◌}
+use Rattle.std.proofs.Common.{◌≡◌, ◌≤◌, ℕ, false, List, [], ◌∷◌, ◌++◌, length, sym, ap, ap₂, subst, ◌∙◌, arith, inl, inr, ⊎_elim}
+use Rattle.std.specs.Prelude.{Result, Ok, Err, OnOk, OnErr, IfOk, Some}
 use Rattle.std.proofs.lemmas.List.{append-nil}
 use Rattle.omega_lock.specs.Lists.{StartsWith}
 use Rattle.omega_lock.specs.Seats.{AddsAtMostOne, IsSameSeat, OwnIsSeen as LockOwnIsSeen, SeatState}

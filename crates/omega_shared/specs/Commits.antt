@@ -1,5 +1,5 @@
 -- The commits of one scheduler in a history.
-use Rattle.std.specs.Prelude.{◌≡◌, ℕ, List, [], ◌∷◌, ◌++◌, drop, Option, Some, None}
+use Rattle.std.specs.Prelude.{◌≡◌, ℕ, List, ◌++◌, drop, Option, Some, None}
 use Rattle.std.specs.List.{filter}
 use Rattle.omega_model.specs.State.{reply_of}
 use Rattle.omega_model.specs.Work.{commits_of, is_commit_of}

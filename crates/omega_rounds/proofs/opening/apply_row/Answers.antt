@@ -1,4 +1,4 @@
-use Rattle.std.proofs.Common.{◌≡◌, ◌++◌, ◌∙◌, ap, List}
+use Rattle.std.proofs.Common.{◌++◌, ◌∙◌, ap, List}
 use Rattle.omega_feed.proofs.AskedAfter.{if_ok_weaker}
 use Rattle.omega_model.specs.declared.entries.Entry.{Entry}
 use Rattle.omega_rounds.proofs.Fed.{made_may}

@@ -1,5 +1,4 @@
-use Rattle.std.proofs.Common.{◌≡◌, ◌≤◌, ◌<◌, length, Some, refl, sym, arith}
-use Rattle.std.specs.Prelude.{slice_get}
+use Rattle.std.proofs.Common.{◌≤◌, ◌<◌, length, refl, sym, arith}
 use Rattle.std.proofs.lemmas.Option.{slice_get_read}
 use Rattle.omega_rounds.proofs.Beginning.{asked_distinct, begun_all, begun_more, begun_none, idle_still, seat_begins}
 use Rattle.omega_rounds.proofs.Reopened.{quiet_on}

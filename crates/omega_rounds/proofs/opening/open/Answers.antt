@@ -1,8 +1,6 @@
 use Rattle.std.proofs.Common.{◌≡◌, ◌∷◌, ◌++◌, ◌+◌, ◌∙◌, [], List, take, take_all, sym, ap, subst}
 use Rattle.std.specs.List.{fold}
 use Rattle.std.proofs.lemmas.List.{take_more}
-use Rattle.omega_feed.specs.Asked.{Asked}
-use Rattle.omega_feed.specs.Open.{OthersAreQuiet}
 use Rattle.omega_model.specs.Lawful.{Applied, with_row}
 use Rattle.omega_model.specs.Wanted.{wanted_after}
 use Rattle.omega_model.specs.declared.entries.Entry.{Entry}

@@ -1,12 +1,7 @@
-use Rattle.std.proofs.Common.{◌≡◌, ◌++◌, ◌∷◌, [], List, take}
-use Rattle.std.specs.List.{fold}
+use Rattle.std.proofs.Common.{◌++◌, ◌∷◌, [], take}
 use Rattle.omega_feed.specs.Open.{OthersAreQuiet}
-use Rattle.omega_model.specs.Lawful.{Applied, with_row}
 use Rattle.omega_model.specs.State.{state}
-use Rattle.omega_model.specs.Wanted.{wanted, wanted_after}
 use Rattle.omega_model.specs.declared.entries.Entry.TheVariants.{Round}
-use Rattle.omega_model.specs.declared.rows.Row.{Row}
-use Rattle.omega_model.specs.declared.rows.TraceTables.{TraceTables}
 use Rattle.omega_rounds.proofs.Applying.{AreApplied}
 use Rattle.omega_rounds.proofs.opening.open.Given as goal
 

@@ -1,8 +1,7 @@
-use Rattle.std.proofs.Common.{List, map, take, ap, ◌∙◌}
+use Rattle.std.proofs.Common.{map, take, ap, ◌∙◌}
 use Rattle.std.proofs.lemmas.List.{take_all}
 use Rattle.omega_machines.specs.Table.{seq_at}
 use Rattle.omega_board.proofs.Histories.{numbers_alike}
-use Rattle.omega_model.specs.Touches.{seq}
 use Rattle.omega_model.specs.declared.claims.Claim.{Claim}
 use Rattle.omega_rounds.proofs.seat.seqs_of.Goals as goal
 

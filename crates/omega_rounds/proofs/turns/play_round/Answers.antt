@@ -1,4 +1,4 @@
-use Rattle.std.proofs.Common.{◌≡◌, ◌∙◌, Bool, false, subst}
+use Rattle.std.proofs.Common.{◌∙◌, subst}
 use Rattle.omega_rounds.specs.Playing.{TakesTurnFrom}
 use Rattle.omega_rounds.proofs.PlayedTurns.{turns_last, turns_more}
 use Rattle.omega_rounds.proofs.turns.play_round.Goals as goal

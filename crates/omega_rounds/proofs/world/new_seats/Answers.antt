@@ -1,6 +1,5 @@
-use Rattle.std.proofs.Common.{◌≡◌, ◌++◌, ◌∷◌, [], List, sym, subst}
+use Rattle.std.proofs.Common.{sym, subst}
 use Rattle.omega_rounds.specs.Opening.{AreNewSeats}
-use Rattle.omega_rounds.specs.declared.seat.Seat.{Seat}
 use Rattle.omega_rounds.proofs.NewSeats.{seats_more}
 use Rattle.omega_rounds.proofs.world.new_seats.Goals as goal
 

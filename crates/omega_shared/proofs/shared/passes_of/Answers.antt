@@ -1,7 +1,7 @@
 use Rattle.std.proofs.Common.{◌≡◌, ◌∙◌, [], ◌∷◌, ◌++◌, ap, sym, append_assoc}
 use Rattle.std.specs.Vec.Iter.{into_iter_items}
 use Rattle.std.proofs.lemmas.List.{map-append}
-use Rattle.std.proofs.lemmas.List.Elements.{All-head, All-same, All-tail}
+use Rattle.std.proofs.lemmas.List.Elements.{All-same, All-tail}
 use Rattle.omega_shared.specs.Passes.{IsPassSeat, pass_at}
 use Rattle.omega_shared.proofs.shared.passes_of.Goals as goal
 

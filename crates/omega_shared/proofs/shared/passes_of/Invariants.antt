@@ -1,5 +1,5 @@
-use Rattle.std.proofs.Common.{◌≡◌, ◌++◌, length}
-use Rattle.std.specs.Prelude.{map, All, vec_capacity, vec_len}
+use Rattle.std.proofs.Common.{◌≡◌, ◌++◌}
+use Rattle.std.specs.Prelude.{map, All, vec_capacity}
 use Rattle.std.specs.Vec.Iter.{into_iter_items}
 use Rattle.omega_shared.specs.Passes.{IsPassSeat, pass_at}
 use Rattle.omega_shared.proofs.shared.passes_of.Given as goal

@@ -1,4 +1,4 @@
-use Rattle.std.proofs.Common.{◌≡◌, ◌∷◌, [], ℕ, List, ap, sym, subst, ◌∙◌}
+use Rattle.std.proofs.Common.{◌≡◌, [], ℕ, List, ap, subst, ◌∙◌}
 use Rattle.std.specs.BTreeSet.{BTreeSet}
 use Rattle.omega_feed.proofs.Settling.{AreSettled, others_settled, settled_closes}
 use Rattle.omega_feed.proofs.open_jobs.OpenJobs.settle.Goals as goal

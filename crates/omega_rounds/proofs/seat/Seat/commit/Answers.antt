@@ -1,9 +1,8 @@
-use Rattle.std.proofs.Common.{Bor, ◌≡◌, ◌∷◌, ◌++◌, ◌∙◌, [], ℕ, List, length, Option, Some, None, sym, ap, ap₂, subst}
-use Rattle.std.specs.Prelude.{option_map, slice_get}
+use Rattle.std.proofs.Common.{Bor, ◌∷◌, ◌++◌, ◌∙◌, [], ℕ, List, length, sym, ap, ap₂}
+use Rattle.std.specs.Prelude.{option_map}
 use Rattle.omega_copy.specs.Copies.{CopyState}
 use Rattle.omega_model.specs.State.{reply_of}
 use Rattle.omega_model.specs.Work.{outcomes_of}
-use Rattle.omega_model.specs.declared.claims.Outcome.{Outcome}
 use Rattle.omega_model.specs.declared.claims.Txn.{Txn}
 use Rattle.omega_model.specs.declared.entries.Entry.{Entry}
 use Rattle.omega_model.specs.declared.entries.Entry.TheVariants.{Commit}

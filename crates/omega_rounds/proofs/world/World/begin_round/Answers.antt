@@ -1,4 +1,4 @@
-use Rattle.std.proofs.Common.{Bor, ◌≡◌, ◌+◌, ◌∙◌, ℕ, List, length, Option, Some, refl, sym, ap, subst}
+use Rattle.std.proofs.Common.{Bor, ◌≡◌, ◌+◌, ◌∙◌, List, length, Some, sym, ap, subst}
 use Rattle.std.specs.Prelude.{option_map, slice_get}
 use Rattle.std.specs.List.{fold}
 use Rattle.omega_feed.specs.Asked.{Asked}

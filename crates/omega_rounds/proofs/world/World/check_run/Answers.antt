@@ -1,4 +1,4 @@
-use Rattle.std.proofs.Common.{◌≡◌, ◌∙◌, ap, subst}
+use Rattle.std.proofs.Common.{◌≡◌, subst}
 use Rattle.omega_rounds.specs.Playing.{IsAtStart}
 use Rattle.omega_rounds.specs.Stages.{WorldState, stage_of}
 use Rattle.omega_rounds.proofs.WorldBegins.{world_start}

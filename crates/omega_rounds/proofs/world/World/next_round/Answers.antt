@@ -1,4 +1,4 @@
-use Rattle.std.proofs.Common.{◌≡◌, ◌∙◌, ℕ, List, length, None, Some, sym, ap, subst}
+use Rattle.std.proofs.Common.{◌≡◌, ◌∙◌, List, length, sym, ap, subst}
 use Rattle.std.specs.List.{position}
 use Rattle.omega_model.specs.Lawful.{Lawful}
 use Rattle.omega_model.specs.declared.rows.TraceTables.{TraceTables}

@@ -1,4 +1,4 @@
-use Rattle.std.proofs.Common.{◌≡◌, ◌∙◌, ap, sym, length, subst}
+use Rattle.std.proofs.Common.{◌≡◌, ◌∙◌, ap, sym, length}
 use Rattle.std.proofs.lemmas.List.Elements.{All-weaker}
 use Rattle.omega_lock.specs.Lists.{StartsWith}
 use Rattle.omega_shared.specs.Passes.{PassState}

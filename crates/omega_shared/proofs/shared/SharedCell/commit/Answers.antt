@@ -1,4 +1,4 @@
-use Rattle.std.proofs.Common.{List, ◌++◌, ap, ◌∙◌}
+use Rattle.std.proofs.Common.{◌++◌, ap, ◌∙◌}
 use Rattle.omega_shared.specs.Passes.{PassState}
 use Rattle.omega_shared.proofs.Standing.{stands_later}
 use Rattle.omega_shared.proofs.shared.SharedCell.commit.Goals as goal
