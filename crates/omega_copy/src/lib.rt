@@ -7,8 +7,6 @@
 
 mod copy;
 mod telling;
-#[cfg(test)]
-mod tests;
 mod trial;
 
 pub use copy::PrivateCopy;

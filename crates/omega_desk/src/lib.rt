@@ -9,6 +9,3 @@ mod failures;
 mod walk;
 
 pub use desk::Desk;
-
-#[cfg(test)]
-mod tests;

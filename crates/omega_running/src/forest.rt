@@ -15,8 +15,8 @@ use omega_model::{Keys, NoMemory, Task, TaskKey};
 use std::alloc::Global;
 use std::marker::Model;
 
-/// How many trees there are: a tree has about ten tasks where 150,000 run.
-const TREES: usize = 16_384;
+/// How many trees there are: a tree has about forty tasks where 150,000 run.
+const TREES: usize = 4_096;
 
 /// Tasks in one of the two orders. The tasks of a job, or those of a machine, stand in one tree,
 /// which the number of the job or the machine names, so that a way down is short however many
