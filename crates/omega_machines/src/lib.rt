@@ -11,6 +11,7 @@
 mod attrs;
 mod load;
 mod table;
+
 use omega_model::{Copied, Machine, Need, NoMemory};
 use std::alloc::Global;
 pub use table::MachineTable;

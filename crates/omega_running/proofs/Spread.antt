@@ -58,10 +58,10 @@ pub length-put : (order : Order) (t : Task) (xs : List Task) → length (put_in 
 length-put order t xs =
     let parts = length-filter_both (λ y. precedes order t y) (λ y. not (precedes order t y)) (λ y. refl) xs in
     go (filter (λ y. not (precedes order t y)) xs) (filter (λ y. precedes order t y) xs) parts where
-  go : (l r : List Task) → length r + length l ≡ length xs → length (l ++ t ∷ r) ≡ length xs + 1
-  go l r e =
-      let sum : length (l ++ t ∷ r) ≡ length l + length (t ∷ r) = length-append l (t ∷ r) in
-      omega (arith, e, sum)
+      go : (l r : List Task) → length r + length l ≡ length xs → length (l ++ t ∷ r) ≡ length xs + 1
+      go l r e =
+          let sum : length (l ++ t ∷ r) ≡ length l + length (t ∷ r) = length-append l (t ∷ r) in
+          omega (arith, e, sum)
 
 -- one tree's tasks with those of the others
 record IsTree (order : Order) (trees place : ℕ) (l xs : List Task) : Type 0 where
@@ -109,16 +109,16 @@ gathers order trees place (l ∷ ls) s =
     record {
       rises = joined_rises order trees place l xs tree;
       from = each_joined (λ y. place ≤ lead order y % trees) order l xs
-        (each_map (λ y. is_at order trees place y ≡ true) (λ y. place ≤ lead order y % trees) (λ y q. let e : lead order y % trees ≡ place = eqb-true _ _ q in omega (arith, e)) l s.1)
-        (each_map (λ y. place + 1 ≤ lead order y % trees) (λ y. place ≤ lead order y % trees) (λ y q. omega (arith, q)) xs rest.from);
+          (each_map (λ y. is_at order trees place y ≡ true) (λ y. place ≤ lead order y % trees) (λ y q. let e : lead order y % trees ≡ place = eqb-true _ _ q in omega (arith, e)) l s.1)
+          (each_map (λ y. place + 1 ≤ lead order y % trees) (λ y. place ≤ lead order y % trees) (λ y q. omega (arith, q)) xs rest.from);
       at = at_of l ls xs tree rest.at;
     } where
-  at_of : (l : List Task) (ls : List (List Task)) (xs : List Task) → IsTree order trees place l xs → ((i : ℕ) → filter (is_at order trees (place + 1 + i)) xs ≡ get_or ls i []) → (i : ℕ) → filter (is_at order trees (place + i)) (joined order l xs) ≡ get_or (l ∷ ls) i []
-  at_of l ls xs tree later zero = let same : place + 0 ≡ place = omega arith in rw same (joined_here order trees place l xs tree)
-  at_of l ls xs tree later (suc i) =
-      let same : place + suc i ≡ place + 1 + i = omega arith in
-      let off = each_map (λ y. is_at order trees place y ≡ true) (λ y. is_at order trees (place + 1 + i) y ≡ false) (λ y q. let e : lead order y % trees ≡ place = eqb-true _ _ q in ne_eqb _ _ (omega (arith, e))) l tree.here in
-      rw same (joined_elsewhere order trees place (is_at order trees (place + 1 + i)) l xs tree off ∙ later i)
+      at_of : (l : List Task) (ls : List (List Task)) (xs : List Task) → IsTree order trees place l xs → ((i : ℕ) → filter (is_at order trees (place + 1 + i)) xs ≡ get_or ls i []) → (i : ℕ) → filter (is_at order trees (place + i)) (joined order l xs) ≡ get_or (l ∷ ls) i []
+      at_of l ls xs tree later zero = let same : place + 0 ≡ place = omega arith in rw same (joined_here order trees place l xs tree)
+      at_of l ls xs tree later (suc i) =
+          let same : place + suc i ≡ place + 1 + i = omega arith in
+          let off = each_map (λ y. is_at order trees place y ≡ true) (λ y. is_at order trees (place + 1 + i) y ≡ false) (λ y q. let e : lead order y % trees ≡ place = eqb-true _ _ q in ne_eqb _ _ (omega (arith, e))) l tree.here in
+          rw same (joined_elsewhere order trees place (is_at order trees (place + 1 + i)) l xs tree off ∙ later i)
 
 -- two lists in order with the same tasks in each tree are the same
 not_before : (order : Order) (s : Task → Bool) (x : Task) (xs : List Task) (y : Task) (ys : List Task) → Each (λ z. precedes order y z ≡ true) ys → precedes order x y ≡ true → s x ≡ true → filter s (x ∷ xs) ≡ filter s (y ∷ ys) → ⊥
@@ -206,11 +206,11 @@ changed order trees ls i tasks xs s less p u own others =
     let spread = set_spread order trees 0 ls i tasks s p.rises (subst (λ n. Each (λ y. is_at order trees n y ≡ true) tasks) (omega arith) p.here) in
     let new = gathers order trees 0 (set ls i tasks) spread in
     record { spread = spread; is = same_lists order trees (gathered order (set ls i tasks)) xs new.rises u (λ j. all_trees order trees (set ls i tasks) spread j ∙ each_tree j (eqb j i) refl) } where
-  each_tree : (j : ℕ) (b : Bool) → eqb j i ≡ b → get_or (set ls i tasks) j [] ≡ filter (is_at order trees j) xs
-  each_tree j true e = let same : j ≡ i = eqb-true _ _ e in rw same (get_or-set_same ls i tasks [] less ∙ sym own)
-  each_tree j false e =
-      let differs : j ≡ i → ⊥ = λ q. both_ways _ e (eq-eqb _ _ q) in
-      get_or-set_other ls i j tasks [] differs ∙ sym (all_trees order trees ls s j) ∙ sym (others j differs)
+      each_tree : (j : ℕ) (b : Bool) → eqb j i ≡ b → get_or (set ls i tasks) j [] ≡ filter (is_at order trees j) xs
+      each_tree j true e = let same : j ≡ i = eqb-true _ _ e in rw same (get_or-set_same ls i tasks [] less ∙ sym own)
+      each_tree j false e =
+          let differs : j ≡ i → ⊥ = λ q. both_ways _ e (eq-eqb _ _ q) in
+          get_or-set_other ls i j tasks [] differs ∙ sym (all_trees order trees ls s j) ∙ sym (others j differs)
 
 pub put_in_tree : (order : Order) (trees : ℕ) (ls : List (List Task)) (t : Task) → IsSpread order trees 0 ls → lead order t % trees < length ls → Each (λ y. is_apart order t y ≡ true) (gathered order ls) → IsChanged order trees ls (lead order t % trees) (put_in order t (get_or ls (lead order t % trees) [])) (put_in order t (gathered order ls))
 put_in_tree order trees ls t s less apart =
@@ -262,9 +262,9 @@ place_in_tree order trees ls t s has =
     subst (λ zs. has_place order t zs ≡ true) (all_trees order trees ls s i)
     (any_filter (λ y. not (is_apart order t y)) (is_at order trees i) (gathered order ls)
     (λ y q. eq-eqb _ _ (ap (λ n. n % trees) (sym (lead_same order t y (not_true_false _ q))))) has) where
-  not_true_false : (b : Bool) → not b ≡ true → b ≡ false
-  not_true_false true e = absurd (cc)
-  not_true_false false e = refl
+      not_true_false : (b : Bool) → not b ≡ true → b ≡ false
+      not_true_false true e = absurd (cc)
+      not_true_false false e = refl
 
 -- one task less
 pub length-taken : (order : Order) (t : Task) (xs : List Task) → IsInOrder order xs → has_place order t xs ≡ true → length (taken_out order t xs) + 1 ≡ length xs
@@ -273,6 +273,7 @@ length-taken order t (x ∷ xs) u e = go (is_apart order t x) refl (length-taken
   or_none : (a b : Bool) → (a || b) ≡ false → b ≡ false
   or_none true b e = absurd (cc)
   or_none false b e = e
+
   go : (b : Bool) → is_apart order t x ≡ b → (has_place order t xs ≡ true → length (taken_out order t xs) + 1 ≡ length xs) → (not (is_apart order t x) || has_place order t xs) ≡ true → length (cond b (x ∷ taken_out order t xs) (taken_out order t xs)) + 1 ≡ length (x ∷ xs)
   go true h rest e = let less = rest (rw h at e) in omega (arith, less)
   go false h rest e =

@@ -17,5 +17,6 @@
 mod held;
 mod pass;
 mod shared;
+
 pub use pass::Pass;
 pub use shared::SharedCell;
