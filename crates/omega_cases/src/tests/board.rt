@@ -1,13 +1,18 @@
-ghost use Rattle.std.specs.Prelude.{◌≡◌, ◌∷◌, [], ◌↔◌, IsTrue, IfOk};
-ghost use Rattle.omega_model.specs.Fields.{greatest};
-ghost use Rattle.omega_model.specs.Need.{Fits};
+ghost use Rattle.std.specs.Prelude.{◌≡◌, ◌∷◌, [], IfOk};
 
 use omega_board::Board;
 use omega_model::{
-    Bytes, Claim, Claims, Copied, Entry, Judgement, Keys, Mode, Need, NoMemory, Rule, Seq, Spec,
+    Bytes, Claim, Claims, Copied, Entry, GREATEST_QUANTITY, Judgement, Keys, Mode, Need, NoMemory, Rule, Seq, Spec,
     TaskKey, Txn, Verdict,
 };
 use std::alloc::Global;
+
+// The greatest capacity.
+const GREATEST: Need = Need {
+    cpu: GREATEST_QUANTITY,
+    mem: GREATEST_QUANTITY,
+    disk: GREATEST_QUANTITY,
+};
 
 // An amount without disk.
 fn need(cpu: u64, mem: u64) -> Need {
@@ -41,14 +46,8 @@ fn claim(
     })
 }
 
-fn is_small(cap: Need) -> bool
-    ensures { IsTrue result ↔ Fits cap greatest }
-{
-    cap.cpu <= 1000000000000 && cap.mem <= 1000000000000 && cap.disk <= 1000000000000
-}
-
 fn add(board: &mut Board, alloc: Global, machine: u64, cap: Need) -> Result<Keys, NoMemory> {
-    let room = board.machines().len() < 65536 && is_small(cap);
+    let room = board.machines().len() < 65536 && cap.fits(GREATEST);
     if room && board.machines().seq(machine) < u64::MAX {
         board.apply_entry(alloc, &Entry::MachineAdd { machine, cap })
     } else {
@@ -57,7 +56,7 @@ fn add(board: &mut Board, alloc: Global, machine: u64, cap: Need) -> Result<Keys
 }
 
 fn update(board: &mut Board, alloc: Global, machine: u64, cap: Need) -> Result<Keys, NoMemory> {
-    let room = board.machines().len() < 65536 && is_small(cap);
+    let room = board.machines().len() < 65536 && cap.fits(GREATEST);
     if room && board.machines().seq(machine) < u64::MAX {
         board.apply_entry(alloc, &Entry::MachineUpdate { machine, cap })
     } else {
@@ -74,9 +73,18 @@ fn remove(board: &mut Board, alloc: Global, machine: u64) -> Result<Keys, NoMemo
     }
 }
 
+fn bytes(alloc: Global, text: &[u8]) -> Result<Bytes, NoMemory> {
+    Ok(Seq::of(Vec::from_slice(alloc, text)?))
+}
+
+// The name and the value of an attribute.
+fn kernel(alloc: Global) -> Result<(Bytes, Bytes), NoMemory> {
+    let name = bytes(alloc, b"kernel")?;
+    Ok((name, bytes(alloc, b"17")?))
+}
+
 fn set_attr(board: &mut Board, alloc: Global, machine: u64) -> Result<Keys, NoMemory> {
-    let name = Bytes::of(Vec::from_slice(alloc, b"kernel")?);
-    let value = Bytes::of(Vec::from_slice(alloc, b"17")?);
+    let (name, value) = kernel(alloc)?;
     let room = board.machines().len() < 65536;
     if room && board.machines().seq(machine) < u64::MAX {
         let entry = Entry::AttrSet {
@@ -91,7 +99,7 @@ fn set_attr(board: &mut Board, alloc: Global, machine: u64) -> Result<Keys, NoMe
 }
 
 fn delete_attr(board: &mut Board, alloc: Global, machine: u64) -> Result<Keys, NoMemory> {
-    let name = Bytes::of(Vec::from_slice(alloc, b"kernel")?);
+    let name = bytes(alloc, b"kernel")?;
     let room = board.machines().len() < 65536;
     if room && board.machines().seq(machine) < u64::MAX {
         board.apply_entry(alloc, &Entry::AttrDelete { machine, name })
