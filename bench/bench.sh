@@ -5,7 +5,7 @@
 #     bench/bench.sh PROGRAM SECTION..                        some of the tables below
 #     bench/bench.sh PROGRAM page                             all of them, written into docs/SPEED.md
 #
-# Sections: scales parts rows machines schedulers words threads shapes. ROWS are rows of task_events, LOAD
+# Sections: scales parts rows machines schedulers words threads shapes plans. ROWS are rows of task_events, LOAD
 # is as in tables.py. Each line is the quickest of three runs, or of one that took more than ten seconds.
 #
 # Elapsed is the time on the clock and Processor the time of all threads. Multiple is Processor as a
@@ -158,21 +158,35 @@ shapes() {
     shape map_reduce 20000 replay
 }
 
+# What a plan of one task costs on cells of different size.
+plans() {
+    header '| Shape | Machines | Words'
+    local n
+    for n in 1250 12500; do sized half_full "$n" replay; done
+    for n in 1250 12500; do sized full "$n" replay; done
+    for n in 1250 12500; do sized evicting "$n" replay --preempt all; done
+}
+
 # A shape at a size and at twice that size.
 shape() { # NAME SIZE WORDS..
-    local name=$1 size=$(($2 / scale)) what
+    local name=$1 size=$(($2 / scale)) n
     shift 2
-    what=$(python3 "$here/tables.py" | sed -n "s/^$name: //p")
     for n in "$size" $((2 * size)); do
-        local folder=$data/shape-$name-$n
-        if ! [ -f "$folder/made" ]; then
-            python3 "$here/tables.py" "$name" "$folder" "$n" && touch "$folder/made"
-        fi
-        measure "| $what | $n | \`$*\`" "$folder" "$@"
+        sized "$name" "$n" "$@"
     done
 }
 
-sections=(scales parts rows machines schedulers words threads shapes)
+sized() { # NAME SIZE WORDS..
+    local folder=$data/shape-$1-$2 size=$2 what
+    what=$(python3 "$here/tables.py" | sed -n "s/^$1: //p")
+    if ! [ -f "$folder/made" ]; then
+        python3 "$here/tables.py" "$1" "$folder" "$size" && touch "$folder/made"
+    fi
+    shift 2
+    measure "| $what | $size | \`$*\`" "$folder" "$@"
+}
+
+sections=(scales parts rows machines schedulers words threads shapes plans)
 
 # Puts what each section prints between that section's marks on the page, and the date and the processor above.
 page() {

@@ -230,8 +230,43 @@ def map_reduce(files, size):
         files.put('mapreduce_jobs', job, 8)
 
 
+# 100,000 jobs of one task, each a plan of its own, on a cell of so many machines: here the size is that of
+# the cell, and the plans are as many for each.
+
+PLANS = 100_000
+
+
+def half_full(files, size):
+    """Plans on a cell that is half full"""
+    for number in range(1, size + 1):
+        files.machine(number)
+        files.task(0, number, 0, 0, 0.5)
+    for job in range(PLANS):
+        files.task(ROUND, 1_000_000 + job, 0, 0, 0.004)
+
+
+def full(files, size):
+    """Plans on a cell on which nothing fits"""
+    for number in range(1, size + 1):
+        files.machine(number)
+        files.task(0, number, 0, 0, 0.9)
+    for job in range(PLANS):
+        files.task(ROUND, 1_000_000 + job, 0, 0, 0.5)
+
+
+def evicting(files, size):
+    """Plans each of which needs one eviction"""
+    share = size / PLANS
+    for number in range(1, size + 1):
+        files.machine(number)
+    for job in range(PLANS):
+        files.task(0, job, 0, 0, share)
+    for job in range(PLANS):
+        files.task(ROUND, 1_000_000 + job, 0, 0, share, prio=9)
+
+
 SHAPES = {shape.__name__: shape for shape in (
-    one_job, apart, never_fits, one_machine, long_runs, attributes, scarce, map_reduce)}
+    one_job, apart, never_fits, one_machine, long_runs, attributes, scarce, map_reduce, half_full, full, evicting)}
 
 
 def main(words):

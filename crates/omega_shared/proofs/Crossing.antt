@@ -19,6 +19,8 @@ use Rattle.omega_lock.specs.declared.counted.Counted.{Ghosts}
 use Rattle.omega_machines.proofs.table.MachineTable.TheSendSync as machines
 use Rattle.omega_model.proofs.entries.Entry.TheSendSync as entry
 use Rattle.omega_running.proofs.nodes.Tree.TheLaws.TheKnot.{send-Node, send-Tree}
+use Rattle.omega_running.specs.contracts.forest.Forest as Forest
+use Rattle.omega_running.specs.contracts.forest.Forest.TheInside as Trees
 use Rattle.omega_running.specs.contracts.nodes.Node as Node
 use Rattle.omega_running.specs.contracts.nodes.Tree as Tree
 use Rattle.omega_running.specs.contracts.table.Pair as Pair
@@ -42,8 +44,20 @@ pair_send = search (node_send, Box-send, sendable) depth 20
 pairs_send : IsSend (Vec.the_row Pair.the_row Heap.the_row ghosts)
 pairs_send = Vec-send Pair.the_row pair_send
 
+whole_tree_send : IsSend Tree.the_row
+whole_tree_send = search (send-Tree, Box-send, sendable) depth 40
+
+trees_send : IsSend (Vec.the_row Tree.the_row Heap.the_row ghosts)
+trees_send = Vec-send Tree.the_row whole_tree_send
+
+forest_inside_send : IsSend Trees.the_row
+forest_inside_send = search (trees_send, sendable) depth 20
+
+forest_send : IsSend Forest.the_row
+forest_send = view_send _ _ _ _ _ forest_inside_send
+
 inside_send : IsSend Inside.the_row
-inside_send = search (tree_send, pairs_send, sendable) depth 20
+inside_send = search (forest_send, pairs_send, sendable) depth 20
 
 running_send : IsSend Running.the_row
 running_send = view_send _ _ _ _ _ inside_send

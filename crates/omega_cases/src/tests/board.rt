@@ -2,8 +2,8 @@ ghost use Rattle.std.specs.Prelude.{◌≡◌, ◌∷◌, [], IfOk};
 
 use omega_board::Board;
 use omega_model::{
-    Bytes, Claim, Claims, Copied, Entry, GREATEST_QUANTITY, Judgement, Keys, Mode, Need, NoMemory, Rule, Seq, Spec,
-    TaskKey, Txn, Verdict,
+    Bytes, Claim, Claims, Copied, Entry, GREATEST_QUANTITY, Judgement, Keys, Mode, Need, NoMemory,
+    Rule, Seq, Spec, TaskKey, Txn, Verdict,
 };
 use std::alloc::Global;
 
