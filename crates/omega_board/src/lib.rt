@@ -12,6 +12,8 @@ mod entries;
 mod judging;
 mod placing;
 mod putting;
+#[cfg(test)]
+mod tests;
 mod undo;
 
 pub use board::Board;

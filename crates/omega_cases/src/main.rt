@@ -2,9 +2,6 @@
 //!
 //! A line is words: a subject, a call of it, and what the call is given. A line that begins with `#`
 //! and one without a byte are printed as they are, so that cases can have headings.
-//!
-//! What can't be a line is a test, under `tests`, by the crate whose calls it is about. They stand
-//! here because a crate that has tests is proved twice.
 #![tactic(auto)]
 
 mod attrs;
@@ -62,6 +59,3 @@ fn answer_words(alloc: Global, words: &[Bytes]) -> Result<String, Fault> {
         _ => Err(Fault::UnknownCall),
     }
 }
-
-#[cfg(test)]
-mod tests;

@@ -10,6 +10,8 @@ mod deciding;
 mod laws;
 mod prepared;
 mod room;
+#[cfg(test)]
+mod tests;
 mod touched;
 
 pub use cell::Cell;

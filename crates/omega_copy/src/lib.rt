@@ -7,6 +7,8 @@
 
 mod copy;
 mod telling;
+#[cfg(test)]
+mod tests;
 mod trial;
 
 pub use copy::PrivateCopy;

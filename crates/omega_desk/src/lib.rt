@@ -9,3 +9,6 @@ mod failures;
 mod walk;
 
 pub use desk::Desk;
+
+#[cfg(test)]
+mod tests;

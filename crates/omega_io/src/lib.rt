@@ -23,3 +23,6 @@ pub use memory::{MemorySink, MemoryTables};
 pub use stdout::StdoutSink;
 pub use steady::{SteadySink, SteadyTables};
 pub use writing::write_all;
+
+#[cfg(test)]
+mod tests;

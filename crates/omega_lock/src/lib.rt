@@ -39,6 +39,8 @@ mod rule;
 mod seat;
 mod seating;
 mod taking;
+#[cfg(test)]
+mod tests;
 mod view;
 
 pub use counted::Counted;

@@ -11,6 +11,8 @@
 mod attrs;
 mod load;
 mod table;
+#[cfg(test)]
+mod tests;
 
 use omega_model::{Copied, Machine, Need, NoMemory};
 use std::alloc::Global;

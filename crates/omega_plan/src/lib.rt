@@ -9,6 +9,8 @@
 mod evicting;
 mod planning;
 mod progress;
+#[cfg(test)]
+mod tests;
 mod trying;
 
 pub use evicting::victims;

@@ -14,3 +14,6 @@ mod table;
 
 pub use standing::stands_in;
 pub use table::Running;
+
+#[cfg(test)]
+mod tests;

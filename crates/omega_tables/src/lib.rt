@@ -14,3 +14,6 @@ pub use limits::{LONGEST_TABLE, MOST_MACHINES, MOST_ROWS, over_limit};
 pub use parsing::parse_table;
 pub use reading::{read_bytes, read_tables};
 pub use refusal::ReadRefusal;
+
+#[cfg(test)]
+mod tests;

@@ -1,8 +1,0 @@
-use Rattle.std.proofs.Common.{◌≡◌, ◌≤◌, ◌+◌, ◌*◌, None}
-use Rattle.omega_copy.specs.Copies.{CopyOf}
-use Rattle.omega_cases.proofs.tests.shared.take_turns.Given as goal
-
--- the copy stands for what the pass has seen, and the pass has two turns for each round that is left
-abbrev pub invariant-loop : goal.invariant-loop
-invariant-loop g l =
-    (l.pass.of ≡ l.fn.pass.of) × (l.copy.trial ≡ None) × CopyOf l.copy l.pass.seen × (2 * l.end ≤ l.pass.turns + 2 * l.counter)

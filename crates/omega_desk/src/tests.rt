@@ -1,0 +1,21 @@
+use crate::Desk;
+use omega_model::{NoMemory, Requests, Settings};
+
+#[test]
+fn a_round_without_requests_leaves_no_work(rt: HostRuntime) -> Result<(), NoMemory> {
+    let alloc = rt.alloc();
+    let mut desk = Desk::new(alloc, &Settings::default(), 1);
+    desk.begin(Requests::new(alloc))?;
+    assert!(rt; desk.next().is_none());
+    Ok(())
+}
+
+#[test]
+fn starts_are_words_of_the_generator(rt: HostRuntime) -> Result<(), NoMemory> {
+    let alloc = rt.alloc();
+    let settings = Settings::default();
+    assert_eq!(rt; Desk::new(alloc, &settings, 1).start(1 << 32), 0x0F5D_EBA9);
+    assert_eq!(rt; Desk::new(alloc, &settings, 2).start(10), 0x7AA1_0266 % 10);
+    assert_eq!(rt; Desk::new(alloc, &settings, 2).start(0), 0);
+    Ok(())
+}
