@@ -32,52 +32,105 @@ fn put(running: &mut Running, alloc: Global, task: Task) -> Result<bool, NoMemor
     Ok(true)
 }
 
-#[test]
-fn answers_by_key_by_machine_and_by_job(rt: HostRuntime) -> Result<(), NoMemory> {
-    let alloc = rt.alloc();
+// Three tasks on machine 3 and one on machine 4.
+fn filled(alloc: Global) -> Result<Running, NoMemory> {
     let mut running = Running::new(alloc);
-    assert_eq!(rt; running.count(), 0);
     for task in [
         task(7, 0, 3, 2),
         task(7, 1, 3, 1),
         task(5, 9, 3, 2),
         task(7, 2, 4, 0),
     ] {
-        assert!(rt; put(&mut running, alloc, task)?);
+        put(&mut running, alloc, task)?;
     }
+    Ok(running)
+}
+
+// Whether a list has these keys in this order.
+fn same(keys: &Keys, order: &[TaskKey]) -> bool {
+    keys.as_slice() == order
+}
+
+#[test]
+fn finds_by_key(rt: HostRuntime) -> Result<(), NoMemory> {
+    let alloc = rt.alloc();
+    let mut running = filled(alloc)?;
     assert!(rt; !put(&mut running, alloc, task(7, 1, 9, 9))?);
     assert_eq!(rt; running.count(), 4);
-    assert_eq!(rt; running.get(key(7, 1)), Some(&task(7, 1, 3, 1)));
-    assert_eq!(rt; running.get(key(7, 3)), None);
+    assert_eq!(rt; running.get(key(7, 1)).copied(), Some(task(7, 1, 3, 1)));
+    assert!(rt; running.get(key(7, 3)).is_none());
+    Ok(())
+}
 
-    let mut gone = Keys::new(alloc);
+#[test]
+fn lists_by_machine_in_order_of_eviction(rt: HostRuntime) -> Result<(), NoMemory> {
+    let alloc = rt.alloc();
+    let running = filled(alloc)?;
     let order = [key(7, 1), key(5, 9), key(7, 0)];
-    assert_eq!(rt; running.on_machine(alloc, 3)?.as_slice(), order.as_slice());
-    assert_eq!(rt; running.on_machine(alloc, 5)?.len(), 0);
-    let indexes = [key(7, 0), key(7, 1), key(7, 2)];
-    assert_eq!(rt; running.of_job(alloc, 7)?.as_slice(), indexes.as_slice());
-    assert_eq!(rt; running.other_of_job(7, 3, &gone), Some(key(7, 0)));
-    gone.push(key(7, 0))?;
-    assert_eq!(rt; running.other_of_job(7, 3, &gone), Some(key(7, 1)));
-    assert_eq!(rt; running.other_of_job(7, 4, &gone), Some(key(7, 2)));
-    assert_eq!(rt; running.other_of_job(5, 4, &gone), None);
-    gone.push(key(7, 1))?;
-    assert_eq!(rt; running.other_of_job(7, 3, &gone), None);
+    assert!(rt; same(&running.on_machine(alloc, 3)?, order.as_slice()));
+    assert!(rt; same(&running.on_machine(alloc, 5)?, [].as_slice()));
+    Ok(())
+}
 
-    let copied = running.copy(alloc)?;
+#[test]
+fn lists_by_job(rt: HostRuntime) -> Result<(), NoMemory> {
+    let alloc = rt.alloc();
+    let running = filled(alloc)?;
+    let indexes = [key(7, 0), key(7, 1), key(7, 2)];
+    assert!(rt; same(&running.of_job(alloc, 7)?, indexes.as_slice()));
+    Ok(())
+}
+
+// The other task of a job on a machine, where these are gone.
+fn other(
+    alloc: Global,
+    job: u64,
+    machine: u64,
+    gone: &[TaskKey],
+) -> Result<Option<TaskKey>, NoMemory> {
+    let running = filled(alloc)?;
+    let mut keys = Keys::new(alloc);
+    for key in gone {
+        keys.push(*key)?;
+    }
+    Ok(running.other_of_job(job, machine, &keys))
+}
+
+#[test]
+fn finds_another_task_of_the_job(rt: HostRuntime) -> Result<(), NoMemory> {
+    let alloc = rt.alloc();
+    let (first, second) = (key(7, 0), key(7, 1));
+    assert_eq!(rt; other(alloc, 7, 3, &[])?, Some(first));
+    assert_eq!(rt; other(alloc, 7, 3, &[first])?, Some(second));
+    assert_eq!(rt; other(alloc, 7, 4, &[first])?, Some(key(7, 2)));
+    assert_eq!(rt; other(alloc, 5, 4, &[first])?, None);
+    assert_eq!(rt; other(alloc, 7, 3, &[first, second])?, None);
+    Ok(())
+}
+
+#[test]
+fn takes_out_once(rt: HostRuntime) -> Result<(), NoMemory> {
+    let alloc = rt.alloc();
+    let mut running = filled(alloc)?;
     assert_eq!(rt; running.remove(key(7, 1)), Some(task(7, 1, 3, 1)));
     assert_eq!(rt; running.remove(key(7, 1)), None);
     assert_eq!(rt; running.count(), 3);
-    assert_eq!(rt;
-        running.on_machine(alloc, 3)?.as_slice(),
-        [key(5, 9), key(7, 0)].as_slice()
-    );
-    assert_eq!(rt;
-        running.of_job(alloc, 7)?.as_slice(),
-        [key(7, 0), key(7, 2)].as_slice()
-    );
+    let left = [key(5, 9), key(7, 0)];
+    assert!(rt; same(&running.on_machine(alloc, 3)?, left.as_slice()));
+    let left = [key(7, 0), key(7, 2)];
+    assert!(rt; same(&running.of_job(alloc, 7)?, left.as_slice()));
+    Ok(())
+}
+
+#[test]
+fn a_copy_stays_as_it_was(rt: HostRuntime) -> Result<(), NoMemory> {
+    let alloc = rt.alloc();
+    let mut running = filled(alloc)?;
+    let copied = running.copy(alloc)?;
+    running.remove(key(7, 1));
     assert_eq!(rt; copied.count(), 4);
-    assert_eq!(rt; copied.on_machine(alloc, 3)?.as_slice(), order.as_slice());
+    let order = [key(7, 1), key(5, 9), key(7, 0)];
+    assert!(rt; same(&copied.on_machine(alloc, 3)?, order.as_slice()));
     Ok(())
 }
 
