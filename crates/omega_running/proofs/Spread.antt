@@ -17,7 +17,7 @@ use Rattle.omega_running.specs.declared.nodes.Tree.{Tree}
 use Rattle.omega_running.specs.declared.nodes.Tree.TheVariants.{Leaf}
 use Rattle.omega_running.specs.Order.{Each, IsInOrder, precedes, is_apart, lead, put_in, taken_out, has_place, led_by}
 use Rattle.omega_running.specs.Tree.{tasks_of}
-use Rattle.omega_running.specs.Forest.{is_at, joined, gathered, IsSpread}
+use Rattle.omega_running.specs.Forest.{is_at, with_tree, gathered, IsSpread}
 use Rattle.omega_running.proofs.Lists.{each_map, each_append, filter_none, filter_every}
 use Rattle.omega_running.proofs.Strict.{trans, ahead}
 use Rattle.omega_running.proofs.InOrder.{strict, apart_by_key, apart_by_machine}
@@ -40,9 +40,9 @@ each_put P order t xs h e =
     each_append P (filter (λ y. not (precedes order t y)) xs) (t ∷ filter (λ y. precedes order t y) xs)
     (each_filter P (λ y. not (precedes order t y)) xs e) (h, each_filter P (λ y. precedes order t y) xs e)
 
-each_joined : (P : Task → Type 0) (order : Order) (l xs : List Task) → Each P l → Each P xs → Each P (joined order l xs)
-each_joined P order [] xs e f = f
-each_joined P order (t ∷ l) xs e f = each_put P order t (joined order l xs) e.0 (each_joined P order l xs e.1 f)
+each_with_tree : (P : Task → Type 0) (order : Order) (l xs : List Task) → Each P l → Each P xs → Each P (with_tree order l xs)
+each_with_tree P order [] xs e f = f
+each_with_tree P order (t ∷ l) xs e f = each_put P order t (with_tree order l xs) e.0 (each_with_tree P order l xs e.1 f)
 
 -- a filter that passes the task that is put in, and a task that goes before all
 filter_put : (order : Order) (s : Task → Bool) (t : Task) (xs : List Task) → s t ≡ true → filter s (put_in order t xs) ≡ put_in order t (filter s xs)
@@ -73,25 +73,25 @@ record IsTree (order : Order) (trees place : ℕ) (l xs : List Task) : Type 0 wh
 rest_is : {order : Order} {trees place : ℕ} {t : Task} {l xs : List Task} → IsTree order trees place (t ∷ l) xs → IsTree order trees place l xs
 rest_is i = record { rises = i.rises.1; here = i.here.1; others_rise = i.others_rise; elsewhere = i.elsewhere }
 
-joined_rises : (order : Order) (trees place : ℕ) (l xs : List Task) → IsTree order trees place l xs → IsInOrder order (joined order l xs)
-joined_rises order trees place [] xs i = i.others_rise
-joined_rises order trees place (t ∷ l) xs i =
+with_tree_rises : (order : Order) (trees place : ℕ) (l xs : List Task) → IsTree order trees place l xs → IsInOrder order (with_tree order l xs)
+with_tree_rises order trees place [] xs i = i.others_rise
+with_tree_rises order trees place (t ∷ l) xs i =
     let own = each_map (λ y. precedes order t y ≡ true) (λ y. is_apart order t y ≡ true) (λ y q. or_left _ _ q) l i.rises.0 in
     let others = each_map (λ y. is_at order trees place y ≡ false) (λ y. is_apart order t y ≡ true) (λ y q. other_tree order trees place t y i.here.0 q) xs i.elsewhere in
-    rises_put (precedes order) (strict order) t (joined order l xs) (joined_rises order trees place l xs (rest_is i)) (each_joined (λ y. is_apart order t y ≡ true) order l xs own others)
+    rises_put (precedes order) (strict order) t (with_tree order l xs) (with_tree_rises order trees place l xs (rest_is i)) (each_with_tree (λ y. is_apart order t y ≡ true) order l xs own others)
 
-joined_here : (order : Order) (trees place : ℕ) (l xs : List Task) → IsTree order trees place l xs → filter (is_at order trees place) (joined order l xs) ≡ l
-joined_here order trees place [] xs i = filter_none (is_at order trees place) xs i.elsewhere
-joined_here order trees place (t ∷ l) xs i =
-    filter_put order (is_at order trees place) t (joined order l xs) i.here.0
-    ∙ ap (put_in order t) (joined_here order trees place l xs (rest_is i))
+with_tree_here : (order : Order) (trees place : ℕ) (l xs : List Task) → IsTree order trees place l xs → filter (is_at order trees place) (with_tree order l xs) ≡ l
+with_tree_here order trees place [] xs i = filter_none (is_at order trees place) xs i.elsewhere
+with_tree_here order trees place (t ∷ l) xs i =
+    filter_put order (is_at order trees place) t (with_tree order l xs) i.here.0
+    ∙ ap (put_in order t) (with_tree_here order trees place l xs (rest_is i))
     ∙ first_put order t l i.rises.0
 
-joined_elsewhere : (order : Order) (trees place : ℕ) (s : Task → Bool) (l xs : List Task) → IsTree order trees place l xs → Each (λ y. s y ≡ false) l → filter s (joined order l xs) ≡ filter s xs
-joined_elsewhere order trees place s [] xs i e = refl
-joined_elsewhere order trees place s (t ∷ l) xs i e =
-    skip_put (precedes order) (strict order) s t (joined order l xs) (joined_rises order trees place l xs (rest_is i)) e.0
-    ∙ joined_elsewhere order trees place s l xs (rest_is i) e.1
+with_tree_elsewhere : (order : Order) (trees place : ℕ) (s : Task → Bool) (l xs : List Task) → IsTree order trees place l xs → Each (λ y. s y ≡ false) l → filter s (with_tree order l xs) ≡ filter s xs
+with_tree_elsewhere order trees place s [] xs i e = refl
+with_tree_elsewhere order trees place s (t ∷ l) xs i e =
+    skip_put (precedes order) (strict order) s t (with_tree order l xs) (with_tree_rises order trees place l xs (rest_is i)) e.0
+    ∙ with_tree_elsewhere order trees place s l xs (rest_is i) e.1
 
 -- all tasks: they are in order, and those of a place are those of its tree
 pub record Gathers (order : Order) (trees place : ℕ) (ls : List (List Task)) (xs : List Task) : Type 0 where
@@ -107,18 +107,18 @@ gathers order trees place (l ∷ ls) s =
     let off = each_map (λ y. place + 1 ≤ lead order y % trees) (λ y. is_at order trees place y ≡ false) (λ y q. ne_eqb _ _ (omega arith)) xs rest.from in
     let tree : IsTree order trees place l xs = record { rises = s.0; here = s.1; others_rise = rest.rises; elsewhere = off } in
     record {
-      rises = joined_rises order trees place l xs tree;
-      from = each_joined (λ y. place ≤ lead order y % trees) order l xs
+      rises = with_tree_rises order trees place l xs tree;
+      from = each_with_tree (λ y. place ≤ lead order y % trees) order l xs
           (each_map (λ y. is_at order trees place y ≡ true) (λ y. place ≤ lead order y % trees) (λ y q. let e : lead order y % trees ≡ place = eqb-true _ _ q in omega (arith, e)) l s.1)
           (each_map (λ y. place + 1 ≤ lead order y % trees) (λ y. place ≤ lead order y % trees) (λ y q. omega (arith, q)) xs rest.from);
       at = at_of l ls xs tree rest.at;
     } where
-      at_of : (l : List Task) (ls : List (List Task)) (xs : List Task) → IsTree order trees place l xs → ((i : ℕ) → filter (is_at order trees (place + 1 + i)) xs ≡ get_or ls i []) → (i : ℕ) → filter (is_at order trees (place + i)) (joined order l xs) ≡ get_or (l ∷ ls) i []
-      at_of l ls xs tree later zero = let same : place + 0 ≡ place = omega arith in rw same (joined_here order trees place l xs tree)
+      at_of : (l : List Task) (ls : List (List Task)) (xs : List Task) → IsTree order trees place l xs → ((i : ℕ) → filter (is_at order trees (place + 1 + i)) xs ≡ get_or ls i []) → (i : ℕ) → filter (is_at order trees (place + i)) (with_tree order l xs) ≡ get_or (l ∷ ls) i []
+      at_of l ls xs tree later zero = let same : place + 0 ≡ place = omega arith in rw same (with_tree_here order trees place l xs tree)
       at_of l ls xs tree later (suc i) =
           let same : place + suc i ≡ place + 1 + i = omega arith in
           let off = each_map (λ y. is_at order trees place y ≡ true) (λ y. is_at order trees (place + 1 + i) y ≡ false) (λ y q. let e : lead order y % trees ≡ place = eqb-true _ _ q in ne_eqb _ _ (omega (arith, e))) l tree.here in
-          rw same (joined_elsewhere order trees place (is_at order trees (place + 1 + i)) l xs tree off ∙ later i)
+          rw same (with_tree_elsewhere order trees place (is_at order trees (place + 1 + i)) l xs tree off ∙ later i)
 
 -- two lists in order with the same tasks in each tree are the same
 not_before : (order : Order) (s : Task → Bool) (x : Task) (xs : List Task) (y : Task) (ys : List Task) → Each (λ z. precedes order y z ≡ true) ys → precedes order x y ≡ true → s x ≡ true → filter s (x ∷ xs) ≡ filter s (y ∷ ys) → ⊥

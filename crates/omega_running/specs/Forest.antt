@@ -15,14 +15,14 @@ abbrev pub is_at : Order → ℕ → ℕ → Task → Bool
 is_at order trees place task = lead order task % trees == place
 
 -- the tasks of a list in order with those of one more tree
-abbrev pub joined : Order → List Task → List Task → List Task
-joined order [] others = others
-joined order (task ∷ tasks) others = put_in order task (joined order tasks others)
+abbrev pub with_tree : Order → List Task → List Task → List Task
+with_tree order [] others = others
+with_tree order (task ∷ tasks) others = put_in order task (with_tree order tasks others)
 
 -- the tasks of all trees in order
 abbrev pub gathered : Order → List (List Task) → List Task
 gathered order [] = []
-gathered order (tasks ∷ rest) = joined order tasks (gathered order rest)
+gathered order (tasks ∷ rest) = with_tree order tasks (gathered order rest)
 
 -- each tree is in order and has tasks of its place alone; the first one's place is `place`
 abbrev pub IsSpread : Order → ℕ → ℕ → List (List Task) → Type 0

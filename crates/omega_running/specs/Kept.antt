@@ -1,4 +1,4 @@
--- The running tasks as a caller sees them, and what holds of their two trees.
+-- The running tasks as a caller sees them, and what holds of the two forests that keep them.
 use Rattle.std.specs.Prelude.{◌≡◌, ◌<◌, ◌≤◌, ◌+◌, ℕ, List, length}
 use Rattle.std.specs.List.{filter}
 use Rattle.omega_model.specs.Keys.{key_lt}

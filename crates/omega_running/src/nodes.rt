@@ -32,7 +32,10 @@ pub struct Node {
 
 impl Node {
     /// A node that is in no tree. Takes the memory of one node.
-    pub fn free(alloc: Global) -> Result<Box<Node>, NoMemory> {
+    pub fn free(alloc: Global) -> Result<Box<Node>, NoMemory>
+        ensures left { IfOk result (λ node. tasks_of node.value.left ≡ []) }
+        ensures right { IfOk result (λ node. tasks_of node.value.right ≡ []) }
+    {
         let task = Task {
             key: TaskKey { job: 0, index: 0 },
             machine: 0,

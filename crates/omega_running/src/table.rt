@@ -74,8 +74,8 @@ impl Running {
     }
 
     /// Makes room for at least `n` more tasks. The tasks stay as they are, also where memory runs
-    /// out, and no room is lost then. Takes the memory and time of the room that is missing, and
-    /// none where there is enough.
+    /// out, and no room is lost then. Takes the memory and time of the room that is missing, the
+    /// first time those of the trees too, and none where there is enough.
     pub fn reserve(&mut self, alloc: Global, n: usize) -> Result<(), NoMemory>
         ensures tasks { self.new.tasks ≡ self.old.tasks }
         ensures spare { OnOk result (self.new.spare ≡ max self.old.spare n) }
@@ -199,7 +199,7 @@ impl Running {
         self.by_machine.other_of_job(job, machine, gone)
     }
 
-    /// The same tasks, with no room for more. Takes the memory and time of the tasks.
+    /// The same tasks, with no room for more. Takes the memory and time of the tasks and the trees.
     pub fn copy(&self, alloc: Global) -> Result<Running, NoMemory>
         ensures tasks { IfOk result (λ copied. copied.tasks ≡ self.now.tasks) }
         ensures spare { IfOk result (λ copied. copied.spare ≡ 0) }

@@ -54,6 +54,7 @@ fn same(keys: &Keys, order: &[TaskKey]) -> bool {
 #[test]
 fn finds_by_key(rt: HostRuntime) -> Result<(), NoMemory> {
     let alloc = rt.alloc();
+    assert_eq!(rt; Running::new(alloc).count(), 0);
     let mut running = filled(alloc)?;
     assert!(rt; !put(&mut running, alloc, task(7, 1, 9, 9))?);
     assert_eq!(rt; running.count(), 4);
