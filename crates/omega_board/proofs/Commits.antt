@@ -1,5 +1,5 @@
 -- The placed claims of a commit, one after the other.
-use Rattle.std.proofs.Common.{◌≡◌, ℕ, zero, suc, ◌<◌, ◌≤◌, true, false, ◌&&◌, inl, inr, List, [], ◌∷◌, length, get_or, sum_by, IsTrue, refl, ap, ◌∙◌, subst, arith, ◌==◌}
+use Rattle.std.proofs.Common.{◌≡◌, ℕ, ◌≤◌, true, false, ◌&&◌, inl, inr, List, [], ◌∷◌, length, sum_by, IsTrue, refl, ap, ◌∙◌, subst, ◌==◌}
 use Rattle.std.specs.List.{list_any, zip, fold}
 use Rattle.std.proofs.lemmas.Bool.{both_ways, eqb-true, and_parts, or_cases}
 use Rattle.omega_model.specs.Applying.{MayPlaceAll}

@@ -1,6 +1,7 @@
 pub mod Tasks
 pub mod Places
 pub mod Numbered
+pub mod Numbers
 pub mod Uses
 pub mod Boards
 pub mod Sounds

@@ -1,5 +1,5 @@
 -- What is in use on all machines of a board that are up, and their capacity, are those of its cell.
-use Rattle.std.proofs.Common.{◌≡◌, List, [], ◌∷◌, map, refl, sym, ap, ◌∙◌, arith}
+use Rattle.std.proofs.Common.{◌≡◌, List, [], ◌∷◌, map, refl, ap, ◌∙◌, arith}
 use Rattle.std.specs.List.{filter}
 use Rattle.omega_model.specs.Cell.{use_on}
 use Rattle.omega_model.specs.ExtraTasks.{capacity_in_all, sum_of, used_in}

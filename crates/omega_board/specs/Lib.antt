@@ -2,3 +2,4 @@ pub mod Board
 pub mod Undo
 pub mod Parts
 pub mod Putting
+pub mod Numbers

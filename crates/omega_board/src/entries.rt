@@ -152,9 +152,10 @@ impl Board {
         ensures no_tasks { OnErr result (self.new.tasks ≡ self.old.tasks) }
         ensures room { OnErr result (self.old.spare ≤ self.new.spare) }
     {
+        let room = Vec::with_capacity(alloc, claims.len())?;
         let mut undo = self.reserve(alloc, claims)?;
         self.place_all(claims.as_slice(), reply.as_slice(), &mut undo);
-        self.touch_placed(claims, reply);
+        self.touch_placed(claims, reply, room);
         Ok(Seq::new(alloc))
     }
 

@@ -14,6 +14,7 @@ mod placing;
 mod putting;
 #[cfg(test)]
 mod tests;
+mod touching;
 mod undo;
 
 pub use board::Board;

@@ -100,29 +100,6 @@ impl Board {
         }
     }
 
-    /// Counts a commit on each machine on which it placed a claim, once. These machines are in the
-    /// list, and none of their numbers is 2^64 - 1. Costs the claims; each is compared with those
-    /// before it, back to the last one on its machine. Takes no memory.
-    pub fn touch_placed(&mut self, claims: &Claims, reply: &Judgements)
-        requires listed { (id : ℕ) → IsTrue (list_any (places_on id) (zip claims.now reply.now)) → IsTrue (is_listed id (machines_of self.old.table)) }
-        requires seqs { (id : ℕ) → IsTrue (list_any (places_on id) (zip claims.now reply.now)) → seq_at self.old.table id < 2 ^ 64 - 1 }
-        ensures tasks { self.new.tasks ≡ self.old.tasks }
-        ensures spare { self.new.spare ≡ self.old.spare }
-        ensures machines { machines_of self.new.table ≡ machines_of self.old.table }
-        ensures seqs { (id : ℕ) → seq_at self.new.table id ≡ seq_at self.old.table id + (if list_any (places_on id) (zip claims.now reply.now) then 1 else 0) }
-    {
-        let claims = claims.as_slice();
-        let reply = reply.as_slice();
-        let count = claims.len().min(reply.len());
-        for i in 0..count {
-            let claim = &claims[i];
-            let first = !placed_before(claim.machine, claims, reply, i);
-            if reply[i].verdict.is_placed() && first {
-                self.touch(claim.machine);
-            }
-        }
-    }
-
     // Stops a task and notes it.
     fn stop_noted(&mut self, key: TaskKey, undo: &mut Undo)
         requires runs { IsTrue (is_some (task_at self.old.tasks key)) }
@@ -195,15 +172,6 @@ impl Board {
         self.running.insert_reserved(task);
         self.table.charge(task.machine, task.spec.need);
     }
-
-    // One more entry touches a machine.
-    pub(crate) fn touch(&mut self, id: u64)
-        requires listed { IsTrue (is_listed id (machines_of self.old.table)) }
-        requires seq { seq_at self.old.table id < 2 ^ 64 - 1 }
-        ensures { self.new ≡ record self.old { table = change_state id touched self.old.table } }
-    {
-        self.table.touch(id);
-    }
 }
 
 // How many victims the claims have in all.
@@ -218,24 +186,4 @@ fn count_victims(claims: &[Claim]) -> Result<usize, NoMemory>
         victims = more;
     }
     Ok(victims)
-}
-
-// Whether one of the first so many claims was placed on a machine. Looks from the last to the first.
-fn placed_before(id: u64, claims: &[Claim], reply: &[Judgement], count: usize) -> bool
-    requires claims { count ≤ length claims.now }
-    requires reply { count ≤ length reply.now }
-    ensures { result ≡ list_any (places_on id) (zip (take count claims.now) (take count reply.now)) }
-{
-    for i in (0..count).rev() {
-        if places_on(id, &claims[i], &reply[i]) {
-            return true;
-        }
-    }
-    false
-}
-
-fn places_on(id: u64, claim: &Claim, judgement: &Judgement) -> bool
-    ensures { result ≡ places_on id (claim.now, judgement.now) }
-{
-    judgement.verdict.is_placed() && claim.machine == id
 }

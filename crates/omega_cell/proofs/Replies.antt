@@ -1,12 +1,12 @@
 -- What is answered to claims: an answer for each, which evicts no more than it names.
-use Rattle.std.proofs.Common.{◌≡◌, ℕ, suc, ◌≤◌, List, [], ◌∷◌, length, map, take, Option, Some, None, refl, ap, arith, ◌==◌}
+use Rattle.std.proofs.Common.{◌≡◌, ℕ, ◌≤◌, List, [], ◌∷◌, length, map, take, Option, Some, None, refl, ap, arith, ◌==◌}
 use Rattle.std.specs.List.{find}
 use Rattle.std.specs.Option.{unwrap_or}
-use Rattle.std.proofs.lemmas.List.{length-map, length-take}
+use Rattle.std.proofs.lemmas.List.{length-take}
 use Rattle.omega_model.specs.Cell.{Cell}
 use Rattle.omega_model.specs.Judge.{judge, evicted_for, with_evicted, makes_room, standing_victims}
 use Rattle.omega_model.specs.Keys.{beginnings}
-use Rattle.omega_model.specs.Reply.{admits, after_claim, judgements, withdrawn_for, first_refused, all_or_nothing, by_mode, reply_on}
+use Rattle.omega_model.specs.Reply.{admits, after_claim, judgements, withdrawn_for, first_refused, by_mode, reply_on}
 use Rattle.omega_model.specs.Touches.{is_placed}
 use Rattle.omega_model.specs.declared.cells.TaskKey.{TaskKey}
 use Rattle.omega_model.specs.declared.claims.Claim.{Claim}
@@ -21,7 +21,6 @@ use Rattle.omega_board.proofs.Standing.{standing_fewer}
 use Rattle.omega_cell.specs.Rooms.{EvictWithin}
 use Rattle.omega_cell.proofs.Shortest.{shortest}
 use Rattle.omega_model.proofs.Lists.{by_answer}
-use Rattle.omega_model.proofs.Answered.{length-all_or_nothing, length-judgements}
 
 -- what is evicted for a claim is no more than it names
 evicted_within : (cell : Cell) (claim : Claim) → length (evicted_for cell claim) ≤ length claim.victims

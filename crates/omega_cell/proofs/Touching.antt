@@ -1,39 +1,28 @@
 -- The places of the machines that entries touch.
-use Rattle.std.proofs.Common.{◌≡◌, ℕ, zero, suc, ◌+◌, ◌<◌, ◌≤◌, Bool, true, false, cond, ◌||◌, nat_eq, nat_lt, List, [], ◌∷◌, ◌++◌, length, map, get_or, slice_get, position, Option, Some, None, refl, sym, ap, ap₂, ◌∙◌, subst, arith, ◌==◌, ◌⊎◌, inl, inr}
-use Rattle.std.specs.List.{All, filter, list_any, position_or_len, range_with_len, enumerate_from, dedup, IsDistinct, AllByRecursion, zip}
-use Rattle.std.specs.List.Sorted.{IsStrictlyIncreasing, IsStrictlySortedBy, IsPermutation}
-use Rattle.std.specs.Option.{option_map, option_map_or}
+use Rattle.std.proofs.Common.{◌≡◌, ℕ, zero, suc, ◌+◌, ◌<◌, ◌≤◌, Bool, true, false, ◌||◌, nat_eq, nat_lt, List, [], ◌∷◌, length, get_or, slice_get, position, Option, Some, None, refl, sym, ap, ap₂, ◌∙◌, subst, arith, ◌==◌}
+use Rattle.std.specs.List.{filter, position_or_len, range_with_len, IsDistinct}
+use Rattle.std.specs.List.Sorted.{IsStrictlyIncreasing, IsStrictlySortedBy}
+use Rattle.std.specs.Option.{option_map_or}
 use Rattle.std.specs.Ordering.{nat_cmp}
-use Rattle.std.specs.declared.cmp.Ordering.{Ordering}
-use Rattle.std.specs.declared.cmp.Ordering.TheVariants.{Less}
 use Rattle.std.proofs.lemmas.Bool.{both_ways, eqb-true, eq-eqb, ltb-true, ltb-false, false_from_ne_true, or_left, or_parts}
-use Rattle.std.proofs.lemmas.List.Folds.{list_any-append}
 use Rattle.std.proofs.lemmas.List.Sums.{passes_at_first}
-use Rattle.std.proofs.lemmas.Map.Keys.{IsDistinct-head, IsDistinct-tail, sorted_head, sorted_tail, sorted_from_strictly_increasing}
+use Rattle.std.proofs.lemmas.Map.Keys.{IsDistinct-tail, sorted_tail, sorted_from_strictly_increasing}
 use Rattle.std.proofs.lemmas.Option.{none-some, same_Some, cond_some, slice_get-get_or, slice_get_within}
 use Rattle.omega_model.specs.Machines.{is_listed, numbers_of}
 use Rattle.omega_model.specs.declared.cells.Machine.{Machine}
-use Rattle.omega_model.specs.declared.claims.Claim.{Claim}
-use Rattle.omega_model.specs.declared.claims.Judgement.{Judgement}
 use Rattle.omega_running.specs.Order.{Each}
-use Rattle.omega_running.proofs.Lists.{each_map, each_of, all_of_each}
-use Rattle.omega_board.proofs.Numbered.{Others, differ_back, others_behind}
+use Rattle.omega_running.proofs.Lists.{each_map, each_of}
+use Rattle.omega_board.specs.Numbers.{is_among}
+use Rattle.omega_board.proofs.Numbered.{differ_back, others_behind}
+use Rattle.omega_board.proofs.Numbers.{not_behind, rest_greater}
 use Rattle.omega_board.proofs.Places.{each_get}
 use Rattle.omega_board.proofs.Tasks.{each_passes}
-use Rattle.omega_cell.specs.Touched.{is_number, is_claimed, passes_at, has_place, Adds, touched_places}
+use Rattle.omega_cell.specs.Touched.{is_number, is_claimed, passes_at}
 use Rattle.omega_model.proofs.Lists.{by_answer}
 
--- one more place
-pub one_more : (places : List ℕ) (p place : ℕ) → has_place (places ++ p ∷ []) place ≡ (has_place places place || (p == place))
-one_more places p place = list_any-append (λ other. other == place) places (p ∷ []) ∙ ap (λ b. has_place places place || b) (or_none (p == place))
-  where
-    or_none : (b : Bool) → (b || false) ≡ b
-    or_none true = refl
-    or_none false = refl
-
 -- where nothing passes, nothing is added
-pub none_added : (places : List ℕ) (place : ℕ) (b : Bool) → b ≡ false → has_place places place ≡ (has_place places place || b)
-none_added places place b none = sym (ap (λ c. has_place places place || c) none ∙ or_none (has_place places place))
+pub none_added : (places : List ℕ) (place : ℕ) (b : Bool) → b ≡ false → is_among places place ≡ (is_among places place || b)
+none_added places place b none = sym (ap (λ c. is_among places place || c) none ∙ or_none (is_among places place))
   where
     or_none : (c : Bool) → (c || false) ≡ c
     or_none true = refl
@@ -102,87 +91,51 @@ none_claimed machines place = by (slice_get machines place)
     by None = refl
     by (Some row) = refl
 
--- a place is among the numbers that are left where each is kept once
-pub once_kept : (places : List ℕ) (place : ℕ) → has_place (dedup nat_eq places) place ≡ has_place places place
-once_kept [] place = refl
-once_kept (p ∷ places) place = from p places
-  where
-    from : (q : ℕ) (ps : List ℕ) → has_place (dedup nat_eq (q ∷ ps)) place ≡ has_place (q ∷ ps) place
-    from q [] = refl
-    from q (x ∷ xs) =
-        by_answer (nat_eq x q)
-        (λ t.
-        let same : x ≡ q = eqb-true _ _ t in
-        rw t (from q xs ∙ sym (ap (λ b. (q == place) || (b || has_place xs place)) (ap (λ n. n == place) same) ∙ twice (q == place) (has_place xs place))))
-        (λ f. rw f (ap (λ b. (q == place) || b) (from x xs)))
-      where
-        twice : (a b : Bool) → (a || (a || b)) ≡ (a || b)
-        twice true b = refl
-        twice false b = refl
-
--- a number behind a greater one isn't there
-not_behind : (s p : ℕ) (ps : List ℕ) → s ≤ p → Each (λ q. p < q) ps → has_place ps s ≡ false
-not_behind s p [] below each = refl
-not_behind s p (q ∷ ps) below each =
-    let other : (q == s) ≡ false = false_from_ne_true _ (λ t. let same : q ≡ s = eqb-true _ _ t in let more : p < q = each.0 in absurd (omega (arith, same, below, more))) in
-    rw other (not_behind s p ps below each.1)
-
--- each number behind one of a strictly rising list is greater
-rest_greater : (p : ℕ) (ps : List ℕ) → IsStrictlySortedBy nat_cmp (p ∷ ps) → Each (λ q. p < q) ps
-rest_greater p ps sorted = by ps (sorted_head nat_cmp p ps sorted)
-  where
-    less : (q : ℕ) → nat_cmp p q ≡ Less → p < q
-    less q is = by_answer (nat_lt p q) (λ t. ltb-true _ _ t) (λ f. absurd (by_answer (p == q) (λ t. let e = rw (f, t) at is in (cc)) (λ g. let e = rw (f, g) at is in (cc))))
-
-    by : (qs : List ℕ) → AllByRecursion (λ q. nat_cmp p q ≡ Less) qs → Each (λ q. p < q) qs
-    by [] all = tt
-    by (q ∷ qs) all = (less q all.0, by qs all.1)
-
 -- strictly rising places from one on, where those that pass a test behind it are known
 module _ (f : ℕ → Bool) (n s : ℕ)
-    (next : (qs : List ℕ) → IsStrictlySortedBy nat_cmp qs → Each (λ p. s + 1 ≤ p) qs → ((place : ℕ) → s + 1 ≤ place → has_place qs place ≡ f place) → qs ≡ filter f (range_with_len (s + 1) n)) where
+    (next : (qs : List ℕ) → IsStrictlySortedBy nat_cmp qs → Each (λ p. s + 1 ≤ p) qs → ((place : ℕ) → s + 1 ≤ place → is_among qs place ≡ f place) → qs ≡ filter f (range_with_len (s + 1) n)) where
   -- it passes itself
-  rising_there : (ps : List ℕ) → IsStrictlySortedBy nat_cmp ps → Each (λ p. s ≤ p) ps → ((place : ℕ) → s ≤ place → has_place ps place ≡ f place) → f s ≡ true → ps ≡ filter f (range_with_len s (suc n))
+  rising_there : (ps : List ℕ) → IsStrictlySortedBy nat_cmp ps → Each (λ p. s ≤ p) ps → ((place : ℕ) → s ≤ place → is_among ps place ≡ f place) → f s ≡ true → ps ≡ filter f (range_with_len s (suc n))
   rising_there [] rises all is t = absurd (both_ways (f s) (sym (is s (omega arith))) t)
   rising_there (q ∷ qs) rises all is t =
       let greater = rest_greater q qs rises in
       let first : q ≡ s =
       by_answer (q == s) (λ e. eqb-true _ _ e)
       (λ e.
-      let none : has_place (q ∷ qs) s ≡ false = rw e (not_behind s q qs all.0 greater) in
+      let none : is_among (q ∷ qs) s ≡ false = rw e (not_behind s q qs all.0 greater) in
       absurd (both_ways _ none (is s (omega arith) ∙ t))) in
       let rest : qs ≡ filter f (range_with_len (s + 1) n) =
       next qs (sorted_tail nat_cmp q qs rises)
       (each_map (λ p. q < p) (λ p. s + 1 ≤ p) (λ p more. omega (arith, more, first)) qs greater)
       (λ place le.
       let other : (q == place) ≡ false = false_from_ne_true _ (λ e. let same_p : q ≡ place = eqb-true _ _ e in absurd (omega (arith, same_p, first, le))) in
-      let all_is : has_place (q ∷ qs) place ≡ f place = is place (omega (arith, le)) in
+      let all_is : is_among (q ∷ qs) place ≡ f place = is place (omega (arith, le)) in
       rw other at all_is) in
       rw t (ap₂ (λ (a : ℕ) others. a ∷ others) first rest)
 
   -- or doesn't
-  from_later : (ps : List ℕ) → IsStrictlySortedBy nat_cmp ps → Each (λ p. s ≤ p) ps → has_place ps s ≡ false → Each (λ p. s + 1 ≤ p) ps
+  from_later : (ps : List ℕ) → IsStrictlySortedBy nat_cmp ps → Each (λ p. s ≤ p) ps → is_among ps s ≡ false → Each (λ p. s + 1 ≤ p) ps
   from_later [] up low none = tt
   from_later (r ∷ rs) up low none =
-      let parts = or_parts (r == s) (has_place rs s) none in
+      let parts = or_parts (r == s) (is_among rs s) none in
       let over : s + 1 ≤ r =
       by_answer (nat_lt s r) (λ g. let h : s < r = ltb-true _ _ g in omega (arith, h))
       (λ g. let h : r ≤ s = ltb-false _ _ g in let same : r ≡ s = omega (arith, h, low.0) in absurd (both_ways _ parts.0 (eq-eqb _ _ same))) in
       (over, from_later rs (sorted_tail nat_cmp r rs up) low.1 parts.1)
 
-  rising_absent : (ps : List ℕ) → IsStrictlySortedBy nat_cmp ps → Each (λ p. s ≤ p) ps → ((place : ℕ) → s ≤ place → has_place ps place ≡ f place) → f s ≡ false → ps ≡ filter f (range_with_len s (suc n))
+  rising_absent : (ps : List ℕ) → IsStrictlySortedBy nat_cmp ps → Each (λ p. s ≤ p) ps → ((place : ℕ) → s ≤ place → is_among ps place ≡ f place) → f s ≡ false → ps ≡ filter f (range_with_len s (suc n))
   rising_absent ps rises all is e =
       rw e (next ps rises (from_later ps rises all (is s (omega arith) ∙ e)) (λ place le. is place (omega (arith, le))))
 
 -- a strictly rising list of the places that pass a test is that of all places that pass
-rising_is : (f : ℕ → Bool) (n s : ℕ) (ps : List ℕ) → IsStrictlySortedBy nat_cmp ps → Each (λ p. s ≤ p) ps → ((place : ℕ) → s ≤ place → has_place ps place ≡ f place)
+rising_is : (f : ℕ → Bool) (n s : ℕ) (ps : List ℕ) → IsStrictlySortedBy nat_cmp ps → Each (λ p. s ≤ p) ps → ((place : ℕ) → s ≤ place → is_among ps place ≡ f place)
     → ((place : ℕ) → s + n ≤ place → f place ≡ false) → ps ≡ filter f (range_with_len s n)
 rising_is f zero s [] sorted from same past = refl
 rising_is f zero s (p ∷ ps) sorted from same past =
-    let own : has_place (p ∷ ps) p ≡ true = or_left (p == p) (has_place ps p) (eq-eqb _ _ refl) in
+    let own : is_among (p ∷ ps) p ≡ true = or_left (p == p) (is_among ps p) (eq-eqb _ _ refl) in
     absurd (both_ways _ (past p (omega (arith, from.0))) (sym (same p from.0) ∙ own))
 rising_is f (suc n) s ps sorted from same past =
-    let next : (qs : List ℕ) → IsStrictlySortedBy nat_cmp qs → Each (λ p. s + 1 ≤ p) qs → ((place : ℕ) → s + 1 ≤ place → has_place qs place ≡ f place) → qs ≡ filter f (range_with_len (s + 1) n) =
+    let next : (qs : List ℕ) → IsStrictlySortedBy nat_cmp qs → Each (λ p. s + 1 ≤ p) qs → ((place : ℕ) → s + 1 ≤ place → is_among qs place ≡ f place) → qs ≡ filter f (range_with_len (s + 1) n) =
     λ qs up low is. rising_is f n (s + 1) qs up low is (λ place le. past place (omega (arith, le))) in
     by_answer (f s) (rising_there f n s next ps sorted from same) (rising_absent f n s next ps sorted from same)
 
@@ -195,7 +148,7 @@ passes_within test machines place is = by (slice_get machines place) refl is
     by (Some row) at e = slice_get_within machines place row at
 
 -- so the places that were noted, sorted, each once, are those that are touched
-pub places_are : (test : ℕ → Bool) (machines : List Machine) (ps : List ℕ) → IsStrictlyIncreasing ps → ((place : ℕ) → has_place ps place ≡ passes_at test machines place)
+pub places_are : (test : ℕ → Bool) (machines : List Machine) (ps : List ℕ) → IsStrictlyIncreasing ps → ((place : ℕ) → is_among ps place ≡ passes_at test machines place)
     → ps ≡ filter (passes_at test machines) (range_with_len 0 (length machines))
 places_are test machines ps rises same =
     rising_is (passes_at test machines) (length machines) 0 ps (sorted_from_strictly_increasing ps rises) (each_of _ (λ p. omega arith) ps) (λ place _. same place)

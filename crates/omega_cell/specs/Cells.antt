@@ -43,13 +43,15 @@ pub record KeepsRoom (old new : CellState) : Type 0 where
   pub entries : old.entry_room ≤ new.entry_room
 
 -- what a prepared transaction keeps: a judgement can name each claim's place, the undo has taken nothing
--- in yet and has room for all claims and their victims, and both the entry and the answer have room for
--- what each claim evicts
-pub record IsPrepared (txn : Txn) (undo : UndoState) (entry answer : List ℕ) : Type 0 where
+-- in yet and has room for all claims and their victims, no machine is noted yet and there is room for one
+-- for each claim, and both the entry and the answer have room for what each claim evicts
+pub record IsPrepared (txn : Txn) (undo : UndoState) (machines : List ℕ) (room : ℕ) (entry answer : List ℕ) : Type 0 where
   pub few : length txn.claims < 2 ^ 32
   pub log : undo.log ≡ []
   pub claims : undo.claims ≡ length txn.claims
   pub victims : undo.victims ≡ sum_by (λ claim. length claim.victims) txn.claims
+  pub no_machine : machines ≡ []
+  pub machine_room : length txn.claims ≤ room
   pub entry_room : entry ≡ victim_counts txn.claims
   pub answer_room : answer ≡ victim_counts txn.claims
 

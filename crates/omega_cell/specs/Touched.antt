@@ -2,6 +2,7 @@
 use Rattle.std.specs.Prelude.{◌≡◌, ℕ, ◌==◌, ◌||◌, Bool, false, List, length, slice_get}
 use Rattle.std.specs.List.{filter, list_any, range_with_len}
 use Rattle.std.specs.Option.{option_map_or}
+use Rattle.omega_board.specs.Numbers.{is_among}
 use Rattle.omega_model.specs.Touches.{places_on, touches}
 use Rattle.omega_model.specs.declared.cells.Machine.{Machine}
 use Rattle.omega_model.specs.declared.claims.Claim.{Claim}
@@ -28,13 +29,9 @@ is_claimed decided id = list_any (places_on id) decided
 abbrev pub passes_at : (ℕ → Bool) → List Machine → ℕ → Bool
 passes_at test machines place = option_map_or (λ row. test row.id) (slice_get machines place) false
 
--- whether a place is among these
-abbrev pub has_place : List ℕ → ℕ → Bool
-has_place places place = list_any (λ other. other == place) places
-
 -- the later places are the earlier ones and those of machines whose numbers pass
 abbrev pub Adds : (ℕ → Bool) → List Machine → List ℕ → List ℕ → Type 0
-Adds test machines before after = (place : ℕ) → has_place after place ≡ (has_place before place || passes_at test machines place)
+Adds test machines before after = (place : ℕ) → is_among after place ≡ (is_among before place || passes_at test machines place)
 
 -- the places of the machines that entries touch, in order
 abbrev pub touched_places : List Machine → List Entry → List ℕ

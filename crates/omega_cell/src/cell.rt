@@ -143,6 +143,9 @@ impl Cell {
         let Ok(answer) = AnswerRoom::of(alloc, txn.claims.as_slice()) else {
             return Err((txn, NoMemory));
         };
+        let Ok(machines) = Vec::with_capacity(alloc, txn.claims.len()) else {
+            return Err((txn, NoMemory));
+        };
         if self.entries.reserve(1).is_err() {
             return Err((txn, NoMemory));
         }
@@ -150,6 +153,7 @@ impl Cell {
             Ok(undo) => Ok(Prepared {
                 txn,
                 undo,
+                machines,
                 entry,
                 answer,
             }),
@@ -174,11 +178,12 @@ impl Cell {
         let Prepared {
             txn,
             undo,
+            machines,
             entry,
             answer,
         } = prepared;
         let reply = decide(&mut self.board, &txn, seqs, undo, entry);
-        self.board.touch_placed(&txn.claims, &reply);
+        self.board.touch_placed(&txn.claims, &reply, machines);
         let outcomes = outcomes_of(txn.claims.as_slice(), reply.as_slice(), answer);
         let place = self.entries.len() as u64;
         self.entries.push_reserved(Entry::Commit {

@@ -6,17 +6,19 @@ use std::marker::Model;
 
 /// A transaction, ready to be committed without memory. A contract sees the transaction.
 ///
-/// It has room for the names of the tasks that its claims evict twice: for the entry of the history,
-/// and for the answer to the scheduler.
+/// It has room for the numbers of the machines of its claims; and for the names of the tasks that these
+/// evict twice, for the entry of the history and for the answer to the scheduler.
 #[derive(Drop)]
 pub struct Prepared {
     pub(crate) txn: Txn,
     pub(crate) undo: Undo,
+    pub(crate) machines: Vec<u64>,
     pub(crate) entry: AnswerRoom<Judgement>,
     pub(crate) answer: AnswerRoom<Outcome>,
 }
 
 impl Model for Prepared {
+    ghost use Rattle.std.specs.Prelude.{vec_capacity};
     ghost use Rattle.omega_model.specs.declared.claims.Txn.{Txn};
     ghost use Rattle.omega_cell.specs.Cells.{IsPrepared};
 
@@ -24,5 +26,5 @@ impl Model for Prepared {
 
     ghost view = { λ p. p.txn };
 
-    ghost invariant = { λ p. IsPrepared p.txn p.undo p.entry p.answer };
+    ghost invariant = { λ p. IsPrepared p.txn p.undo p.machines.items (vec_capacity p.machines) p.entry p.answer };
 }

@@ -1,4 +1,4 @@
-use Rattle.std.proofs.Common.{◌≡◌, OnOk, sym, subst}
+use Rattle.std.proofs.Common.{OnOk, sym, subst}
 use Rattle.std.specs.List.{zip}
 use Rattle.omega_machines.specs.Table.{machines_of}
 use Rattle.omega_model.specs.declared.entries.Entry.{Entry}

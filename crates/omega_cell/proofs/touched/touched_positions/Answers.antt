@@ -1,5 +1,4 @@
-use Rattle.std.proofs.Common.{◌≡◌, ◌==◌, List, length, take, sym, ap, ◌∙◌, subst, arith}
-use Rattle.std.specs.List.{dedup}
+use Rattle.std.proofs.Common.{◌≡◌, ◌==◌, List, take, sym, ap, ◌∙◌}
 use Rattle.std.specs.List.Sorted.{IsStrictlyIncreasing}
 use Rattle.std.proofs.lemmas.List.{take_all}
 use Rattle.std.proofs.lemmas.List.Filters.{dedup_is}
@@ -7,8 +6,10 @@ use Rattle.std.proofs.lemmas.List.Sorted.{list_any-IsPermutation}
 use Rattle.std.proofs.lemmas.Map.Keys.{IsStrictlyIncreasing-dedup}
 use Rattle.omega_machines.specs.Table.{machines_of}
 use Rattle.omega_model.specs.declared.entries.Entry.{Entry}
-use Rattle.omega_cell.specs.Touched.{has_place, passes_at, is_touched}
-use Rattle.omega_cell.proofs.Touching.{once_kept, places_are}
+use Rattle.omega_cell.specs.Touched.{passes_at, is_touched}
+use Rattle.omega_board.specs.Numbers.{is_among}
+use Rattle.omega_board.proofs.Numbers.{once_kept}
+use Rattle.omega_cell.proofs.Touching.{places_are}
 use Rattle.omega_cell.proofs.touched.touched_positions.Goals as goal
 
 pub returns-clause-rises : goal.returns-clause-rises
@@ -23,6 +24,6 @@ returns-clause-places c =
     let all : take c.loop-entry.entry-index c.args.entries.now ≡ c.args.entries.now = take_all c.loop-entry.entry-index c.args.entries.now c.loop-entry-test.false in
     places_are (is_touched c.args.entries.now) machines c.dedup.new.self.items rises
     (λ place.
-    ap (λ ps. has_place ps place) is ∙ once_kept sorted place
+    ap (λ ps. is_among ps place) is ∙ once_kept sorted place
     ∙ sym (list_any-IsPermutation (λ other. other == place) c.loop-entry.positions.items sorted c.sort_unstable.ensures.permutation)
     ∙ c.loop-entry.invariant place ∙ ap (λ (entries : List Entry). passes_at (is_touched entries) machines place) all)
