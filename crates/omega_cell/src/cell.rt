@@ -166,7 +166,7 @@ impl Cell {
     /// had taken in, and `seqs` has for each claim the sequence number of its machine in that copy.
     /// Answers the place of the entry, and for each claim the verdict and the tasks that it evicts.
     ///
-    /// Costs the claims, each compared with those before it, and their victims. Takes no memory.
+    /// Costs the claims, whose machines are sorted, and their victims. Takes no memory.
     pub fn commit(&mut self, scheduler: u32, seen: u64, seqs: &[u64], prepared: Prepared) -> Reply
         requires room { HasRoom self.old prepared }
         requires seen { seen ≤ length self.old.history }
