@@ -39,7 +39,6 @@ impl Held {
         ensures delta { IfOk result (λ delta. Carries delta self.now.cell.history n (length self.now.cell.history)) }
         ensures applied { EachMayApply self.now.cell.history }
     {
-        let _history = self.cell.history();
         self.cell.since(alloc, n)
     }
 
