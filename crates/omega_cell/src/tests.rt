@@ -12,7 +12,7 @@ use std::alloc::Global;
 
 // A task that is claimed: its name, the machine, how much CPU and memory it needs, its precedence,
 // and the victims.
-type Asked<'a> = (TaskKey, u64, u64, u8, &'a [TaskKey]);
+type Asked = (TaskKey, u64, u64, u8, &'static [TaskKey]);
 
 // A verdict, the first task that is evicted, and how many are.
 type Told = (Verdict, Option<TaskKey>, usize);
@@ -27,18 +27,43 @@ const NEW_TOO: TaskKey = TaskKey { job: 2, index: 1 };
 
 const ABSENT: TaskKey = TaskKey { job: 7, index: 0 };
 
-fn need(amount: u64, disk: u64) -> Need {
-    Need {
-        cpu: amount,
-        mem: amount,
-        disk,
-    }
-}
+// What is answered to a claim that is placed and evicts nothing.
+const PLACED: Told = (Verdict::Placed, None, 0);
+
+// What is answered to one that evicts the first task.
+const EVICTS: Told = (Verdict::Placed, Some(RUNS), 1);
+
+const WITHDRAWN: Told = (Verdict::Withdrawn(1), None, 0);
+
+// What is answered where the first task's precedence isn't lower.
+const RANKED: Told = (Verdict::VictimRank(RUNS), None, 0);
+
+// What is answered where (2, 2, 10) is free, which is too little.
+const FULL: Told = (Verdict::Full(TWO_FREE), None, 0);
+
+const TWO_FREE: Need = Need {
+    cpu: 2,
+    mem: 2,
+    disk: 10,
+};
+
+// The same where (5, 5, 10) is free.
+const HALF_FULL: Told = (Verdict::Full(FIVE_FREE), None, 0);
+
+const FIVE_FREE: Need = Need {
+    cpu: 5,
+    mem: 5,
+    disk: 10,
+};
 
 fn claim(alloc: Global, asked: Asked) -> Result<Claim, NoMemory> {
     let (key, machine, amount, prec, victims) = asked;
     let spec = Spec {
-        need: need(amount, 0),
+        need: Need {
+            cpu: amount,
+            mem: amount,
+            disk: 0,
+        },
         prec,
         differ: false,
     };
@@ -141,18 +166,25 @@ fn commit_now(cell: &mut Cell, alloc: Global, txn: Txn) -> Result<Reply, NoMemor
     commit(cell, alloc, seen, seqs.as_slice(), txn)
 }
 
-fn machine(alloc: Global) -> Result<Cell, NoMemory> {
-    let mut cell = Cell::new(alloc);
-    add(&mut cell, alloc)?;
-    Ok(cell)
+// The reply to these claims, from a copy that has seen everything.
+fn reply_to(
+    cell: &mut Cell,
+    alloc: Global,
+    rule: Rule,
+    mode: Mode,
+    asked: &[Asked],
+) -> Result<Reply, NoMemory> {
+    let txn = txn(alloc, rule, mode, asked)?;
+    commit_now(cell, alloc, txn)
 }
 
-// A cell with machine 1, on which these tasks were placed.
-fn busy(alloc: Global, asked: &[Asked]) -> Result<Cell, NoMemory> {
-    let mut cell = machine(alloc)?;
-    let claims = txn(alloc, Rule::Fine, Mode::Incremental, asked)?;
-    commit_now(&mut cell, alloc, claims)?;
-    Ok(cell)
+// Machine 1 is up, and then these tasks are placed, if any.
+fn begin(cell: &mut Cell, alloc: Global, placed: &[Asked]) -> Result<(), NoMemory> {
+    add(cell, alloc)?;
+    if !placed.is_empty() {
+        reply_to(cell, alloc, Rule::Fine, Mode::Incremental, placed)?;
+    }
+    Ok(())
 }
 
 // What is answered to the claim at a place.
@@ -172,129 +204,175 @@ fn counts(cell: &Cell, reply: &Reply) -> (u64, u64, usize) {
     )
 }
 
-fn refused(verdict: Verdict) -> Option<Told> {
-    Some((verdict, None, 0))
+// What is answered to the first two claims of a transaction, and the counts after it.
+type Answered = ([Option<Told>; 2], (u64, u64, usize));
+
+fn answers_of(cell: &Cell, reply: &Reply) -> Answered {
+    ([told(reply, 0), told(reply, 1)], counts(cell, reply))
 }
+
+// The tasks that are placed before, and then the rule, the mode and the claims of a transaction.
+type Asking = (&'static [Asked], Rule, Mode, &'static [Asked]);
+
+// What is answered on machine 1, in a cell that is empty before.
+fn answered(cell: &mut Cell, alloc: Global, asking: &Asking) -> Result<Answered, NoMemory> {
+    let (placed, rule, mode, asked) = asking;
+    begin(cell, alloc, placed)?;
+    let reply = reply_to(cell, alloc, *rule, *mode, asked)?;
+    Ok(answers_of(cell, &reply))
+}
+
+// The same in a new cell.
+fn answered_there(alloc: Global, asking: &Asking) -> Result<Answered, NoMemory> {
+    let mut cell = Cell::new(alloc);
+    answered(&mut cell, alloc, asking)
+}
+
+// The place of the first transaction that is answered otherwise.
+fn first_wrong(alloc: Global, cases: &[(Asking, Answered)]) -> Result<Option<usize>, NoMemory> {
+    for (place, (asking, answers)) in cases.iter().enumerate() {
+        if answered_there(alloc, asking)? != *answers {
+            return Ok(Some(place));
+        }
+    }
+    Ok(None)
+}
+
+// Two tasks, of which the second has no room beside the first.
+const TOO_MUCH: &[Asked] = &[(RUNS, 1, 5, 0, &[]), (RUNS_TOO, 1, 8, 0, &[])];
+
+// Two tasks that fill the machine.
+const ENOUGH: &[Asked] = &[(RUNS, 1, 5, 0, &[]), (RUNS_TOO, 1, 5, 0, &[])];
+
+// A task that leaves too little room for another one.
+const ONE: &[Asked] = &[(RUNS, 1, 8, 3, &[])];
+
+// Two claims, of which the first evicts that task, and the second then has no room.
+const EVICTING: &[Asked] = &[(NEW, 1, 5, 5, &[RUNS]), (NEW_TOO, 1, 8, 5, &[])];
+
+const GANGS: [(Asking, Answered); 2] = [
+    (
+        (&[], Rule::Fine, Mode::Gang, TOO_MUCH),
+        ([Some(WITHDRAWN), Some(HALF_FULL)], (1, 1, 0)),
+    ),
+    (
+        (ONE, Rule::Fine, Mode::Gang, EVICTING),
+        ([Some(WITHDRAWN), Some(HALF_FULL)], (2, 2, 1)),
+    ),
+];
 
 #[test]
 fn a_gang_is_withdrawn_whole(rt: HostRuntime) -> Result<(), NoMemory> {
-    let alloc = rt.alloc();
-    let mut cell = machine(alloc)?;
-    let asked: [Asked; 2] = [(RUNS, 1, 5, 0, &[]), (RUNS_TOO, 1, 8, 0, &[])];
-    let gang = txn(alloc, Rule::Fine, Mode::Gang, &asked)?;
-    let reply = commit_now(&mut cell, alloc, gang)?;
-    assert_eq!(rt; told(&reply, 0), refused(Verdict::Withdrawn(1)));
-    assert_eq!(rt; told(&reply, 1), refused(Verdict::Full(need(5, 10))));
-    assert_eq!(rt; counts(&cell, &reply), (1, 1, 0));
+    assert_eq!(rt; first_wrong(rt.alloc(), &GANGS)?, None);
     Ok(())
 }
+
+// The claims of the first gang one by one, and two coarse claims of one commit, which is no change
+// to itself.
+const SINGLES: [(Asking, Answered); 2] = [
+    (
+        (&[], Rule::Fine, Mode::Incremental, TOO_MUCH),
+        ([Some(PLACED), Some(HALF_FULL)], (1, 2, 1)),
+    ),
+    (
+        (&[], Rule::Coarse, Mode::Incremental, ENOUGH),
+        ([Some(PLACED), Some(PLACED)], (1, 2, 2)),
+    ),
+];
 
 #[test]
-fn the_same_claims_one_by_one(rt: HostRuntime) -> Result<(), NoMemory> {
-    let alloc = rt.alloc();
-    let mut cell = machine(alloc)?;
-    let asked: [Asked; 2] = [(RUNS, 1, 5, 0, &[]), (RUNS_TOO, 1, 8, 0, &[])];
-    let claims = txn(alloc, Rule::Fine, Mode::Incremental, &asked)?;
-    let reply = commit_now(&mut cell, alloc, claims)?;
-    assert_eq!(rt; told(&reply, 0), Some((Verdict::Placed, None, 0)));
-    assert_eq!(rt; told(&reply, 1), refused(Verdict::Full(need(5, 10))));
-    assert_eq!(rt; counts(&cell, &reply), (1, 2, 1));
+fn claims_are_placed_one_by_one(rt: HostRuntime) -> Result<(), NoMemory> {
+    assert_eq!(rt; first_wrong(rt.alloc(), &SINGLES)?, None);
     Ok(())
 }
 
-#[test]
-fn one_commit_is_no_change_to_itself(rt: HostRuntime) -> Result<(), NoMemory> {
-    let alloc = rt.alloc();
-    let mut cell = machine(alloc)?;
-    let asked: [Asked; 2] = [(RUNS, 1, 5, 0, &[]), (RUNS_TOO, 1, 5, 0, &[])];
-    let claims = txn(alloc, Rule::Coarse, Mode::Incremental, &asked)?;
-    let reply = commit_now(&mut cell, alloc, claims)?;
-    assert_eq!(rt; told(&reply, 0), Some((Verdict::Placed, None, 0)));
-    assert_eq!(rt; told(&reply, 1), Some((Verdict::Placed, None, 0)));
-    assert_eq!(rt; counts(&cell, &reply), (1, 2, 2));
-    Ok(())
+// A claim, and what is to be answered to it.
+type Case = (&'static [Asked], Told);
+
+// The place of the first claim that is answered otherwise where these tasks were placed.
+fn first_wrong_beside(
+    alloc: Global,
+    placed: &'static [Asked],
+    cases: &[Case],
+) -> Result<Option<usize>, NoMemory> {
+    for (place, (asked, answer)) in cases.iter().enumerate() {
+        let asking = (placed, Rule::Fine, Mode::Incremental, *asked);
+        if answered_there(alloc, &asking)?.0[0] != Some(*answer) {
+            return Ok(Some(place));
+        }
+    }
+    Ok(None)
 }
 
-// What is answered to a fine claim on machine 1, on which these tasks were placed.
-fn told_on(alloc: Global, placed: &[Asked], asked: Asked) -> Result<Option<Told>, NoMemory> {
-    let mut cell = busy(alloc, placed)?;
-    let claims = txn(alloc, Rule::Fine, Mode::Incremental, &[asked])?;
-    let reply = commit_now(&mut cell, alloc, claims)?;
-    Ok(told(&reply, 0))
-}
+const BESIDE_ONE: [Case; 8] = [
+    (&[(NEW, 1, 5, 5, &[RUNS, RUNS])], EVICTS),
+    (&[(NEW, 1, 5, 3, &[RUNS])], RANKED),
+    (&[(NEW, 1, 5, 5, &[])], FULL),
+    (
+        &[(RUNS, 1, 5, 5, &[])],
+        (Verdict::AlreadyRunning(1), None, 0),
+    ),
+    (&[(NEW, 9, 5, 5, &[])], (Verdict::NoMachine, None, 0)),
+    (&[(NEW, 1, 5, 5, &[RUNS])], EVICTS),
+    (&[(NEW, 1, 5, 5, &[ABSENT, RUNS])], EVICTS),
+    (&[(NEW, 1, 5, 5, &[ABSENT])], FULL),
+];
 
 #[test]
 fn claims_on_a_busy_machine(rt: HostRuntime) -> Result<(), NoMemory> {
-    let alloc = rt.alloc();
-    let placed: [Asked; 1] = [(RUNS, 1, 8, 3, &[])];
-    let evicts = Some((Verdict::Placed, Some(RUNS), 1));
-    let full = refused(Verdict::Full(need(2, 10)));
-    let none: &[TaskKey] = &[];
-    for (key, machine, prec, victims, answer) in [
-        (NEW, 1, 5, [RUNS, RUNS].as_slice(), evicts),
-        (
-            NEW,
-            1,
-            3,
-            [RUNS].as_slice(),
-            refused(Verdict::VictimRank(RUNS)),
-        ),
-        (NEW, 1, 5, none, full),
-        (RUNS, 1, 5, none, refused(Verdict::AlreadyRunning(1))),
-        (NEW, 9, 5, none, refused(Verdict::NoMachine)),
-        (NEW, 1, 5, [RUNS].as_slice(), evicts),
-        (NEW, 1, 5, [ABSENT, RUNS].as_slice(), evicts),
-        (NEW, 1, 5, [ABSENT].as_slice(), full),
-    ] {
-        let asked: Asked = (key, machine, 5, prec, victims);
-        assert_eq!(rt; told_on(alloc, &placed, asked)?, answer);
-    }
+    assert_eq!(rt; first_wrong_beside(rt.alloc(), ONE, &BESIDE_ONE)?, None);
     Ok(())
 }
+
+const TWO: &[Asked] = &[(RUNS, 1, 4, 3, &[]), (RUNS_TOO, 1, 4, 3, &[])];
+
+const BESIDE_TWO: [Case; 2] = [
+    (&[(NEW, 1, 5, 5, &[RUNS, RUNS_TOO])], EVICTS),
+    (&[(NEW, 1, 2, 5, &[RUNS, RUNS_TOO])], PLACED),
+];
 
 #[test]
 fn only_what_is_needed_is_evicted(rt: HostRuntime) -> Result<(), NoMemory> {
-    let alloc = rt.alloc();
-    let placed: [Asked; 2] = [(RUNS, 1, 4, 3, &[]), (RUNS_TOO, 1, 4, 3, &[])];
-    let victims = [RUNS, RUNS_TOO];
-    let first = told_on(alloc, &placed, (NEW, 1, 5, 5, &victims))?;
-    assert_eq!(rt; first, Some((Verdict::Placed, Some(RUNS), 1)));
-    let none = told_on(alloc, &placed, (NEW, 1, 2, 5, &victims))?;
-    assert_eq!(rt; none, Some((Verdict::Placed, None, 0)));
+    assert_eq!(rt; first_wrong_beside(rt.alloc(), TWO, &BESIDE_TWO)?, None);
     Ok(())
 }
 
-#[test]
-fn a_withdrawn_claim_evicts_nothing(rt: HostRuntime) -> Result<(), NoMemory> {
-    let alloc = rt.alloc();
-    let mut cell = busy(alloc, &[(RUNS, 1, 8, 3, &[])])?;
-    let asked: [Asked; 2] = [(NEW, 1, 5, 5, &[RUNS]), (NEW_TOO, 1, 8, 5, &[])];
-    let gang = txn(alloc, Rule::Fine, Mode::Gang, &asked)?;
-    let reply = commit_now(&mut cell, alloc, gang)?;
-    assert_eq!(rt; told(&reply, 0), refused(Verdict::Withdrawn(1)));
-    assert_eq!(rt; told(&reply, 1), refused(Verdict::Full(need(5, 10))));
-    assert_eq!(rt; counts(&cell, &reply), (2, 2, 1));
-    Ok(())
-}
-
-// What is answered to a claim from a copy that hasn't seen that machine 1 was removed and added.
-fn told_old_copy(alloc: Global, rule: Rule) -> Result<Option<Told>, NoMemory> {
-    let mut cell = machine(alloc)?;
-    let claims = txn(alloc, rule, Mode::Incremental, &[(NEW, 1, 5, 0, &[])])?;
+// The reply to claims from a copy that hasn't seen that machine 1 was removed and added.
+fn late(cell: &mut Cell, alloc: Global, txn: Txn) -> Result<Reply, NoMemory> {
     let seen = cell.history().len() as u64;
-    let seqs = numbers(alloc, &cell, claims.claims.as_slice())?;
-    remove(&mut cell, alloc)?;
-    add(&mut cell, alloc)?;
-    let reply = commit(&mut cell, alloc, seen, seqs.as_slice(), claims)?;
+    let seqs = numbers(alloc, cell, txn.claims.as_slice())?;
+    remove(cell, alloc)?;
+    add(cell, alloc)?;
+    commit(cell, alloc, seen, seqs.as_slice(), txn)
+}
+
+// What is answered to one claim from that copy, in a cell that is empty before.
+fn told_late(cell: &mut Cell, alloc: Global, rule: Rule) -> Result<Option<Told>, NoMemory> {
+    begin(cell, alloc, &[])?;
+    let txn = txn(alloc, rule, Mode::Incremental, &[(NEW, 1, 5, 0, &[])])?;
+    let reply = late(cell, alloc, txn)?;
     Ok(told(&reply, 0))
+}
+
+// The same in a new cell.
+fn told_old_copy(alloc: Global, rule: Rule) -> Result<Option<Told>, NoMemory> {
+    let mut cell = Cell::new(alloc);
+    told_late(&mut cell, alloc, rule)
+}
+
+// Whether the number refuses the coarse claim, and the fine one is placed.
+fn is_answered_late(alloc: Global) -> Result<bool, NoMemory> {
+    let changed = (Verdict::Changed { now: 3, copy: 1 }, None, 0);
+    for (rule, answer) in [(Rule::Coarse, changed), (Rule::Fine, PLACED)] {
+        if told_old_copy(alloc, rule)? != Some(answer) {
+            return Ok(false);
+        }
+    }
+    Ok(true)
 }
 
 #[test]
 fn an_old_number_refuses_a_coarse_claim(rt: HostRuntime) -> Result<(), NoMemory> {
-    let alloc = rt.alloc();
-    let changed = refused(Verdict::Changed { now: 3, copy: 1 });
-    assert_eq!(rt; told_old_copy(alloc, Rule::Coarse)?, changed);
-    let placed = Some((Verdict::Placed, None, 0));
-    assert_eq!(rt; told_old_copy(alloc, Rule::Fine)?, placed);
+    assert!(rt; is_answered_late(rt.alloc())?);
     Ok(())
 }
