@@ -1,4 +1,4 @@
-ghost use Rattle.std.specs.Prelude.{◌≡◌, [], ◌∷◌, ◌<◌, None, length, IfOk, OnOk, IsTrue};
+ghost use Rattle.std.specs.Prelude.{◌≡◌, [], ◌∷◌, ◌<◌, None, length, IfOk, OnOk, IsSomeAnd, IsTrue};
 ghost use Rattle.omega_model.specs.Limits.{most_machines};
 ghost use Rattle.omega_model.specs.State.{state};
 ghost use Rattle.omega_copy.specs.Copies.{CopyState, CopyOf};
@@ -121,7 +121,9 @@ fn catch_up(copy: &mut PrivateCopy, alloc: Global, cell: &Cell) -> Result<(), No
 }
 
 // On which machine the task runs in a copy, and the position of the first machine with room for it.
-fn told(copy: &PrivateCopy) -> (Option<u64>, Option<usize>) {
+type Told = (Option<u64>, Option<usize>);
+
+fn told(copy: &PrivateCopy) -> Told {
     let machine = match copy.board().running().get(TASK) {
         Some(task) => Some(task.machine),
         None => None,
@@ -129,12 +131,10 @@ fn told(copy: &PrivateCopy) -> (Option<u64>, Option<usize>) {
     (machine, copy.free().first(0, EIGHT, |_| true))
 }
 
-// A cell with machine 1, on which the task runs.
-fn busy(alloc: Global) -> Result<Cell, NoMemory> {
-    let mut cell = Cell::new(alloc);
-    add(&mut cell, alloc, 1)?;
-    place(&mut cell, alloc, 1)?;
-    Ok(cell)
+// Machine 1 is up, and the task runs on it.
+fn begin(cell: &mut Cell, alloc: Global) -> Result<(), NoMemory> {
+    add(cell, alloc, 1)?;
+    place(cell, alloc, 1)
 }
 
 // The task ends and runs on a new machine then, and the copy catches up with it.
@@ -148,14 +148,37 @@ fn move_over(copy: &mut PrivateCopy, cell: &mut Cell, alloc: Global) -> Result<(
     catch_up(copy, alloc, cell)
 }
 
+// What a copy tells before and after that.
+fn told_around_move(
+    copy: &mut PrivateCopy,
+    cell: &mut Cell,
+    alloc: Global,
+) -> Result<[Told; 2], NoMemory>
+    requires stands { CopyOf copy.old cell.old.history }
+    requires no_trial { copy.old.trial ≡ None }
+{
+    let before = told(copy);
+    move_over(copy, cell, alloc)?;
+    Ok([before, told(copy)])
+}
+
+// The same of a copy that has followed a cell, which is empty before.
+fn told_of_move(cell: &mut Cell, alloc: Global) -> Result<[Told; 2], NoMemory> {
+    begin(cell, alloc)?;
+    let mut copy = following(alloc, cell)?;
+    told_around_move(&mut copy, cell, alloc)
+}
+
+// The same of a new cell.
+fn told_of_new_move(alloc: Global) -> Result<[Told; 2], NoMemory> {
+    let mut cell = Cell::new(alloc);
+    told_of_move(&mut cell, alloc)
+}
+
 #[test]
 fn a_task_that_moved_runs_once(rt: HostRuntime) -> Result<(), NoMemory> {
-    let alloc = rt.alloc();
-    let mut cell = busy(alloc)?;
-    let mut copy = following(alloc, &cell)?;
-    assert_eq!(rt; told(&copy), (Some(1), None));
-    move_over(&mut copy, &mut cell, alloc)?;
-    assert_eq!(rt; told(&copy), (Some(2), Some(0)));
+    let told = told_of_new_move(rt.alloc())?;
+    assert_eq!(rt; told, [(Some(1), None), (Some(2), Some(0))]);
     Ok(())
 }
 
@@ -172,35 +195,66 @@ fn request(alloc: Global) -> Result<Request, NoMemory>
     Ok(Request { job: 1, wishes })
 }
 
-// What a copy tells while the task is claimed on machine 1.
-fn told_on_trial(
-    copy: &mut PrivateCopy,
-    alloc: Global,
-) -> Result<(Option<u64>, Option<usize>), NoMemory>
+// Room for a trial of the task.
+fn make_room(copy: &mut PrivateCopy, alloc: Global) -> Result<(), NoMemory>
     requires { copy.old.trial ≡ None }
+    ensures { OnOk result (IsSomeAnd copy.new.trial (λ trial. 0 < trial.room)) }
 {
     let request = request(alloc)?;
     copy.scratch_room(alloc, &request)?;
+    Ok(())
+}
+
+// The task is claimed on machine 1.
+fn claim_there(copy: &mut PrivateCopy, alloc: Global) -> Result<(), NoMemory>
+    requires { IsSomeAnd copy.old.trial (λ trial. 0 < trial.room) }
+{
     let claim = claim(alloc, 1);
     let mut evicted = Vec::with_capacity(alloc, claim.victims.len())?;
     let verdict = copy.board().judge(&claim, None, &mut evicted);
     if !verdict.is_placed() {
         return Err(NoMemory);
     }
-    copy.claim(alloc, &claim)?;
+    copy.claim(alloc, &claim)
+}
+
+// What a copy tells while the task is claimed.
+fn told_on_trial(copy: &mut PrivateCopy, alloc: Global) -> Result<Told, NoMemory>
+    requires { copy.old.trial ≡ None }
+{
+    make_room(copy, alloc)?;
+    claim_there(copy, alloc)?;
     let told = told(copy);
     copy.drop_scratch();
     Ok(told)
 }
 
+// What it tells before that, meanwhile, and after it.
+fn told_around_trial(copy: &mut PrivateCopy, alloc: Global) -> Result<[Told; 3], NoMemory>
+    requires { copy.old.trial ≡ None }
+{
+    let before = told(copy);
+    let trial = told_on_trial(copy, alloc)?;
+    Ok([before, trial, told(copy)])
+}
+
+// The same of a copy that has followed a cell, which is empty before machine 1 is up.
+fn told_of_trial(cell: &mut Cell, alloc: Global) -> Result<[Told; 3], NoMemory> {
+    add(cell, alloc, 1)?;
+    let mut copy = following(alloc, cell)?;
+    told_around_trial(&mut copy, alloc)
+}
+
+// The same of a new cell.
+fn told_of_new_trial(alloc: Global) -> Result<[Told; 3], NoMemory> {
+    let mut cell = Cell::new(alloc);
+    told_of_trial(&mut cell, alloc)
+}
+
 #[test]
 fn a_trial_leaves_no_trace(rt: HostRuntime) -> Result<(), NoMemory> {
-    let alloc = rt.alloc();
-    let mut cell = Cell::new(alloc);
-    add(&mut cell, alloc, 1)?;
-    let mut copy = following(alloc, &cell)?;
-    assert_eq!(rt; told(&copy), (None, Some(0)));
-    assert_eq!(rt; told_on_trial(&mut copy, alloc)?, (Some(1), None));
-    assert_eq!(rt; told(&copy), (None, Some(0)));
+    let (nowhere, there) = ((None, Some(0)), (Some(1), None));
+    let told = told_of_new_trial(rt.alloc())?;
+    assert_eq!(rt; told, [nowhere, there, nowhere]);
     Ok(())
 }
