@@ -1,14 +1,15 @@
 //! Passes take their turns, also on threads of their own, and the cell comes back.
-ghost use Rattle.std.specs.Prelude.{◌≡◌, ◌≤◌, ◌<◌, ◌+◌, ◌^◌, None, length, IfSome, OnOk};
+ghost use Rattle.std.specs.Prelude.{◌≡◌, ◌<◌, ◌≤◌, ◌+◌, ◌^◌, ◌∷◌, [], None, length, IfSome, OnOk};
 ghost use Rattle.omega_copy.specs.Copies.{CopyOf};
 
 use crate::{Pass, SharedCell};
 use omega_cell::Cell;
 use omega_copy::PrivateCopy;
 use omega_model::{
-    Claim, Claims, Entry, Keys, Mode, Need, NoMemory, Rule, Spec, TaskKey, Txn, Verdict,
+    Claim, Claims, Entries, Entry, Keys, Mode, Need, NoMemory, Rule, Spec, TaskKey, Txn, Verdict,
 };
 use std::alloc::Global;
+use std::process::Abort;
 use std::sync::Wait;
 use std::thread::{Threads, join};
 
@@ -42,36 +43,62 @@ fn attempt<R: Wait>(
     }
 }
 
-// Takes all turns of a pass in attempts, from a copy that has seen nothing, as long as there is memory.
+// Takes all turns of a pass in attempts, as long as there is memory.
+fn attempt_all<R: Wait>(
+    rt: &R,
+    alloc: Global,
+    shared: &SharedCell,
+    pass: &mut Pass,
+    copy: &mut PrivateCopy,
+)
+    requires of { pass.old.of ≡ shared.now.of }
+    requires no_trial { copy.old.trial ≡ None }
+    requires stands { CopyOf copy.old pass.old.seen }
+    ensures { pass.new.of ≡ pass.old.of }
+{
+    for _ in 0..pass.turns_left() / 2 {
+        if attempt(rt, alloc, shared, pass, copy).is_err() {
+            return;
+        }
+    }
+}
+
+// The same from a copy that has seen nothing. Hands the pass back.
 fn take_turns<R: Wait>(rt: &R, alloc: Global, shared: &SharedCell, mut pass: Pass) -> Pass
     requires { pass.of ≡ shared.now.of }
     ensures { result.of ≡ shared.now.of }
 {
     let mut copy = PrivateCopy::new(alloc);
-    for _ in 0..pass.turns_left() / 2 {
-        if attempt(rt, alloc, shared, &mut pass, &mut copy).is_err() {
-            return pass;
-        }
-    }
+    attempt_all(rt, alloc, shared, &mut pass, &mut copy);
     pass
 }
 
-// The cell that one caller leaves who takes all its turns, if there is memory.
-fn commit_alone<R: Wait>(rt: &R, alloc: Global, turns: u32) -> Option<Cell> {
-    let Ok((shared, mut passes)) = SharedCell::share(rt, alloc, Cell::new(alloc), 1, turns) else {
-        return None;
-    };
+// The history that one caller leaves who takes all its turns, if there is memory.
+fn commit_alone<R: Wait>(rt: &R, alloc: Global, turns: u32) -> Option<Entries> {
+    let made = SharedCell::share(rt, alloc, Cell::new(alloc), 1, turns);
+    let (shared, mut passes) = made.ok()?;
     let pass = passes.pop()?;
     let pass = take_turns(rt, alloc, &shared, pass);
-    let mut passes = Vec::new(alloc);
-    passes.push(pass).ok()?;
-    Some(shared.close(passes))
+    let passes = Vec::from_array(alloc, [pass]).ok()?;
+    Some(shared.close(passes).into_history())
 }
 
 #[test]
 fn one_pass(rt: HostRuntime) {
-    let cell = commit_alone(&rt, rt.alloc(), 20).expect(&rt, "memory");
-    assert_eq!(rt; cell.history().len(), 10);
+    let history = commit_alone(&rt, rt.alloc(), 20).expect(&rt, "memory");
+    assert_eq!(rt; history.len(), 10);
+}
+
+// The first and the second of two.
+fn both<T: Drop>(mut items: Vec<T>) -> Option<(T, T)>
+    ensures { IfSome result (λ pair. items.items ≡ pair.0 ∷ pair.1 ∷ []) }
+{
+    let second = items.pop()?;
+    let first = items.pop()?;
+    if !items.is_empty() {
+        return None;
+    }
+    Some((first, second))
 }
 
 // A cell that is shared by two callers with so many turns each, and their passes, if there is memory.
@@ -84,19 +111,16 @@ fn share_by_two<R: Wait>(
     requires short { length cell.history < 2 ^ 63 }
     ensures callers { IfSome result (λ made. made.0.callers ≡ 2) }
     ensures of { IfSome result (λ made. (made.1.of ≡ made.0.of) × (made.2.of ≡ made.0.of)) }
-    ensures left { IfSome result (λ made. (made.1.turns ≡ turns) × (made.2.turns ≡ turns)) }
 {
-    let Ok((shared, mut passes)) = SharedCell::share(rt, alloc, cell, 2, turns) else {
-        return None;
-    };
-    let second = passes.pop()?;
-    let first = passes.pop()?;
+    let made = SharedCell::share(rt, alloc, cell, 2, turns);
+    let (shared, passes) = made.ok()?;
+    let (first, second) = both(passes)?;
     Some((shared, first, second))
 }
 
-// The cell that two callers leave who each take all their turns on a thread of their own, if there is
-// memory.
-fn commit_together<R: Threads + Wait + Sync>(rt: &R, alloc: Global, turns: u32) -> Option<Cell> {
+// The history that two callers leave who each take all their turns on a thread of their own, if there
+// is memory.
+fn commit_together<R: Threads + Wait + Sync>(rt: &R, alloc: Global, turns: u32) -> Option<Entries> {
     let (shared, first, second) = share_by_two(rt, alloc, Cell::new(alloc), turns)?;
     let (first, second) = join(
         rt,
@@ -109,10 +133,8 @@ fn commit_together<R: Threads + Wait + Sync>(rt: &R, alloc: Global, turns: u32) 
             ensures { result.of ≡ shared.of }
         { take_turns(rt, alloc, &shared, second) },
     );
-    let mut passes = Vec::new(alloc);
-    passes.push(first).ok()?;
-    passes.push(second).ok()?;
-    Some(shared.close(passes))
+    let passes = Vec::from_array(alloc, [first, second]).ok()?;
+    Some(shared.close(passes).into_history())
 }
 
 // How many commits of a scheduler a history has.
@@ -125,10 +147,11 @@ fn commits_of(history: &[Entry], number: u32) -> usize {
 
 #[test]
 fn two_passes_on_threads(rt: HostRuntime) {
-    let cell = commit_together(&rt, rt.alloc(), 2000).expect(&rt, "memory");
-    assert_eq!(rt; cell.history().len(), 2000);
-    assert_eq!(rt; commits_of(cell.history(), 0), 1000);
-    assert_eq!(rt; commits_of(cell.history(), 1), 1000);
+    let history = commit_together(&rt, rt.alloc(), 2000).expect(&rt, "memory");
+    assert_eq!(rt; history.len(), 2000);
+    for number in 0..2 {
+        assert_eq!(rt; commits_of(history.as_slice(), number), 1000);
+    }
 }
 
 // What each task needs that is claimed. Machine 1 has room for ten of them.
@@ -158,65 +181,162 @@ fn one_machine(alloc: Global) -> Option<Cell>
     }
 }
 
-// Syncs a copy, and answers how many entries it has seen then, if there is memory.
+// What a scheduler does: it syncs, or commits a claim of a job's task on machine 1.
+#[derive(Clone, Copy)]
+enum Step {
+    Sync,
+    Claim(u64, Rule),
+}
+
+// What is answered: how many entries the copy has seen then, or the verdict.
+#[derive(Clone, Copy, PartialEq, Eq)]
+enum Answer {
+    Seen(u64),
+    Told(Verdict),
+}
+
+// Syncs a copy, if there is memory.
 fn sync<R: Wait>(
     rt: &R,
     alloc: Global,
     shared: &SharedCell,
     pass: &mut Pass,
     copy: &mut PrivateCopy,
-) -> Option<u64>
+) -> Option<Answer>
     requires of { pass.old.of ≡ shared.now.of }
     requires left { 0 < pass.old.turns }
     requires no_trial { copy.old.trial ≡ None }
     requires stands { CopyOf copy.old pass.old.seen }
     ensures of { pass.new.of ≡ pass.old.of }
-    ensures turns { pass.old.turns ≤ pass.new.turns + 1 }
     ensures no_trial { copy.new.trial ≡ None }
     ensures stands { CopyOf copy.new pass.new.seen }
 {
     match shared.sync(rt, alloc, pass, copy) {
-        Ok(()) => Some(copy.seen()),
+        Ok(()) => Some(Answer::Seen(copy.seen())),
         Err(_) => None,
     }
 }
 
-// Commits a claim of a job's task on machine 1, and answers the verdict, if there is memory.
-fn claim<R: Wait>(
-    rt: &R,
-    alloc: Global,
-    shared: &SharedCell,
-    pass: &mut Pass,
-    copy: &PrivateCopy,
-    job: u64,
-    rule: Rule,
-) -> Option<Verdict>
-    requires of { pass.old.of ≡ shared.now.of }
-    requires left { 0 < pass.old.turns }
-    requires stands { CopyOf copy.now pass.old.seen }
-    ensures of { pass.new.of ≡ pass.old.of }
-    ensures turns { pass.old.turns ≤ pass.new.turns + 1 }
-    ensures stands { CopyOf copy.now pass.new.seen }
+// A transaction with a claim of a job's task on machine 1.
+fn claim_of(alloc: Global, job: u64, rule: Rule) -> Option<Txn>
+    ensures { IfSome result (λ txn. length txn.claims < 2 ^ 32) }
 {
+    let mut claims = Claims::new(alloc);
     let claim = Claim {
         key: TaskKey { job, index: 0 },
         machine: 1,
         spec: SPEC,
         victims: Keys::new(alloc),
     };
-    let mut claims = Claims::new(alloc);
     if claims.push(claim).is_err() {
         return None;
     }
-    let txn = Txn {
+    Some(Txn {
         job,
         rule,
         mode: Mode::Incremental,
         claims,
-    };
+    })
+}
+
+// Commits a transaction, and answers the verdict on its first claim, if there is memory.
+fn commit<R: Wait>(
+    rt: &R,
+    alloc: Global,
+    shared: &SharedCell,
+    pass: &mut Pass,
+    copy: &PrivateCopy,
+    txn: Txn,
+) -> Option<Answer>
+    requires of { pass.old.of ≡ shared.now.of }
+    requires left { 0 < pass.old.turns }
+    requires stands { CopyOf copy.now pass.old.seen }
+    requires few { length txn.claims < 2 ^ 32 }
+    ensures of { pass.new.of ≡ pass.old.of }
+    ensures stands { CopyOf copy.now pass.new.seen }
+{
     match shared.commit(rt, alloc, pass, copy, txn) {
-        Ok(reply) => Some(reply.outcomes.get(0)?.verdict),
+        Ok(reply) => Some(Answer::Told(reply.outcomes.get(0)?.verdict)),
         Err(_) => None,
+    }
+}
+
+// Lets a scheduler do a step, if it has a turn left and there is memory.
+fn take_step<R: Wait>(
+    rt: &R,
+    alloc: Global,
+    shared: &SharedCell,
+    pass: &mut Pass,
+    copy: &mut PrivateCopy,
+    step: Step,
+) -> Option<Answer>
+    requires of { pass.old.of ≡ shared.now.of }
+    requires no_trial { copy.old.trial ≡ None }
+    requires stands { CopyOf copy.old pass.old.seen }
+    ensures of { pass.new.of ≡ pass.old.of }
+    ensures no_trial { copy.new.trial ≡ None }
+    ensures stands { CopyOf copy.new pass.new.seen }
+{
+    if pass.turns_left() == 0 {
+        return None;
+    }
+    match step {
+        Step::Sync => sync(rt, alloc, shared, pass, copy),
+        Step::Claim(job, rule) => {
+            let txn = claim_of(alloc, job, rule)?;
+            commit(rt, alloc, shared, pass, copy, txn)
+        }
+    }
+}
+
+// Two schedulers that share a cell, each with a pass and a private copy.
+#[derive(Drop)]
+struct Pair {
+    shared: SharedCell,
+    first: Pass,
+    second: Pass,
+    here: PrivateCopy,
+    there: PrivateCopy,
+    ghost of: { (first.of ≡ shared.of) × (second.of ≡ shared.of) },
+    ghost no_trial: { (here.trial ≡ None) × (there.trial ≡ None) },
+    ghost stands: { CopyOf here first.seen × CopyOf there second.seen },
+}
+
+impl Pair {
+    // Schedulers with so many turns each, whose copies have seen nothing, and a cell with machine 1, if
+    // there is memory. In a box, since the check of a function costs by all parts of what it lets go.
+    fn new<R: Wait>(rt: &R, alloc: Global, turns: u32) -> Option<Box<Pair>> {
+        let cell = one_machine(alloc)?;
+        let (shared, first, second) = share_by_two(rt, alloc, cell, turns)?;
+        let pair = Pair {
+            shared,
+            first,
+            second,
+            here: PrivateCopy::new(alloc),
+            there: PrivateCopy::new(alloc),
+        };
+        Box::new(alloc, pair).ok()
+    }
+
+    // Lets the first or the second scheduler do a step, if it has a turn left and there is memory.
+    fn step<R: Wait>(&mut self, rt: &R, alloc: Global, number: u32, step: Step) -> Option<Answer> {
+        let shared = &self.shared;
+        match number {
+            0 => take_step(rt, alloc, shared, &mut self.first, &mut self.here, step),
+            _ => take_step(rt, alloc, shared, &mut self.second, &mut self.there, step),
+        }
+    }
+}
+
+// Lets two schedulers go through a story, and sees that each step is answered so.
+fn expect_story<R: Wait + Abort>(
+    rt: &R,
+    alloc: Global,
+    pair: &mut Pair,
+    story: &[(u32, Step, Answer)],
+) {
+    for (number, step, answer) in story {
+        assert!(rt; pair.step(rt, alloc, *number, *step) == Some(*answer));
     }
 }
 
@@ -225,23 +345,18 @@ fn claim<R: Wait>(
 // Then each syncs, and sees what the other did.
 #[test]
 fn a_sync_sees_what_others_did(rt: HostRuntime) {
-    let alloc = rt.alloc();
-    let cell = one_machine(alloc).expect(&rt, "memory");
-    let (shared, mut first, mut second) = share_by_two(&rt, alloc, cell, 4).expect(&rt, "memory");
-    let mut here = PrivateCopy::new(alloc);
-    let mut there = PrivateCopy::new(alloc);
-    assert_eq!(rt; sync(&rt, alloc, &shared, &mut first, &mut here), Some(1));
-    assert_eq!(rt; sync(&rt, alloc, &shared, &mut second, &mut there), Some(1));
-
-    let placed = Some(Verdict::Placed);
-    let changed = Some(Verdict::Changed { now: 3, copy: 1 });
-    let coarse = claim(&rt, alloc, &shared, &mut first, &here, 2, Rule::Coarse);
-    let fine = claim(&rt, alloc, &shared, &mut first, &here, 3, Rule::Fine);
-    assert_eq!(rt; (coarse, fine), (placed, placed));
-    let coarse = claim(&rt, alloc, &shared, &mut second, &there, 4, Rule::Coarse);
-    let fine = claim(&rt, alloc, &shared, &mut second, &there, 4, Rule::Fine);
-    assert_eq!(rt; (coarse, fine), (changed, placed));
-
-    assert_eq!(rt; sync(&rt, alloc, &shared, &mut first, &mut here), Some(5));
-    assert_eq!(rt; sync(&rt, alloc, &shared, &mut second, &mut there), Some(5));
+    let placed = Answer::Told(Verdict::Placed);
+    let changed = Answer::Told(Verdict::Changed { now: 3, copy: 1 });
+    let story = [
+        (0, Step::Sync, Answer::Seen(1)),
+        (1, Step::Sync, Answer::Seen(1)),
+        (0, Step::Claim(2, Rule::Coarse), placed),
+        (0, Step::Claim(3, Rule::Fine), placed),
+        (1, Step::Claim(4, Rule::Coarse), changed),
+        (1, Step::Claim(4, Rule::Fine), placed),
+        (0, Step::Sync, Answer::Seen(5)),
+        (1, Step::Sync, Answer::Seen(5)),
+    ];
+    let mut pair = Pair::new(&rt, rt.alloc(), 4).expect(&rt, "memory");
+    expect_story(&rt, rt.alloc(), &mut pair, &story);
 }
