@@ -1,4 +1,7 @@
 ghost use Rattle.std.specs.Prelude.{◌≡◌, ◌∷◌, [], IfOk};
+ghost use Rattle.omega_model.specs.declared.claims.Mode.{Mode};
+ghost use Rattle.omega_model.specs.declared.claims.Rule.{Rule};
+ghost use Rattle.omega_model.specs.declared.entries.Entry.{Entry};
 
 use crate::Board;
 use omega_model::{
@@ -131,7 +134,26 @@ fn alone(alloc: Global, claim: &Claim) -> Result<Claims, NoMemory>
     Ok(claims)
 }
 
-// An entry of a commit that places this claim.
+// The entry of a commit of one claim, with the judgement on it.
+fn entry_of(alloc: Global, claim: Claim, judgement: Judgement) -> Result<Entry, NoMemory>
+    ensures { IfOk result (λ entry. entry ≡ Entry.Commit 1 0 (record { job = claim.key.job; rule = Rule.Fine; mode = Mode.Incremental; claims = claim ∷ [] }) (judgement ∷ [])) }
+{
+    let reply = Seq::of(vec![in alloc; judgement]?);
+    let txn = Txn {
+        job: claim.key.job,
+        rule: Rule::Fine,
+        mode: Mode::Incremental,
+        claims: Seq::of(vec![in alloc; claim]?),
+    };
+    Ok(Entry::Commit {
+        scheduler: 1,
+        seen: 0,
+        txn,
+        reply,
+    })
+}
+
+// A commit places this claim.
 fn commit(board: &mut Board, alloc: Global, claim: Claim) -> Result<Keys, NoMemory> {
     let mut evicted = Vec::with_capacity(alloc, claim.victims.len())?;
     let verdict = board.judge(&claim, None, &mut evicted);
@@ -139,19 +161,7 @@ fn commit(board: &mut Board, alloc: Global, claim: Claim) -> Result<Keys, NoMemo
         return Err(NoMemory);
     }
     let evicted = Seq::of(evicted);
-    let reply = Seq::of(vec![in alloc; Judgement { verdict, evicted }]?);
-    let txn = Txn {
-        job: claim.key.job,
-        rule: Rule::Fine,
-        mode: Mode::Incremental,
-        claims: Seq::of(vec![in alloc; claim]?),
-    };
-    let entry = Entry::Commit {
-        scheduler: 1,
-        seen: 0,
-        txn,
-        reply,
-    };
+    let entry = entry_of(alloc, claim, Judgement { verdict, evicted })?;
     board.apply_entry(alloc, &entry)
 }
 
