@@ -1,16 +1,18 @@
-ghost use Rattle.std.specs.Prelude.{◌<◌};
-ghost use Rattle.omega_model.specs.Ranges.{IsInRange};
+ghost use Rattle.std.specs.Prelude.{◌<◌, ◌≡◌, [], List, IfOk, OnOk};
+ghost use Rattle.omega_model.specs.declared.cells.Task.{Task};
 ghost use Rattle.omega_feed.specs.Open.{OthersAreQuiet};
 
 use crate::{OpenJobs, Wanted, feed, rounds};
 use omega_board::Board;
 use omega_model::{
     ActivityRow, AttrRow, Bytes, Claim, Claims, Command, Constraint, ConstraintRow, Entry, Extra,
-    Format, Keys, MachineRow, Mode, Need, NoMemory, Op, Preempt, Request, Round, Row, Rows, Rule,
-    Settings, Spec, TaskKey, TaskRow, TraceTables, Verdict, Wish,
+    Format, Keys, MachineRow, Mode, Need, NoMemory, Op, Preempt, Request, Requests, Round, Row,
+    Rows, Rule, Settings, Spec, TaskKey, TaskRow, TraceTables, Verdict, Wish,
 };
 use std::alloc::Global;
-use std::marker::Model;
+
+// The index of a job's first extra.
+const EXTRA: u64 = 2_147_483_648;
 
 const SETTINGS: Settings = Settings {
     command: Command::Replay,
@@ -90,24 +92,30 @@ fn told(alloc: Global, rounds: &[Round]) -> Result<Vec<u64>, NoMemory> {
 
 fn tell_rows(told: &mut Vec<u64>, rows: &[Row]) -> Result<(), NoMemory> {
     for row in rows {
-        let (table, id) = match row {
-            Row::Machine(row) => (1, row.machine),
-            Row::Attr(row) => (2, row.machine),
-            Row::Task(row) => (3, row.key.job),
-        };
+        let (table, id) = table_and_id(row);
         told.push(table)?;
         told.push(id)?;
     }
     Ok(())
 }
 
+// The number of a row's table, 1 to 3, and its machine or job.
+fn table_and_id(row: &Row) -> (u64, u64) {
+    match row {
+        Row::Machine(row) => (1, row.machine),
+        Row::Attr(row) => (2, row.machine),
+        Row::Task(row) => (3, row.key.job),
+    }
+}
+
 // Each request as its job and, for each wish, the index, the CPU and the number of constraints.
-fn tell_requests(told: &mut Vec<u64>, requests: &[Request]) -> Result<(), NoMemory> {
+fn told_requests(alloc: Global, requests: &[Request]) -> Result<Vec<u64>, NoMemory> {
+    let mut told = Vec::new(alloc);
     for request in requests {
         told.push(request.job)?;
-        tell_wishes(told, request.wishes.as_slice())?;
+        tell_wishes(&mut told, request.wishes.as_slice())?;
     }
-    Ok(())
+    Ok(told)
 }
 
 fn tell_wishes(told: &mut Vec<u64>, wishes: &[Wish]) -> Result<(), NoMemory> {
@@ -119,31 +127,69 @@ fn tell_wishes(told: &mut Vec<u64>, wishes: &[Wish]) -> Result<(), NoMemory> {
     Ok(())
 }
 
+// A task row: its time, job, index and code, and how much it needs.
+type TaskLine = (u32, u64, u16, u8, u32);
+
+// Rows by which machines come, each a time and a machine.
+fn push_machines(tables: &mut TraceTables, lines: &[(u32, u64)]) -> Result<(), NoMemory> {
+    for (time, machine) in lines {
+        tables.machines.push(machine_row(*time, *machine, 0))?;
+    }
+    Ok(())
+}
+
+// Rows that set an attribute, each a time and a machine.
+fn push_attrs(
+    alloc: Global,
+    tables: &mut TraceTables,
+    lines: &[(u32, u64)],
+) -> Result<(), NoMemory> {
+    for (time, machine) in lines {
+        tables.attrs.push(attr_row(alloc, *time, *machine, false)?)?;
+    }
+    Ok(())
+}
+
+fn push_tasks(tables: &mut TraceTables, lines: &[TaskLine]) -> Result<(), NoMemory> {
+    for (time, job, index, code, n) in lines {
+        tables.tasks.push(task_row(*time, *job, *index, *code, *n))?;
+    }
+    Ok(())
+}
+
 // Three tables that aren't in order of time.
 fn mixed(alloc: Global) -> Result<TraceTables, NoMemory> {
     let mut tables = TraceTables::new(alloc);
-    for (time, machine) in [(5, 11), (0, 12), (5, 13)] {
-        tables.machines.push(machine_row(time, machine, 0))?;
-    }
-    for (time, machine) in [(5, 21), (0, 22)] {
-        tables.attrs.push(attr_row(alloc, time, machine, false)?)?;
-    }
-    for (time, job) in [(25, 31), (5, 32), (5, 33), (0, 34)] {
-        tables.tasks.push(task_row(time, job, 0, 0, 1))?;
-    }
+    push_machines(&mut tables, &[(5, 11), (0, 12), (5, 13)])?;
+    push_attrs(alloc, &mut tables, &[(5, 21), (0, 22)])?;
+    let tasks: [TaskLine; 4] = [
+        (25, 31, 0, 0, 1),
+        (5, 32, 0, 0, 1),
+        (5, 33, 0, 0, 1),
+        (0, 34, 0, 0, 1),
+    ];
+    push_tasks(&mut tables, tasks.as_slice())?;
     Ok(tables)
+}
+
+// The rounds of a trace, told.
+fn told_rounds(alloc: Global, tables: &TraceTables, window: u64) -> Result<Vec<u64>, NoMemory>
+    requires { 0 < window }
+{
+    let cut = rounds(alloc, feed(alloc, tables)?, window)?;
+    told(alloc, cut.as_slice())
 }
 
 #[test]
 fn rounds_are_windows_with_a_row(rt: HostRuntime) -> Result<(), NoMemory> {
     let alloc = rt.alloc();
     let tables = mixed(alloc)?;
-    let by_ten = told(alloc, rounds(alloc, feed(alloc, &tables)?, 10)?.as_slice())?;
+    let by_ten = told_rounds(alloc, &tables, 10)?;
     let want: [u64; 20] = [
         0, 1, 12, 2, 22, 3, 34, 1, 11, 1, 13, 2, 21, 3, 32, 3, 33, 2, 3, 31,
     ];
     assert_eq!(rt; by_ten.as_slice(), want.as_slice());
-    let by_five = told(alloc, rounds(alloc, feed(alloc, &tables)?, 5)?.as_slice())?;
+    let by_five = told_rounds(alloc, &tables, 5)?;
     let want: [u64; 21] = [
         0, 1, 12, 2, 22, 3, 34, 1, 1, 11, 1, 13, 2, 21, 3, 32, 3, 33, 5, 3, 31,
     ];
@@ -151,116 +197,109 @@ fn rounds_are_windows_with_a_row(rt: HostRuntime) -> Result<(), NoMemory> {
     Ok(())
 }
 
-// What is wanted after some rows, with the jobs of which something may have to be placed on any
-// cell, as none was closed.
-#[derive(Drop)]
-struct Asking {
-    wanted: Wanted,
-    open_jobs: OpenJobs,
-}
-
-impl Model for Asking {
-    ghost use Rattle.std.specs.Prelude.{List};
-    ghost use Rattle.std.specs.BTreeSet.{BTreeSet};
-    ghost use Rattle.omega_model.specs.declared.cells.Task.{Task};
-    ghost use Rattle.omega_feed.specs.Asked.{Asked};
-    ghost use Rattle.omega_feed.specs.Open.{OthersAreQuiet};
-
-    ghost Value = { Asked };
-
-    ghost view = { λ asking. asking.wanted };
-
-    ghost invariant = { λ asking. (tasks : List Task) → OthersAreQuiet asking.open_jobs asking.wanted tasks };
-}
-
-impl Asking {
-    fn new(alloc: Global, tables: &TraceTables, settings: &Settings) -> Result<Asking, NoMemory>
-        requires { IsInRange settings.now }
-    {
-        let rows = feed(alloc, tables)?;
-        Ok(Asking {
-            wanted: Wanted::new(alloc, tables, &rows, settings)?,
-            open_jobs: OpenJobs::new(alloc),
-        })
-    }
-
-    fn take(self, row: &Row) -> Result<Asking, NoMemory> {
-        let Asking {
-            mut wanted,
-            mut open_jobs,
-        } = self;
-        wanted.take(row, &mut open_jobs)?;
-        Ok(Asking { wanted, open_jobs })
-    }
-
-    // The requests of a scheduler on a board.
-    fn tell(
-        &self,
-        alloc: Global,
-        told: &mut Vec<u64>,
-        scheduler: u32,
-        board: &Board,
-    ) -> Result<(), NoMemory> {
-        tell_open(alloc, told, &self.wanted, &self.open_jobs, scheduler, board)
-    }
-
-    // The same once the quiet jobs are closed.
-    fn tell_settled(
-        self,
-        alloc: Global,
-        told: &mut Vec<u64>,
-        scheduler: u32,
-        board: &Board,
-    ) -> Result<(), NoMemory> {
-        let Asking {
-            wanted,
-            mut open_jobs,
-        } = self;
-        open_jobs.settle(alloc, &wanted, board)?;
-        tell_open(alloc, told, &wanted, &open_jobs, scheduler, board)
-    }
-
-    // The same once the quiet jobs are closed and job 1 is open again.
-    fn tell_reopened(
-        self,
-        alloc: Global,
-        told: &mut Vec<u64>,
-        scheduler: u32,
-        board: &Board,
-    ) -> Result<(), NoMemory> {
-        let Asking {
-            wanted,
-            mut open_jobs,
-        } = self;
-        open_jobs.settle(alloc, &wanted, board)?;
-        open_jobs.reopen(&wanted, 1)?;
-        tell_open(alloc, told, &wanted, &open_jobs, scheduler, board)
-    }
-}
-
-// The requests of a scheduler on a board, each as its job and its wishes.
-fn tell_open(
-    alloc: Global,
-    told: &mut Vec<u64>,
-    wanted: &Wanted,
-    open_jobs: &OpenJobs,
+// Who is asked, and which jobs are closed before.
+#[derive(Clone, Copy)]
+struct Question {
     scheduler: u32,
+    closed: Closed,
+}
+
+// Which jobs are closed before a scheduler is asked: none, the quiet ones, or these but job 1.
+#[derive(Clone, Copy)]
+enum Closed {
+    Nothing,
+    Quiet,
+    QuietButOne,
+}
+
+// What a trace asks for before its first row.
+fn at_first(alloc: Global, tables: &TraceTables) -> Result<Wanted, NoMemory>
+    ensures { IfOk result (λ wanted. wanted.tasks ≡ []) }
+{
+    let rows = feed(alloc, tables)?;
+    Wanted::new(alloc, tables, &rows, &SETTINGS)
+}
+
+// Takes some rows, where no task was wanted before.
+fn take_all(wanted: &mut Wanted, open_jobs: &mut OpenJobs, rows: &[Row]) -> Result<(), NoMemory>
+    requires { wanted.old.tasks ≡ [] }
+    ensures { OnOk result ((tasks : List Task) → OthersAreQuiet open_jobs.new wanted.new tasks) }
+{
+    for row in rows {
+        wanted.take(row, open_jobs)?;
+    }
+    Ok(())
+}
+
+// Closes the jobs that are to be closed.
+fn close(
+    alloc: Global,
+    wanted: &Wanted,
+    open_jobs: &mut OpenJobs,
+    board: &Board,
+    closed: Closed,
+) -> Result<(), NoMemory>
+    requires { OthersAreQuiet open_jobs.old wanted.now board.now.tasks }
+    ensures { OnOk result (OthersAreQuiet open_jobs.new wanted.now board.now.tasks) }
+{
+    match closed {
+        Closed::Nothing => Ok(()),
+        Closed::Quiet => open_jobs.settle(alloc, wanted, board),
+        Closed::QuietButOne => close_but_one(alloc, wanted, open_jobs, board),
+    }
+}
+
+// Closes the quiet jobs and opens job 1 again.
+fn close_but_one(
+    alloc: Global,
+    wanted: &Wanted,
+    open_jobs: &mut OpenJobs,
     board: &Board,
 ) -> Result<(), NoMemory>
-    requires { OthersAreQuiet open_jobs.now wanted.now board.now.tasks }
+    requires { OthersAreQuiet open_jobs.old wanted.now board.now.tasks }
+    ensures { OnOk result (OthersAreQuiet open_jobs.new wanted.now board.now.tasks) }
 {
-    let requests = wanted.requests(alloc, scheduler, board, open_jobs)?;
-    tell_requests(told, requests.as_slice())
+    open_jobs.settle(alloc, wanted, board)?;
+    open_jobs.reopen(wanted, 1)?;
+    Ok(())
 }
 
-// Task rows of job 1, and rows of its activities.
-fn job_trace(
+// What a scheduler is asked on a board once these rows were taken.
+fn ask(
     alloc: Global,
-    activities: &[u8],
-    rows: &[(u8, u16, u32)],
-) -> Result<TraceTables, NoMemory> {
+    wanted: &mut Wanted,
+    rows: &[Row],
+    board: &Board,
+    question: Question,
+) -> Result<Requests, NoMemory>
+    requires { wanted.old.tasks ≡ [] }
+{
+    let mut open_jobs = OpenJobs::new(alloc);
+    take_all(wanted, &mut open_jobs, rows)?;
+    close(alloc, wanted, &mut open_jobs, board, question.closed)?;
+    wanted.requests(alloc, question.scheduler, board, &open_jobs)
+}
+
+// What a scheduler is asked on a board after these rows of a trace, told.
+fn asked(
+    alloc: Global,
+    tables: &TraceTables,
+    rows: &[Row],
+    board: &Board,
+    question: Question,
+) -> Result<Vec<u64>, NoMemory> {
+    let mut wanted = at_first(alloc, tables)?;
+    let requests = ask(alloc, &mut wanted, rows, board, question)?;
+    told_requests(alloc, requests.as_slice())
+}
+
+// A task row of job 1: its code, its index and its need.
+type Line = (u8, u16, u32);
+
+// Task rows of job 1, and rows of its activities.
+fn job_trace(alloc: Global, activities: &[u8], lines: &[Line]) -> Result<TraceTables, NoMemory> {
     let mut tables = TraceTables::new(alloc);
-    for (code, index, n) in rows {
+    for (code, index, n) in lines {
         tables.tasks.push(task_row(0, 1, *index, *code, *n))?;
     }
     for n in activities {
@@ -272,36 +311,17 @@ fn job_trace(
     Ok(tables)
 }
 
-// What is wanted after task rows of job 1, each a code, an index and a need, and the job's activities.
-fn asking_for(
-    alloc: Global,
-    activities: &[u8],
-    rows: &[(u8, u16, u32)],
-) -> Result<Asking, NoMemory> {
-    let tables = job_trace(alloc, activities, rows)?;
-    let asking = Asking::new(alloc, &tables, &SETTINGS)?;
-    take_all(asking, &feed(alloc, &tables)?)
-}
-
-// The requests of scheduler 1 after task rows of job 1.
-fn asked(alloc: Global, board: &Board, rows: &[(u8, u16, u32)]) -> Result<Vec<u64>, NoMemory> {
-    let mut told = Vec::new(alloc);
-    asking_for(alloc, &[], rows)?.tell(alloc, &mut told, 1, board)?;
-    Ok(told)
-}
-
-// The same for many lists of rows, each answer behind a 99.
-fn asked_each(
+// The requests of a scheduler after task rows of job 1, which has these activities.
+fn asked_for(
     alloc: Global,
     board: &Board,
-    cases: &[&[(u8, u16, u32)]],
+    question: Question,
+    activities: &[u8],
+    lines: &[Line],
 ) -> Result<Vec<u64>, NoMemory> {
-    let mut all = Vec::new(alloc);
-    for rows in cases {
-        all.push(99)?;
-        all.extend_from_slice(asked(alloc, board, rows)?.as_slice())?;
-    }
-    Ok(all)
+    let tables = job_trace(alloc, activities, lines)?;
+    let rows = feed(alloc, &tables)?;
+    asked(alloc, &tables, &rows, board, question)
 }
 
 // A board on which task 0 of job 1 runs on machine 4.
@@ -350,51 +370,70 @@ fn place(alloc: Global, board: &mut Board, claim: Claim) -> Result<(), NoMemory>
     Ok(())
 }
 
+const ANY_JOB: Question = Question {
+    scheduler: 1,
+    closed: Closed::Nothing,
+};
+
+// Task rows of job 1, and what is asked after them.
+const CODES: [(&[Line], &[u64]); 13] = [
+    (&[(0, 1, 7), (0, 0, 2)], &[1, 0, 2, 0, 1, 7, 0]),
+    (&[(1, 0, 2)], &[1, 0, 2, 0]),
+    (&[(0, 0, 2), (1, 0, 3), (0, 0, 4)], &[1, 0, 4, 0]),
+    (&[(2, 0, 9), (0, 0, 2), (2, 0, 3)], &[1, 0, 2, 0]),
+    (&[(0, 0, 2), (7, 0, 3)], &[1, 0, 3, 0]),
+    (&[(0, 0, 2), (8, 0, 3)], &[1, 0, 3, 0]),
+    (&[(7, 0, 3), (8, 0, 3)], &[]),
+    (&[(0, 0, 2), (4, 0, 2), (7, 0, 3)], &[]),
+    (&[(0, 0, 2), (0, 1, 7), (3, 0, 2)], &[1, 1, 7, 0]),
+    (&[(0, 0, 2), (0, 1, 7), (4, 0, 2)], &[1, 1, 7, 0]),
+    (&[(0, 0, 2), (0, 1, 7), (5, 0, 2)], &[1, 1, 7, 0]),
+    (&[(0, 0, 2), (0, 1, 7), (6, 0, 2)], &[1, 1, 7, 0]),
+    (&[(0, 0, 2), (5, 0, 2), (0, 0, 3)], &[1, 0, 3, 0]),
+];
+
 #[test]
 fn codes_say_what_is_wanted(rt: HostRuntime) -> Result<(), NoMemory> {
     let alloc = rt.alloc();
-    let cases: [&[(u8, u16, u32)]; 13] = [
-        &[(0, 1, 7), (0, 0, 2)],
-        &[(1, 0, 2)],
-        &[(0, 0, 2), (1, 0, 3), (0, 0, 4)],
-        &[(2, 0, 9), (0, 0, 2), (2, 0, 3)],
-        &[(0, 0, 2), (7, 0, 3)],
-        &[(0, 0, 2), (8, 0, 3)],
-        &[(7, 0, 3), (8, 0, 3)],
-        &[(0, 0, 2), (4, 0, 2), (7, 0, 3)],
-        &[(0, 0, 2), (0, 1, 7), (3, 0, 2)],
-        &[(0, 0, 2), (0, 1, 7), (4, 0, 2)],
-        &[(0, 0, 2), (0, 1, 7), (5, 0, 2)],
-        &[(0, 0, 2), (0, 1, 7), (6, 0, 2)],
-        &[(0, 0, 2), (5, 0, 2), (0, 0, 3)],
-    ];
-    let all = asked_each(alloc, &Board::new(alloc), cases.as_slice())?;
-    let want: [u64; 60] = [
-        99, 1, 0, 2, 0, 1, 7, 0, 99, 1, 0, 2, 0, 99, 1, 0, 4, 0, 99, 1, 0, 2, 0, 99, 1, 0, 3, 0,
-        99, 1, 0, 3, 0, 99, 99, 99, 1, 1, 7, 0, 99, 1, 1, 7, 0, 99, 1, 1, 7, 0, 99, 1, 1, 7, 0, 99,
-        1, 0, 3, 0,
-    ];
-    assert_eq!(rt; all.as_slice(), want.as_slice());
-    let cases: [&[(u8, u16, u32)]; 2] = [&[(0, 2, 5), (0, 0, 2), (0, 1, 7)], &[(0, 0, 2)]];
-    let all = asked_each(alloc, &busy(alloc)?, cases.as_slice())?;
-    let want: [u64; 9] = [99, 1, 1, 7, 0, 2, 5, 0, 99];
-    assert_eq!(rt; all.as_slice(), want.as_slice());
+    let board = Board::new(alloc);
+    for (lines, want) in CODES {
+        let told = asked_for(alloc, &board, ANY_JOB, &[], lines)?;
+        assert_eq!(rt; told.as_slice(), want);
+    }
     Ok(())
 }
 
-// The requests of a scheduler after task rows of job 1 and its activities, once quiet jobs are closed,
-// and behind a 99 once job 1 is open again.
+#[test]
+fn what_runs_is_not_asked_for(rt: HostRuntime) -> Result<(), NoMemory> {
+    let alloc = rt.alloc();
+    let board = busy(alloc)?;
+    let cases: [(&[Line], &[u64]); 2] = [
+        (&[(0, 2, 5), (0, 0, 2), (0, 1, 7)], &[1, 1, 7, 0, 2, 5, 0]),
+        (&[(0, 0, 2)], &[]),
+    ];
+    for (lines, want) in cases {
+        let told = asked_for(alloc, &board, ANY_JOB, &[], lines)?;
+        assert_eq!(rt; told.as_slice(), want);
+    }
+    Ok(())
+}
+
+// What waits of job 1 once the quiet jobs are closed, and behind a 99 once it is open again.
 fn settled(
     alloc: Global,
     board: &Board,
     scheduler: u32,
     activities: &[u8],
-    rows: &[(u8, u16, u32)],
+    lines: &[Line],
 ) -> Result<Vec<u64>, NoMemory> {
-    let mut told = Vec::new(alloc);
-    asking_for(alloc, activities, rows)?.tell_settled(alloc, &mut told, scheduler, board)?;
+    let closed = Closed::Quiet;
+    let quiet = Question { scheduler, closed };
+    let mut told = asked_for(alloc, board, quiet, activities, lines)?;
+    let closed = Closed::QuietButOne;
+    let reopened = Question { scheduler, closed };
+    let again = asked_for(alloc, board, reopened, activities, lines)?;
     told.push(99)?;
-    asking_for(alloc, activities, rows)?.tell_reopened(alloc, &mut told, scheduler, board)?;
+    told.extend_from_slice(again.as_slice())?;
     Ok(told)
 }
 
@@ -402,13 +441,20 @@ fn settled(
 fn what_waits_stays_open(rt: HostRuntime) -> Result<(), NoMemory> {
     let alloc = rt.alloc();
     let board = busy(alloc)?;
-    let told = settled(alloc, &board, 1, &[], &[(0, 0, 2)])?;
-    assert_eq!(rt; told.as_slice(), [99].as_slice());
-    let told = settled(alloc, &board, 1, &[], &[(0, 0, 2), (0, 2, 5)])?;
-    assert_eq!(rt; told.as_slice(), [1, 2, 5, 0, 99, 1, 2, 5, 0].as_slice());
-    let told = settled(alloc, &board, 2, &[2], &[(0, 0, 2)])?;
-    let want: [u64; 9] = [1, 2_147_483_648, 2, 0, 99, 1, 2_147_483_648, 2, 0];
-    assert_eq!(rt; told.as_slice(), want.as_slice());
+    let cases: [(u32, &[u8], &[Line], &[u64]); 3] = [
+        (1, &[], &[(0, 0, 2)], &[99]),
+        (
+            1,
+            &[],
+            &[(0, 0, 2), (0, 2, 5)],
+            &[1, 2, 5, 0, 99, 1, 2, 5, 0],
+        ),
+        (2, &[2], &[(0, 0, 2)], &[1, EXTRA, 2, 0, 99, 1, EXTRA, 2, 0]),
+    ];
+    for (scheduler, activities, lines, want) in cases {
+        let told = settled(alloc, &board, scheduler, activities, lines)?;
+        assert_eq!(rt; told.as_slice(), want);
+    }
     Ok(())
 }
 
@@ -430,88 +476,143 @@ fn tell_entries(told: &mut Vec<u64>, entries: &[Entry]) -> Result<(), NoMemory> 
     Ok(())
 }
 
-// The entries of rows of each table, and of rows of each code of the two first tasks of job 1.
-fn entries_of_rows(alloc: Global, board: &Board) -> Result<Vec<u64>, NoMemory> {
+// Rows of each table, among them one of each code of the two first tasks of job 1.
+fn rows_of_each_code(alloc: Global) -> Result<Rows, NoMemory> {
     let mut rows = Rows::new(alloc);
+    push_machine_codes(&mut rows)?;
+    push_set_and_deleted(alloc, &mut rows)?;
+    push_task_codes(&mut rows)?;
+    Ok(rows)
+}
+
+fn push_machine_codes(rows: &mut Rows) -> Result<(), NoMemory> {
     for code in 0..3 {
         rows.push(Row::Machine(machine_row(0, 7, code)))?;
     }
-    rows.push(Row::Attr(attr_row(alloc, 0, 8, false)?))?;
-    rows.push(Row::Attr(attr_row(alloc, 0, 9, true)?))?;
+    Ok(())
+}
+
+fn push_set_and_deleted(alloc: Global, rows: &mut Rows) -> Result<(), NoMemory> {
+    for (machine, deleted) in [(8, false), (9, true)] {
+        let row = attr_row(alloc, 0, machine, deleted)?;
+        rows.push(Row::Attr(row))?;
+    }
+    Ok(())
+}
+
+fn push_task_codes(rows: &mut Rows) -> Result<(), NoMemory> {
     for code in 0..9 {
         rows.push(Row::Task(task_row(0, 1, 0, code, 2)))?;
         rows.push(Row::Task(task_row(0, 1, 1, code, 2)))?;
     }
-    let asking = Asking::new(alloc, &TraceTables::new(alloc), &SETTINGS)?;
+    Ok(())
+}
+
+// The entries of some rows, where no task is wanted.
+fn entries_of_rows(alloc: Global, board: &Board, rows: &[Row]) -> Result<Vec<u64>, NoMemory> {
+    let tables = TraceTables::new(alloc);
+    let wanted = at_first(alloc, &tables)?;
     let mut told = Vec::new(alloc);
-    for row in rows.as_slice() {
-        tell_entries(
-            &mut told,
-            asking.wanted.entries(alloc, row, board)?.as_slice(),
-        )?;
-    }
+    tell_each_row(alloc, &mut told, &wanted, rows, board)?;
     Ok(told)
+}
+
+fn tell_each_row(
+    alloc: Global,
+    told: &mut Vec<u64>,
+    wanted: &Wanted,
+    rows: &[Row],
+    board: &Board,
+) -> Result<(), NoMemory> {
+    for row in rows {
+        tell_row(alloc, told, wanted, row, board)?;
+    }
+    Ok(())
+}
+
+// The entries of one row.
+fn tell_row(
+    alloc: Global,
+    told: &mut Vec<u64>,
+    wanted: &Wanted,
+    row: &Row,
+    board: &Board,
+) -> Result<(), NoMemory> {
+    let entries = wanted.entries(alloc, row, board)?;
+    tell_entries(told, entries.as_slice())
 }
 
 #[test]
 fn rows_give_entries(rt: HostRuntime) -> Result<(), NoMemory> {
     let alloc = rt.alloc();
-    let told = entries_of_rows(alloc, &busy(alloc)?)?;
+    let rows = rows_of_each_code(alloc)?;
+    let board = busy(alloc)?;
+    let told = entries_of_rows(alloc, &board, rows.as_slice())?;
     let want: [u64; 18] = [1, 7, 2, 7, 3, 7, 4, 8, 5, 9, 6, 4, 6, 4, 6, 4, 6, 4];
     assert_eq!(rt; told.as_slice(), want.as_slice());
     Ok(())
 }
 
-// The entries of the last of these rows of job 1.
-fn ended_by(alloc: Global, board: &Board, rows: &[(u8, u16, u32)]) -> Result<Vec<u64>, NoMemory> {
-    let tables = job_trace(alloc, &[], rows)?;
-    let mut asking = Asking::new(alloc, &tables, &SETTINGS)?;
+// The entries of the last of these rows of job 1, where a task of this index runs.
+fn ended_by(alloc: Global, index: u32, lines: &[Line]) -> Result<Vec<u64>, NoMemory> {
+    let board = running(alloc, index)?;
+    let tables = job_trace(alloc, &[], lines)?;
+    let mut wanted = at_first(alloc, &tables)?;
+    let rows = feed(alloc, &tables)?;
+    ended_by_last(alloc, &mut wanted, &rows, &board)
+}
+
+// The entries of the last of these rows once all were taken.
+fn ended_by_last(
+    alloc: Global,
+    wanted: &mut Wanted,
+    rows: &[Row],
+    board: &Board,
+) -> Result<Vec<u64>, NoMemory> {
     let mut told = Vec::new(alloc);
-    for row in tables.tasks.as_slice() {
-        let row = Row::Task(*row);
-        asking = asking.take(&row)?;
+    let mut open_jobs = OpenJobs::new(alloc);
+    for row in rows {
+        wanted.take(row, &mut open_jobs)?;
         told.clear();
-        let entries = asking.wanted.entries(alloc, &row, board)?;
-        tell_entries(&mut told, entries.as_slice())?;
+        tell_row(alloc, &mut told, wanted, row, board)?;
     }
     Ok(told)
 }
 
 #[test]
 fn extras_end_with_the_last_wanted_task(rt: HostRuntime) -> Result<(), NoMemory> {
-    let alloc = rt.alloc();
-    let board = running(alloc, 2_147_483_648)?;
-    let told = ended_by(alloc, &board, &[(0, 0, 2), (0, 1, 2), (4, 0, 2)])?;
-    assert_eq!(rt; told.as_slice(), [].as_slice());
-    let told = ended_by(alloc, &board, &[(0, 0, 2), (4, 0, 2)])?;
-    assert_eq!(rt; told.as_slice(), [6, 4].as_slice());
+    let cases: [(&[Line], &[u64]); 2] = [
+        (&[(0, 0, 2), (0, 1, 2), (4, 0, 2)], &[]),
+        (&[(0, 0, 2), (4, 0, 2)], &[6, 4]),
+    ];
+    for (lines, want) in cases {
+        let told = ended_by(rt.alloc(), 2_147_483_648, lines)?;
+        assert_eq!(rt; told.as_slice(), want);
+    }
     Ok(())
 }
 
-// Four machines with attributes, and three jobs of which one starts in the third window.
+// Four machines, three of them with an attribute, and three jobs of which one starts in the third
+// window.
 fn slice(alloc: Global) -> Result<TraceTables, NoMemory> {
     let mut tables = TraceTables::new(alloc);
-    for machine in [5, 6, 7, 10] {
-        tables.machines.push(machine_row(0, machine, 0))?;
-    }
-    for machine in [5, 6, 7] {
-        tables.attrs.push(attr_row(alloc, 0, machine, false)?)?;
-    }
-    for (time, job, index, code, cpu) in [
-        (0, 3_418_309, 0, 0, 125_000_000),
-        (0, 3_418_309, 1, 0, 125_000_000),
-        (0, 3_418_314, 0, 1, 62_500_000),
-        (612_183_636, 3_418_314, 0, 4, 62_500_000),
-        (612_183_700, 6_221_861_800, 0, 0, 380_000_000),
-        (612_183_700, 6_221_861_800, 1, 0, 380_000_000),
-        (612_183_800, 6_221_861_800, 0, 1, 380_000_000),
-        (900_000_000, 6_221_861_800, 1, 5, 380_000_000),
-    ] {
-        tables.tasks.push(task_row(time, job, index, code, cpu))?;
-    }
+    push_machines(&mut tables, &[(0, 5), (0, 6), (0, 7), (0, 10)])?;
+    push_attrs(alloc, &mut tables, &[(0, 5), (0, 6), (0, 7)])?;
+    push_tasks(&mut tables, SLICE_TASKS.as_slice())?;
     tables.constraints.push(kernel_above(alloc)?)?;
     Ok(tables)
 }
+
+const SLICE_TASKS: [TaskLine; 8] = [
+    (0, 3_418_309, 0, 0, 125_000_000),
+    (0, 3_418_309, 1, 0, 125_000_000),
+    (0, 3_418_314, 0, 1, 62_500_000),
+    (612_183_636, 3_418_314, 0, 4, 62_500_000),
+    (612_183_700, 6_221_861_800, 0, 0, 380_000_000),
+    (612_183_700, 6_221_861_800, 1, 0, 380_000_000),
+    (612_183_800, 6_221_861_800, 0, 1, 380_000_000),
+    (900_000_000, 6_221_861_800, 1, 5, 380_000_000),
+];
 
 fn kernel_above(alloc: Global) -> Result<ConstraintRow, NoMemory> {
     let constraint = Constraint {
@@ -529,57 +630,62 @@ fn kernel_above(alloc: Global) -> Result<ConstraintRow, NoMemory> {
 // Task rows of which the first in time of job 12 asks for nothing and stands last but one.
 fn late_first_row(alloc: Global) -> Result<TraceTables, NoMemory> {
     let mut tables = TraceTables::new(alloc);
-    for (time, job, index, code) in [
-        (9, 12, 0, 0),
-        (7, 10, 1, 0),
-        (7, 10, 0, 0),
-        (8, 11, 0, 0),
-        (1, 12, 0, 2),
-        (30, 9, 0, 0),
-    ] {
-        tables.tasks.push(task_row(time, job, index, code, 1))?;
-    }
+    let tasks: [TaskLine; 6] = [
+        (9, 12, 0, 0, 1),
+        (7, 10, 1, 0, 1),
+        (7, 10, 0, 0, 1),
+        (8, 11, 0, 0, 1),
+        (1, 12, 0, 2, 1),
+        (30, 9, 0, 0, 1),
+    ];
+    push_tasks(&mut tables, tasks.as_slice())?;
     Ok(tables)
 }
 
-// What each scheduler up to 1 is asked after each round, where nothing runs.
+// The number of each round, and what each scheduler up to 1 is asked after it, where nothing runs.
 fn asked_by_round(alloc: Global, tables: &TraceTables, window: u64) -> Result<Vec<u64>, NoMemory>
     requires { 0 < window }
 {
     let cut = rounds(alloc, feed(alloc, tables)?, window)?;
-    let mut asking = Asking::new(alloc, tables, &SETTINGS)?;
+    let mut rows = Vec::new(alloc);
     let mut told = Vec::new(alloc);
-    for round in cut.as_slice() {
-        asking = take_all(asking, round.rows.as_slice())?;
-        tell_round(alloc, &mut told, &asking, round.number)?;
+    for round in cut.into_items() {
+        told.push(round.number)?;
+        append(&mut rows, round.rows)?;
+        tell_both(alloc, &mut told, tables, &rows)?;
     }
     Ok(told)
 }
 
-fn take_all(mut asking: Asking, rows: &[Row]) -> Result<Asking, NoMemory> {
-    for row in rows {
-        asking = asking.take(row)?;
+fn append(rows: &mut Vec<Row>, more: Rows) -> Result<(), NoMemory> {
+    for row in more.into_items() {
+        rows.push(row)?;
     }
-    Ok(asking)
+    Ok(())
 }
 
-// The number of a round, and what is asked after its rows.
-fn tell_round(
+// What schedulers 0 and 1 are asked after these rows.
+fn tell_both(
     alloc: Global,
     told: &mut Vec<u64>,
-    asking: &Asking,
-    number: u64,
+    tables: &TraceTables,
+    rows: &[Row],
 ) -> Result<(), NoMemory> {
+    let closed = Closed::Nothing;
     let board = Board::new(alloc);
-    told.push(number)?;
-    asking.tell(alloc, told, 0, &board)?;
-    asking.tell(alloc, told, 1, &board)
+    for scheduler in 0..2 {
+        let question = Question { scheduler, closed };
+        let asked = asked(alloc, tables, rows, &board, question)?;
+        told.extend_from_slice(asked.as_slice())?;
+    }
+    Ok(())
 }
 
 #[test]
 fn rounds_ask_for_what_waits(rt: HostRuntime) -> Result<(), NoMemory> {
     let alloc = rt.alloc();
-    let told = asked_by_round(alloc, &slice(alloc)?, 300_000_000)?;
+    let tables = slice(alloc)?;
+    let told = asked_by_round(alloc, &tables, 300_000_000)?;
     let want: [u64; 39] = [
         0,
         3_418_309,
@@ -622,7 +728,14 @@ fn rounds_ask_for_what_waits(rt: HostRuntime) -> Result<(), NoMemory> {
         0,
     ];
     assert_eq!(rt; told.as_slice(), want.as_slice());
-    let told = asked_by_round(alloc, &late_first_row(alloc)?, 10)?;
+    Ok(())
+}
+
+#[test]
+fn jobs_stand_in_order_of_their_first_row(rt: HostRuntime) -> Result<(), NoMemory> {
+    let alloc = rt.alloc();
+    let tables = late_first_row(alloc)?;
+    let told = asked_by_round(alloc, &tables, 10)?;
     let want: [u64; 36] = [
         0, 12, 0, 1, 0, 10, 0, 1, 0, 1, 1, 0, 11, 0, 1, 0, 3, 12, 0, 1, 0, 10, 0, 1, 0, 1, 1, 0,
         11, 0, 1, 0, 9, 0, 1, 0,
