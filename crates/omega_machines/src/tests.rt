@@ -1,8 +1,10 @@
-ghost use Rattle.std.specs.Prelude.{◌≡◌};
+ghost use Rattle.std.specs.Prelude.{◌≡◌, IsTrue};
+ghost use Rattle.omega_model.specs.Machines.{is_listed};
+ghost use Rattle.omega_machines.specs.Table.{machines_of};
 
 use crate::MachineTable;
 use omega_model::{Bytes, Copied, Need, NoMemory, Seq};
-use std::alloc::{AllocError, Global};
+use std::alloc::Global;
 use std::test::Fail;
 
 const MACHINES: u64 = 10_000;
@@ -24,12 +26,12 @@ fn need(cpu: u64, mem: u64) -> Need
     }
 }
 
-fn bytes(alloc: Global, text: &[u8]) -> Result<Bytes, AllocError> {
+fn bytes(alloc: Global, text: &[u8]) -> Result<Bytes, NoMemory> {
     Ok(Seq::of(text.to_vec(alloc)?))
 }
 
 /// The attributes of a machine as bytes: each name, value and a stop.
-fn told(alloc: Global, table: &MachineTable, position: usize) -> Result<Vec<u8>, AllocError> {
+fn told(alloc: Global, table: &MachineTable, position: usize) -> Result<Vec<u8>, NoMemory> {
     let mut told = Vec::new(alloc);
     if let Some(machine) = table.at(position) {
         for attr in machine.attrs.as_slice() {
@@ -41,33 +43,113 @@ fn told(alloc: Global, table: &MachineTable, position: usize) -> Result<Vec<u8>,
     Ok(told)
 }
 
+/// A table in which these machines are mentioned, in this order.
+fn mentioned(alloc: Global, ids: &[u64]) -> Result<MachineTable, NoMemory> {
+    let mut table = MachineTable::new(alloc);
+    for id in ids {
+        if table.len() < 65_536 {
+            table.ensure(*id)?;
+        }
+    }
+    Ok(table)
+}
+
+/// A machine's number, whether it is up, and its capacity.
+type Listed = (u64, bool, Need);
+
+/// What the table has at a position.
+fn listed(table: &MachineTable, position: usize) -> Option<Listed> {
+    let machine = table.at(position)?;
+    Some((machine.id, machine.up, machine.cap))
+}
+
+/// How many machines a table has in which these are mentioned, and where a machine stands in it.
+fn placed(alloc: Global, ids: &[u64], id: u64) -> Result<(usize, Option<usize>), NoMemory> {
+    let table = mentioned(alloc, ids)?;
+    Ok((table.len(), table.position(id)))
+}
+
 #[test]
-fn machines_come_and_go(rt: HostRuntime) -> Result<(), Fail> {
-    let mut table = MachineTable::new(rt.alloc());
-    assert_eq!(rt; table.len(), 0);
-    assert_eq!(rt; table.position(9), None);
+fn machines_stand_in_order_of_first_mention(rt: HostRuntime) -> Result<(), Fail> {
+    let cases: [(&[u64], u64, (usize, Option<usize>)); 4] = [
+        (&[], 9, (0, None)),
+        (&[9, 7, 9], 9, (2, Some(0))),
+        (&[9, 7, 9], 7, (2, Some(1))),
+        (&[9, 7, 9], 1, (2, None)),
+    ];
+    for (ids, id, want) in cases {
+        assert_eq!(rt; placed(rt.alloc(), ids, id)?, want);
+    }
+    Ok(())
+}
+
+/// Machine 9 with a capacity and down, and machine 7 behind it, which came up with one, and went
+/// down again if it is gone.
+fn with_capacities(alloc: Global, gone: bool) -> Result<MachineTable, NoMemory> {
+    let mut table = MachineTable::new(alloc);
     table.ensure(9)?;
     table.ensure(7)?;
-    table.ensure(9)?;
-    assert_eq!(rt; table.len(), 2);
-    assert_eq!(rt; (table.position(9), table.position(7)), (Some(0), Some(1)));
-    assert_eq!(rt; table.position(1), None);
-    assert_eq!(rt; table.at(1).map(|machine| machine.id), Some(7));
-    assert_eq!(rt; table.at(1).map(|machine| machine.up), Some(false));
-    assert_eq!(rt; table.at(1).map(|machine| machine.cap), Some(need(0, 0)));
-    assert!(rt; table.at(2).is_none());
     table.update(9, need(5, 5));
-    assert_eq!(rt; table.free(9), None);
     table.add(7, need(100, 200));
-    assert_eq!(rt; table.free(7), Some(need(100, 200)));
-    table.remove(7);
-    assert_eq!(rt; table.free(7), None);
-    assert_eq!(rt; table.at(1).map(|machine| machine.up), Some(false));
-    assert_eq!(rt;
-        table.at(1).map(|machine| machine.cap),
-        Some(need(100, 200))
-    );
-    assert_eq!(rt; table.at(0).map(|machine| machine.cap), Some(need(5, 5)));
+    if gone {
+        table.remove(7);
+    }
+    Ok(table)
+}
+
+/// How far machine 7 has come.
+#[derive(Clone, Copy)]
+enum Stage {
+    Mentioned,
+    Up,
+    Gone,
+}
+
+/// The table of machines 9 and 7 at a stage.
+fn table_at(alloc: Global, stage: Stage) -> Result<MachineTable, NoMemory> {
+    match stage {
+        Stage::Mentioned => mentioned(alloc, &[9, 7, 9]),
+        Stage::Up => with_capacities(alloc, false),
+        Stage::Gone => with_capacities(alloc, true),
+    }
+}
+
+/// What is free on a machine at a stage.
+fn free_on(alloc: Global, stage: Stage, id: u64) -> Result<Option<Need>, NoMemory> {
+    let table = table_at(alloc, stage)?;
+    Ok(table.free(id))
+}
+
+/// What the table has at a position at a stage.
+fn listed_at(alloc: Global, stage: Stage, position: usize) -> Result<Option<Listed>, NoMemory> {
+    let table = table_at(alloc, stage)?;
+    Ok(listed(&table, position))
+}
+
+#[test]
+fn a_machine_has_something_free_while_it_is_up(rt: HostRuntime) -> Result<(), Fail> {
+    let cases = [
+        (Stage::Up, 9, None),
+        (Stage::Up, 7, Some(need(100, 200))),
+        (Stage::Gone, 7, None),
+    ];
+    for (stage, id, want) in cases {
+        assert_eq!(rt; free_on(rt.alloc(), stage, id)?, want);
+    }
+    Ok(())
+}
+
+#[test]
+fn a_machine_that_is_gone_keeps_its_capacity(rt: HostRuntime) -> Result<(), Fail> {
+    let cases = [
+        (Stage::Mentioned, 1, Some((7, false, need(0, 0)))),
+        (Stage::Mentioned, 2, None),
+        (Stage::Gone, 1, Some((7, false, need(100, 200)))),
+        (Stage::Gone, 0, Some((9, false, need(5, 5)))),
+    ];
+    for (stage, position, want) in cases {
+        assert_eq!(rt; listed_at(rt.alloc(), stage, position)?, want);
+    }
     Ok(())
 }
 
@@ -103,47 +185,96 @@ fn touches_count(rt: HostRuntime) -> Result<(), Fail> {
     Ok(())
 }
 
+/// A change of an attribute: its name, and its value or that it is unset.
+type AttrChange<'a> = (&'a [u8], Option<&'a [u8]>);
+
+/// Changes an attribute of machine 4, if it is there.
+fn change_attr(
+    alloc: Global,
+    table: &mut MachineTable,
+    change: AttrChange,
+) -> Result<(), NoMemory> {
+    let (name, value) = change;
+    let name = bytes(alloc, name)?;
+    if table.position(4).is_none() {
+        return Ok(());
+    }
+    match value {
+        Some(value) => set_attr(alloc, table, &name, value),
+        None => {
+            table.delete_attr(4, &name);
+            Ok(())
+        }
+    }
+}
+
+/// Sets an attribute of machine 4.
+fn set_attr(
+    alloc: Global,
+    table: &mut MachineTable,
+    name: &Bytes,
+    value: &[u8],
+) -> Result<(), NoMemory>
+    requires { IsTrue (is_listed 4 (machines_of table.old)) }
+{
+    let value = bytes(alloc, value)?;
+    table.set_attr(4, name, &value)
+}
+
+/// The attributes of the machine at a position, of machines 3 and 4, after the first changes of 4.
+fn told_after(
+    alloc: Global,
+    changes: &[AttrChange],
+    count: usize,
+    position: usize,
+) -> Result<Vec<u8>, NoMemory> {
+    let mut table = mentioned(alloc, &[3, 4])?;
+    for change in changes.iter().take(count) {
+        change_attr(alloc, &mut table, *change)?;
+    }
+    told(alloc, &table, position)
+}
+
 #[test]
 fn attributes_are_set_and_unset(rt: HostRuntime) -> Result<(), Fail> {
-    let alloc = rt.alloc();
-    let (a, b, c) = (
-        bytes(alloc, b"a")?,
-        bytes(alloc, b"bb")?,
-        bytes(alloc, b"")?,
-    );
-    let mut table = MachineTable::new(alloc);
-    table.ensure(3)?;
-    table.ensure(4)?;
-    table.set_attr(4, &b, &a)?;
-    table.set_attr(4, &a, &c)?;
-    table.set_attr(4, &c, &b)?;
-    assert_eq!(rt; told(alloc, &table, 1)?.as_slice(), b"bba.a.bb.".as_slice());
-    table.set_attr(4, &a, &b)?;
-    assert_eq!(rt;
-        told(alloc, &table, 1)?.as_slice(),
-        b"bba.abb.bb.".as_slice()
-    );
-    table.delete_attr(4, &b);
-    table.delete_attr(4, &b);
-    assert_eq!(rt; told(alloc, &table, 1)?.as_slice(), b"abb.bb.".as_slice());
-    assert_eq!(rt; told(alloc, &table, 0)?.as_slice(), b"".as_slice());
+    let changes: [AttrChange; 6] = [
+        (b"bb", Some(b"a")),
+        (b"a", Some(b"")),
+        (b"", Some(b"bb")),
+        (b"a", Some(b"bb")),
+        (b"bb", None),
+        (b"bb", None),
+    ];
+    let cases: [(usize, usize, &[u8]); 4] = [
+        (3, 1, b"bba.a.bb."),
+        (4, 1, b"bba.abb.bb."),
+        (6, 1, b"abb.bb."),
+        (6, 0, b""),
+    ];
+    for (count, position, want) in cases {
+        let told = told_after(rt.alloc(), changes.as_slice(), count, position)?;
+        assert_eq!(rt; told.as_slice(), want);
+    }
     Ok(())
+}
+
+/// A copy of machines 3 and 4, of which 4 was touched and has an attribute.
+fn copied(alloc: Global) -> Result<MachineTable, NoMemory> {
+    let mut table = mentioned(alloc, &[3, 4])?;
+    if table.position(4).is_some() && table.seq(4) < u64::MAX {
+        table.touch(4);
+    }
+    change_attr(alloc, &mut table, (b"a", Some(b"a")))?;
+    table.copy(alloc)
 }
 
 #[test]
 fn a_copy_is_equal(rt: HostRuntime) -> Result<(), Fail> {
     let alloc = rt.alloc();
-    let name = bytes(alloc, b"a")?;
-    let mut table = MachineTable::new(alloc);
-    table.ensure(3)?;
-    table.ensure(4)?;
-    table.touch(4);
-    table.set_attr(4, &name, &name)?;
-    let copied = table.copy(alloc)?;
-    assert_eq!(rt;
-        (copied.position(4), copied.seq(4), copied.free(4)),
-        (Some(1), 1, None)
-    );
+    let copied = copied(alloc)?;
+    assert_eq!(rt; copied.position(4), Some(1));
+    assert_eq!(rt; copied.seq(4), 1);
+    assert_eq!(rt; copied.free(4), None);
     assert_eq!(rt; told(alloc, &copied, 1)?.as_slice(), b"aa.".as_slice());
     Ok(())
 }
