@@ -27,6 +27,3 @@ pub use steps::{RoundStep, Stepped};
 pub use threads::on_threads;
 pub use turns::in_turns;
 pub use world::World;
-
-#[cfg(test)]
-mod tests;
