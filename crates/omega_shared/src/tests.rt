@@ -118,8 +118,8 @@ fn share_by_two<R: Wait>(
     Some((shared, first, second))
 }
 
-// The history that two callers leave who each take all their turns on a thread of their own, if there
-// is memory.
+// The history that two callers leave who each take all their turns on a thread of their own, if
+// there is memory.
 fn commit_together<R: Threads + Wait + Sync>(rt: &R, alloc: Global, turns: u32) -> Option<Entries> {
     let (shared, first, second) = share_by_two(rt, alloc, Cell::new(alloc), turns)?;
     let (first, second) = join(
@@ -303,8 +303,8 @@ struct Pair {
 }
 
 impl Pair {
-    // Schedulers with so many turns each, whose copies have seen nothing, and a cell with machine 1, if
-    // there is memory. In a box, since the check of a function costs by all parts of what it lets go.
+    // Schedulers with so many turns each, whose copies have seen nothing, and a cell with machine 1,
+    // if there is memory. In a box, since a check costs by all parts of what a function lets go.
     fn new<R: Wait>(rt: &R, alloc: Global, turns: u32) -> Option<Box<Pair>> {
         let cell = one_machine(alloc)?;
         let (shared, first, second) = share_by_two(rt, alloc, cell, turns)?;
