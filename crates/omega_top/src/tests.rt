@@ -11,7 +11,6 @@ use omega_model::{Bytes, Cause, Done, Kind, NoMemory, Seq, Settings, Status, Tab
 use std::alloc::Global;
 use std::process::Abort;
 use std::sync::Wait;
-use std::test::Fail;
 use std::thread::Threads;
 
 // Room for every report of these tests, in bytes.
@@ -42,6 +41,34 @@ struct Ran {
     written: Bytes,
 }
 
+// How a run is to end: with this status, a history of so many entries and these bytes written.
+#[derive(Clone, Copy)]
+struct End<'a> {
+    status: Status,
+    entries: usize,
+    report: &'a [u8],
+}
+
+impl End<'static> {
+    // That of a whole run over the machine and its task.
+    fn done() -> End<'static> {
+        End {
+            status: Status::Done,
+            entries: 3,
+            report: REPORT.as_bytes(),
+        }
+    }
+
+    // That of a run that is refused.
+    fn refused(status: Status) -> End<'static> {
+        End {
+            status,
+            entries: 0,
+            report: b"",
+        }
+    }
+}
+
 // The bytes of a text.
 fn bytes(alloc: Global, text: &str) -> Result<Bytes, NoMemory> {
     Ok(Seq::of(Vec::from_slice(alloc, text.as_bytes())?))
@@ -61,11 +88,11 @@ fn tables_of(alloc: Global, machines: &str, tasks: &str) -> Result<MemoryTables,
 }
 
 // A run with these words past a gate, whose sink has room for so many bytes.
-fn run_past<R: Threads + Wait + Sync, G: Gate + Sync>(
+fn run_past<R: Threads + Wait + Sync, T: Tables, G: Gate + Sync>(
     rt: &R,
     alloc: Global,
     words: &[&str],
-    tables: &mut MemoryTables,
+    tables: &mut T,
     room: u64,
     gate: &G,
 ) -> Result<Ran, NoMemory>
@@ -79,103 +106,144 @@ fn run_past<R: Threads + Wait + Sync, G: Gate + Sync>(
     })
 }
 
-// The same past a gate that holds nobody.
-fn run<R: Threads + Wait + Sync>(
+// Whether a run ended so.
+fn ends_so(ran: &Ran, end: &End) -> bool {
+    ran.done.status == end.status
+        && ran.done.history.len() == end.entries
+        && ran.written.as_slice() == end.report
+}
+
+// Sees that a run ended so.
+fn expect(rt: &impl Abort, ran: &Ran, end: &End) {
+    assert!(rt; ends_so(ran, end));
+}
+
+// Sees that a replay ends so, over tables that are gone then.
+fn expect_replay<R: Threads + Wait + Sync + Abort, T: Tables + Drop>(
+    rt: &R,
+    alloc: Global,
+    mut tables: T,
+    room: u64,
+    end: &End,
+) -> Result<(), NoMemory>
+    requires { IsSync R.row }
+{
+    let ran = run_past(rt, alloc, &["replay"], &mut tables, room, &PassGate)?;
+    expect(rt, &ran, end);
+    Ok(())
+}
+
+// Sees that a run was whole over the machine and its task, and answers these settings.
+fn expect_done(rt: &impl Abort, ran: &Ran, settings: &Settings) {
+    assert!(rt; ends_so(ran, &End::done()));
+    assert!(rt; ran.done.settings.as_ref() == Some(settings));
+}
+
+// Sees that a run with these words is so, over tables that are gone then.
+fn expect_settings<R: Threads + Wait + Sync + Abort, T: Tables + Drop>(
     rt: &R,
     alloc: Global,
     words: &[&str],
-    tables: &mut MemoryTables,
-    room: u64,
-) -> Result<Ran, NoMemory>
+    mut tables: T,
+    settings: &Settings,
+) -> Result<(), NoMemory>
     requires { IsSync R.row }
 {
-    run_past(rt, alloc, words, tables, room, &PassGate)
+    let ran = run_past(rt, alloc, words, &mut tables, ROOM, &PassGate)?;
+    expect_done(rt, &ran, settings);
+    Ok(())
 }
 
-// Sees that a run ended so, with a history of so many entries and these bytes written.
-fn expect(rt: &impl Abort, ran: &Ran, status: Status, entries: usize, report: &[u8]) {
-    assert_eq!(rt; ran.done.status, status);
-    assert_eq!(rt; ran.done.history.len(), entries);
-    assert_eq!(rt; ran.written.as_slice(), report);
+// Words that ask for two tries, and their settings.
+const TWO_TRIES: [&str; 5] = ["replay", "--tries", "2", "--tables", "a b"];
+
+fn two_tries() -> Settings {
+    Settings {
+        tries: 2,
+        ..Settings::default()
+    }
 }
 
 #[test]
-fn answers_the_settings_of_its_words(rt: HostRuntime) -> Result<(), Fail> {
-    let mut tables = tables_of(rt.alloc(), MACHINE, TASK)?;
-    let words = ["replay", "--tries", "2", "--tables", "a b"];
-    let ran = run(&rt, rt.alloc(), &words, &mut tables, ROOM)?;
-    expect(&rt, &ran, Status::Done, 3, REPORT.as_bytes());
-    let settings = Settings {
-        tries: 2,
-        ..Settings::default()
-    };
-    assert_eq!(rt; ran.done.settings, Some(settings));
-    Ok(())
+fn answers_the_settings_of_its_words(rt: HostRuntime) -> Result<(), NoMemory> {
+    let tables = tables_of(rt.alloc(), MACHINE, TASK)?;
+    expect_settings(&rt, rt.alloc(), &TWO_TRIES, tables, &two_tries())
+}
+
+// The machine and its task, of which each read gives a single byte.
+fn single_bytes(alloc: Global) -> Result<MemoryTables, NoMemory> {
+    Ok(tables_of(alloc, MACHINE, TASK)?.cut(1))
 }
 
 // The table whose read fails where the call of this number fails, of the 57 calls that read the
 // machine and its task in single bytes.
-fn failing_table(call: u64) -> Option<Table> {
+fn failing_table(call: u64) -> Table {
     match call {
-        0..=16 => Some(Table::MachineEvents),
-        17 => Some(Table::MachineAttributes),
-        18..=53 => Some(Table::TaskEvents),
-        54 => Some(Table::TaskConstraints),
-        55 => Some(Table::MapreduceJobs),
-        56 => Some(Table::MachineDisk),
-        _ => None,
+        0..=16 => Table::MachineEvents,
+        17 => Table::MachineAttributes,
+        18..=53 => Table::TaskEvents,
+        54 => Table::TaskConstraints,
+        55 => Table::MapreduceJobs,
+        _ => Table::MachineDisk,
     }
 }
 
+// Sees that a run ended by the one read of a table that failed.
+fn expect_fault<T: Tables>(rt: &impl Abort, ran: &Ran, tables: &T, table: Table) {
+    assert!(rt; ends_so(ran, &End::refused(Status::ReadFault(table))));
+    assert_eq!(rt; tables.faults(table), 1);
+}
+
+// Sees that a replay ends so, over tables that are gone then.
+fn expect_read_fault<R: Threads + Wait + Sync + Abort, T: Tables + Drop>(
+    rt: &R,
+    alloc: Global,
+    mut tables: T,
+    table: Table,
+) -> Result<(), NoMemory>
+    requires { IsSync R.row }
+{
+    let ran = run_past(rt, alloc, &["replay"], &mut tables, ROOM, &PassGate)?;
+    expect_fault(rt, &ran, &tables, table);
+    Ok(())
+}
+
 #[test]
-fn each_read_fails(rt: HostRuntime) -> Result<(), Fail> {
-    for call in 0..59 {
-        let mut tables = tables_of(rt.alloc(), MACHINE, TASK)?.cut(1).fail_at(call);
-        let ran = run(&rt, rt.alloc(), &["replay"], &mut tables, ROOM)?;
-        match failing_table(call) {
-            Some(table) => {
-                expect(&rt, &ran, Status::ReadFault(table), 0, b"");
-                assert_eq!(rt; tables.faults(table), 1);
-            }
-            None => expect(&rt, &ran, Status::Done, 3, REPORT.as_bytes()),
-        }
+fn each_read_fails(rt: HostRuntime) -> Result<(), NoMemory> {
+    for call in 0..57 {
+        let tables = single_bytes(rt.alloc())?.fail_at(call);
+        expect_read_fault(&rt, rt.alloc(), tables, failing_table(call))?;
     }
     Ok(())
 }
 
 #[test]
-fn each_size_of_sink(rt: HostRuntime) -> Result<(), Fail> {
-    let whole = REPORT.len();
+fn no_read_comes_behind_the_last(rt: HostRuntime) -> Result<(), NoMemory> {
+    for call in 57..59 {
+        let tables = single_bytes(rt.alloc())?.fail_at(call);
+        expect_replay(&rt, rt.alloc(), tables, ROOM, &End::done())?;
+    }
+    Ok(())
+}
+
+// How a replay ends whose sink has room for so many bytes.
+fn end_in(room: usize) -> End<'static> {
+    let report = REPORT.as_bytes();
+    if room >= report.len() {
+        return End::done();
+    }
+    End {
+        status: Status::WriteFault,
+        entries: 3,
+        report: &report[..room],
+    }
+}
+
+#[test]
+fn each_size_of_sink(rt: HostRuntime) -> Result<(), NoMemory> {
     for room in 0..526 {
-        let mut tables = tables_of(rt.alloc(), MACHINE, TASK)?.cut(1);
-        let ran = run(&rt, rt.alloc(), &["replay"], &mut tables, room)?;
-        let written = whole.min(room as usize);
-        let status = if written < whole {
-            Status::WriteFault
-        } else {
-            Status::Done
-        };
-        expect(&rt, &ran, status, 3, &REPORT.as_bytes()[..written]);
-    }
-    Ok(())
-}
-
-// A table of tasks where that of machines should be, and one of machines where that of tasks should
-// be: the first has a field too many, the other too few.
-#[test]
-fn reads_fail_before_and_behind_bad_rows(rt: HostRuntime) -> Result<(), Fail> {
-    let first_machine = bad_row(Table::MachineEvents, 1, 0, Cause::Fields(13));
-    let first_task = bad_row(Table::TaskEvents, 1, 0, Cause::Fields(6));
-    let cases = [
-        (TASK, 1, Status::ReadFault(Table::MachineEvents)),
-        (TASK, 2, first_machine),
-        (MACHINE, 4, Status::ReadFault(Table::TaskEvents)),
-        (MACHINE, 5, first_task),
-    ];
-    for (machines, failing, status) in cases {
-        let mut tables = tables_of(rt.alloc(), machines, MACHINE)?.fail_at(failing);
-        let ran = run(&rt, rt.alloc(), &["replay"], &mut tables, ROOM)?;
-        expect(&rt, &ran, status, 0, b"");
+        let tables = single_bytes(rt.alloc())?;
+        expect_replay(&rt, rt.alloc(), tables, room, &end_in(room as usize))?;
     }
     Ok(())
 }
@@ -190,10 +258,59 @@ fn bad_row(table: Table, row: u64, column: u32, cause: Cause) -> Status {
     }
 }
 
+// A table of tasks where that of machines should be, and one of machines where that of tasks should
+// be: the first has a field too many, the other too few. For each the table in place of the
+// machines, the call that fails, and how the replay ends.
+fn bad_tables() -> [(&'static str, u64, Status); 4] {
+    [
+        (TASK, 1, Status::ReadFault(Table::MachineEvents)),
+        (
+            TASK,
+            2,
+            bad_row(Table::MachineEvents, 1, 0, Cause::Fields(13)),
+        ),
+        (MACHINE, 4, Status::ReadFault(Table::TaskEvents)),
+        (
+            MACHINE,
+            5,
+            bad_row(Table::TaskEvents, 1, 0, Cause::Fields(6)),
+        ),
+    ]
+}
+
+// Sees that a replay is refused so, over these machines and the machine in place of the tasks,
+// where the call of this number fails.
+fn expect_refusal<R: Threads + Wait + Sync + Abort>(
+    rt: &R,
+    alloc: Global,
+    machines: &str,
+    failing: u64,
+    status: Status,
+) -> Result<(), NoMemory>
+    requires { IsSync R.row }
+{
+    let tables = tables_of(alloc, machines, MACHINE)?.fail_at(failing);
+    expect_replay(rt, alloc, tables, ROOM, &End::refused(status))
+}
+
 #[test]
-fn fault_lines_and_exit_statuses(rt: HostRuntime) {
+fn reads_fail_before_and_behind_bad_rows(rt: HostRuntime) -> Result<(), NoMemory> {
+    for (machines, failing, status) in bad_tables() {
+        expect_refusal(&rt, rt.alloc(), machines, failing, status)?;
+    }
+    Ok(())
+}
+
+// Whether this text is said of a status.
+fn says(status: &Status, text: &str) -> bool {
+    let line = fault_line(status);
+    line.as_str() == text && line.as_bytes() == text.as_bytes()
+}
+
+// Refusals that no run in a folder shows, their exit statuses and what is said of them.
+fn fault_lines() -> [(Status, u8, &'static str); 7] {
     let attributes = Table::MachineAttributes;
-    let cases = [
+    [
         (Status::Done, 0, ""),
         (
             Status::TooLong(Table::MapreduceJobs),
@@ -217,11 +334,13 @@ fn fault_lines_and_exit_statuses(rt: HostRuntime) {
         ),
         (Status::WriteFault, 4, "omega: cannot write"),
         (Status::NoMemory, 5, "omega: no memory"),
-    ];
-    for (status, number, text) in cases {
-        let line = fault_line(&status);
-        assert_eq!(rt; line.as_str(), text);
-        assert_eq!(rt; line.as_bytes(), text.as_bytes());
+    ]
+}
+
+#[test]
+fn fault_lines_and_exit_statuses(rt: HostRuntime) {
+    for (status, number, text) in fault_lines() {
+        assert!(rt; says(&status, text));
         assert_eq!(rt; exit_status(&status), number);
     }
 }

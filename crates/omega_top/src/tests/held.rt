@@ -5,12 +5,12 @@
 
 ghost use Rattle.std.specs.Thread.{IsSync};
 
-use super::{Ran, run_past, tables_of};
-use omega_io::{HeldGate, Point};
+use super::{End, Ran, expect, run_past, tables_of};
+use omega_io::{HeldGate, Point, Tables};
 use omega_model::{Entry, Judgements, NoMemory, Status, Verdict};
 use std::alloc::Global;
+use std::process::Abort;
 use std::sync::Wait;
-use std::test::Fail;
 use std::thread::Threads;
 
 // A scheduler that is held at a point until another has come to a point.
@@ -22,24 +22,48 @@ const LOOKS: u64 = 200_000_000;
 // Room for each report, in bytes.
 const ROOM: u64 = 2000;
 
+// The words of a run with one scheduler of batch jobs, and with two.
+const COARSE: [&str; 3] = ["run", "--rule", "coarse"];
+
+const COARSE_BY_THREE: [&str; 5] = ["run", "--rule", "coarse", "--batch", "2"];
+
 // One machine, on which the tasks of each run fit together.
 const MACHINE: &str = "0,1,0,p,1,1\n";
 
-// A run of these tasks with these words, in which a gate of this order holds schedulers, and whether
-// a hold has ended by its bound.
-fn run_held<R: Threads + Wait + Sync>(
+// A run with these words past a gate, over tables that are gone then.
+fn run_over<R: Threads + Wait + Sync, T: Tables + Drop>(
+    rt: &R,
+    alloc: Global,
+    words: &[&str],
+    mut tables: T,
+    gate: &HeldGate,
+) -> Result<Ran, NoMemory>
+    requires { IsSync R.row }
+{
+    run_past(rt, alloc, words, &mut tables, ROOM, gate)
+}
+
+// Sees that no hold of a gate has ended by its bound.
+fn expect_ended(rt: &impl Abort, gate: &HeldGate) {
+    assert!(rt; !gate.ran_out());
+}
+
+// A run of these tasks with these words past a gate of this order, which holds schedulers. Sees
+// that no hold has ended by its bound.
+fn run_held<R: Threads + Wait + Sync + Abort>(
     rt: &R,
     alloc: Global,
     words: &[&str],
     tasks: &str,
     order: &[Order],
-) -> Result<(Ran, bool), NoMemory>
+) -> Result<Ran, NoMemory>
     requires { IsSync R.row }
 {
     let gate = HeldGate::new(alloc, order, LOOKS)?;
-    let mut tables = tables_of(alloc, MACHINE, tasks)?;
-    let ran = run_past(rt, alloc, words, &mut tables, ROOM, &gate)?;
-    Ok((ran, gate.ran_out()))
+    let tables = tables_of(alloc, MACHINE, tasks)?;
+    let ran = run_over(rt, alloc, words, tables, &gate)?;
+    expect_ended(rt, &gate);
+    Ok(ran)
 }
 
 // A task of a service and one of a batch job.
@@ -68,13 +92,19 @@ use cpu 800000000 1000000000 mem 800000000 1000000000 disk 0 1000000000000
 waiting 0 abandoned 0
 ";
 
+// How a run of both ends.
+fn end_of_two() -> End<'static> {
+    End {
+        status: Status::Done,
+        entries: 5,
+        report: REPORT_OF_TWO.as_bytes(),
+    }
+}
+
 #[test]
-fn two_held_schedulers_plan_beside_each_other(rt: HostRuntime) -> Result<(), Fail> {
-    let words = ["run", "--rule", "coarse"];
-    let (ran, ran_out) = run_held(&rt, rt.alloc(), &words, TWO_TASKS, &BOTH_PLAN_FIRST)?;
-    assert!(rt; !ran_out);
-    assert_eq!(rt; ran.done.status, Status::Done);
-    assert_eq!(rt; ran.written.as_slice(), REPORT_OF_TWO.as_bytes());
+fn two_held_schedulers_plan_beside_each_other(rt: HostRuntime) -> Result<(), NoMemory> {
+    let ran = run_held(&rt, rt.alloc(), &COARSE, TWO_TASKS, &BOTH_PLAN_FIRST)?;
+    expect(&rt, &ran, &end_of_two());
     Ok(())
 }
 
@@ -100,22 +130,29 @@ commit 1 2 6
 refuse 6 0 1 changed 2 1
 ";
 
+// Whether the first commit of scheduler 0 was stale, and each of the three placed its task.
+fn all_planned_first(history: &[Entry]) -> bool {
+    is_first_stale(history, 0, 2) && (0..3).all(|number| placing_commits(history, number) == 1)
+}
+
+// Sees that a run of all three was done, and began so.
+fn expect_three(rt: &impl Abort, ran: &Ran) {
+    let report = ran.written.as_slice();
+    assert!(rt; ran.done.status == Status::Done);
+    assert!(rt; report.starts_with(BEGINNING_OF_THREE.as_bytes()));
+    assert!(rt; all_planned_first(ran.done.history.as_slice()));
+}
+
 #[test]
-fn three_held_schedulers_plan_beside_each_other(rt: HostRuntime) -> Result<(), Fail> {
-    let words = ["run", "--rule", "coarse", "--batch", "2"];
-    let (ran, ran_out) = run_held(&rt, rt.alloc(), &words, THREE_TASKS, &ALL_PLAN_FIRST)?;
-    assert!(rt; !ran_out);
-    assert_eq!(rt; ran.done.status, Status::Done);
-    assert!(rt;
-        ran.written
-            .as_slice()
-            .starts_with(BEGINNING_OF_THREE.as_bytes())
-    );
-    let history = ran.done.history.as_slice();
-    assert!(rt; is_first_stale(history, 0, 2));
-    for number in 0..3 {
-        assert_eq!(rt; placing_commits(history, number), 1);
-    }
+fn three_held_schedulers_plan_beside_each_other(rt: HostRuntime) -> Result<(), NoMemory> {
+    let ran = run_held(
+        &rt,
+        rt.alloc(),
+        &COARSE_BY_THREE,
+        THREE_TASKS,
+        &ALL_PLAN_FIRST,
+    )?;
+    expect_three(&rt, &ran);
     Ok(())
 }
 
