@@ -4,6 +4,7 @@
 ghost use Rattle.std.specs.Thread.{IsSync};
 
 mod held;
+mod rounds;
 
 use crate::{exit_status, fault_line, omega};
 use omega_io::{Gate, MemorySink, MemoryTables, PassGate, Tables};
