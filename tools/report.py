@@ -74,11 +74,13 @@ def rounds_table(report):
 
 
 def schedulers_table(report):
-    """Beside the counts stands how many commits were in conflict for each that placed something."""
+    """Beside the counts stands how many commits were in conflict for each that placed something,
+    if one did."""
     yield ('scheduler',) + COUNTS + ('conflicts_per_placing',)
     for number, counts in sorted(report.schedulers.items()):
-        ratio = counts['conflicted'] / counts['placing'] if counts['placing'] else 0.0
-        yield (number,) + tuple(counts[count] for count in COUNTS) + ('%.2f' % ratio,)
+        placing = counts['placing']
+        ratio = '%.2f' % (counts['conflicted'] / placing) if placing else '-'
+        yield (number,) + tuple(counts[count] for count in COUNTS) + (ratio,)
 
 
 def compare_table(paths):
