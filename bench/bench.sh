@@ -165,6 +165,7 @@ plans() {
     for n in 1250 12500; do sized half_full "$n" replay; done
     for n in 1250 12500; do sized full "$n" replay; done
     for n in 1250 12500; do sized evicting "$n" replay --preempt all; done
+    for n in 1250 12500; do sized too_little "$n" replay --preempt all; done
 }
 
 # A shape at a size and at twice that size.

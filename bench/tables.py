@@ -230,8 +230,8 @@ def map_reduce(files, size):
         files.put('mapreduce_jobs', job, 8)
 
 
-# 100,000 jobs of one task, each a plan of its own, on a cell of so many machines: here the size is that of
-# the cell, and the plans are as many for each.
+# 100,000 jobs of one task (20,000 in the last shape), each a plan of its own, on a cell of so many machines:
+# here the size is that of the cell, and the plans are as many for each.
 
 PLANS = 100_000
 
@@ -265,8 +265,18 @@ def evicting(files, size):
         files.task(ROUND, 1_000_000 + job, 0, 0, share, prio=9)
 
 
+def too_little(files, size):
+    """20,000 plans for which evictions could free too little"""
+    for number in range(1, size + 1):
+        files.machine(number)
+        files.task(0, number, 0, 0, 0.7, prio=9)
+        files.task(0, 100_000 + number, 0, 0, 0.25, prio=0)
+    for job in range(20_000):
+        files.task(ROUND, 1_000_000 + job, 0, 0, 0.5, prio=4 + job % 4)
+
+
 SHAPES = {shape.__name__: shape for shape in (
-    one_job, apart, never_fits, one_machine, long_runs, attributes, scarce, map_reduce, half_full, full, evicting)}
+    one_job, apart, never_fits, one_machine, long_runs, attributes, scarce, map_reduce, half_full, full, evicting, too_little)}
 
 
 def main(words):

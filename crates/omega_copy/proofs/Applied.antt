@@ -1,21 +1,19 @@
 -- What the states of a history keep, each of whose entries could be applied to the state before it.
-use Rattle.std.proofs.Common.{◌≡◌, ℕ, zero, suc, ◌+◌, ◌-◌, ◌<◌, ◌≤◌, ◌^◌, ◌⊎◌, inl, inr, Bool, true, false, not, ◌&&◌, List, [], ◌∷◌, ◌++◌, length, map, take, drop, slice_get, Some, IsTrue, refl, sym, ap, ap₂, ◌∙◌, subst, arith, append_assoc, length-append, ◌==◌, if◌then◌else◌}
+use Rattle.std.proofs.Common.{◌≡◌, ℕ, ◌+◌, ◌<◌, ◌≤◌, inl, inr, List, [], ◌∷◌, ◌++◌, length, map, take, drop, slice_get, Some, refl, sym, ap, ap₂, ◌∙◌, subst, arith, append_assoc, length-append, ◌==◌}
 use Rattle.std.specs.List.{filter, fold, zip}
 use Rattle.std.proofs.lemmas.Bool.{both_ways}
 use Rattle.std.proofs.lemmas.List.{length-map, take_all, take-append-drop}
-use Rattle.std.proofs.lemmas.List.Sums.{fold-append}
-use Rattle.omega_model.specs.Applying.{EachMayApply, MayApply, MayPlace, MayPlaceAll, ListsOrHasRoom}
-use Rattle.omega_model.specs.Cell.{Cell, empty_cell, without, keys_of}
+use Rattle.omega_model.specs.Applying.{EachMayApply, MayApply, MayPlaceAll, ListsOrHasRoom}
+use Rattle.omega_model.specs.Cell.{Cell, empty_cell, keys_of}
 use Rattle.omega_model.specs.Fields.{greatest}
-use Rattle.omega_model.specs.Judge.{judge, judge_fine}
+use Rattle.omega_model.specs.Judge.{judge_fine}
 use Rattle.omega_model.specs.Legal.{Legal, Follows, Sound}
 use Rattle.omega_model.specs.Machines.{is_listed, change, ensured, new_machine, added, updated, removed, attr_set, attr_deleted}
 use Rattle.omega_model.specs.Need.{Fits}
-use Rattle.omega_model.specs.Reply.{admits, task_of, tasks_placed, tasks_after_claim, after_claim, judgements}
+use Rattle.omega_model.specs.Reply.{admits, tasks_after_claim, after_claim, judgements}
 use Rattle.omega_model.specs.State.{state, step, displaced, goes_on}
 use Rattle.omega_model.specs.Touches.{seq}
 use Rattle.omega_model.specs.declared.cells.Machine.{Machine}
-use Rattle.omega_model.specs.declared.cells.Need.{Need}
 use Rattle.omega_model.specs.declared.cells.Task.{Task}
 use Rattle.omega_model.specs.declared.claims.Claim.{Claim}
 use Rattle.omega_model.specs.declared.claims.Judgement.{Judgement}
@@ -29,7 +27,7 @@ use Rattle.omega_model.proofs.Soundness.{states_sound}
 use Rattle.omega_running.specs.declared.orders.Order.TheVariants.{ByKey}
 use Rattle.omega_running.specs.Order.{Each, IsInOrder, precedes}
 use Rattle.omega_running.proofs.Kept.{rises_filter}
-use Rattle.omega_running.proofs.Lists.{each_map, each_append}
+use Rattle.omega_running.proofs.Lists.{each_append}
 use Rattle.omega_board.proofs.Tasks.{without_ordered}
 use Rattle.omega_copy.specs.Copies.{CopyState, MayFollow}
 use Rattle.omega_copy.proofs.Follows.{IsFollowing}

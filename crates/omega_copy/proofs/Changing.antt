@@ -1,10 +1,10 @@
 -- What entries change in a cell: the machines that they touch, and the tasks on them.
-use Rattle.std.proofs.Common.{◌≡◌, ℕ, ◌+◌, ◌<◌, ◌≤◌, inl, inr, Bool, true, false, ◌||◌, List, [], ◌∷◌, ◌++◌, length, take, drop, IsTrue, refl, sym, ap, ◌∙◌, subst, arith, append_assoc, ◌==◌, if◌then◌else◌}
-use Rattle.std.specs.List.{All, filter, fold, list_any, zip}
+use Rattle.std.proofs.Common.{◌≡◌, ℕ, ◌+◌, inl, inr, Bool, true, false, ◌||◌, List, [], ◌∷◌, ◌++◌, IsTrue, refl, sym, ap, ◌∙◌, subst, arith, append_assoc, ◌==◌, if◌then◌else◌}
+use Rattle.std.specs.List.{filter, fold, list_any, zip}
 use Rattle.std.proofs.lemmas.Bool.{both_ways, eqb-true, eq-eqb, false_from_ne_true, or_left, or_right, or_cases, or_parts}
 use Rattle.std.proofs.lemmas.List.Folds.{list_any-append}
 use Rattle.omega_model.specs.Applying.{MayApply}
-use Rattle.omega_model.specs.Cell.{Cell, empty_cell, machine_at, task_at, is_on}
+use Rattle.omega_model.specs.Cell.{Cell, empty_cell, machine_at, is_on}
 use Rattle.omega_model.specs.Judge.{is_up}
 use Rattle.omega_model.specs.Keys.{same_key}
 use Rattle.omega_model.specs.Legal.{Sound}

@@ -1,5 +1,5 @@
 -- A copy that follows a history.
-use Rattle.std.proofs.Common.{◌≡◌, ℕ, zero, suc, ◌+◌, ◌<◌, ◌≤◌, List, [], ◌∷◌, ◌++◌, length, get_or, take, drop, slice_get, Option, Some, None, refl, sym, ap, ◌∙◌, subst, arith, if◌then◌else◌}
+use Rattle.std.proofs.Common.{◌≡◌, ℕ, zero, suc, ◌+◌, ◌<◌, ◌≤◌, List, [], ◌∷◌, ◌++◌, length, get_or, take, drop, slice_get, Some, None, refl, sym, ap, ◌∙◌, subst, arith, if◌then◌else◌}
 use Rattle.std.proofs.lemmas.List.{take_more, take-append-le, length-append}
 use Rattle.std.proofs.lemmas.Option.{slice_get-get_or, slice_get_within, get_or_from_slice_get}
 use Rattle.omega_model.specs.Applying.{MayApply, EachMayApply}
@@ -14,7 +14,7 @@ use Rattle.omega_machines.specs.Table.{machines_of, seq_at}
 use Rattle.omega_board.specs.Board.{BoardState, cell_of}
 use Rattle.omega_board.proofs.Commits.{cell_is}
 use Rattle.omega_board.proofs.Histories.{seq_push, may_apply}
-use Rattle.omega_copy.specs.Copies.{CopyState, TrialState, CopyOf, MayFollow, MayCatchUp}
+use Rattle.omega_copy.specs.Copies.{CopyState, CopyOf, MayFollow, MayCatchUp}
 
 -- the entries up to a place and the one there
 taken_more : (history : List Entry) (n : ℕ) (entry : Entry) → slice_get history n ≡ Some entry → take (n + 1) history ≡ take n history ++ entry ∷ []

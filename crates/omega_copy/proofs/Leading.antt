@@ -1,14 +1,13 @@
 -- A delta that carries a history leads a copy of it from the one place to the other.
-use Rattle.std.proofs.Common.{◌≡◌, ℕ, suc, ◌+◌, ◌≤◌, Bool, true, false, List, [], ◌∷◌, ◌++◌, length, map, take, drop, Option, Some, None, IsTrue, refl, sym, ap, ◌∙◌, subst, arith, ◌==◌, if◌then◌else◌}
-use Rattle.std.specs.List.{filter, fold, list_any, enumerate_from}
+use Rattle.std.proofs.Common.{◌≡◌, ℕ, suc, ◌+◌, ◌≤◌, Bool, true, false, List, [], ◌∷◌, ◌++◌, length, map, take, drop, Option, refl, sym, ap, ◌∙◌, subst, arith}
+use Rattle.std.specs.List.{filter, fold, list_any}
 use Rattle.std.proofs.lemmas.Bool.{both_ways, false_from_ne_true}
 use Rattle.std.proofs.lemmas.List.{length-map, take-append-drop, take-take}
 use Rattle.std.proofs.lemmas.List.Sums.{fold-append}
 use Rattle.omega_model.specs.Applying.{EachMayApply}
-use Rattle.omega_model.specs.Cell.{Cell, empty_cell, total, is_on, use_on}
+use Rattle.omega_model.specs.Cell.{Cell, empty_cell, is_on}
 use Rattle.omega_model.specs.Copy.{StandsFor, Carries}
 use Rattle.omega_model.specs.Machines.{is_listed, numbers_of}
-use Rattle.omega_model.specs.Need.{minus}
 use Rattle.omega_model.specs.Parts.{DeltaState}
 use Rattle.omega_model.specs.State.{state, step}
 use Rattle.omega_model.specs.Touches.{touches, seq}
@@ -18,16 +17,18 @@ use Rattle.omega_model.specs.declared.cells.Task.{Task}
 use Rattle.omega_model.specs.declared.delta.Part.{Part}
 use Rattle.omega_model.specs.declared.entries.Entry.{Entry}
 use Rattle.omega_model.proofs.Lists.{by_answer}
-use Rattle.omega_machines.specs.declared.MachineState.{MachineState}
 use Rattle.omega_machines.specs.Table.{machines_of, seq_at}
 use Rattle.omega_running.proofs.Lists.{all_of_each}
 use Rattle.omega_board.specs.Board.{BoardState, cell_of}
+use Rattle.omega_board.specs.Numbers.{is_among}
 use Rattle.omega_board.specs.Parts.{Target, LeadTo, IsAt, ChangedAlone}
-use Rattle.omega_board.proofs.Commits.{cell_is}
 use Rattle.omega_board.proofs.Rewritten.{listed_still, parts_from}
-use Rattle.omega_copy.specs.Telling.{free_on, frees_of, TellsBut, is_in}
+use Rattle.omega_fit.specs.Positions.{Positions}
+use Rattle.omega_copy.specs.Levels.{NearParts}
+use Rattle.omega_copy.specs.Telling.{TellsBut, freed_of, freed_on, placed}
 use Rattle.omega_copy.proofs.Applied.{MayAll, may_all, may_front, may_back, applied_sound, applied_held}
 use Rattle.omega_copy.proofs.Changing.{went_all, seq_still}
+use Rattle.omega_copy.proofs.Tells.{freed_same}
 
 -- where a history is at a place, and what its entries since another changed
 abbrev pub target_of : List Entry → ℕ → ℕ → Target
@@ -85,20 +86,19 @@ stands_at board history from to within at = record {
 }
 
 -- an index with a place for each machine tells of those that didn't change
-tells_rows : (changed stale : ℕ → Bool) → ((id : ℕ) → stale id ≡ false → changed id ≡ false) → (old new : List Task) → ((id : ℕ) → changed id ≡ false → filter (is_on id) new ≡ filter (is_on id) old)
+tells_rows : (changed stale : ℕ → Bool) (prec : ℕ) → ((id : ℕ) → stale id ≡ false → changed id ≡ false) → (old new : List Task) → ((id : ℕ) → changed id ≡ false → filter (is_on id) new ≡ filter (is_on id) old)
     → (before after : List Machine) → ChangedAlone changed before after
-    → TellsBut stale new (map (free_on old) before ++ map (λ _. None) (drop (length (map (free_on old) before)) after)) after
-tells_rows changed stale fewer old new same [] [] alone = tt
-tells_rows changed stale fewer old new same [] (n ∷ ns) alone =
-    (λ fresh. absurd (both_ways _ (fewer n.id fresh) alone.0), tells_rows changed stale fewer old new same [] ns alone.1)
-tells_rows changed stale fewer old new same (m ∷ ms) [] alone = absurd alone
-tells_rows changed stale fewer old new same (m ∷ ms) (n ∷ ns) alone = (
+    → TellsBut stale prec new (placed after (map (freed_on prec old) before)) after
+tells_rows changed stale prec fewer old new same [] [] alone = tt
+tells_rows changed stale prec fewer old new same [] (n ∷ ns) alone =
+    (λ fresh. absurd (both_ways _ (fewer n.id fresh) alone.0), tells_rows changed stale prec fewer old new same [] ns alone.1)
+tells_rows changed stale prec fewer old new same (m ∷ ms) [] alone = absurd alone
+tells_rows changed stale prec fewer old new same (m ∷ ms) (n ∷ ns) alone = (
   λ fresh.
       let unchanged = fewer n.id fresh in
       let row : n ≡ m = alone.0.1 unchanged in
-      let amounts : use_on old m.id ≡ use_on new m.id = sym (ap total (same m.id (ap (λ (r : Machine). changed r.id) (sym row) ∙ unchanged))) in
-      ap (λ (amount : Need). if m.up then Some (minus m.cap amount) else None) amounts ∙ ap (free_on new) (sym row),
-  tells_rows changed stale fewer old new same ms ns alone.1,
+      freed_same prec m old new (same m.id (ap (λ (r : Machine). changed r.id) (sym row) ∙ unchanged)) ∙ ap (freed_on prec new) (sym row),
+  tells_rows changed stale prec fewer old new same ms ns alone.1,
 )
 
 -- as many machines are new as changed, at most
@@ -122,7 +122,7 @@ parts_numbers changed cell seqs n (row ∷ rows) =
     let rest = parts_numbers changed cell seqs (n + 1) rows in
     by_answer (changed row.id) (λ t. rw t (ap (λ ns. row.id ∷ ns) rest)) (λ f. rw f rest)
 
-numbers_in : (id : ℕ) (rows : List Machine) → is_in (numbers_of rows) id ≡ is_listed id rows
+numbers_in : (id : ℕ) (rows : List Machine) → is_among (numbers_of rows) id ≡ is_listed id rows
 numbers_in id [] = refl
 numbers_in id (row ∷ rows) = rw (numbers_in id rows) refl
 
@@ -140,33 +140,32 @@ module _ (board after : BoardState) (parts : List Part) (target : Target) (leads
   tasks_now = ap (λ (c : Cell). c.tasks) at.cell
 
   -- once parts were put, an index with a place for each machine tells all but their machines
-  pub tells_parts : (frees kept grew : List (Option Need)) (ids : List ℕ) → frees ≡ frees_of (cell_of board) → kept ≡ frees → grew ≡ kept ++ map (λ _. None) (drop (length kept) (machines_of after.table))
-      → ids ≡ map (λ (part : Part). part.machine.id) parts → TellsBut (is_in ids) after.tasks grew (machines_of after.table)
-  tells_parts frees kept grew ids is same grows named =
-      subst (TellsBut (is_in ids) after.tasks grew) (sym rows_now)
-      (subst (λ ts. TellsBut (is_in ids) ts grew target.cell.machines) (sym tasks_now)
-      (subst (λ fs. TellsBut (is_in ids) target.cell.tasks fs target.cell.machines) (sym padded)
-      (tells_rows target.changed (is_in ids) fewer board.tasks target.cell.tasks leads_there.tasks (machines_of board.table) target.cell.machines leads_there.rows)))
+  tells_parts : (prec : ℕ) (frees : List (Option Need)) (ids : List ℕ) → frees ≡ freed_of prec (cell_of board) → ids ≡ map (λ (part : Part). part.machine.id) parts
+      → TellsBut (is_among ids) prec after.tasks (placed (machines_of after.table) frees) (machines_of after.table)
+  tells_parts prec frees ids is named =
+      subst (λ ms. TellsBut (is_among ids) prec after.tasks (placed ms frees) ms) (sym rows_now)
+      (subst (λ ts. TellsBut (is_among ids) prec ts (placed target.cell.machines frees) target.cell.machines) (sym tasks_now)
+      (subst (λ fs. TellsBut (is_among ids) prec target.cell.tasks (placed target.cell.machines fs) target.cell.machines) (sym is)
+      (tells_rows target.changed (is_among ids) prec fewer board.tasks target.cell.tasks leads_there.tasks (machines_of board.table) target.cell.machines leads_there.rows)))
     where
-      old : kept ≡ map (free_on board.tasks) (machines_of board.table)
-      old = same ∙ is
-
-      padded : grew ≡ map (free_on board.tasks) (machines_of board.table) ++ map (λ _. None) (drop (length (map (free_on board.tasks) (machines_of board.table))) target.cell.machines)
-      padded = grows ∙ (λ i. old i ++ map (λ _. None) (drop (length (old i)) (rows_now i)))
-
-      fewer : (id : ℕ) → is_in ids id ≡ false → target.changed id ≡ false
+      fewer : (id : ℕ) → is_among ids id ≡ false → target.changed id ≡ false
       fewer id out =
           false_from_ne_true _ (λ t.
           let listed : is_listed id changed_rows ≡ true = listed_still target.changed id t target.cell.machines (leads_there.listed id t) in
-          both_ways _ out (ap (λ ns. is_in ns id) (named ∙ numbers) ∙ numbers_in id changed_rows ∙ listed))
+          both_ways _ out (ap (λ ns. is_among ns id) (named ∙ numbers) ∙ numbers_in id changed_rows ∙ listed))
 
   -- and there is room for the new ones where there is for as many as there are parts
-  pub room_parts : (frees kept : List (Option Need)) (spare : ℕ) → frees ≡ frees_of (cell_of board) → kept ≡ frees → length parts ≤ spare → length (machines_of after.table) ≤ length kept + spare
-  room_parts frees kept spare is same room =
+  room_parts : (prec : ℕ) (frees : List (Option Need)) (spare : ℕ) → frees ≡ freed_of prec (cell_of board) → length parts ≤ spare → length (machines_of after.table) ≤ length frees + spare
+  room_parts prec frees spare is room =
       let more = room_rows target.changed (machines_of board.table) target.cell.machines leads_there.rows in
       let now : length (machines_of after.table) ≡ length target.cell.machines = ap length rows_now in
-      let old : length kept ≡ length (machines_of board.table) = ap length (same ∙ is) ∙ length-map (machines_of board.table) (free_on board.tasks) in
+      let old : length frees ≡ length (machines_of board.table) = ap length is ∙ length-map (machines_of board.table) (freed_on prec board.tasks) in
       let many : length (map (λ (part : Part). part.machine.id) parts) ≡ length (numbers_of changed_rows) = ap length numbers in
       let one = length-map parts (λ (part : Part). part.machine.id) in
       let two = length-map changed_rows (λ (m : Machine). m.id) in
       omega (arith, more, now, old, many, one, two, room)
+
+  -- so an index that told all may be told of parts
+  pub near_parts : (prec : ℕ) (index : Positions) (ids : List ℕ) → index.free ≡ freed_of prec (cell_of board) → length parts ≤ index.spare
+      → ids ≡ map (λ (part : Part). part.machine.id) parts → NearParts after ids prec index
+  near_parts prec index ids is room named = record { room = room_parts prec index.free index.spare is room; told = tells_parts prec index.free ids is named }

@@ -1,18 +1,16 @@
 -- Claims of a trial, and what taking them back comes to.
-use Rattle.std.proofs.Common.{◌≡◌, ℕ, ◌≤◌, Bool, true, false, List, [], ◌∷◌, ◌++◌, length, Option, refl, sym, ap, ◌∙◌, subst, ◌==◌}
-use Rattle.std.specs.List.{list_any}
+use Rattle.std.proofs.Common.{◌≡◌, ℕ, ◌≤◌, Bool, true, false, List, [], ◌∷◌, ◌++◌, length, Option, refl, sym, ap, ◌∙◌, subst, arith, ◌==◌}
+use Rattle.std.specs.List.{filter}
 use Rattle.std.proofs.lemmas.Bool.{or_parts}
 use Rattle.std.proofs.lemmas.List.{length-map}
 use Rattle.std.proofs.lemmas.List.Folds.{list_any-append}
 use Rattle.omega_model.specs.Applying.{PlacesInOrder}
-use Rattle.omega_model.specs.Cell.{Cell, total, use_on}
+use Rattle.omega_model.specs.Cell.{Cell, is_on}
 use Rattle.omega_model.specs.Judge.{judge_fine, would_be_placed}
 use Rattle.omega_model.specs.Reply.{tasks_placed, tasks_after_claim, after_claim}
 use Rattle.omega_model.specs.State.{step}
 use Rattle.omega_model.specs.Touches.{is_placed}
-use Rattle.omega_model.specs.declared.cells.Machine.{Machine}
 use Rattle.omega_model.specs.declared.cells.Need.{Need}
-use Rattle.omega_model.specs.declared.cells.Task.{Task}
 use Rattle.omega_model.specs.declared.cells.TaskKey.{TaskKey}
 use Rattle.omega_model.specs.declared.claims.Claim.{Claim}
 use Rattle.omega_model.specs.declared.claims.Judgement.{Judgement}
@@ -24,6 +22,7 @@ use Rattle.omega_machines.specs.Table.{machines_of}
 use Rattle.omega_running.specs.declared.orders.Order.TheVariants.{ByKey}
 use Rattle.omega_running.specs.Order.{IsInOrder}
 use Rattle.omega_board.specs.Board.{BoardState, cell_of}
+use Rattle.omega_board.specs.Numbers.{is_among}
 use Rattle.omega_board.specs.Undo.{UndoState, IsUndoOf, MayTakeAllBack, at_reserve, before_all, before_change}
 use Rattle.omega_board.specs.declared.undo.Change.{Change}
 use Rattle.omega_board.specs.declared.undo.Change.TheVariants.{Stopped, Started}
@@ -31,7 +30,10 @@ use Rattle.omega_board.proofs.Commits.{cell_is}
 use Rattle.omega_board.proofs.Placed.{is_placed-Placed}
 use Rattle.omega_board.proofs.Rewinds.{machines_with}
 use Rattle.omega_copy.specs.Copies.{IsTrialOf}
-use Rattle.omega_copy.specs.Telling.{frees_of, TellsBut, grown, is_in, is_touched}
+use Rattle.omega_cell.specs.Touched.{is_touched_by}
+use Rattle.omega_fit.specs.Positions.{Positions}
+use Rattle.omega_copy.specs.Levels.{NearEntry}
+use Rattle.omega_copy.specs.Telling.{TellsBut, freed_of, grown}
 use Rattle.omega_copy.proofs.Tells.{tells_while}
 use Rattle.omega_copy.proofs.TellsAfter.{tells_after}
 use Rattle.omega_board.proofs.Untouched.{claim_local}
@@ -54,7 +56,7 @@ undo_same board a b log claims is = record {
 pub trial_same : (board : BoardState) (a b : UndoState) (changed : List ℕ) (spare : ℕ) → b.log ≡ a.log → b.claims ≡ a.claims → IsTrialOf board a changed spare → IsTrialOf board b changed spare
 trial_same board a b changed spare log claims is = record {
   undoes = undo_same board a b log claims is.undoes;
-  elsewhere = λ id out. ap (λ l. use_on (before_all l board).tasks id) log ∙ is.elsewhere id out;
+  elsewhere = λ id out. ap (λ l. filter (is_on id) (before_all l board).tasks) log ∙ is.elsewhere id out;
   room = subst (λ n. n ≤ spare) (sym claims) is.room;
 }
 
@@ -64,9 +66,9 @@ module _ (before after : BoardState) (claim : Claim) (evicted : List TaskKey)
   pub cell_claimed : machines_of after.table ≡ machines_of before.table → cell_of after ≡ after_claim (cell_of before) (claim, judge_fine (cell_of before) claim)
   cell_claimed machines = cell_is _ _ machines (tasks ∙ ap (λ (j : Judgement). tasks_after_claim before.tasks (claim, j)) (sym judged))
 
-  -- what other machines use
-  pub claimed_elsewhere : IsInOrder ByKey before.tasks → (id : ℕ) → (claim.machine == id) ≡ false → use_on after.tasks id ≡ use_on before.tasks id
-  claimed_elsewhere order id other = ap (λ ts. use_on ts id) tasks ∙ ap total ((claim_local (cell_of before) claim evicted order judged).elsewhere id other)
+  -- the tasks on other machines
+  pub claimed_elsewhere : IsInOrder ByKey before.tasks → (id : ℕ) → (claim.machine == id) ≡ false → filter (is_on id) after.tasks ≡ filter (is_on id) before.tasks
+  claimed_elsewhere order id other = ap (filter (is_on id)) tasks ∙ (claim_local (cell_of before) claim evicted order judged).elsewhere id other
 
   -- a trial with one more claim
   pub trial_claimed : (undo noted : UndoState) (changed : List ℕ) (spare left : ℕ) → IsInOrder ByKey before.tasks → IsTrialOf before undo changed spare
@@ -77,20 +79,20 @@ module _ (before after : BoardState) (claim : Claim) (evicted : List TaskKey)
     elsewhere = λ id out.
         let parts = or_parts _ _ (sym (list_any-append (λ machine. machine == id) changed (claim.machine ∷ [])) ∙ out) in
         let other = or_parts _ _ parts.1 in
-        ap (λ (b : BoardState). use_on b.tasks id) back ∙ trial.elsewhere id parts.0 ∙ sym (claimed_elsewhere order id other.0);
+        ap (λ (b : BoardState). filter (is_on id) b.tasks) back ∙ trial.elsewhere id parts.0 ∙ sym (claimed_elsewhere order id other.0);
     room = room;
   }
 
--- what is free tells the same on a board with the same machines and tasks
-pub frees_same : (frees : List (Option Need)) (a b : BoardState) → b.table ≡ a.table → b.tasks ≡ a.tasks → frees ≡ frees_of (cell_of a) → frees ≡ frees_of (cell_of b)
-frees_same frees a b table tasks is = is ∙ ap frees_of (cell_is _ _ (ap machines_of (sym table)) (sym tasks))
+-- a board with the same machines and tasks has the same cell
+pub same_cell : (a b : BoardState) → b.table ≡ a.table → b.tasks ≡ a.tasks → cell_of a ≡ cell_of b
+same_cell a b table tasks = cell_is _ _ (ap machines_of (sym table)) (sym tasks)
 
--- an index tells all but the machines that use something else
-pub tells_same : (stale : ℕ → Bool) (frees : List (Option Need)) (a b : BoardState) → frees ≡ frees_of (cell_of a) → machines_of b.table ≡ machines_of a.table
-    → ((id : ℕ) → stale id ≡ false → use_on b.tasks id ≡ use_on a.tasks id) → TellsBut stale b.tasks frees (machines_of b.table)
-tells_same stale frees a b is machines same =
-    subst (TellsBut stale b.tasks frees) (sym machines)
-    (subst (λ fs. TellsBut stale b.tasks fs (machines_of a.table)) (sym is) (tells_while stale a.tasks b.tasks same (machines_of a.table)))
+-- an index tells all but the machines on which other tasks run
+pub tells_same : (stale : ℕ → Bool) (prec : ℕ) (frees : List (Option Need)) (a b : BoardState) → frees ≡ freed_of prec (cell_of a) → machines_of b.table ≡ machines_of a.table
+    → ((id : ℕ) → stale id ≡ false → filter (is_on id) b.tasks ≡ filter (is_on id) a.tasks) → TellsBut stale prec b.tasks frees (machines_of b.table)
+tells_same stale prec frees a b is machines same =
+    subst (TellsBut stale prec b.tasks frees) (sym machines)
+    (subst (λ fs. TellsBut stale prec b.tasks fs (machines_of a.table)) (sym is) (tells_while stale prec a.tasks b.tasks same (machines_of a.table)))
 
 -- taking changes back leaves the machines
 pub machines_before : (log : List Change) (board : BoardState) → machines_of (before_all log board).table ≡ machines_of board.table
@@ -101,19 +103,28 @@ machines_before (change ∷ log) board = machines_before log (before_change chan
     one (Stopped task) = machines_with _ board.table
     one (Started key) = machines_with _ board.table
 
+-- once a claim is placed, an index tells all but its machine
+pub tells_claimed : (prec : ℕ) (frees : List (Option Need)) (before after : BoardState) (machine : ℕ) → frees ≡ freed_of prec (cell_of before) → machines_of after.table ≡ machines_of before.table
+    → ((id : ℕ) → (machine == id) ≡ false → filter (is_on id) after.tasks ≡ filter (is_on id) before.tasks)
+    → TellsBut (is_among (machine ∷ [])) prec after.tasks frees (machines_of after.table)
+tells_claimed prec frees before after machine is machines same =
+    tells_same (is_among (machine ∷ [])) prec frees before after is machines (λ id out. same id (or_parts _ _ out).0)
+
 -- once a trial is taken back, an index tells all but its machines
-pub tells_back : (frees : List (Option Need)) (board back : BoardState) (undo : UndoState) (changed : List ℕ) (spare : ℕ) → frees ≡ frees_of (cell_of board) → IsTrialOf board undo changed spare
-    → back ≡ at_reserve undo board → TellsBut (is_in changed) back.tasks frees (machines_of back.table)
-tells_back frees board back undo changed spare is trial was =
-    tells_same (is_in changed) frees board back is
+pub tells_back : (prec : ℕ) (frees : List (Option Need)) (board back : BoardState) (undo : UndoState) (changed : List ℕ) (spare : ℕ) → frees ≡ freed_of prec (cell_of board) → IsTrialOf board undo changed spare
+    → back ≡ at_reserve undo board → TellsBut (is_among changed) prec back.tasks frees (machines_of back.table)
+tells_back prec frees board back undo changed spare is trial was =
+    tells_same (is_among changed) prec frees board back is
     (ap (λ (b : BoardState). machines_of b.table) was ∙ machines_before undo.log board)
-    (λ id out. ap (λ (b : BoardState). use_on b.tasks id) was ∙ trial.elsewhere id out)
+    (λ id out. ap (λ (b : BoardState). filter (is_on id) b.tasks) was ∙ trial.elsewhere id out)
 
 -- once an entry was applied, an index with a place for a new machine tells all but what it touches
-pub tells_entry : (before after : BoardState) (entry : Entry) (frees kept grew : List (Option Need)) → frees ≡ frees_of (cell_of before) → kept ≡ frees → grew ≡ grown (length after.table) kept
-    → IsInOrder ByKey before.tasks → PlacesInOrder (cell_of before) entry → cell_of after ≡ step (cell_of before) entry
-    → TellsBut (is_touched entry) after.tasks grew (machines_of after.table)
-tells_entry before after entry frees kept grew is same grows order places stepped =
+pub tells_entry : (prec : ℕ) (before after : BoardState) (entry : Entry) (index : Positions) → index.free ≡ freed_of prec (cell_of before) → 1 ≤ index.spare
+    → IsInOrder ByKey before.tasks → PlacesInOrder (cell_of before) entry → cell_of after ≡ step (cell_of before) entry → NearEntry after entry prec index
+tells_entry prec before after entry index is spare order places stepped =
     let long : length (machines_of after.table) ≡ length after.table = length-map after.table (λ (s : MachineState). s.machine) in
-    subst (λ fs. TellsBut (is_touched entry) after.tasks fs (machines_of after.table)) (ap (λ n. grown n kept) long ∙ sym grows)
-    (tells_after (cell_of before) (cell_of after) entry kept (same ∙ is) order places stepped)
+    record {
+      room = omega (arith, spare);
+      told = subst (λ fs. TellsBut (is_touched_by entry) prec after.tasks fs (machines_of after.table)) (ap (λ n. grown n index.free) long)
+          (tells_after prec (cell_of before) (cell_of after) entry index.free is order places stepped);
+    }

@@ -1,15 +1,15 @@
 -- A scheduler's private copy as a caller sees it.
-use Rattle.std.specs.Prelude.{◌≡◌, ◌≤◌, ◌+◌, ◌-◌, ℕ, false, List, Option, Some, None, IfSome, ◌==◌, drop}
-use Rattle.std.specs.List.{list_any}
+use Rattle.std.specs.Prelude.{◌≡◌, ◌≤◌, ◌-◌, ℕ, false, List, Option, Some, None, drop}
+use Rattle.std.specs.List.{filter}
 use Rattle.omega_model.specs.Applying.{EachMayApply}
-use Rattle.omega_model.specs.Cell.{use_on}
+use Rattle.omega_model.specs.Cell.{is_on}
 use Rattle.omega_model.specs.Copy.{StandsFor, Carries}
 use Rattle.omega_model.specs.Parts.{DeltaState}
 use Rattle.omega_model.specs.declared.entries.Entry.{Entry}
 use Rattle.omega_machines.specs.Table.{seq_at}
 use Rattle.omega_board.specs.Board.{BoardState, cell_of}
+use Rattle.omega_board.specs.Numbers.{is_among}
 use Rattle.omega_board.specs.Undo.{UndoState, IsUndoOf, at_reserve}
-use Rattle.omega_copy.specs.Telling.{frees_of}
 
 -- a trial: the board to go back to, and for how many more claims there is room
 pub record TrialState : Type 0 where
@@ -60,10 +60,10 @@ pub record MayCatchUp (copy : CopyState) (delta : DeltaState) : Type 0 where
   pub carries : Carries delta history copy.seen delta.to
   pub applied : EachMayApply history
 
--- what a trial keeps: its undo is one of the board, its machines use what they used before, but those of
--- these numbers, and there is room for the numbers of as many more
+-- what a trial keeps: its undo is one of the board, the tasks on its machines are those before it, but on those
+-- of these numbers, and there is room for the numbers of as many more
 pub record IsTrialOf (board : BoardState) (undo : UndoState) (changed : List ℕ) (spare : ℕ) : Type 0 where
   pub undoes : IsUndoOf board undo
-  pub elsewhere : (id : ℕ) → list_any (λ machine. machine == id) changed ≡ false
-      → use_on (at_reserve undo board).tasks id ≡ use_on board.tasks id
+  pub elsewhere : (id : ℕ) → is_among changed id ≡ false
+      → filter (is_on id) (at_reserve undo board).tasks ≡ filter (is_on id) board.tasks
   pub room : undo.claims ≤ spare

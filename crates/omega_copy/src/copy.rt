@@ -10,10 +10,15 @@ ghost use Rattle.omega_model.specs.Touches.{touches};
 ghost use Rattle.omega_model.specs.declared.entries.Entry.{Entry};
 ghost use Rattle.omega_running.specs.Kept.{KeysRise};
 ghost use Rattle.omega_board.specs.Board.{cell_of};
+ghost use Rattle.omega_cell.specs.Claiming.{copied_seqs};
 ghost use Rattle.omega_copy.specs.Copies.{CopyOf, MayFollow, MayCatchUp, after_trial, one_less};
+ghost use Rattle.omega_copy.specs.Levels.{Tells};
 ghost use Rattle.omega_copy.specs.Telling.{frees_of};
 
-use crate::telling::{grow, grow_to, tell_all, tell_one, tell_touched};
+use crate::levels::{
+    Level, level_of, reserve_each, take_out, tell_all_each, tell_entry_each, tell_parts_each,
+};
+use crate::telling::{tell_all, tell_entry, tell_parts};
 use crate::trial::Trial;
 use omega_board::Board;
 use omega_fit::FitIndex;
@@ -25,11 +30,13 @@ use std::marker::Model;
 ///
 /// A contract sees its board without the room that the board has for more tasks, how many entries it
 /// has seen, and its trial, if one has begun. The board has the claims of the trial placed; the trial
-/// knows the board before them.
+/// knows the board before them. It doesn't see the indexes that the copy keeps: what is free on each
+/// machine, and what evictions could free for each precedence for which that was asked.
 #[derive(Drop)]
 pub struct PrivateCopy {
     board: Board,
     index: FitIndex,
+    levels: Vec<Level>,
     seen: u64,
     trial: Option<Trial>,
 }
@@ -38,13 +45,15 @@ impl Model for PrivateCopy {
     ghost use Rattle.std.specs.Prelude.{◌≡◌, ◌-◌, option_map, IfSome, vec_len, vec_capacity};
     ghost use Rattle.omega_board.specs.Board.{cell_of};
     ghost use Rattle.omega_copy.specs.Copies.{CopyState, IsTrialOf, trial_of, without_room};
-    ghost use Rattle.omega_copy.specs.Telling.{frees_of};
+    ghost use Rattle.omega_copy.specs.Levels.{Tells};
+    ghost use Rattle.omega_copy.specs.Telling.{freed_of};
+    ghost use Rattle.omega_running.specs.Order.{Each};
 
     ghost Value = { CopyState };
 
     ghost view = { λ c. record { board = without_room c.board; seen = c.seen; trial = option_map (λ t. trial_of c.board t.undo) c.trial } };
 
-    ghost invariant = { λ c. (c.index.free ≡ frees_of (cell_of c.board)) × IfSome c.trial (λ t. IsTrialOf c.board t.undo t.machines.items (vec_capacity t.machines - vec_len t.machines)) };
+    ghost invariant = { λ c. (c.index.free ≡ freed_of 0 (cell_of c.board)) × Each (Tells (cell_of c.board)) c.levels.items × IfSome c.trial (λ t. IsTrialOf c.board t.undo t.machines.items (vec_capacity t.machines - vec_len t.machines)) };
 }
 
 impl PrivateCopy {
@@ -57,6 +66,7 @@ impl PrivateCopy {
         PrivateCopy {
             board: Board::new(alloc),
             index: FitIndex::new(alloc),
+            levels: Vec::new(alloc),
             seen: 0,
             trial: None,
         }
@@ -76,6 +86,18 @@ impl PrivateCopy {
         self.board.machines().seq(machine)
     }
 
+    /// For each claim, how many of the entries that it has seen touched the claim's machine.
+    pub fn seqs(&self, alloc: Global, claims: &[Claim]) -> Result<Vec<u64>, NoMemory>
+        ensures { IfOk result (λ seqs. (history : List Entry) → CopyOf self.now history
+            → seqs.items ≡ copied_seqs history self.now.seen claims.now) }
+    {
+        let mut seqs = Vec::with_capacity(alloc, claims.len())?;
+        for claim in claims {
+            seqs.push(self.seq(claim.machine))?;
+        }
+        Ok(seqs)
+    }
+
     /// The board: that of the entries seen, with the claims of a trial placed. Takes no memory.
     pub fn board(&self) -> &Board
         ensures table { result.now.table ≡ self.now.board.table }
@@ -92,9 +114,34 @@ impl PrivateCopy {
         &self.index
     }
 
+    /// Lends what is free on each machine of the board once all tasks of a lower precedence than this one
+    /// are off it: where a need is more than that, evictions for a wish of this precedence make no room.
+    /// What is lent is given back by `take_back`, and is made anew where it wasn't. Making it costs the
+    /// machines and their tasks. From then on whatever changes a machine costs the tasks on it, for each
+    /// precedence that was asked for.
+    pub fn lend_level(&mut self, alloc: Global, prec: u8) -> Result<Level, NoMemory>
+        ensures copy { self.new ≡ self.old }
+        ensures level { IfOk result (λ level. Tells (cell_of self.old.board) level) }
+        ensures prec { IfOk result (λ level. level.prec ≡ prec) }
+    {
+        if let Some(level) = take_out(&mut self.levels, prec) {
+            return Ok(level);
+        }
+        level_of(alloc, &self.board, prec)
+    }
+
+    /// Takes a level back that was lent. Where there is no memory for it, it is made anew when it is
+    /// asked for next.
+    pub fn take_back(&mut self, level: Level)
+        requires { Tells (cell_of self.old.board) level }
+        ensures { self.new ≡ self.old }
+    {
+        let _ = self.levels.push(level);
+    }
+
     /// Takes in the rest of a history for which the copy stands, from the first entry on that it
     /// hasn't seen. Where memory runs out it has taken in some of them, and stands for the history
-    /// still. Costs what the entries change.
+    /// still. Costs what the entries change, and for each level the tasks on the machines that they touch.
     pub fn follow(&mut self, alloc: Global, later: &[Entry]) -> Result<(), NoMemory>
         requires no_trial { self.old.trial ≡ None }
         requires history { MayFollow self.old later.now }
@@ -123,16 +170,18 @@ impl PrivateCopy {
         ensures err { OnErr result (self.new ≡ self.old) }
     {
         self.index.reserve(1)?;
+        reserve_each(&mut self.levels, 1)?;
         self.board.apply_entry(alloc, entry)?;
-        grow(&mut self.index, &self.board);
-        tell_touched(&mut self.index, &self.board, entry);
+        tell_entry(&mut self.index, 0, &self.board, entry);
+        tell_entry_each(&mut self.levels, &self.board, entry);
         self.seen += 1;
         Ok(())
     }
 
     /// Takes in what changed between the entries that it has seen and a later place of a history for
-    /// which it stands. The index is told. Where memory runs out, the copy is as before. Costs the parts
-    /// of the delta, whatever number of entries it leads over, and on the board what differs.
+    /// which it stands. The indexes are told. Where memory runs out, the copy is as before. Costs the parts
+    /// of the delta, for each level with their tasks, whatever number of entries it leads over, and on the
+    /// board what differs.
     pub fn catch_up(&mut self, alloc: Global, delta: Delta) -> Result<(), NoMemory>
         requires no_trial { self.old.trial ≡ None }
         requires history { MayCatchUp self.old delta }
@@ -145,9 +194,10 @@ impl PrivateCopy {
         let parts = delta.into_parts();
         let machines = numbers_of(alloc, parts.as_slice())?;
         self.index.reserve(parts.len())?;
+        reserve_each(&mut self.levels, parts.len())?;
         self.board.put_parts(alloc, parts)?;
-        grow_to(&mut self.index, &self.board);
-        tell_all(&mut self.index, &self.board, &machines);
+        tell_parts(&mut self.index, 0, &self.board, &machines);
+        tell_parts_each(&mut self.levels, &self.board, &machines);
         self.seen = to;
         Ok(())
     }
@@ -168,8 +218,9 @@ impl PrivateCopy {
         Ok(())
     }
 
-    /// Places a claim of the trial, which would be placed on the board under the fine rule. The index
-    /// is told. Where memory runs out, the copy is as before. Costs the claim's victims.
+    /// Places a claim of the trial, which would be placed on the board under the fine rule. The indexes
+    /// are told. Where memory runs out, the copy is as before. Costs the claim's victims, and for each level
+    /// the tasks on its machine.
     pub fn claim(&mut self, alloc: Global, claim: &Claim) -> Result<(), NoMemory>
         requires placed { IsTrue (would_be_placed (cell_of self.old.board) claim.now) }
         requires room { IsSomeAnd self.old.trial (λ trial. 0 < trial.room) }
@@ -183,18 +234,21 @@ impl PrivateCopy {
             unreachable!()
         };
         trial.place(alloc, &mut self.board, claim)?;
-        tell_one(&mut self.index, &self.board, claim.machine);
+        tell_all(&mut self.index, 0, &self.board, &[claim.machine]);
+        tell_all_each(&mut self.levels, &self.board, &[claim.machine]);
         Ok(())
     }
 
-    /// Ends the trial, if one has begun: the board is as it was before its claims. The index is told.
-    /// Costs the claims and their victims. Takes no memory.
+    /// Ends the trial, if one has begun: the board is as it was before its claims. The indexes are told.
+    /// Costs the claims and their victims, and for each level the tasks on the claims' machines. Takes no
+    /// memory.
     pub fn drop_scratch(&mut self)
         ensures { self.new ≡ after_trial self.old self.old.trial }
     {
         if let Some(mut trial) = self.trial.take() {
             self.board.undo(&mut trial.undo);
-            tell_all(&mut self.index, &self.board, &trial.machines);
+            tell_all(&mut self.index, 0, &self.board, &trial.machines);
+            tell_all_each(&mut self.levels, &self.board, &trial.machines);
         }
     }
 }

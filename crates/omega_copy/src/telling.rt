@@ -1,16 +1,66 @@
-//! What changed on a board, told to the index of what is free on its machines.
-ghost use Rattle.std.specs.Prelude.{◌≡◌, ◌<◌, ◌≤◌, ◌+◌, ◌++◌, ℕ, Bool, None, length, map, drop};
+//! What changed on a board, told to an index of what evictions for a precedence could free on its machines.
+ghost use Rattle.std.specs.Prelude.{◌≡◌, ◌<◌, ◌≤◌, ◌+◌, ℕ, Bool, Some, None, length, slice_get};
 ghost use Rattle.std.specs.List.{zip};
 ghost use Rattle.omega_machines.specs.Table.{machines_of};
+ghost use Rattle.omega_model.specs.declared.cells.Machine.{Machine};
 ghost use Rattle.omega_board.specs.Board.{cell_of};
-ghost use Rattle.omega_copy.specs.Telling.{frees_of, TellsBut, grown, is_this, is_this_or, is_in, is_claimed, is_touched};
+ghost use Rattle.omega_board.specs.Numbers.{is_among};
+ghost use Rattle.omega_cell.specs.Touched.{is_claimed, is_number, is_touched_by};
+ghost use Rattle.omega_copy.specs.Levels.{Near, NearEntry, NearParts};
+ghost use Rattle.omega_copy.specs.Telling.{TellsBut, freed_of, freed_on, grown, is_this_or, placed};
 
 use omega_board::Board;
 use omega_fit::FitIndex;
-use omega_model::{Claim, Entry, Judgement};
+use omega_model::{Claim, Entry, Judgement, Need};
 
-/// Puts a place behind the others where the board has one more machine, for which room was made.
-pub(crate) fn grow(index: &mut FitIndex, board: &Board)
+/// Tells an index what an entry changed that was applied to the board. It has told all before it, and
+/// has room for one more machine.
+pub(crate) fn tell_entry(index: &mut FitIndex, prec: u8, board: &Board, entry: &Entry)
+    requires { NearEntry board.now entry.now prec index.old }
+    ensures { index.new.free ≡ freed_of prec (cell_of board.now) }
+{
+    grow(index, board);
+    tell_touched(index, prec, board, entry);
+}
+
+/// Tells an index what parts of these machines changed that were put on the board. It has told all
+/// before them, and has room for the machines that are new.
+pub(crate) fn tell_parts(index: &mut FitIndex, prec: u8, board: &Board, machines: &[u64])
+    requires { NearParts board.now machines.now prec index.old }
+    ensures { index.new.free ≡ freed_of prec (cell_of board.now) }
+{
+    grow_to(index, board);
+    tell_all(index, prec, board, machines);
+}
+
+/// Tells an index what is free on these machines, which has told all else.
+pub(crate) fn tell_all(index: &mut FitIndex, prec: u8, board: &Board, machines: &[u64])
+    requires { Near board.now machines.now prec index.old }
+    ensures { index.new.free ≡ freed_of prec (cell_of board.now) }
+{
+    for machine in machines {
+        tell(index, prec, board, *machine);
+    }
+}
+
+/// What is free on the machine at a position once all tasks of a lower precedence are off it; `None`
+/// where it isn't up. Costs the tasks on the machine, and for the least precedence a look-up.
+pub(crate) fn freed_at(board: &Board, prec: u8, position: usize) -> Option<Need>
+    ensures { (machine : Machine) → slice_get (machines_of board.now.table) position ≡ Some machine → result ≡ freed_on prec board.now.tasks machine }
+{
+    let machines = board.machines();
+    let machine = machines.at(position)?;
+    if prec == 0 {
+        return machines.free(machine.id);
+    }
+    if !machine.up {
+        return None;
+    }
+    Some(board.running().left_on(machine.id, prec, machine.cap))
+}
+
+// Puts a place behind the others where the board has one more machine, for which room was made.
+fn grow(index: &mut FitIndex, board: &Board)
     requires { 0 < index.old.spare }
     ensures { index.new.free ≡ grown (length board.now.table) index.old.free }
 {
@@ -19,73 +69,62 @@ pub(crate) fn grow(index: &mut FitIndex, board: &Board)
     }
 }
 
-/// Puts a place behind the others for each further machine that the board has, for which room was made.
-pub(crate) fn grow_to(index: &mut FitIndex, board: &Board)
+// Puts a place behind the others for each further machine that the board has, for which room was made.
+fn grow_to(index: &mut FitIndex, board: &Board)
     requires { length (machines_of board.now.table) ≤ length index.old.free + index.old.spare }
-    ensures { index.new.free ≡ index.old.free ++ map (λ _. None) (drop (length index.old.free) (machines_of board.now.table)) }
+    ensures { index.new.free ≡ placed (machines_of board.now.table) index.old.free }
 {
     while index.len() < board.machines().len() {
         index.push_reserved(None);
     }
 }
 
-/// Tells the index what is free on the machines that an entry touches, which has told all else.
-pub(crate) fn tell_touched(index: &mut FitIndex, board: &Board, entry: &Entry)
-    requires { TellsBut (is_touched entry.now) board.now.tasks index.old.free (machines_of board.now.table) }
-    ensures { index.new.free ≡ frees_of (cell_of board.now) }
+// Tells the index what is free on the machines that an entry touches, which has told all else.
+fn tell_touched(index: &mut FitIndex, prec: u8, board: &Board, entry: &Entry)
+    requires { TellsBut (is_touched_by entry.now) prec board.now.tasks index.old.free (machines_of board.now.table) }
+    ensures { index.new.free ≡ freed_of prec (cell_of board.now) }
 {
     match entry {
         Entry::Round { .. } => {}
-        Entry::MachineAdd { machine, .. } => tell_one(index, board, *machine),
-        Entry::MachineUpdate { machine, .. } => tell_one(index, board, *machine),
-        Entry::MachineRemove { machine } => tell_one(index, board, *machine),
-        Entry::AttrSet { machine, .. } => tell_one(index, board, *machine),
-        Entry::AttrDelete { machine, .. } => tell_one(index, board, *machine),
-        Entry::End { machine, .. } => tell_one(index, board, *machine),
+        Entry::MachineAdd { machine, .. } => tell_one(index, prec, board, *machine),
+        Entry::MachineUpdate { machine, .. } => tell_one(index, prec, board, *machine),
+        Entry::MachineRemove { machine } => tell_one(index, prec, board, *machine),
+        Entry::AttrSet { machine, .. } => tell_one(index, prec, board, *machine),
+        Entry::AttrDelete { machine, .. } => tell_one(index, prec, board, *machine),
+        Entry::End { machine, .. } => tell_one(index, prec, board, *machine),
         Entry::Commit { txn, reply, .. } => {
-            tell_placed(index, board, txn.claims.as_slice(), reply.as_slice());
+            tell_placed(index, prec, board, txn.claims.as_slice(), reply.as_slice());
         }
     }
 }
 
-/// Tells the index what is free on these machines, which has told all else.
-pub(crate) fn tell_all(index: &mut FitIndex, board: &Board, machines: &[u64])
-    requires { TellsBut (is_in machines.now) board.now.tasks index.old.free (machines_of board.now.table) }
-    ensures { index.new.free ≡ frees_of (cell_of board.now) }
+// Tells the index what is free on a machine, which has told all else.
+fn tell_one(index: &mut FitIndex, prec: u8, board: &Board, machine: u64)
+    requires { TellsBut (is_number machine) prec board.now.tasks index.old.free (machines_of board.now.table) }
+    ensures { index.new.free ≡ freed_of prec (cell_of board.now) }
 {
-    for machine in machines {
-        tell(index, board, *machine);
-    }
-}
-
-/// Tells the index what is free on a machine, which has told all else.
-pub(crate) fn tell_one(index: &mut FitIndex, board: &Board, machine: u64)
-    requires { TellsBut (is_this machine) board.now.tasks index.old.free (machines_of board.now.table) }
-    ensures { index.new.free ≡ frees_of (cell_of board.now) }
-{
-    tell(index, board, machine);
+    tell(index, prec, board, machine);
 }
 
 // The same for the machines of the placed claims.
-fn tell_placed(index: &mut FitIndex, board: &Board, claims: &[Claim], reply: &[Judgement])
-    requires { TellsBut (is_claimed (zip claims.now reply.now)) board.now.tasks index.old.free (machines_of board.now.table) }
-    ensures { index.new.free ≡ frees_of (cell_of board.now) }
+fn tell_placed(index: &mut FitIndex, prec: u8, board: &Board, claims: &[Claim], reply: &[Judgement])
+    requires { TellsBut (is_claimed (zip claims.now reply.now)) prec board.now.tasks index.old.free (machines_of board.now.table) }
+    ensures { index.new.free ≡ freed_of prec (cell_of board.now) }
 {
     for (claim, judgement) in claims.iter().zip(reply) {
         if judgement.verdict.is_placed() {
-            tell(index, board, claim.machine);
+            tell(index, prec, board, claim.machine);
         }
     }
 }
 
 // Tells the index what is free on a machine, if it is in the list.
-fn tell(index: &mut FitIndex, board: &Board, machine: u64)
+fn tell(index: &mut FitIndex, prec: u8, board: &Board, machine: u64)
     requires { length index.old.free ≡ length board.now.table }
-    ensures { (stale : ℕ → Bool) → TellsBut (is_this_or machine stale) board.now.tasks index.old.free (machines_of board.now.table) → TellsBut stale board.now.tasks index.new.free (machines_of board.now.table) }
+    ensures { (stale : ℕ → Bool) → TellsBut (is_this_or machine stale) prec board.now.tasks index.old.free (machines_of board.now.table) → TellsBut stale prec board.now.tasks index.new.free (machines_of board.now.table) }
 {
-    let machines = board.machines();
-    match machines.position(machine) {
-        Some(position) => index.put(position, machines.free(machine)),
+    match board.machines().position(machine) {
+        Some(position) => index.put(position, freed_at(board, prec, position)),
         None => {}
     }
 }

@@ -2,10 +2,10 @@ pub mod AsIs
 pub mod Begins
 pub mod Candidates
 pub mod Elsewhere
+pub mod Evictable
 pub mod Fewest
 pub mod FirstYields
 pub mod KindsOf
 pub mod Rooms
 pub mod StepsOf
-pub mod TooSmall
 pub mod Trials

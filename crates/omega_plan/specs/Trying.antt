@@ -38,6 +38,10 @@ abbrev pub Yields : Cell → Wish → ℕ → Bool → Type 0
 Yields cell wish position answer =
     (machine : Machine) → slice_get cell.machines position ≡ Some machine → is_some (claim_on cell wish machine) ≡ answer
 
+-- what is answered at a position where an answer may be true for another cause too
+abbrev pub MayYield : Cell → Wish → ℕ → Bool → Type 0
+MayYield cell wish position answer = answer ≡ false → Yields cell wish position false
+
 -- the first position, round from a start, on whose machine evictions make room; none where they do nowhere
 unfoldable pub IsFirstToYield : Cell → Wish → ℕ → Option ℕ → Type 0
 IsFirstToYield cell wish start found = IsFirst (Yields cell wish) (positions_from start (length cell.machines)) found

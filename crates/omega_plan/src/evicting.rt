@@ -1,17 +1,20 @@
 //! The tasks that make room for a wish, and the first machine on which they do.
 ghost use Rattle.std.specs.Prelude.{◌≡◌, ◌≤◌, ◌<◌, None, Some, IfOk, IfSome, option_map, length};
 ghost use Rattle.omega_board.specs.Board.{cell_of};
-ghost use Rattle.omega_fit.specs.Round.{FirstBetween};
+ghost use Rattle.omega_copy.specs.Telling.{freed_of};
 ghost use Rattle.omega_model.specs.Cell.{task_at};
+ghost use Rattle.omega_model.specs.Legal.{Sound};
 ghost use Rattle.omega_model.specs.Plan.{candidates, victims};
 ghost use Rattle.omega_running.specs.Kept.{KeysRise};
 ghost use Rattle.omega_plan.specs.Kinds.{Serves};
-ghost use Rattle.omega_plan.specs.Trying.{AreVictimsAt, IsFirstToYield, Yields, yields};
+ghost use Rattle.omega_plan.specs.Trying.{AreVictimsAt, IsFirstToYield, MayYield, yields};
 
 use crate::progress::Progress;
 use crate::trying::claim_of;
 use omega_attrs::eligible;
 use omega_board::Board;
+use omega_copy::PrivateCopy;
+use omega_fit::FitIndex;
 use omega_model::{Keys, NoMemory, Seq, TaskKey, Wish};
 use std::alloc::Global;
 
@@ -23,69 +26,72 @@ pub(crate) struct Yielding {
 }
 
 /// The first position, round from the plan's start, whose machine suits the wish and where evictions
-/// make room, with the victims. Begins where the progress says, and sorts the tasks of each machine
-/// that suits up to the one that is answered.
+/// make room, with the victims. Begins where the progress says. Where nowhere so much could be freed as
+/// the need is, costs nothing but what the copy's index costs; else the machines where that much could
+/// be freed are tried in order, and of each that suits the tasks are sorted.
 pub(crate) fn first_to_yield(
     alloc: Global,
-    board: &Board,
+    copy: &mut PrivateCopy,
     wish: &Wish,
     progress: &Progress,
 ) -> Result<Option<Yielding>, NoMemory>
-    requires ordered { KeysRise board.now.tasks }
-    requires absent { task_at board.now.tasks wish.now.key ≡ None }
-    requires serves { Serves (cell_of board.now) wish.now progress.now }
-    ensures first { IfOk result (λ found. IsFirstToYield (cell_of board.now) wish.now progress.now.start (option_map (λ f. f.position) found)) }
-    ensures below { IfOk result (λ found. IfSome found (λ f. f.position < length board.now.table)) }
-    ensures victims { IfOk result (λ found. IfSome found (λ f. AreVictimsAt (cell_of board.now) wish.now f.position (Some f.victims))) }
+    requires sound { Sound (cell_of copy.old.board) }
+    requires ordered { KeysRise copy.old.board.tasks }
+    requires absent { task_at copy.old.board.tasks wish.now.key ≡ None }
+    requires serves { Serves (cell_of copy.old.board) wish.now progress.now }
+    ensures copy { copy.new ≡ copy.old }
+    ensures first { IfOk result (λ found. IsFirstToYield (cell_of copy.old.board) wish.now progress.now.start (option_map (λ f. f.position) found)) }
+    ensures below { IfOk result (λ found. IfSome found (λ f. f.position < length copy.old.board.table)) }
+    ensures victims { IfOk result (λ found. IfSome found (λ f. AreVictimsAt (cell_of copy.old.board) wish.now f.position (Some f.victims))) }
 {
-    match progress.evicting {
-        Some(begin) => yielding_from(alloc, board, wish, begin),
-        None => Ok(None),
-    }
+    let Some(begin) = progress.evicting else {
+        return Ok(None);
+    };
+    let level = copy.lend_level(alloc, wish.spec.prec)?;
+    let found = yielding_from(alloc, copy.board(), level.freed(), wish, begin);
+    copy.take_back(level);
+    found
 }
 
 /// The first position, round from `begin`, where evictions make room.
 fn yielding_from(
     alloc: Global,
     board: &Board,
+    freed: &FitIndex,
     wish: &Wish,
     begin: usize,
 ) -> Result<Option<Yielding>, NoMemory>
-    requires { begin ≤ length (cell_of board.now).machines }
+    requires sound { Sound (cell_of board.now) }
+    requires freed { freed.now.free ≡ freed_of wish.now.spec.prec (cell_of board.now) }
+    requires begin { begin ≤ length (cell_of board.now).machines }
     ensures first { IfOk result (λ found. IsFirstToYield (cell_of board.now) wish.now begin (option_map (λ f. f.position) found)) }
     ensures below { IfOk result (λ found. IfSome found (λ f. f.position < length board.now.table)) }
     ensures victims { IfOk result (λ found. IfSome found (λ f. AreVictimsAt (cell_of board.now) wish.now f.position (Some f.victims))) }
 {
-    let count = board.machines().len();
-    match yielding_between(alloc, board, wish, begin, count)? {
-        Some(found) => Ok(Some(found)),
-        None => yielding_between(alloc, board, wish, 0, begin),
+    let found = freed.first(begin, wish.spec.need, |position| {
+        may_yield(alloc, board, wish, position)
+    });
+    let Some(position) = found else {
+        return Ok(None);
+    };
+    match victims_at(alloc, board, wish, position)? {
+        Some(victims) => Ok(Some(Yielding { position, victims })),
+        None => Err(NoMemory),
     }
 }
 
-/// The first position of `from..to` where evictions make room.
-fn yielding_between(
-    alloc: Global,
-    board: &Board,
-    wish: &Wish,
-    from: usize,
-    to: usize,
-) -> Result<Option<Yielding>, NoMemory>
-    requires { to ≤ length (cell_of board.now).machines }
-    ensures first { IfOk result (λ found. FirstBetween (Yields (cell_of board.now) wish.now) from to (option_map (λ f. f.position) found)) }
-    ensures below { IfOk result (λ found. IfSome found (λ f. f.position < length board.now.table)) }
-    ensures victims { IfOk result (λ found. IfSome found (λ f. AreVictimsAt (cell_of board.now) wish.now f.position (Some f.victims))) }
+/// Whether evictions make room on the machine at a position. True too where memory runs out.
+fn may_yield(alloc: Global, board: &Board, wish: &Wish, position: usize) -> bool
+    ensures { MayYield (cell_of board.now) wish.now position result }
 {
-    for position in from..to {
-        if let Some(victims) = victims_at(alloc, board, wish, position)? {
-            return Ok(Some(Yielding { position, victims }));
-        }
+    match victims_at(alloc, board, wish, position) {
+        Ok(None) => false,
+        Ok(Some(_)) => true,
+        Err(_) => true,
     }
-    Ok(None)
 }
 
-/// The victims on the machine at a position, if it suits the wish and evictions make room there. A
-/// machine that were too small without any task is passed over at once.
+/// The victims on the machine at a position, if it suits the wish and evictions make room there.
 fn victims_at(
     alloc: Global,
     board: &Board,
@@ -97,9 +103,6 @@ fn victims_at(
     let Some(machine) = board.machines().at(position) else {
         return Ok(None);
     };
-    if !wish.spec.need.fits(machine.cap) {
-        return Ok(None);
-    }
     if !eligible(&wish.constraints, &machine.attrs) {
         return Ok(None);
     }

@@ -14,7 +14,6 @@ ghost use Rattle.omega_plan.specs.Trying.{IsFirstToTake};
 use crate::evicting::first_to_yield;
 use crate::progress::{Progress, Step};
 use crate::trying::{claim_at, first_to_take};
-use omega_board::Board;
 use omega_copy::PrivateCopy;
 use omega_model::{Claim, Mode, NoMemory, Policy, Request, Seq, Txn, Wish};
 use std::alloc::Global;
@@ -87,16 +86,17 @@ fn claims_for_wishes(
 }
 
 /// The claim for one wish: without victims where that goes, else with them if it preempts. A wish
-/// whose task runs already gets none.
+/// whose task runs already gets none. The copy is as before.
 fn claim_for_wish(
     alloc: Global,
-    copy: &PrivateCopy,
+    copy: &mut PrivateCopy,
     wish: &Wish,
     preempts: bool,
     progress: Progress,
 ) -> Result<Step, NoMemory>
-    requires { Serves (cell_of copy.now.board) wish.now progress }
-    ensures { IfOk result (λ step. IsStep (cell_of copy.now.board) wish.now preempts progress step) }
+    requires { Serves (cell_of copy.old.board) wish.now progress }
+    ensures step { IfOk result (λ step. IsStep (cell_of copy.old.board) wish.now preempts progress step) }
+    ensures copy { copy.new ≡ copy.old }
 {
     let board = copy.board();
     if board.running().get(wish.key).is_some() {
@@ -110,24 +110,25 @@ fn claim_for_wish(
             claim: Some(claim_at(board, wish, position, Seq::new(alloc))),
             progress: progress.found(position),
         }),
-        None => claim_by_evicting(alloc, board, wish, preempts, progress.full()),
+        None => claim_by_evicting(alloc, copy, wish, preempts, progress.full()),
     }
 }
 
-/// The claim for a wish that no machine takes as it is.
+/// The claim for a wish that no machine takes as it is. The copy is as before.
 fn claim_by_evicting(
     alloc: Global,
-    board: &Board,
+    copy: &mut PrivateCopy,
     wish: &Wish,
     preempts: bool,
     progress: Progress,
 ) -> Result<Step, NoMemory>
-    requires sound { Sound (cell_of board.now) }
-    requires ordered { KeysRise board.now.tasks }
-    requires absent { task_at board.now.tasks wish.now.key ≡ None }
-    requires full { IsFirstToTake (cell_of board.now) wish.now progress.start None }
-    requires serves { Serves (cell_of board.now) wish.now progress }
-    ensures { IfOk result (λ step. IsStep (cell_of board.now) wish.now preempts progress step) }
+    requires sound { Sound (cell_of copy.old.board) }
+    requires ordered { KeysRise copy.old.board.tasks }
+    requires absent { task_at copy.old.board.tasks wish.now.key ≡ None }
+    requires full { IsFirstToTake (cell_of copy.old.board) wish.now progress.start None }
+    requires serves { Serves (cell_of copy.old.board) wish.now progress }
+    ensures step { IfOk result (λ step. IsStep (cell_of copy.old.board) wish.now preempts progress step) }
+    ensures copy { copy.new ≡ copy.old }
 {
     if !preempts {
         return Ok(Step {
@@ -135,9 +136,9 @@ fn claim_by_evicting(
             progress,
         });
     }
-    match first_to_yield(alloc, board, wish, &progress)? {
+    match first_to_yield(alloc, copy, wish, &progress)? {
         Some(found) => Ok(Step {
-            claim: Some(claim_at(board, wish, found.position, found.victims)),
+            claim: Some(claim_at(copy.board(), wish, found.position, found.victims)),
             progress: progress.evicted(found.position),
         }),
         None => Ok(Step {

@@ -1,15 +1,29 @@
 -- A player may go to another thread.
-use denote.Param.Send.{IsSend, sendable}
+use denote.Param.Send.{IsSend, sendable, view_send}
+use Rattle.std.proofs.Crossing.{Vec-send}
+use Rattle.std.specs.contracts.alloc.Global as Heap
+use Rattle.std.specs.contracts.impls.GlobalAllocator.TheImpl.{ghosts}
+use Rattle.std.specs.contracts.vec.Vec as Vec
+use Rattle.omega_copy.proofs.levels.Level.TheSendSync as level
 use Rattle.omega_copy.proofs.trial.Trial.TheSendSync as trial
 use Rattle.omega_copy.specs.contracts.copy.PrivateCopy as PrivateCopy
+use Rattle.omega_copy.specs.contracts.copy.PrivateCopy.TheInside as Inside
+use Rattle.omega_copy.specs.contracts.levels.Level as Level
 use Rattle.omega_desk.proofs.desk.Desk.TheSendSync as desk
 use Rattle.omega_fit.proofs.index.FitIndex.TheSendSync as index
 use Rattle.omega_shared.proofs.Crossing.{board_send, pass_send}
 use Rattle.omega_rounds.specs.contracts.player.Player as Player
 
+-- the levels of a copy
+levels_send : IsSend (Vec.the_row Level.the_row Heap.the_row ghosts)
+levels_send = Vec-send Level.the_row level.the_send
+
 -- a scheduler's copy
+inside_send : IsSend Inside.the_row
+inside_send = search (board_send, index.the_send, levels_send, trial.the_send, sendable) depth 20
+
 copy_send : IsSend PrivateCopy.the_row
-copy_send = search (board_send, index.the_send, trial.the_send, sendable) depth 20
+copy_send = view_send _ _ _ _ _ inside_send
 
 -- a player, with its seat
 pub player_send : IsSend Player.the_row

@@ -3,15 +3,17 @@ ghost use Rattle.std.specs.Prelude.{◌≡◌, ◌<◌, ◌≤◌, ◌%◌, ◌+
 ghost use Rattle.std.specs.List.{filter};
 ghost use Rattle.omega_model.specs.Cell.{task_at};
 ghost use Rattle.omega_model.specs.Jobs.{other_of_job};
+ghost use Rattle.omega_model.specs.Need.{minus};
 ghost use Rattle.omega_running.specs.declared.orders.Order.TheVariants.{ByKey, ByMachine};
 ghost use Rattle.omega_running.specs.declared.nodes.Tree.TheVariants.{Leaf};
 ghost use Rattle.omega_running.specs.Forest.{is_at};
+ghost use Rattle.omega_running.specs.Held.{held_on};
 ghost use Rattle.omega_running.specs.Order.{Each, IsInOrder, has_place, is_apart, led_by, put_in, taken_out};
 ghost use Rattle.omega_running.specs.Tree.{tasks_of};
 
 use crate::nodes::{Node, Tree};
 use crate::orders::Order;
-use omega_model::{Keys, NoMemory, Task, TaskKey};
+use omega_model::{Keys, Need, NoMemory, Task, TaskKey};
 use std::alloc::Global;
 use std::marker::Model;
 
@@ -137,6 +139,18 @@ impl Forest {
         match self.tree(number) {
             Some(tree) => tree.collect(self.order, number, found),
             None => Ok(()),
+        }
+    }
+
+    /// What is left of an amount when each task on the machine of at least this precedence has taken
+    /// its need; a component stops at 0. Costs the tasks on the machine, and one way down of one tree.
+    pub fn left_on(&self, machine: u64, prec: u8, amount: Need) -> Need
+        requires { self.now.order ≡ ByMachine }
+        ensures { result ≡ minus amount (held_on prec self.now.tasks machine) }
+    {
+        match self.tree(machine) {
+            Some(tree) => tree.left_on(machine, prec, amount),
+            None => amount,
         }
     }
 

@@ -1,8 +1,10 @@
 //! A balanced tree of tasks, in one of the two orders. It takes its nodes ready made.
-ghost use Rattle.std.specs.Prelude.{◌≡◌, ◌∷◌, ◌++◌, [], option_map, IfOk, OnOk, IsTrue};
+ghost use Rattle.std.specs.Prelude.{◌≡◌, ◌∷◌, ◌++◌, [], option_map, IfOk, OnOk, IsTrue, if◌then◌else◌};
 ghost use Rattle.omega_model.specs.Cell.{task_at};
 ghost use Rattle.omega_model.specs.Jobs.{other_of_job};
+ghost use Rattle.omega_model.specs.Need.{minus};
 ghost use Rattle.omega_running.specs.declared.orders.Order.TheVariants.{ByKey, ByMachine};
+ghost use Rattle.omega_running.specs.Held.{held_on, stays_against};
 ghost use Rattle.omega_running.specs.Order.{IsInOrder, put_in, taken_out, has_place, led_by};
 ghost use Rattle.omega_running.specs.Tree.{tasks_of, tasks_at};
 
@@ -166,6 +168,27 @@ impl Tree {
         node.right.collect(order, number, found)
     }
 
+    /// What is left of an amount when each task on the machine of at least this precedence has taken
+    /// its need; a component stops at 0. Costs the tasks on the machine, and one way down.
+    pub fn left_on(&self, machine: u64, prec: u8, amount: Need) -> Need
+        requires { IsInOrder ByMachine (tasks_of self.now) }
+        ensures { result ≡ minus amount (held_on prec (tasks_of self.now) machine) }
+    {
+        let Tree::Fork(node) = self else {
+            return amount;
+        };
+        let here = node.task.machine;
+        if here < machine {
+            return node.right.left_on(machine, prec, amount);
+        }
+        if machine < here {
+            return node.left.left_on(machine, prec, amount);
+        }
+        let before = node.left.left_on(machine, prec, amount);
+        let beside = left_beside(&node.task, prec, before);
+        node.right.left_on(machine, prec, beside)
+    }
+
     /// The first of the job's tasks on the machine that isn't in `gone`. Costs those up to it, each
     /// looked up in `gone`, and one way down.
     pub fn other_of_job(&self, job: u64, machine: u64, gone: &Keys) -> Option<TaskKey>
@@ -210,6 +233,16 @@ impl Tree {
             },
         )?))
     }
+}
+
+/// What is left of an amount when a task of at least this precedence has taken its need.
+fn left_beside(task: &Task, prec: u8, amount: Need) -> Need
+    ensures { result ≡ (if stays_against prec task.now then minus amount task.now.spec.need else amount) }
+{
+    if prec <= task.spec.prec {
+        return amount.minus(task.spec.need);
+    }
+    amount
 }
 
 /// The tree of a node, with its height set right.

@@ -3,6 +3,8 @@ ghost use Rattle.std.specs.Prelude.{◌≡◌, ◌+◌, ◌≤◌, ◌<◌, [], 
 ghost use Rattle.std.specs.List.{filter};
 ghost use Rattle.omega_model.specs.Cell.{task_at, with_task, without, is_on, by_rank, keys_of};
 ghost use Rattle.omega_model.specs.Jobs.{is_of_job, other_of_job};
+ghost use Rattle.omega_model.specs.Need.{minus};
+ghost use Rattle.omega_running.specs.Held.{held_on};
 ghost use Rattle.omega_running.specs.Kept.{KeysRise};
 ghost use Rattle.omega_running.specs.Standing.{stands_in};
 
@@ -10,7 +12,7 @@ use crate::forest::Forest;
 use crate::nodes::Node;
 use crate::orders::Order;
 use crate::standing::same_task;
-use omega_model::{Keys, NoMemory, Seq, Task, TaskKey, Tasks};
+use omega_model::{Keys, Need, NoMemory, Seq, Task, TaskKey, Tasks};
 use std::alloc::Global;
 use std::marker::Model;
 
@@ -157,6 +159,15 @@ impl Running {
         let mut found = Vec::new(alloc);
         self.by_machine.collect(machine, &mut found)?;
         Ok(Seq::of(found))
+    }
+
+    /// What is left of an amount when each task on a machine of at least this precedence has taken its
+    /// need; a component stops at 0. Takes no memory, and the time of what the machine has, and
+    /// logarithmic in the number of tasks.
+    pub fn left_on(&self, machine: u64, prec: u8, amount: Need) -> Need
+        ensures { result ≡ minus amount (held_on prec self.now.tasks machine) }
+    {
+        self.by_machine.left_on(machine, prec, amount)
     }
 
     /// Whether a task runs, the same in all. Takes no memory, and time logarithmic in the number of

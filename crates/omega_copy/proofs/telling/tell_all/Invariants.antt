@@ -6,4 +6,4 @@ use Rattle.omega_copy.proofs.telling.tell_all.Given as goal
 
 abbrev pub invariant-loop-machine : goal.invariant-loop-machine
 invariant-loop-machine l =
-    TellsBut (λ id. list_any (λ machine. machine == id) (drop l.machine-index l.machines)) l.fn.board.tasks l.index.free (machines_of l.fn.board.table)
+    TellsBut (λ id. list_any (λ machine. machine == id) (drop l.machine-index l.machines)) l.prec l.fn.board.tasks l.index.free (machines_of l.fn.board.table)

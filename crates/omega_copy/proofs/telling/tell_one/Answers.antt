@@ -4,15 +4,15 @@ use Rattle.omega_copy.proofs.Tells.{told_all, told_states, tells_where}
 use Rattle.omega_copy.proofs.telling.tell_one.Goals as goal
 
 pub tell-requires : goal.tell-requires
-tell-requires c = told_states _ c.args.board.now.tasks c.args.index.now.free c.args.board.now.table c.requires
+tell-requires c = told_states _ c.args.prec c.args.board.now.tasks c.args.index.now.free c.args.board.now.table c.requires
 
 pub returns : goal.returns
 returns c =
     let alone : ℕ → Bool = λ id. c.args.machine == id in
     let either : ℕ → Bool = λ id. c.args.machine == id || false in
-    told_all c.args.board.now.tasks c.tell.new.index.free (machines_of c.args.board.now.table)
+    told_all c.args.prec c.args.board.now.tasks c.tell.new.index.free (machines_of c.args.board.now.table)
     (c.tell.ensures (λ id. false)
-    (tells_where alone either (λ id fresh. or-false_sym (alone id) fresh) c.args.board.now.tasks c.args.index.now.free (machines_of c.args.board.now.table) c.requires))
+    (tells_where alone either (λ id fresh. or-false_sym (alone id) fresh) c.args.prec c.args.board.now.tasks c.args.index.now.free (machines_of c.args.board.now.table) c.requires))
   where
     or-false_sym : (b : Bool) → (b || false) ≡ false → b ≡ false
     or-false_sym false e = e

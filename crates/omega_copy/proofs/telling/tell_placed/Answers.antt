@@ -7,7 +7,8 @@ use Rattle.omega_model.specs.declared.claims.Claim.{Claim}
 use Rattle.omega_model.specs.declared.claims.Judgement.{Judgement}
 use Rattle.omega_machines.specs.Table.{machines_of}
 use Rattle.omega_board.proofs.Counts.{zipped_out}
-use Rattle.omega_copy.specs.Telling.{TellsBut, is_claimed}
+use Rattle.omega_cell.specs.Touched.{is_claimed}
+use Rattle.omega_copy.specs.Telling.{TellsBut}
 use Rattle.omega_copy.proofs.Tells.{told_all, told_states, zipped_more, placed_more, passed_more}
 use Rattle.omega_copy.proofs.telling.tell_placed.Goals as goal
 
@@ -16,11 +17,11 @@ loop-claim-init c =
     let all = c.into_iter-claim-iterator.result in
     let first : iter_rest (zip_first all) ≡ c.args.claims.now = search rules in
     let second : iter_rest (zip_second all) ≡ c.args.reply.now = search rules in
-    subst (λ (decided : List (Claim × Judgement)). TellsBut (is_claimed decided) c.args.board.now.tasks c.args.index.now.free (machines_of c.args.board.now.table))
+    subst (λ (decided : List (Claim × Judgement)). TellsBut (is_claimed decided) c.args.prec c.args.board.now.tasks c.args.index.now.free (machines_of c.args.board.now.table))
     (sym (λ i. zip (first i) (second i))) c.requires
 
 pub tell-requires : goal.tell-requires
-tell-requires c = told_states _ c.args.board.now.tasks c.loop-claim.index.free c.args.board.now.table c.loop-claim.invariant
+tell-requires c = told_states _ c.args.prec c.args.board.now.tasks c.loop-claim.index.free c.args.board.now.table c.loop-claim.invariant
 
 pub loop-claim-preserved-then-is_placed : goal.loop-claim-preserved-then-is_placed
 loop-claim-preserved-then-is_placed c =
@@ -32,7 +33,7 @@ loop-claim-preserved-then-is_placed c =
     let more = Zip-more left rest c.next.result (c.in-Some.claim, c.in-Some.judgement) c.in-Some.is c.next.ensures.steps in
     c.tell.ensures (is_claimed later)
     (placed_more (zip (iter_rest (zip_first left)) (iter_rest (zip_second left))) later claim judgement (zipped_more _ _ _ _ claim judgement more.0 more.1)
-    c.args.board.now.tasks c.loop-claim.index.free (machines_of c.args.board.now.table) (sym c.if-is_placed.ensures) c.loop-claim.invariant)
+    c.args.prec c.args.board.now.tasks c.loop-claim.index.free (machines_of c.args.board.now.table) (sym c.if-is_placed.ensures) c.loop-claim.invariant)
 
 pub loop-claim-preserved : goal.loop-claim-preserved
 loop-claim-preserved c =
@@ -43,11 +44,11 @@ loop-claim-preserved c =
     let later : List (Claim × Judgement) = zip (iter_rest (zip_first rest)) (iter_rest (zip_second rest)) in
     let more = Zip-more left rest c.next.result (c.in-Some.claim, c.in-Some.judgement) c.in-Some.is c.next.ensures.steps in
     passed_more (zip (iter_rest (zip_first left)) (iter_rest (zip_second left))) later claim judgement (zipped_more _ _ _ _ claim judgement more.0 more.1)
-    c.args.board.now.tasks c.loop-claim.index.free (machines_of c.args.board.now.table) (sym c.if-is_placed.ensures) c.loop-claim.invariant
+    c.args.prec c.args.board.now.tasks c.loop-claim.index.free (machines_of c.args.board.now.table) (sym c.if-is_placed.ensures) c.loop-claim.invariant
 
 pub returns : goal.returns
 returns c =
     let left = c.loop-claim.claim-iterator in
     let none = zipped_out (iter_rest (zip_first left)) (iter_rest (zip_second left)) (either_empty_from_Zip left c.next.new.self c.next.result c.in-None.is c.next.ensures.steps) in
-    told_all c.args.board.now.tasks c.loop-claim.index.free (machines_of c.args.board.now.table)
-    (subst (λ (decided : List (Claim × Judgement)). TellsBut (is_claimed decided) c.args.board.now.tasks c.loop-claim.index.free (machines_of c.args.board.now.table)) none c.loop-claim.invariant)
+    told_all c.args.prec c.args.board.now.tasks c.loop-claim.index.free (machines_of c.args.board.now.table)
+    (subst (λ (decided : List (Claim × Judgement)). TellsBut (is_claimed decided) c.args.prec c.args.board.now.tasks c.loop-claim.index.free (machines_of c.args.board.now.table)) none c.loop-claim.invariant)

@@ -8,4 +8,4 @@ use Rattle.omega_copy.proofs.telling.tell_placed.Given as goal
 
 abbrev pub invariant-loop-claim : goal.invariant-loop-claim
 invariant-loop-claim l =
-    TellsBut (λ id. list_any (places_on id) (zip (iter_rest (zip_first l.claim-iterator)) (iter_rest (zip_second l.claim-iterator)))) l.fn.board.tasks l.index.free (machines_of l.fn.board.table)
+    TellsBut (λ id. list_any (places_on id) (zip (iter_rest (zip_first l.claim-iterator)) (iter_rest (zip_second l.claim-iterator)))) l.prec l.fn.board.tasks l.index.free (machines_of l.fn.board.table)

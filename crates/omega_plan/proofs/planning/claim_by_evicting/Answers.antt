@@ -1,28 +1,35 @@
-use Rattle.std.proofs.Common.{◌<◌, Bool, true, Option, Some, None, IfSome, length, sym, subst}
+use Rattle.std.proofs.Common.{◌≡◌, ◌∙◌, ap, ◌<◌, Bool, true, Option, Some, None, IfSome, length, sym, subst}
 use Rattle.std.specs.Prelude.{option_map}
 use Rattle.std.proofs.lemmas.List.{length-map}
 use Rattle.omega_machines.specs.declared.MachineState.{MachineState}
+use Rattle.omega_machines.specs.Table.{machines_of}
+use Rattle.omega_model.specs.Cell.{Cell}
 use Rattle.omega_board.specs.Board.{cell_of}
+use Rattle.omega_board.proofs.Commits.{cell_is}
+use Rattle.omega_copy.specs.Copies.{CopyState}
 use Rattle.omega_plan.specs.Steps.{IsStep}
-use Rattle.omega_plan.specs.Trying.{AreVictimsAt, IsFirstToYield}
+use Rattle.omega_plan.specs.Trying.{AreVictimsAt, IsClaimAt, IsFirstToYield}
 use Rattle.omega_plan.specs.declared.evicting.Yielding.{Yielding}
 use Rattle.omega_plan.specs.declared.progress.Progress.{Progress}
 use Rattle.omega_plan.proofs.StepsOf.{step_evicting, step_full, step_stays_full}
 use Rattle.omega_plan.proofs.planning.claim_by_evicting.Goals as goal
 
-pub returns-then-not-preempts : goal.returns-then-not-preempts
-returns-then-not-preempts c =
-    let cell = cell_of c.args.board.now in
+pub returns-then-not-preempts-clause-step : goal.returns-then-not-preempts-clause-step
+returns-then-not-preempts-clause-step c =
+    let cell = cell_of c.args.copy.now.board in
     subst (λ (b : Bool). IsStep cell c.args.wish.now b c.args.progress (record { claim = None; progress = c.args.progress })) (sym c.if-not-preempts.true)
     (step_full cell c.args.wish.now c.args.progress c.requires.serves c.requires.full)
 
-pub returns-in-Some : goal.returns-in-Some
-returns-in-Some c =
-    let board = c.args.board.now in
+pub returns-in-Some-clause-step : goal.returns-in-Some-clause-step
+returns-in-Some-clause-step c =
+    let board = c.args.copy.now.board in
     let cell = cell_of board in
     let wish = c.args.wish.now in
     let progress = c.args.progress in
     let found = c.in-Some.found in
+    let same : cell_of c.board.result.now ≡ cell =
+    cell_is _ _ (ap machines_of (c.board.ensures.table ∙ ap (λ (copy : CopyState). copy.board.table) c.in_ok-found.ensures.copy))
+    (c.board.ensures.tasks ∙ ap (λ (copy : CopyState). copy.board.tasks) c.in_ok-found.ensures.copy) in
     let first : IsFirstToYield cell wish progress.start (Some found.position) =
     subst (λ (o : Option Yielding). IsFirstToYield cell wish progress.start (option_map (λ (f : Yielding). f.position) o)) c.in-Some.is c.in_ok-found.ensures.first in
     let victims : AreVictimsAt cell wish found.position (Some found.victims) =
@@ -35,11 +42,12 @@ returns-in-Some c =
     (subst (λ (b : Bool). IsStep cell wish b progress
     (record { claim = Some c.claim_at.result; progress = record progress { as_is = Some found.position; evicting = Some found.position } })) (sym c.if-not-preempts.false)
     (step_evicting cell wish progress c.requires.serves c.requires.ordered c.requires.sound.numbers c.requires.absent true found.position below
-    c.claim_at.result c.requires.full first found.victims victims c.claim_at.ensures))
+    c.claim_at.result c.requires.full first found.victims victims
+    (subst (λ (other : Cell). IsClaimAt other wish found.position found.victims c.claim_at.result) same c.claim_at.ensures)))
 
-pub returns-in-None : goal.returns-in-None
-returns-in-None c =
-    let cell = cell_of c.args.board.now in
+pub returns-in-None-clause-step : goal.returns-in-None-clause-step
+returns-in-None-clause-step c =
+    let cell = cell_of c.args.copy.now.board in
     let wish = c.args.wish.now in
     let progress = c.args.progress in
     let none : IsFirstToYield cell wish progress.start None =

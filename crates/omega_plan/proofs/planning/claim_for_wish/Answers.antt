@@ -9,13 +9,13 @@ use Rattle.omega_board.specs.Board.{cell_of}
 use Rattle.omega_board.proofs.Commits.{cell_is}
 use Rattle.omega_plan.specs.Kinds.{Serves}
 use Rattle.omega_plan.specs.Steps.{IsStep}
-use Rattle.omega_plan.specs.Trying.{IsClaimAt}
+use Rattle.omega_plan.specs.Trying.{IsClaimAt, IsFirstToTake}
 use Rattle.omega_plan.specs.declared.progress.Progress.{Progress}
 use Rattle.omega_plan.proofs.StepsOf.{absent_now, found_now, serves_full, step_as_is, step_running}
 use Rattle.omega_plan.proofs.planning.claim_for_wish.Goals as goal
 
-pub returns-then-is_some : goal.returns-then-is_some
-returns-then-is_some c =
+pub returns-then-is_some-clause-step : goal.returns-then-is_some-clause-step
+returns-then-is_some-clause-step c =
     let cell = cell_of c.args.copy.now.board in
     let wish = c.args.wish.now in
     let runs : is_some (task_at cell.tasks wish.key) ≡ true =
@@ -26,16 +26,17 @@ returns-then-is_some c =
 pub claim_by_evicting-requires-clause-serves : goal.claim_by_evicting-requires-clause-serves
 claim_by_evicting-requires-clause-serves c =
     let board = c.board-board.result.now in
+    let cell = cell_of c.args.copy.now.board in
     let wish = c.args.wish.now in
-    let same : cell_of board ≡ cell_of c.args.copy.now.board = cell_is _ _ (ap machines_of c.board-board.ensures.table) c.board-board.ensures.tasks in
-    let serves : Serves (cell_of board) wish c.args.progress = subst (λ (cell : Cell). Serves cell wish c.args.progress) (sym same) c.requires in
-    let absent : task_at board.tasks wish.key ≡ None =
-    ap (λ (ts : List Task). task_at ts wish.key) (sym c.running.ensures.tasks) ∙ sym c.get.ensures.task ∙ absent_now c.get.result (sym c.is_some.ensures ∙ c.if-is_some.false) in
-    subst (λ (p : Progress). Serves (cell_of board) wish p) (sym c.full.ensures)
-    (serves_full (cell_of board) wish c.args.progress serves absent c.in-None.ensures.first)
+    let same : cell_of board ≡ cell = cell_is _ _ (ap machines_of c.board-board.ensures.table) c.board-board.ensures.tasks in
+    let absent : task_at cell.tasks wish.key ≡ None =
+    ap (λ (ts : List Task). task_at ts wish.key) (sym (c.running.ensures.tasks ∙ c.board-board.ensures.tasks)) ∙ sym c.get.ensures.task
+    ∙ absent_now c.get.result (sym c.is_some.ensures ∙ c.if-is_some.false) in
+    subst (λ (p : Progress). Serves cell wish p) (sym c.full.ensures)
+    (serves_full cell wish c.args.progress c.requires absent (subst (λ (other : Cell). IsFirstToTake other wish c.args.progress.start None) same c.in-None.ensures.first))
 
-pub returns-in-Some : goal.returns-in-Some
-returns-in-Some c =
+pub returns-in-Some-clause-step : goal.returns-in-Some-clause-step
+returns-in-Some-clause-step c =
     let board = c.board-board.result.now in
     let cell = cell_of board in
     let wish = c.args.wish.now in

@@ -1,4 +1,8 @@
-use Rattle.std.proofs.Common.{◌+◌, ◌++◌, [], Option, length, append-nil, sym, ap, refl, ◌∙◌}
+use Rattle.std.proofs.Common.{◌+◌, ◌++◌, [], Option, length, append-nil, sym, ap, refl, subst, ◌∙◌}
+use Rattle.std.specs.Prelude.{IsTrue, option_map}
+use Rattle.omega_model.specs.Judge.{judge_fine, would_be_placed}
+use Rattle.omega_model.specs.Reply.{after_claim}
+use Rattle.omega_copy.specs.Copies.{CopyState, one_less}
 use Rattle.omega_model.specs.Plan.{after_planned, and_claims}
 use Rattle.omega_model.specs.declared.claims.Claim.{Claim}
 use Rattle.omega_board.specs.Board.{cell_of}
@@ -11,8 +15,9 @@ claim_for_wish-requires c = c.turn.ensures.serves (cell_of c.loop-wish.copy.boar
 
 pub claim-requires-clause-placed : goal.claim-requires-clause-placed
 claim-requires-clause-placed c =
-    planned_goes (cell_of c.loop-wish.copy.board) c.turn.result.start c.args.preempts c.wish-item.result c.in-Some-claim.claim
-    (sym c.in-Some-claim.is ∙ c.in_ok-claim.ensures.claim)
+    subst (λ (copy : CopyState). IsTrue (would_be_placed (cell_of copy.board) c.in-Some-claim.claim)) (sym c.in_ok-claim.ensures.copy)
+    (planned_goes (cell_of c.loop-wish.copy.board) c.turn.result.start c.args.preempts c.wish-item.result c.in-Some-claim.claim
+    (sym c.in-Some-claim.is ∙ c.in_ok-claim.ensures.step.claim))
 
 pub loop-wish-preserved : goal.loop-wish-preserved
 loop-wish-preserved c =
@@ -20,23 +25,26 @@ loop-wish-preserved c =
     let cell = cell_of at.copy.board in
     let wishes = c.args.wishes.now in
     let step = c.in_ok-claim.field-0 in
+    let same = c.in_ok-claim.ensures.copy in
     elim c.match-claim.branch [
       | in-Some-claim+in_ok-claim-2+in_ok-push w ↦
           planned_as c.match-claim.copy w.claim.new.self c.args.copy.now c.match-claim.claims.items w.push.new.self.items c.args.start c.args.preempts wishes (at.wish-index + 1)
           c.match-claim.kind.now c.wish-item.result c.match-claim.progress step.progress
           w.copy-is (ap (λ cs. cs.items) w.claims-is) (ap (λ k. k.now) w.kind-is) w.progress-is
           (planned_more at.copy c.args.copy.now w.claim.new.self at.claims.items w.push.new.self.items c.args.start c.args.preempts wishes at.wish-index at.kind.now c.wish-item.result
-          at.progress c.turn.result step at.invariant c.loop-wish-test.true c.wish-item.is c.turn.ensures.start c.in_ok-claim.ensures
-          (w.in_ok-claim-2.ensures.cell ∙ ap (after_planned cell) (sym w.in-Some-claim.is))
+          at.progress c.turn.result step at.invariant c.loop-wish-test.true c.wish-item.is c.turn.ensures.start c.in_ok-claim.ensures.step
+          (w.in_ok-claim-2.ensures.cell
+          ∙ ap (λ (copy : CopyState). after_claim (cell_of copy.board) (w.in-Some-claim.claim, judge_fine (cell_of copy.board) w.in-Some-claim.claim)) same
+          ∙ ap (after_planned cell) (sym w.in-Some-claim.is))
           (w.in_ok-push.ensures.items ∙ ap (λ (o : Option Claim). at.claims.items ++ and_claims o []) (sym w.in-Some-claim.is))
-          (still_back at.copy w.claim.new.self _ w.claim.ensures.seen w.in_ok-claim-2.ensures.trial at.invariant.room)
-          (still_room (length wishes) at.wish-index at.copy.trial w.claim.new.self.trial c.loop-wish-test.true w.in_ok-claim-2.ensures.trial at.invariant.room))
+          (still_back at.copy w.claim.new.self _ (w.claim.ensures.seen ∙ ap (λ (copy : CopyState). copy.seen) same) (w.in_ok-claim-2.ensures.trial ∙ ap (λ (copy : CopyState). option_map one_less copy.trial) same) at.invariant.room)
+          (still_room (length wishes) at.wish-index at.copy.trial w.claim.new.self.trial c.loop-wish-test.true (w.in_ok-claim-2.ensures.trial ∙ ap (λ (copy : CopyState). option_map one_less copy.trial) same) at.invariant.room))
       | in_default-claim w ↦
           planned_as c.match-claim.copy at.copy c.args.copy.now c.match-claim.claims.items at.claims.items c.args.start c.args.preempts wishes (at.wish-index + 1)
           c.match-claim.kind.now c.wish-item.result c.match-claim.progress step.progress
-          w.copy-is (ap (λ cs. cs.items) w.claims-is) (ap (λ k. k.now) w.kind-is) w.progress-is
+          (w.copy-is ∙ same) (ap (λ cs. cs.items) w.claims-is) (ap (λ k. k.now) w.kind-is) w.progress-is
           (planned_more at.copy c.args.copy.now at.copy at.claims.items at.claims.items c.args.start c.args.preempts wishes at.wish-index at.kind.now c.wish-item.result
-          at.progress c.turn.result step at.invariant c.loop-wish-test.true c.wish-item.is c.turn.ensures.start c.in_ok-claim.ensures
+          at.progress c.turn.result step at.invariant c.loop-wish-test.true c.wish-item.is c.turn.ensures.start c.in_ok-claim.ensures.step
           (ap (after_planned cell) (sym w.in_default-claim.is))
           (sym (append-nil at.claims.items) ∙ ap (λ (o : Option Claim). at.claims.items ++ and_claims o []) (sym w.in_default-claim.is))
           refl

@@ -18,7 +18,7 @@ returns-clause-kept c =
     let left = vec_capacity c.push_reserved.new.self - vec_len c.push_reserved.new.self in
     subst (λ ms. IsTrialOf c.apply_placed.new.self c.apply_placed.new.undo ms left) (sym c.push_reserved.ensures.items)
     (trial_claimed before c.apply_placed.new.self claim c.deref.result.now judged c.apply_placed.ensures.tasks c.reserve_victims.new.self c.apply_placed.new.undo machines.items spare left
-    c.running.ensures.ordered
+    c.judge.ensures.ordered
     (trial_same before c.args.self.now.undo c.reserve_victims.new.self machines.items spare c.reserve_victims.ensures.log c.reserve_victims.ensures.claims c.requires.kept)
     c.apply_placed.ensures.content c.apply_placed.ensures.undo
     (omega (arith, c.push_reserved.ensures.len, c.push_reserved.ensures.capacity, c.apply_placed.ensures.claims, c.reserve_victims.ensures.claims, c.requires.kept.room)))
@@ -30,4 +30,4 @@ returns-clause-elsewhere c =
     let judged : judge_fine (cell_of before) claim ≡ record { verdict = Placed; evicted = c.deref.result.now } =
     subst (λ keys. judge_fine (cell_of before) claim ≡ record { verdict = Placed; evicted = keys }) (sym c.deref.ensures.value)
     (judged_placed (cell_of before) claim c.judge.result c.judge.new.evicted.items c.requires.placed c.judge.ensures.judged) in
-    claimed_elsewhere before c.apply_placed.new.self claim c.deref.result.now judged c.apply_placed.ensures.tasks c.running.ensures.ordered
+    claimed_elsewhere before c.apply_placed.new.self claim c.deref.result.now judged c.apply_placed.ensures.tasks c.judge.ensures.ordered

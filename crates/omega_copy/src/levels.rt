@@ -1,0 +1,116 @@
+//! The indexes of what evictions could free, one for each precedence for which room was sought so.
+ghost use Rattle.std.specs.Prelude.{◌≡◌, ◌≤◌, ◌<◌, ℕ, IfOk, IfSome, OnOk, length};
+ghost use Rattle.omega_model.specs.Cell.{Cell};
+ghost use Rattle.omega_board.specs.Board.{cell_of};
+ghost use Rattle.omega_running.specs.Order.{Each};
+ghost use Rattle.omega_copy.specs.Levels.{IsLevelAt, Near, NearEntry, NearParts, Tells};
+ghost use Rattle.omega_copy.specs.Telling.{freed_of};
+
+use crate::telling::{freed_at, tell_all, tell_entry, tell_parts};
+use omega_board::Board;
+use omega_fit::FitIndex;
+use omega_model::{Entry, NoMemory};
+use std::alloc::Global;
+
+/// What is free on each machine of a board once all tasks of a lower precedence than this one are off it,
+/// in order of the board's list; nothing where the machine isn't up.
+#[derive(Drop)]
+pub struct Level {
+    pub(crate) prec: u8,
+    pub(crate) index: FitIndex,
+}
+
+impl Level {
+    /// The index of that. Takes no memory.
+    pub fn freed(&self) -> &FitIndex
+        ensures { result.now ≡ self.now.index }
+    {
+        &self.index
+    }
+}
+
+/// The level of a precedence on a board. Costs the machines and the tasks on them.
+pub(crate) fn level_of(alloc: Global, board: &Board, prec: u8) -> Result<Level, NoMemory>
+    ensures tells { IfOk result (λ level. Tells (cell_of board.now) level) }
+    ensures prec { IfOk result (λ level. level.prec ≡ prec) }
+{
+    let count = board.machines().len();
+    let mut freed = Vec::with_capacity(alloc, count)?;
+    for position in 0..count {
+        freed.push_reserved(freed_at(board, prec, position));
+    }
+    let index = FitIndex::build(alloc, &freed)?;
+    Ok(Level { prec, index })
+}
+
+/// Takes out the level of a precedence; `None` where there is none. Costs the levels.
+pub(crate) fn take_out(levels: &mut Vec<Level>, prec: u8) -> Option<Level>
+    ensures kept { (cell : Cell) → Each (Tells cell) levels.old.items → Each (Tells cell) levels.new.items }
+    ensures tells { (cell : Cell) → Each (Tells cell) levels.old.items → IfSome result (Tells cell) }
+    ensures prec { IfSome result (λ level. level.prec ≡ prec) }
+{
+    let place = place_of(levels, prec)?;
+    Some(levels.remove(place))
+}
+
+/// Where the level of a precedence is, if there is one.
+fn place_of(levels: &[Level], prec: u8) -> Option<usize>
+    ensures below { IfSome result (λ place. place < length levels.now) }
+    ensures prec { IfSome result (λ place. IsLevelAt levels.now prec place) }
+{
+    for (place, level) in levels.iter().enumerate() {
+        if level.prec == prec {
+            return Some(place);
+        }
+    }
+    None
+}
+
+/// Makes room in each level for at least so many more machines. Each tells the same, also where memory
+/// runs out.
+pub(crate) fn reserve_each(levels: &mut [Level], count: usize) -> Result<(), NoMemory>
+    ensures kept { (cell : Cell) → Each (Tells cell) levels.old → Each (Tells cell) levels.new }
+    ensures room { OnOk result (Each (λ level. count ≤ level.index.spare) levels.new) }
+{
+    let Some((level, rest)) = levels.split_first_mut() else {
+        return Ok(());
+    };
+    level.index.reserve(count)?;
+    reserve_each(rest, count)
+}
+
+/// Tells each level what an entry changed that was applied to the board.
+pub(crate) fn tell_entry_each(levels: &mut [Level], board: &Board, entry: &Entry)
+    requires { Each (λ level. NearEntry board.now entry.now level.prec level.index) levels.old }
+    ensures { Each (Tells (cell_of board.now)) levels.new }
+{
+    let Some((level, rest)) = levels.split_first_mut() else {
+        return;
+    };
+    tell_entry(&mut level.index, level.prec, board, entry);
+    tell_entry_each(rest, board, entry);
+}
+
+/// Tells each level what parts of these machines changed that were put on the board.
+pub(crate) fn tell_parts_each(levels: &mut [Level], board: &Board, machines: &[u64])
+    requires { Each (λ level. NearParts board.now machines.now level.prec level.index) levels.old }
+    ensures { Each (Tells (cell_of board.now)) levels.new }
+{
+    let Some((level, rest)) = levels.split_first_mut() else {
+        return;
+    };
+    tell_parts(&mut level.index, level.prec, board, machines);
+    tell_parts_each(rest, board, machines);
+}
+
+/// Tells each level what is free on these machines, which has told all else.
+pub(crate) fn tell_all_each(levels: &mut [Level], board: &Board, machines: &[u64])
+    requires { Each (λ level. Near board.now machines.now level.prec level.index) levels.old }
+    ensures { Each (Tells (cell_of board.now)) levels.new }
+{
+    let Some((level, rest)) = levels.split_first_mut() else {
+        return;
+    };
+    tell_all(&mut level.index, level.prec, board, machines);
+    tell_all_each(rest, board, machines);
+}
