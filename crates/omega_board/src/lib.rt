@@ -12,8 +12,6 @@ mod entries;
 mod judging;
 mod placing;
 mod putting;
-#[cfg(test)]
-mod tests;
 mod touching;
 mod undo;
 

@@ -57,7 +57,7 @@ fn constraints_of(alloc: Global, words: &[Bytes]) -> Result<Constraints, Fault> 
 }
 
 /// A constraint of three words.
-fn constraint_of(
+pub fn constraint_of(
     alloc: Global,
     name: &Bytes,
     op: &Bytes,

@@ -5,11 +5,16 @@
 #![tactic(auto)]
 
 mod attrs;
+mod board;
+mod cell;
 mod fault;
+mod feed;
 mod fit;
 mod line;
 mod mapreduce;
+mod rows;
 mod tables;
+mod telling;
 mod units;
 mod values;
 mod words;
@@ -51,6 +56,9 @@ fn answer_words(alloc: Global, words: &[Bytes]) -> Result<String, Fault> {
     let call = values::text(call)?;
     match values::text(subject)? {
         "attrs" => attrs::answer(alloc, call, rest),
+        "board" => board::answer(alloc, call, rest),
+        "cell" => cell::answer(alloc, call, rest),
+        "feed" => feed::answer(alloc, call, rest),
         "fit" => fit::answer(alloc, call, rest),
         "mapreduce" => mapreduce::answer(alloc, call, rest),
         "tables" => tables::answer(alloc, call, rest),

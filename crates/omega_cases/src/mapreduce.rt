@@ -36,7 +36,7 @@ fn extras_of(
 }
 
 /// The policy of a word.
-fn policy_of(word: &Bytes) -> Result<Extra, Fault> {
+pub fn policy_of(word: &Bytes) -> Result<Extra, Fault> {
     match text(word)? {
         "max" => Ok(Extra::Max),
         "relative" => Ok(Extra::Relative),

@@ -10,8 +10,6 @@ mod deciding;
 mod laws;
 mod prepared;
 mod room;
-#[cfg(test)]
-mod tests;
 mod touched;
 
 pub use cell::Cell;

@@ -23,6 +23,3 @@ pub use open_jobs::OpenJobs;
 pub use ordered::{feed, rounds};
 pub use unplaced::{WaitingTasks, waiting};
 pub use wanted::Wanted;
-
-#[cfg(test)]
-mod tests;

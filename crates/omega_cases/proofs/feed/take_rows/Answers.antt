@@ -1,5 +1,5 @@
 use Rattle.omega_feed.proofs.Quiet.{all_quiet}
-use Rattle.omega_feed.proofs.tests.take_all.Goals as goal
+use Rattle.omega_cases.proofs.feed.take_rows.Goals as goal
 
 pub loop-row-init : goal.loop-row-init
 loop-row-init c tasks = all_quiet _ _ tasks c.requires

@@ -1,0 +1,341 @@
+//! Claims that are judged and entries that are applied: the calls of `omega_board`.
+ghost use Rattle.std.specs.Prelude.{◌≡◌, ◌<◌, ◌≤◌, ◌∷◌, [], length, IfOk};
+ghost use Rattle.omega_board.specs.Undo.{IsUndoOf};
+ghost use Rattle.omega_model.specs.declared.claims.Mode.{Mode};
+ghost use Rattle.omega_model.specs.declared.claims.Rule.{Rule};
+ghost use Rattle.omega_model.specs.declared.entries.Entry.{Entry};
+
+use crate::fault::Fault;
+use crate::telling::{part, tell_free, tell_judged, tell_part, tell_tasks};
+use crate::values::{GREATEST, claim, is_colon, need, number, place, task, text};
+use omega_board::{Board, Undo};
+use omega_model::{
+    Bytes, Claim, Claims, Copied, Entry, Judgement, Keys, Mode, Need, Rule, Seq, TaskKey, Txn,
+    Verdict,
+};
+use std::alloc::Global;
+
+/// `script STEP : STEP ..`: what each step answers on one board, which is empty before the first;
+/// the answers are parted by `:` too.
+///
+/// Entries answer the tasks that they stop, `-` for none: `add MACHINE AMOUNT`, `update MACHINE
+/// AMOUNT`, `remove MACHINE`, `set MACHINE NAME VALUE`, `delete MACHINE NAME`, `end TASK`, `round
+/// NUMBER`. A CLAIM is five words: `TASK MACHINE AMOUNT PRECEDENCE VICTIMS`, where a precedence has
+/// `/differ` behind it if the task shares its machine with none of its job. `judge CLAIM` answers the
+/// verdict and the tasks that are evicted, `judge CLAIM NUMBER` does so where the machine has this
+/// sequence number in the copy. `place CLAIM` answers the same, and applies a commit of the claim where
+/// it is placed. `try CLAIM` and `trial CLAIM` place it and take it back, and answer besides what `at`
+/// does meanwhile; the one makes room for the claim, the other for one claim and then for victims.
+///
+/// `at MACHINE` answers how many entries touched the machine, how many tasks run on all machines and
+/// what is free on this one; `part POSITION` the machine at a position of the list: its number, whether
+/// it is up, its capacity, how many attributes it has, how many entries touched it, and its tasks;
+/// `machines` the length of the list. `copy` goes on with a copy of the board, and answers its length.
+pub fn answer(alloc: Global, call: &str, words: &[Bytes]) -> Result<String, Fault> {
+    if call != "script" {
+        return Err(Fault::UnknownCall);
+    }
+    let mut board = Board::new(alloc);
+    let mut answers = String::new(alloc);
+    for step in words.split(is_colon) {
+        part(&mut answers)?;
+        take(&mut board, alloc, step, &mut answers)?;
+    }
+    Ok(answers)
+}
+
+/// Does a step, and appends its answer.
+pub fn take(
+    board: &mut Board,
+    alloc: Global,
+    step: &[Bytes],
+    answers: &mut String,
+) -> Result<(), Fault> {
+    let [call, words @ ..] = step else {
+        return Err(Fault::UnknownCall);
+    };
+    let call = text(call)?;
+    match call {
+        "place" => commit(board, alloc, words, answers),
+        "try" => attempt(board, alloc, words, answers),
+        "trial" => trial(board, alloc, words, answers),
+        "copy" => copy(board, alloc, words, answers),
+        "judge" | "at" | "part" | "machines" => ask(board, alloc, call, words, answers),
+        _ => {
+            let stopped = apply(board, alloc, call, words)?;
+            tell_tasks(answers, stopped.as_slice())
+        }
+    }
+}
+
+/// Appends the answer of a step that changes nothing.
+pub fn ask(
+    board: &Board,
+    alloc: Global,
+    call: &str,
+    words: &[Bytes],
+    answers: &mut String,
+) -> Result<(), Fault> {
+    match (call, words) {
+        ("judge", [claim @ .., seq]) if claim.len() == 5 => {
+            judge(board, alloc, claim, Some(number(seq)?), answers)
+        }
+        ("judge", _) => judge(board, alloc, words, None, answers),
+        ("at", [machine]) => tell_at(board, number(machine)?, answers),
+        ("part", [position]) => tell_position(board, alloc, place(position)?, answers),
+        ("machines", []) => {
+            write!(answers, "{}", board.machines().len())?;
+            Ok(())
+        }
+        _ => Err(Fault::UnknownCall),
+    }
+}
+
+/// Applies an entry. Answers the tasks that it stops.
+fn apply(board: &mut Board, alloc: Global, call: &str, words: &[Bytes]) -> Result<Keys, Fault> {
+    match (call, words) {
+        ("add", [machine, cap]) => add(board, alloc, number(machine)?, need(cap)?),
+        ("update", [machine, cap]) => update(board, alloc, number(machine)?, need(cap)?),
+        ("remove", [machine]) => remove(board, alloc, number(machine)?),
+        ("set", [machine, name, value]) => set(board, alloc, number(machine)?, name, value),
+        ("delete", [machine, name]) => delete(board, alloc, number(machine)?, name),
+        ("end", [key]) => end(board, alloc, task(key)?),
+        ("round", [number_of]) => {
+            let number = number(number_of)?;
+            Ok(board.apply_entry(alloc, &Entry::Round { number })?)
+        }
+        _ => Err(Fault::UnknownCall),
+    }
+}
+
+/// A machine is added.
+fn add(board: &mut Board, alloc: Global, machine: u64, cap: Need) -> Result<Keys, Fault> {
+    let room = board.machines().len() < 65536 && cap.fits(GREATEST);
+    if room && board.machines().seq(machine) < u64::MAX {
+        Ok(board.apply_entry(alloc, &Entry::MachineAdd { machine, cap })?)
+    } else {
+        Err(Fault::MayNot)
+    }
+}
+
+/// A machine has another capacity.
+fn update(board: &mut Board, alloc: Global, machine: u64, cap: Need) -> Result<Keys, Fault> {
+    let room = board.machines().len() < 65536 && cap.fits(GREATEST);
+    if room && board.machines().seq(machine) < u64::MAX {
+        Ok(board.apply_entry(alloc, &Entry::MachineUpdate { machine, cap })?)
+    } else {
+        Err(Fault::MayNot)
+    }
+}
+
+/// A machine is removed.
+fn remove(board: &mut Board, alloc: Global, machine: u64) -> Result<Keys, Fault> {
+    let room = board.machines().len() < 65536;
+    if room && board.machines().seq(machine) < u64::MAX {
+        Ok(board.apply_entry(alloc, &Entry::MachineRemove { machine })?)
+    } else {
+        Err(Fault::MayNot)
+    }
+}
+
+/// An attribute is set.
+fn set(
+    board: &mut Board,
+    alloc: Global,
+    machine: u64,
+    name: &Bytes,
+    value: &Bytes,
+) -> Result<Keys, Fault> {
+    let (name, value) = (name.copy(alloc)?, value.copy(alloc)?);
+    let room = board.machines().len() < 65536;
+    if room && board.machines().seq(machine) < u64::MAX {
+        let entry = Entry::AttrSet {
+            machine,
+            name,
+            value,
+        };
+        Ok(board.apply_entry(alloc, &entry)?)
+    } else {
+        Err(Fault::MayNot)
+    }
+}
+
+/// An attribute is deleted.
+fn delete(board: &mut Board, alloc: Global, machine: u64, name: &Bytes) -> Result<Keys, Fault> {
+    let name = name.copy(alloc)?;
+    let room = board.machines().len() < 65536;
+    if room && board.machines().seq(machine) < u64::MAX {
+        Ok(board.apply_entry(alloc, &Entry::AttrDelete { machine, name })?)
+    } else {
+        Err(Fault::MayNot)
+    }
+}
+
+/// A running task ends.
+fn end(board: &mut Board, alloc: Global, key: TaskKey) -> Result<Keys, Fault> {
+    let Some(task) = board.running().get(key) else {
+        return Err(Fault::MayNot);
+    };
+    let machine = task.machine;
+    if board.machines().seq(machine) < u64::MAX {
+        Ok(board.apply_entry(alloc, &Entry::End { key, machine })?)
+    } else {
+        Err(Fault::MayNot)
+    }
+}
+
+/// Appends the verdict on a claim and what is evicted for it.
+fn judge(
+    board: &Board,
+    alloc: Global,
+    words: &[Bytes],
+    copy_seq: Option<u64>,
+    answers: &mut String,
+) -> Result<(), Fault> {
+    let claim = claim(alloc, words)?;
+    let mut evicted = Vec::with_capacity(alloc, claim.victims.len())?;
+    let verdict = board.judge(&claim, copy_seq, &mut evicted);
+    tell_judged(answers, verdict, evicted.as_slice())
+}
+
+/// Judges a claim, and applies a commit of it where it is placed.
+fn commit(
+    board: &mut Board,
+    alloc: Global,
+    words: &[Bytes],
+    answers: &mut String,
+) -> Result<(), Fault> {
+    let claim = claim(alloc, words)?;
+    let judgement = commit_claim(board, alloc, claim)?;
+    tell_judged(answers, judgement.verdict, judgement.evicted.as_slice())
+}
+
+/// The same, with what is answered to it.
+fn commit_claim(board: &mut Board, alloc: Global, claim: Claim) -> Result<Judgement, Fault> {
+    let mut evicted = Vec::with_capacity(alloc, claim.victims.len())?;
+    let verdict = board.judge(&claim, None, &mut evicted);
+    let evicted = Seq::of(evicted);
+    let judgement = Judgement { verdict, evicted };
+    if verdict != Verdict::Placed {
+        return Ok(judgement);
+    }
+    if board.machines().seq(claim.machine) == u64::MAX {
+        return Err(Fault::MayNot);
+    }
+    let entry = entry_of(alloc, claim, judgement.copy(alloc)?)?;
+    board.apply_entry(alloc, &entry)?;
+    Ok(judgement)
+}
+
+/// The entry of a commit of one claim, with the judgement on it.
+fn entry_of(alloc: Global, claim: Claim, judgement: Judgement) -> Result<Entry, Fault>
+    ensures { IfOk result (λ entry. entry ≡ Entry.Commit 1 0 (record { job = claim.key.job; rule = Rule.Fine; mode = Mode.Incremental; claims = claim ∷ [] }) (judgement ∷ [])) }
+{
+    let reply = Seq::of(vec![in alloc; judgement]?);
+    let txn = Txn {
+        job: claim.key.job,
+        rule: Rule::Fine,
+        mode: Mode::Incremental,
+        claims: Seq::of(vec![in alloc; claim]?),
+    };
+    Ok(Entry::Commit {
+        scheduler: 1,
+        seen: 0,
+        txn,
+        reply,
+    })
+}
+
+/// Places a claim and takes it back, with room that is made for the list of it.
+fn attempt(
+    board: &mut Board,
+    alloc: Global,
+    words: &[Bytes],
+    answers: &mut String,
+) -> Result<(), Fault> {
+    let claim = claim(alloc, words)?;
+    let claims = alone(alloc, &claim)?;
+    let mut undo = board.reserve(alloc, &claims)?;
+    place_and_take_back(board, alloc, &claim, &mut undo, answers)
+}
+
+/// The list of one claim.
+fn alone(alloc: Global, claim: &Claim) -> Result<Claims, Fault>
+    ensures { IfOk result (λ claims. claims ≡ claim.now ∷ []) }
+{
+    let mut claims = Claims::new(alloc);
+    claims.push(claim.copy(alloc)?)?;
+    Ok(claims)
+}
+
+/// The same, with room that is made for one claim, and then for its victims.
+fn trial(
+    board: &mut Board,
+    alloc: Global,
+    words: &[Bytes],
+    answers: &mut String,
+) -> Result<(), Fault> {
+    let claim = claim(alloc, words)?;
+    let mut undo = board.reserve_room(alloc, 1, 0)?;
+    undo.reserve_victims(claim.victims.len())?;
+    place_and_take_back(board, alloc, &claim, &mut undo, answers)
+}
+
+/// Places a claim where it is placed, and takes it back.
+fn place_and_take_back(
+    board: &mut Board,
+    alloc: Global,
+    claim: &Claim,
+    undo: &mut Undo,
+    answers: &mut String,
+) -> Result<(), Fault>
+    requires undo { IsUndoOf board.old undo.old }
+    requires claims { 0 < undo.old.claims }
+    requires victims { length claim.now.victims ≤ undo.old.victims }
+{
+    let mut evicted = Vec::with_capacity(alloc, claim.victims.len())?;
+    let verdict = board.judge(claim, None, &mut evicted);
+    tell_judged(answers, verdict, evicted.as_slice())?;
+    if verdict != Verdict::Placed {
+        return Ok(());
+    }
+    board.apply_placed(claim, evicted.as_slice(), undo);
+    answers.push(' ')?;
+    tell_at(board, claim.machine, answers)?;
+    board.undo(undo);
+    Ok(())
+}
+
+/// Goes on with a copy, and appends how many machines it has.
+fn copy(
+    board: &mut Board,
+    alloc: Global,
+    words: &[Bytes],
+    answers: &mut String,
+) -> Result<(), Fault> {
+    *board = board.copy(alloc)?;
+    ask(board, alloc, "machines", words, answers)
+}
+
+/// Appends how many entries touched a machine, how many tasks run and what is free on the machine.
+fn tell_at(board: &Board, machine: u64, answers: &mut String) -> Result<(), Fault> {
+    let machines = board.machines();
+    write!(answers, "{} ", machines.seq(machine))?;
+    write!(answers, "{} ", board.running().count())?;
+    tell_free(answers, machines.free(machine))
+}
+
+/// Appends the machine at a position and its tasks, or `-` where there is none.
+fn tell_position(
+    board: &Board,
+    alloc: Global,
+    position: usize,
+    answers: &mut String,
+) -> Result<(), Fault> {
+    if position >= board.machines().len() {
+        answers.push('-')?;
+        return Ok(());
+    }
+    let found = board.part(alloc, position)?;
+    tell_part(answers, &found)
+}
