@@ -1,26 +1,28 @@
 -- A claim that would be placed can be placed, once what it evicts has stopped.
-use Rattle.std.proofs.Common.{◌≡◌, ℕ, ◌<◌, true, false, not, List, [], length, get_or, take, Some, None, is_some, IsTrue, IsSomeAnd, refl, sym, ap, ap₂, ◌∙◌, subst, nat_eq}
+use Rattle.std.proofs.Common.{◌≡◌, ℕ, ◌<◌, true, false, not, ◌&&◌, inl, inr, List, [], ◌∷◌, length, get_or, take, Some, None, is_some, IsTrue, IsSomeAnd, refl, sym, ap, ap₂, ◌∙◌, subst, arith, ◌==◌}
 use Rattle.std.specs.Option.{option_map, option_and_then}
-use Rattle.std.proofs.lemmas.Bool.{eqb-true}
+use Rattle.std.proofs.lemmas.Bool.{and_parts, both_ways, or_cases}
 use Rattle.std.proofs.lemmas.Option.{slice_get-get_or}
 use Rattle.omega_model.specs.Need.{Fits, minus}
 use Rattle.omega_model.specs.Keys.{same_key, is_among}
-use Rattle.omega_model.specs.Cell.{machine_at, task_at, without, use_on, rest_on}
-use Rattle.omega_model.specs.Judge.{is_up, capacity_of, free_without}
+use Rattle.omega_model.specs.Cell.{Cell, machine_at, task_at, without, use_on, rest_on}
+use Rattle.omega_model.specs.Judge.{is_up, capacity_of, runs_on}
+use Rattle.omega_model.specs.declared.cells.Need.{Need}
 use Rattle.omega_model.specs.declared.cells.TaskKey.{TaskKey}
 use Rattle.omega_model.specs.declared.cells.Task.{Task}
 use Rattle.omega_model.specs.declared.claims.Claim.{Claim}
 use Rattle.omega_machines.specs.declared.MachineState.{MachineState}
-use Rattle.omega_machines.specs.Table.{machines_of, state_at, free_if_up, free_at}
+use Rattle.omega_machines.specs.Table.{machines_of, free_if_up, free_at}
 use Rattle.omega_machines.proofs.Laws.{machine_of_state}
 use Rattle.omega_running.proofs.Lists.{find_none, filter_every, each_of}
-use Rattle.omega_board.specs.Board.{BoardState, IsBoard, cell_of, recounted, table_with}
-use Rattle.omega_board.proofs.Tasks.{each_filter, each_absent, found_passes, found_still}
-use Rattle.omega_board.proofs.Boards.{free_where_up, state_up}
-use Rattle.omega_board.proofs.Parts.{some_free, found_on}
+use Rattle.omega_board.specs.Board.{IsBoard}
+use Rattle.omega_board.specs.Putting.{HasRoomFor}
+use Rattle.omega_board.proofs.Tasks.{each_filter, each_absent, found_still}
+use Rattle.omega_board.proofs.Boards.{in_use, state_up}
+use Rattle.omega_board.proofs.Parts.{not_refused}
 use Rattle.omega_board.proofs.Placed.{IsPlaced}
-use Rattle.omega_board.proofs.Rewinds.{state_with}
 use Rattle.omega_model.proofs.Amounts.{fits_tested, rest_is}
+use Rattle.omega_model.proofs.Lists.{by_answer}
 
 -- nothing goes
 pub without_none : (tasks : List Task) → without [] tasks ≡ tasks
@@ -32,27 +34,48 @@ absent_still keys tasks key none =
     find_none (λ y. same_key y.key key) (without keys tasks)
     (each_filter (λ y. same_key y.key key ≡ false) (λ y. not (is_among y.key keys)) tasks (each_absent (λ y. same_key y.key key) tasks none))
 
-module _ (board : BoardState) (kept : IsBoard board.table board.tasks) (claim : Claim) (evicted : List TaskKey) (known : IsPlaced (cell_of board) claim evicted) where
+-- a task that runs on a machine runs
+runs_there : (tasks : List Task) (id : ℕ) (key : TaskKey) → runs_on tasks id key ≡ true → IsTrue (is_some (task_at tasks key))
+runs_there [] id key runs = absurd (both_ways false refl runs)
+runs_there (t ∷ tasks) id key runs =
+    by_answer (same_key t.key key)
+    (λ same. rw same refl)
+    (λ other. rw other (elim (or_cases (t.machine == id && same_key t.key key) (runs_on tasks id key) runs) [
+      | inl here ↦ absurd (both_ways _ other (and_parts _ _ here).1)
+      | inr behind ↦ runs_there tasks id key behind
+    ]))
+
+module _ (cell : Cell) (claim : Claim) (evicted : List TaskKey) (known : IsPlaced cell claim evicted) where
   -- each task that is evicted runs until it is its turn
-  pub evicted_runs : (i : ℕ) (key : TaskKey) → i < length evicted → get_or evicted i key ≡ key → IsTrue (is_some (task_at (without (take i evicted) board.tasks) key))
+  pub evicted_runs : (i : ℕ) (key : TaskKey) → i < length evicted → get_or evicted i key ≡ key → IsTrue (is_some (task_at (without (take i evicted) cell.tasks) key))
   evicted_runs i key below is =
       let there = known.stand i key (slice_get-get_or evicted i key below ∙ ap Some is) in
-      let runs = found_on board.tasks claim.machine key kept.ordered there.0 in
-      ap is_some (found_still (take i evicted) board.tasks key there.1 ∙ runs.1)
+      ap is_some (found_still (take i evicted) cell.tasks key there.1) ∙ runs_there cell.tasks claim.machine key there.0
 
   -- then there is room for the task
-  pub claim_fits : (tasks : List Task) (table : List MachineState) → tasks ≡ without evicted board.tasks → table ≡ table_with tasks board.table
-      → IsSomeAnd (free_at table claim.machine) (λ free. Fits claim.spec.need free)
-  claim_fits tasks table left counted =
-      let up : is_up (machine_at (machines_of board.table) claim.machine) ≡ true = free_where_up board.table claim.machine ∙ some_free board.table claim.machine known.up in
-      let state = state_up board.table claim.machine up in
-      let own : state.0.machine.id ≡ claim.machine = eqb-true _ _ (found_passes (λ (s : MachineState). nat_eq s.machine.id claim.machine) board.table state.0 state.1) in
-      let then : state_at table claim.machine ≡ Some (recounted tasks state.0) =
-      ap (λ t. state_at t claim.machine) counted ∙ state_with tasks board.table claim.machine ∙ ap (option_map (recounted tasks)) state.1 in
-      let free : free_at table claim.machine ≡ Some (minus state.0.machine.cap (use_on tasks state.0.machine.id)) = ap (option_and_then free_if_up) then ∙ rw state.2 refl in
-      let cap : capacity_of (machine_at (machines_of board.table) claim.machine) ≡ state.0.machine.cap =
-      ap capacity_of (machine_of_state board.table claim.machine ∙ ap (option_map (λ (s : MachineState). s.machine)) state.1) in
-      let amount : use_on tasks state.0.machine.id ≡ rest_on board.tasks claim.machine evicted =
-      ap (use_on tasks) own ∙ ap (λ ts. use_on ts claim.machine) left ∙ sym (rest_is board.tasks claim.machine evicted) in
-      let same : free_without (cell_of board) claim evicted ≡ minus state.0.machine.cap (use_on tasks state.0.machine.id) = ap₂ minus cap (sym amount) in
-      subst (λ o. IsSomeAnd o (λ f. Fits claim.spec.need f)) (sym free) (subst (Fits claim.spec.need) same (fits_tested _ _ known.fits))
+  pub claim_fits : (after : Cell) → after.machines ≡ cell.machines → after.tasks ≡ without evicted cell.tasks
+      → HasRoomFor after (record { key = claim.key; machine = claim.machine; spec = claim.spec })
+  claim_fits after machines left =
+      let machine = ap (λ ms. machine_at ms claim.machine) machines in
+      let amount : use_on after.tasks claim.machine ≡ rest_on cell.tasks claim.machine evicted =
+      ap (λ ts. use_on ts claim.machine) left ∙ sym (rest_is cell.tasks claim.machine evicted) in
+      record {
+        up = ap is_up machine ∙ not_refused (is_up (machine_at cell.machines claim.machine)) known.up;
+        fits = subst (Fits claim.spec.need) (sym (ap₂ minus (ap capacity_of machine) amount)) (fits_tested _ _ known.fits);
+      }
+
+-- a machine on which there is room for a task has so much free
+pub room_free : (table : List MachineState) (tasks : List Task) → IsBoard table tasks → (task : Task) → HasRoomFor (record { machines = machines_of table; tasks = tasks }) task
+    → IsSomeAnd (free_at table task.machine) (λ free. Fits task.spec.need free)
+room_free table tasks kept task room =
+    let known = state_up table task.machine room.up in
+    let counted = (in_use table tasks kept task.machine known.0 known.1).1 in
+    let free : free_at table task.machine ≡ Some known.0.free = ap (option_and_then free_if_up) known.1 ∙ rw known.2 refl in
+    let cap : capacity_of (machine_at (machines_of table) task.machine) ≡ known.0.machine.cap =
+    ap capacity_of (machine_of_state table task.machine ∙ ap (option_map (λ (s : MachineState). s.machine)) known.1) in
+    let fits : Fits task.spec.need (minus known.0.machine.cap (use_on tasks task.machine)) =
+    subst (λ n. Fits task.spec.need (minus n (use_on tasks task.machine))) cap room.fits in
+    subst (λ o. IsSomeAnd o (λ free. Fits task.spec.need free)) (sym free) (
+      omega (arith, fits.0, ap (λ (n : Need). n.cpu) counted),
+      (omega (arith, fits.1.0, ap (λ (n : Need). n.mem) counted), omega (arith, fits.1.1, ap (λ (n : Need). n.disk) counted)),
+    )

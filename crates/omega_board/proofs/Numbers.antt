@@ -4,20 +4,17 @@ use Rattle.std.specs.List.{dedup, AllByRecursion}
 use Rattle.std.specs.List.Sorted.{IsStrictlyIncreasing, IsStrictlySortedBy}
 use Rattle.std.specs.Ordering.{nat_cmp}
 use Rattle.std.specs.declared.cmp.Ordering.TheVariants.{Less}
-use Rattle.std.proofs.lemmas.Bool.{eqb-true, eq-eqb, ltb-true, false_from_ne_true, or_left, or_right}
+use Rattle.std.proofs.lemmas.Bool.{eqb-true, ltb-true, false_from_ne_true}
 use Rattle.std.proofs.lemmas.List.Folds.{list_any-append}
 use Rattle.std.proofs.lemmas.Map.Keys.{sorted_head, sorted_tail, sorted_from_strictly_increasing}
 use Rattle.omega_running.specs.Order.{Each}
+use Rattle.omega_running.proofs.Kept.{or_no}
 use Rattle.omega_board.specs.Numbers.{is_among}
 use Rattle.omega_model.proofs.Lists.{by_answer}
 
 -- one more number
 pub one_more : (places : List ℕ) (p place : ℕ) → is_among (places ++ p ∷ []) place ≡ (is_among places place || (p == place))
-one_more places p place = list_any-append (λ other. other == place) places (p ∷ []) ∙ ap (λ b. is_among places place || b) (or_none (p == place))
-  where
-    or_none : (b : Bool) → (b || false) ≡ b
-    or_none true = refl
-    or_none false = refl
+one_more places p place = list_any-append (λ other. other == place) places (p ∷ []) ∙ ap (λ b. is_among places place || b) (or_no (p == place))
 
 -- a number is among those that are left where each is kept once
 pub once_kept : (places : List ℕ) (place : ℕ) → is_among (dedup nat_eq places) place ≡ is_among places place
@@ -71,9 +68,3 @@ not_before ps i d rises within = by ps i (sorted_from_strictly_increasing ps ris
         let more = greater q qs k (rest_greater q qs up) (omega (arith, below)) in
         let other : (q == get_or qs k d) ≡ false = false_from_ne_true _ (λ e. let same : q ≡ get_or qs k d = eqb-true _ _ e in absurd (omega (arith, same, more))) in
         rw other (by qs k (sorted_tail nat_cmp q qs up) (omega (arith, below)))
-
--- each number of a list is among them
-pub is_there : (ps : List ℕ) (i d : ℕ) → i < length ps → is_among ps (get_or ps i d) ≡ true
-is_there [] i d within = absurd (omega (arith, within))
-is_there (p ∷ ps) zero d within = or_left (p == p) (is_among ps p) (eq-eqb _ _ refl)
-is_there (p ∷ ps) (suc i) d within = or_right _ _ (is_there ps i d (omega (arith, within)))

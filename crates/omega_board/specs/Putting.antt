@@ -1,11 +1,12 @@
 -- How parts are put: what stops and what starts, and the rows between.
-use Rattle.std.specs.Prelude.{◌≡◌, ℕ, ◌==◌, false, not, List, [], ◌∷◌, Some, None, slice_get, if◌then◌else◌}
+use Rattle.std.specs.Prelude.{◌≡◌, ℕ, ◌==◌, false, not, List, [], ◌∷◌, Some, None, slice_get, IsTrue, if◌then◌else◌}
 use Rattle.std.specs.List.{filter, flat_map, fold}
-use Rattle.omega_model.specs.Cell.{Cell, task_at, with_task, is_on, use_on}
+use Rattle.omega_model.specs.Cell.{Cell, machine_at, task_at, with_task, is_on, use_on}
 use Rattle.omega_model.specs.Fields.{greatest}
+use Rattle.omega_model.specs.Judge.{capacity_of, is_up}
 use Rattle.omega_model.specs.Legal.{Sound}
 use Rattle.omega_model.specs.Machines.{change}
-use Rattle.omega_model.specs.Need.{Fits}
+use Rattle.omega_model.specs.Need.{Fits, minus}
 use Rattle.omega_model.specs.declared.cells.Machine.{Machine}
 use Rattle.omega_model.specs.declared.cells.Task.{Task}
 use Rattle.omega_model.specs.declared.delta.Part.{Part}
@@ -44,6 +45,12 @@ pub record MayPutRow (numbers : List ℕ) (tasks : List Task) (part : Part) : Ty
   pub cap : Fits part.machine.cap greatest
   pub in_use : Fits (use_on tasks part.machine.id) part.machine.cap
   pub down : part.machine.up ≡ false → filter (is_on part.machine.id) tasks ≡ []
+
+-- there is room for a task: its machine is up, and has the capacity for what the task needs beside what
+-- runs there
+pub record HasRoomFor (cell : Cell) (task : Task) : Type 0 where
+  pub up : IsTrue (is_up (machine_at cell.machines task.machine))
+  pub fits : Fits task.spec.need (minus (capacity_of (machine_at cell.machines task.machine)) (use_on cell.tasks task.machine))
 
 -- a task may start: it doesn't run, and with it the cell is sound
 pub record MayStart (cell : Cell) (task : Task) : Type 0 where

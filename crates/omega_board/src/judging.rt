@@ -9,6 +9,7 @@ ghost use Rattle.omega_model.specs.Need.{fits};
 ghost use Rattle.omega_model.specs.Touches.{is_placed, seq};
 ghost use Rattle.omega_model.specs.declared.entries.Entry.{Entry};
 ghost use Rattle.omega_model.specs.declared.claims.Rule.{Rule};
+ghost use Rattle.omega_running.specs.Kept.{KeysRise};
 ghost use Rattle.omega_board.specs.Board.{cell_of, Stand};
 
 use crate::Board;
@@ -29,6 +30,7 @@ impl Board {
         ensures judged { judge_on (cell_of self.now) (seq_at self.now.table claim.now.machine) copy_seq claim.now ≡ record { verdict = result; evicted = evicted.new.items } }
         ensures on_history { (history : List Entry) (seen : ℕ) (rule : Rule) → seq_at self.now.table claim.now.machine ≡ seq history claim.now.machine → copy_seq ≡ known_of history seen rule claim.now.machine → judge history seen (cell_of self.now) rule claim.now ≡ record { verdict = result; evicted = evicted.new.items } }
         ensures capacity { vec_capacity evicted.new ≡ vec_capacity evicted.old }
+        ensures ordered { KeysRise self.now.tasks }
     {
         let verdict = self.verdict(claim, copy_seq, evicted);
         self.keep_evicted(claim, verdict, evicted);
@@ -42,6 +44,7 @@ impl Board {
         ensures verdict { result ≡ verdict_given (changed_on (seq_at self.now.table claim.now.machine) copy_seq) (cell_of self.now) claim.now }
         ensures standing { IsTrue (is_placed result) → standing.new.items ≡ standing_victims self.now.tasks claim.now }
         ensures capacity { vec_capacity standing.new ≡ vec_capacity standing.old }
+        ensures ordered { KeysRise self.now.tasks }
     {
         if let Some(verdict) = self.no_machine(claim) {
             return verdict;
@@ -66,7 +69,8 @@ impl Board {
     }
 
     fn no_machine(&self, claim: &Claim) -> Option<Verdict>
-        ensures { result ≡ no_machine (cell_of self.now) claim.now }
+        ensures verdict { result ≡ no_machine (cell_of self.now) claim.now }
+        ensures ordered { KeysRise self.now.tasks }
     {
         match self.table.free(claim.machine) {
             Some(_) => None,

@@ -1,8 +1,7 @@
 //! Placed claims: applied to the board, taken back, and counted on their machines.
-ghost use Rattle.std.specs.Prelude.{◌≡◌, ◌+◌, ◌-◌, ◌<◌, ◌≤◌, ◌^◌, ℕ, [], ◌∷◌, None, length, take, sum_by, is_some, IsTrue, IsSomeAnd, IfOk, if◌then◌else◌};
+ghost use Rattle.std.specs.Prelude.{◌≡◌, ◌+◌, ◌-◌, ◌<◌, ◌≤◌, ◌^◌, ℕ, [], ◌∷◌, None, length, take, sum_by, is_some, IsTrue, IfOk, if◌then◌else◌};
 ghost use Rattle.std.specs.List.{zip, list_any};
-ghost use Rattle.omega_machines.specs.Table.{machines_of, free_at, seq_at, change_state, touched};
-ghost use Rattle.omega_model.specs.Need.{Fits};
+ghost use Rattle.omega_machines.specs.Table.{machines_of, seq_at, change_state, touched};
 ghost use Rattle.omega_model.specs.Cell.{task_at, with_task, without};
 ghost use Rattle.omega_model.specs.Judge.{judge_fine};
 ghost use Rattle.omega_model.specs.Machines.{is_listed};
@@ -10,7 +9,7 @@ ghost use Rattle.omega_model.specs.Reply.{tasks_placed};
 ghost use Rattle.omega_model.specs.Touches.{places_on};
 ghost use Rattle.omega_model.specs.declared.claims.Verdict.TheVariants.{Placed};
 ghost use Rattle.omega_board.specs.Board.{cell_of, table_with, IsBoard};
-ghost use Rattle.omega_board.specs.Putting.{MayStart};
+ghost use Rattle.omega_board.specs.Putting.{HasRoomFor, MayStart};
 ghost use Rattle.omega_board.specs.Undo.{IsUndoOf, at_reserve, before_change, MayTakeBack};
 
 use crate::Board;
@@ -71,7 +70,6 @@ impl Board {
         ensures claims { undo.new.claims + 1 ≡ undo.old.claims }
         ensures victims { undo.new.victims + length claim.now.victims ≡ undo.old.victims }
     {
-        let _ = &self.table;
         for key in evicted {
             self.stop_noted(*key, undo);
         }
@@ -120,7 +118,7 @@ impl Board {
     // Starts a task and notes it.
     fn start_noted(&mut self, task: Task, undo: &mut Undo)
         requires absent { task_at self.old.tasks task.key ≡ None }
-        requires fits { IsSomeAnd (free_at self.old.table task.machine) (λ free. Fits task.spec.need free) }
+        requires fits { HasRoomFor (cell_of self.old) task }
         requires undo { IsUndoOf self.old undo.old }
         requires room { 0 < undo.old.claims }
         ensures tasks { self.new.tasks ≡ with_task task self.old.tasks }

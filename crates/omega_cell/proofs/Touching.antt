@@ -11,6 +11,7 @@ use Rattle.std.proofs.lemmas.Option.{none-some, same_Some, cond_some, slice_get-
 use Rattle.omega_model.specs.Machines.{is_listed, numbers_of}
 use Rattle.omega_model.specs.declared.cells.Machine.{Machine}
 use Rattle.omega_running.specs.Order.{Each}
+use Rattle.omega_running.proofs.Kept.{or_no}
 use Rattle.omega_running.proofs.Lists.{each_map, each_of}
 use Rattle.omega_board.specs.Numbers.{is_among}
 use Rattle.omega_board.proofs.Numbered.{differ_back, others_behind}
@@ -22,11 +23,7 @@ use Rattle.omega_model.proofs.Lists.{by_answer}
 
 -- where nothing passes, nothing is added
 pub none_added : (places : List ℕ) (place : ℕ) (b : Bool) → b ≡ false → is_among places place ≡ (is_among places place || b)
-none_added places place b none = sym (ap (λ c. is_among places place || c) none ∙ or_none (is_among places place))
-  where
-    or_none : (c : Bool) → (c || false) ≡ c
-    or_none true = refl
-    or_none false = refl
+none_added places place b none = sym (ap (λ c. is_among places place || c) none ∙ or_no (is_among places place))
 
 -- a machine that isn't listed has no place
 pub unlisted_nowhere : (id : ℕ) (machines : List Machine) → is_listed id machines ≡ false → (place : ℕ) → passes_at (is_number id) machines place ≡ false

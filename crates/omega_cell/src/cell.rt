@@ -174,6 +174,7 @@ impl Cell {
         ensures history { self.new.history ≡ self.old.history ++ Entry.Commit scheduler seen prepared (reply_of self.old.history seen prepared) ∷ [] }
         ensures place { result.place ≡ length self.old.history }
         ensures outcomes { result.outcomes ≡ outcomes_of prepared.claims (reply_of self.old.history seen prepared) }
+        ensures few { length self.new.history < 2 ^ 64 }
     {
         let Prepared {
             txn,

@@ -1,11 +1,12 @@
 -- Jobs of which nothing waits, and how they stay so.
-use Rattle.std.proofs.Common.{◌≡◌, ℕ, Bool, true, false, cond, not, ◌||◌, ◌==◌, List, [], ◌∷◌, Some, map, refl, ap, sym, subst, ◌∙◌, inl, inr}
+use Rattle.std.proofs.Common.{◌≡◌, ℕ, Bool, true, false, cond, not, ◌||◌, ◌==◌, List, [], ◌∷◌, Option, Some, None, map, refl, ap, sym, subst, ◌∙◌, inl, inr}
+use Rattle.std.specs.Prelude.{is_some, option_map}
 use Rattle.std.specs.BTreeSet as set
 use Rattle.std.specs.BTreeSet.{BTreeSet}
 use Rattle.std.specs.List.{All, filter, list_any}
 use Rattle.std.specs.Ordering.{nat_cmp}
 use Rattle.std.proofs.lemmas.Bool.{eqb-true, cases_eq, cases_Bool, both_ways, or_cases, or_left, or_right}
-use Rattle.std.proofs.lemmas.List.Elements.{All-append, All-cons, All-filter, All-nil}
+use Rattle.std.proofs.lemmas.List.Elements.{All-append, All-cons, All-filter, All-head, All-nil, All-tail}
 use Rattle.std.proofs.lemmas.List.Folds.{list_any-append}
 use Rattle.omega_model.specs.Cell.{task_at}
 use Rattle.omega_model.specs.Keys.{key_lt}
@@ -17,6 +18,7 @@ use Rattle.omega_model.specs.declared.cells.TaskKey.{TaskKey}
 use Rattle.omega_feed.specs.Asked.{Asked, is_task_of}
 use Rattle.omega_feed.specs.Index.{wanted_task}
 use Rattle.omega_feed.specs.Open.{IsOpen, IsQuiet, OthersAreQuiet, RunsIfOf, StayOpen}
+use Rattle.omega_model.proofs.Lists.{by_answer}
 use Rattle.omega_feed.proofs.TaskMap.{idle}
 
 -- a filter finds no task where there was none
@@ -129,3 +131,25 @@ all_run_from job tasks (e ∷ es) none =
           (later (sym (ap (λ b. cond (not b) (e ∷ filter (idle tasks) (filter (λ e. e.0.job == job) es)) (filter (idle tasks) (filter (λ e. e.0.job == job) es))) runs) ∙ left))
       by_cases true false own runs left later =
           absurd (some e _ (sym (ap (λ b. cond (not b) (e ∷ filter (idle tasks) (filter (λ e. e.0.job == job) es)) (filter (idle tasks) (filter (λ e. e.0.job == job) es))) runs) ∙ left))
+
+-- where each task of a job runs, none of its entries is idle
+pub none_idle : (job : ℕ) (tasks : List Task) (es : List (TaskKey × Spec)) → All (RunsIfOf job tasks) (map wanted_task es)
+    → filter (idle tasks) (filter (λ e. e.0.job == job) es) ≡ []
+none_idle job tasks [] all = refl
+none_idle job tasks (e ∷ es) all =
+    let runs : RunsIfOf job tasks (wanted_task e) = All-head (RunsIfOf job tasks) (wanted_task e) (map wanted_task es) all in
+    let later = none_idle job tasks es (All-tail (RunsIfOf job tasks) (wanted_task e) (map wanted_task es) all) in
+    by_answer (e.0.job == job) (λ t. rw (t, runs t) later) (λ f. rw f later)
+
+-- so where one is idle, not all of them run
+pub one_idle : (job : ℕ) (tasks : List Task) (es : List (TaskKey × Spec)) (e : TaskKey × Spec) (rest : List (TaskKey × Spec))
+    → filter (idle tasks) (e ∷ rest) ≡ filter (idle tasks) (filter (λ e. e.0.job == job) es) → is_running (task_at tasks e.0) ≡ false
+    → All (RunsIfOf job tasks) (map wanted_task es) → ⊥
+one_idle job tasks es e rest found waits all = some (filter (idle tasks) rest) (rw waits at (found ∙ none_idle job tasks es all)) where
+  some : (xs : List (TaskKey × Spec)) → e ∷ xs ≡ [] → ⊥
+  some xs d = cc
+
+-- a task that isn't found doesn't run
+pub none_found : {X : Type 0} (task : X → Task) (found : Option X) → is_some found ≡ false → is_running (option_map task found) ≡ false
+none_found task None none = refl
+none_found task (Some x) none = none

@@ -8,17 +8,18 @@ use Rattle.std.specs.Ordering.{nat_cmp}
 use Rattle.std.proofs.lemmas.Bool.{eqb-true, cases_Bool, both_ways, or_cases, or_left, or_right}
 use Rattle.omega_model.specs.declared.cells.Task.{Task}
 use Rattle.omega_feed.specs.Asked.{Asked}
-use Rattle.omega_feed.specs.Open.{IsQuietAt, OthersAreQuiet}
+use Rattle.omega_feed.specs.Open.{IsQuietAt, NoneIsQuiet, OthersAreQuiet}
 use Rattle.omega_model.proofs.Lists.{by_answer}
 use Rattle.omega_model.proofs.Places.{at_place}
 use Rattle.omega_feed.proofs.Picked.{same_place}
 
--- those of `all` that aren't among the rest are left or quiet, and nothing else is left
+-- those of `all` that aren't among the rest are left or quiet, nothing else is left, and nothing quiet
 pub record AreSettled (asked : Asked) (tasks : List Task) (all rest : List ℕ) (left : BTreeSet ℕ) : Type 0 where
   pub seen : (p : ℕ) → list_any (is_at (nat_cmp p)) all ≡ true
       → (list_any (is_at (nat_cmp p)) rest ≡ true) ⊎ ((set.contains nat_cmp left p ≡ true) ⊎ IsQuietAt asked tasks p)
   pub fewer : (p : ℕ) → set.contains nat_cmp left p ≡ true → list_any (is_at (nat_cmp p)) all ≡ true
   pub within : (p : ℕ) → list_any (is_at (nat_cmp p)) rest ≡ true → list_any (is_at (nat_cmp p)) all ≡ true
+  pub none_quiet : NoneIsQuiet left asked tasks
 
 one_place : (p q : ℕ) → is_at (nat_cmp p) q ≡ true → q ≡ p
 one_place p q at = eqb-true _ _ (sym (same_place p q) ∙ at)
@@ -36,12 +37,13 @@ settled_none asked tasks all left empty = record {
   seen = λ p e. inl e;
   fewer = λ p e. absurd (both_ways _ refl (sym (ap (list_any (is_at (nat_cmp p))) empty) ∙ e));
   within = λ p e. e;
+  none_quiet = λ p e. absurd (both_ways _ refl (sym (ap (list_any (is_at (nat_cmp p))) empty) ∙ e));
 }
 
 module _ (asked : Asked) (tasks : List Task) (all : List ℕ) (q : ℕ) (rest : List ℕ) (left : BTreeSet ℕ) (s : AreSettled asked tasks all (q ∷ rest) left) where
   -- a place whose job stays open
-  pub settled_stays : (more : BTreeSet ℕ) → set.Updates nat_cmp left more q true → AreSettled asked tasks all rest more
-  settled_stays more u = record {
+  pub settled_stays : (more : BTreeSet ℕ) → set.Updates nat_cmp left more q true → (IsQuietAt asked tasks q → ⊥) → AreSettled asked tasks all rest more
+  settled_stays more u waits = record {
     seen = λ p e. elim (s.seen p e) [
       | inl here ↦ elim (or_cases (is_at (nat_cmp p) q) _ here) [
         | inl at ↦ inr (inl (u.0 p ∙ ap (λ b. cond b true (set.contains nat_cmp left p)) (turned p q at)))
@@ -55,6 +57,10 @@ module _ (asked : Asked) (tasks : List Task) (all : List ℕ) (q : ℕ) (rest : 
         (λ t. s.within p (or_left (is_at (nat_cmp p) q) _ (turned q p t)))
         (λ f. s.fewer p (sym (ap (λ b. cond b true (set.contains nat_cmp left p)) f) ∙ sym (u.0 p) ∙ e));
     within = λ p e. s.within p (or_right (is_at (nat_cmp p) q) _ e);
+    none_quiet = λ p e quiet.
+        by_answer (is_at (nat_cmp q) p)
+        (λ t. waits (subst (IsQuietAt asked tasks) (one_place q p t) quiet))
+        (λ f. s.none_quiet p (sym (ap (λ b. cond b true (set.contains nat_cmp left p)) f) ∙ sym (u.0 p) ∙ e) quiet);
   }
 
   -- a place whose job is quiet
@@ -69,6 +75,7 @@ module _ (asked : Asked) (tasks : List Task) (all : List ℕ) (q : ℕ) (rest : 
     ];
     fewer = s.fewer;
     within = λ p e. s.within p (or_right (is_at (nat_cmp p) q) _ e);
+    none_quiet = s.none_quiet;
   }
 
 -- behind the last place

@@ -11,6 +11,8 @@ use Rattle.omega_model.specs.Wanted.{WantedTask, with_wanted, is_named}
 use Rattle.omega_model.specs.declared.cells.Spec.{Spec}
 use Rattle.omega_model.specs.declared.cells.TaskKey.{TaskKey}
 use Rattle.omega_model.specs.Cell.{Cell}
+use Rattle.omega_model.specs.declared.rows.Row.{Row}
+use Rattle.omega_model.specs.declared.rows.Row.TheVariants.{Task}
 use Rattle.omega_model.specs.declared.wishes.Request.{Request}
 use Rattle.omega_feed.specs.Asked.{Asked, job_request}
 use Rattle.omega_feed.specs.declared.jobs.RoutedJob.{RoutedJob}
@@ -44,7 +46,15 @@ job_at jobs place = option_map (λ job. job.job) (slice_get jobs place)
 abbrev pub AreFound : BTreeMap ℕ ℕ → List RoutedJob → Type 0
 AreFound places jobs = (job place : ℕ) → (tree.get nat_cmp places job ≡ Some place) ↔ (job_at jobs place ≡ Some job)
 
--- the request of the job at a place, if it stands there and is this scheduler's
+-- the request of a job, if there is one and it is this scheduler's
+abbrev pub routed_request : Asked → Cell → ℕ → Option RoutedJob → Option Request
+routed_request asked cell scheduler = option_and_then (λ job. if job.scheduler == scheduler then job_request asked cell job else None)
+
+-- the request of the job at a place, if one stands there and is this scheduler's
 abbrev pub place_request : Asked → Cell → ℕ → ℕ → Option Request
-place_request asked cell scheduler place =
-    option_and_then (λ job. if job.scheduler == scheduler then job_request asked cell job else None) (slice_get asked.jobs place)
+place_request asked cell scheduler place = routed_request asked cell scheduler (slice_get asked.jobs place)
+
+-- the task of a row, if it is a task row, is none of the extras
+abbrev pub HasLowTask : Row → Type 0
+HasLowTask (Task row) = row.key.index < first_extra
+HasLowTask _ = Unit {0}

@@ -30,6 +30,10 @@ abbrev pub OthersAreQuiet : BTreeSet ℕ → Asked → List Task → Type 0
 OthersAreQuiet places asked tasks = (place job : ℕ) → job_at asked.jobs place ≡ Some job
     → set.contains nat_cmp places place ≡ false → IsQuiet asked tasks job
 
+-- at each open place stands a job, and it isn't quiet
+abbrev pub NoneIsQuiet : BTreeSet ℕ → Asked → List Task → Type 0
+NoneIsQuiet places asked tasks = (place : ℕ) → set.contains nat_cmp places place ≡ true → IsQuietAt asked tasks place → ⊥
+
 -- the place of a job is open, if it stands at one
 abbrev pub IsOpen : BTreeSet ℕ → Asked → ℕ → Type 0
 IsOpen places asked job = (place : ℕ) → job_at asked.jobs place ≡ Some job → set.contains nat_cmp places place ≡ true

@@ -1,13 +1,14 @@
 //! What a row does to the cell.
-ghost use Rattle.std.specs.Prelude.{◌≡◌, ◌++◌, All, List, IfOk, IfSome, OnOk, map};
+ghost use Rattle.std.specs.Prelude.{◌≡◌, ◌<◌, ◌++◌, All, List, IfOk, IfSome, OnOk, map};
 ghost use Rattle.std.specs.List.{filter};
 ghost use Rattle.omega_model.specs.Applying.{CapacityIsInRange};
 ghost use Rattle.omega_model.specs.Cell.{task_at};
-ghost use Rattle.omega_model.specs.ExtraTasks.{is_extra_of};
+ghost use Rattle.omega_model.specs.ExtraTasks.{first_extra, is_extra_of};
 ghost use Rattle.omega_model.specs.RowEntries.{row_entries, task_entries};
 ghost use Rattle.omega_model.specs.Wanted.{attr_entry, end_of, machine_entry};
 ghost use Rattle.omega_model.specs.declared.cells.Machine.{Machine};
 ghost use Rattle.omega_model.specs.declared.entries.Entry.TheVariants.{End};
+ghost use Rattle.omega_feed.specs.Index.{HasLowTask};
 
 use crate::disks::MachineDisks;
 use crate::extras::running_extras;
@@ -30,6 +31,7 @@ pub fn entries_of(
     ensures entries { IfOk result (λ entries. (machines : List Machine)
         → entries ≡ row_entries disks.now (record { machines = machines; tasks = running.now.tasks }) left.now row.now) }
     ensures range { IfOk result (λ entries. All CapacityIsInRange entries) }
+    ensures row { HasLowTask row.now }
 {
     let mut entries = Entries::new(alloc);
     match row {
@@ -85,6 +87,7 @@ fn task_entries(
 ) -> Result<Entries, NoMemory>
     ensures entries { IfOk result (λ entries. (machines : List Machine) → entries ≡ task_entries (record { machines = machines; tasks = running.now.tasks }) left.now row.now) }
     ensures range { IfOk result (λ entries. All CapacityIsInRange entries) }
+    ensures low { row.now.key.index < first_extra }
 {
     let mut entries = Entries::new(alloc);
     if !matches!(row.code, 3..=6) {

@@ -1,6 +1,6 @@
 //! The jobs of which something may have to be placed.
 ghost use Rattle.std.specs.Prelude.{◌≡◌, [], OnErr, OnOk};
-ghost use Rattle.omega_feed.specs.Open.{IsOpen, OthersAreQuiet, StayOpen};
+ghost use Rattle.omega_feed.specs.Open.{IsOpen, NoneIsQuiet, OthersAreQuiet, StayOpen};
 
 use crate::wanted::Wanted;
 use omega_board::Board;
@@ -48,13 +48,14 @@ impl OpenJobs {
         Ok(())
     }
 
-    /// Closes the jobs that are quiet on the cell of a board: none of their wanted tasks waits, and they
-    /// have no activities or no wanted task. A refused call leaves what is open. Costs the wanted tasks
-    /// of the open jobs at most, each times the logarithm of the number of all, since a job's first task
-    /// that waits decides; and memory for those that stay open.
+    /// Closes each job that is quiet on the cell of a board, and no other: one of which no wanted task
+    /// waits, and that has no activities or no wanted task. A refused call leaves what is open. Costs the
+    /// wanted tasks of the open jobs at most, each times the logarithm of the number of all, since a job's
+    /// first task that waits decides; and memory for those that stay open.
     pub fn settle(&mut self, alloc: Global, wanted: &Wanted, board: &Board) -> Result<(), NoMemory>
         requires { OthersAreQuiet self.old wanted.now board.now.tasks }
         ensures ok { OnOk result (OthersAreQuiet self.new wanted.now board.now.tasks) }
+        ensures closed { OnOk result (NoneIsQuiet self.new wanted.now board.now.tasks) }
         ensures fewer { StayOpen self.new self.old }
         ensures err { OnErr result (self.new ≡ self.old) }
     {

@@ -1,5 +1,5 @@
 //! The wanted tasks.
-ghost use Rattle.std.specs.Prelude.{◌≡◌, [], All, List, not, map, ◌<◌, IfOk, IsTrue, OnOk, OnErr};
+ghost use Rattle.std.specs.Prelude.{◌≡◌, ◌↔◌, [], All, List, not, map, ◌<◌, IfOk, IsTrue, OnOk, OnErr};
 ghost use Rattle.std.specs.List.{filter, list_any};
 ghost use Rattle.omega_model.specs.ExtraTasks.{HasLowIndex, first_extra, is_wanted, wanted_of};
 ghost use Rattle.omega_model.specs.ReportCounts.{waits};
@@ -62,6 +62,7 @@ impl WantedTasks {
         requires { key.index < first_extra }
         ensures ok { OnOk result (self.new ≡ with_wanted key spec self.old) }
         ensures err { OnErr result (self.new ≡ self.old) }
+        ensures low { All HasLowIndex self.new }
     {
         self.specs.insert(key, spec)?;
         Ok(())
@@ -69,17 +70,10 @@ impl WantedTasks {
 
     /// Takes a task out, if it is there. Costs the logarithm of their number.
     pub fn remove(&mut self, key: TaskKey)
-        ensures { self.new ≡ filter (λ task. not (is_named key task)) self.old }
+        ensures tasks { self.new ≡ filter (λ task. not (is_named key task)) self.old }
+        ensures low { All HasLowIndex self.new }
     {
         self.specs.remove(&key);
-    }
-
-    /// Says of the tasks that none has the index of an extra. Costs nothing.
-    pub fn check_low(&self)
-        ensures { All HasLowIndex self.now }
-    {
-        // reading the field brings what the type keeps
-        let _specs = &self.specs;
     }
 
     /// Whether a task is wanted. Costs the logarithm of their number.
@@ -153,7 +147,7 @@ impl WantedTasks {
     /// Whether each wanted task of a job runs. Costs the wanted tasks of the job up to the first that
     /// doesn't run, each times the logarithm of the number of those that run.
     pub fn all_run(&self, job: u64, running: &Running) -> bool
-        ensures { IsTrue result → All (RunsIfOf job running.now.tasks) self.now }
+        ensures { IsTrue result ↔ All (RunsIfOf job running.now.tasks) self.now }
     {
         let (first, last) = keys_of(job);
         for (key, _spec) in self.specs.range(first..=last) {

@@ -16,7 +16,7 @@ ghost use Rattle.omega_model.specs.declared.rows.TraceTables.{TraceTables};
 ghost use Rattle.omega_model.specs.declared.settings.Settings.{Settings};
 ghost use Rattle.omega_board.specs.Board.{cell_of};
 ghost use Rattle.omega_feed.specs.Asked.{activities_in, asked_after, asked_extra, asked_requests, asked_wish, asked_wishes, extras_after, is_task_of};
-ghost use Rattle.omega_feed.specs.Index.{job_at, place_request, wanted_task};
+ghost use Rattle.omega_feed.specs.Index.{HasLowTask, job_at, routed_request, wanted_task};
 ghost use Rattle.omega_feed.specs.Open.{IsQuietAt, OthersAreQuiet, StayOpen};
 
 use crate::activities::JobActivities;
@@ -36,7 +36,7 @@ use omega_running::Running;
 use std::alloc::Global;
 use std::marker::Model;
 
-/// What a trace asks for after some of its rows.
+/// What a trace asks for after some of its rows. No wanted task has the index of an extra.
 #[derive(Drop)]
 pub struct Wanted {
     jobs: Jobs,
@@ -48,11 +48,15 @@ pub struct Wanted {
 }
 
 impl Model for Wanted {
+    ghost use Rattle.std.specs.Prelude.{All};
+    ghost use Rattle.omega_model.specs.ExtraTasks.{HasLowIndex};
     ghost use Rattle.omega_feed.specs.Asked.{Asked};
 
     ghost Value = { Asked };
 
     ghost view = { λ wanted. record { jobs = wanted.jobs; constraints = wanted.constraints; disks = wanted.disks; activities = wanted.activities; extra = wanted.extra; tasks = wanted.tasks } };
+
+    ghost invariant = { λ wanted. All HasLowIndex wanted.tasks };
 }
 
 impl Wanted {
@@ -141,7 +145,7 @@ impl Wanted {
     /// it has no activities or no wanted task. Costs the wanted tasks of the job up to the first that
     /// waits, each times the logarithm of the number of all.
     pub(crate) fn is_quiet_at(&self, place: usize, board: &Board) -> bool
-        ensures { IsTrue result → IsQuietAt self.now board.now.tasks place }
+        ensures { IsTrue result ↔ IsQuietAt self.now board.now.tasks place }
     {
         let Some(RoutedJob { job, .. }) = self.jobs.at(place) else {
             return true;
@@ -151,8 +155,8 @@ impl Wanted {
 
     /// Whether a job gets no extras on any cell: it has no activities, or no task of it is wanted.
     fn gets_no_extras(&self, job: u64) -> bool
-        ensures { IsTrue result → (activities_in self.now.activities job ≡ None)
-            ⊎ (list_any (is_task_of job) self.now.tasks ≡ false) }
+        ensures { IsTrue result ↔ ((activities_in self.now.activities job ≡ None)
+            ⊎ (list_any (is_task_of job) self.now.tasks ≡ false)) }
     {
         self.activities.of(job).is_none() || !self.tasks.has_job(job)
     }
@@ -163,6 +167,7 @@ impl Wanted {
     pub fn entries(&self, alloc: Global, row: &Row, board: &Board) -> Result<Entries, NoMemory>
         ensures entries { IfOk result (λ entries. entries ≡ row_entries self.now.disks (cell_of board.now) self.now.tasks row.now) }
         ensures range { IfOk result (λ entries. All CapacityIsInRange entries) }
+        ensures row { HasLowTask row.now }
     {
         entries_of(alloc, row, &self.disks, &self.tasks, board.running())
     }
@@ -188,32 +193,32 @@ impl Wanted {
             → requests ≡ open_requests settings trace rows (cell_of board.now) scheduler) }
         ensures low { All HasLowIndex self.now.tasks }
     {
-        self.tasks.check_low();
         let mut requests = Requests::new(alloc);
         for place in open_jobs.places().iter() {
-            if let Some(request) = self.request_at(alloc, *place, scheduler, board)? {
+            let job = self.jobs.at(*place);
+            if let Some(request) = self.request_of(alloc, job, scheduler, board)? {
                 requests.push(request)?;
             }
         }
         Ok(requests)
     }
 
-    /// The request of the job at a place, if it is this scheduler's and wishes for anything.
-    fn request_at(
+    /// The request of a job, if there is one, it is this scheduler's and it wishes for anything.
+    fn request_of(
         &self,
         alloc: Global,
-        place: usize,
+        job: Option<RoutedJob>,
         scheduler: u32,
         board: &Board,
     ) -> Result<Option<Request>, NoMemory>
-        ensures { IfOk result (λ request. request ≡ place_request self.now (cell_of board.now) scheduler place) }
+        ensures { IfOk result (λ request. request ≡ routed_request self.now (cell_of board.now) scheduler job) }
     {
         let Some(
             RoutedJob {
                 job,
                 scheduler: home,
             },
-        ) = self.jobs.at(place)
+        ) = job
         else {
             return Ok(None);
         };

@@ -1,5 +1,5 @@
 -- Rounds that are worked to their end one after the other.
-use Rattle.std.proofs.Common.{◌≡◌, ◌<◌, ◌-◌, ℕ, length, refl, sym, ap, subst, arith, ◌∙◌}
+use Rattle.std.proofs.Common.{◌≡◌, ◌<◌, ◌-◌, ℕ, zero, suc, length, refl, sym, ap, subst, arith, ◌∙◌}
 use Rattle.std.proofs.lemmas.Option.{slice_get_within}
 use Rattle.omega_model.specs.World.{NobodySynced}
 use Rattle.omega_model.specs.declared.rows.TraceTables.{TraceTables}
@@ -14,12 +14,19 @@ use Rattle.omega_rounds.proofs.Agreeing.{works_or_idle}
 pub record HasEnded (start now : WorldState) : Type 0 where
   pub settings : now.stage.settings ≡ start.stage.settings
   pub source : now.stage.source ≡ start.stage.source
-  pub done : IsDone now
-  pub made : IsInSomeRun now.stage
+  pub done : 0 < now.stage.begun → IsDone now
 
 -- none has begun
-pub ended_none : (world : WorldState) → IsAtStart world → IsInSomeRun world.stage → HasEnded world world
-ended_none world start made = record { settings = refl; source = refl; done = start.idle; made = made }
+pub ended_none : (world : WorldState) → world.stage.begun ≡ 0 → HasEnded world world
+ended_none world none = record { settings = refl; source = refl; done = λ some. absurd (omega (arith, none, some)) }
+
+-- nobody has work once they are over, nor before the first of them
+pub is_done : (start now : WorldState) → HasEnded start now → (now.stage.begun ≡ 0 → IsAtStart now) → IsDone now
+is_done start now has begins = by now.stage.begun refl
+  where
+    by : (n : ℕ) → now.stage.begun ≡ n → IsDone now
+    by zero none = (begins none).idle
+    by (suc n) some = has.done (omega (arith, some))
 
 -- one more round is over
 pub ended_more : (start now next after : WorldState) (number : ℕ) → HasEnded start now → ReachesRound now next number
@@ -29,8 +36,7 @@ ended_more start now next after number has reaches stage done =
     record {
       settings = ap (λ (s : Stage). s.settings) there ∙ has.settings;
       source = ap (λ (s : Stage). s.source) there ∙ has.source;
-      done = done;
-      made = (has.made.0, subst (λ (s : Stage). IsInRunOf s has.made.0) (sym there) has.made.1);
+      done = λ some. done;
     }
 
 -- some round has begun
@@ -38,9 +44,9 @@ pub begun_some : (now next : WorldState) (number : ℕ) → ReachesRound now nex
 begun_some now next number reaches = subst (λ (s : Stage). 0 < s.begun) (sym reaches.stage) (omega arith)
 
 -- and nobody has synced in it
-pub nobody_begun : (start now next : WorldState) (number : ℕ) → HasEnded start now → ReachesRound now next number
+pub nobody_begun : (now next : WorldState) (number : ℕ) → IsInSomeRun now.stage → ReachesRound now next number
     → ((trace : TraceTables) → IsInRunOf now.stage trace → OpensRound trace now next) → NobodySynced (world_of next)
-nobody_begun start now next number has reaches opens = ((opens has.made.0 has.made.1).begins reaches.round reaches.next).nobody
+nobody_begun now next number made reaches opens = ((opens made.0 made.1).begins reaches.round reaches.next).nobody
 
 -- fewer rounds remain
 pub fewer_rounds : (now next after : WorldState) (number : ℕ) → ReachesRound now next number → after.stage ≡ next.stage
@@ -51,13 +57,13 @@ fewer_rounds now next after number reaches stage =
     subst (λ (s : Stage). length s.source.rounds - s.begun < length now.stage.source.rounds - now.stage.begun) (sym there) (omega (arith, below))
 
 -- nobody has work then
-pub ended_idle : (start now : WorldState) (scheduler : ℕ) → HasEnded start now
+pub ended_idle : (start now : WorldState) (scheduler : ℕ) → HasEnded start now → (now.stage.begun ≡ 0 → IsAtStart now) → IsInSomeRun now.stage
     → ((trace : TraceTables) → IsInRunOf now.stage trace → IsFirstAtWork trace now scheduler) → ⊥
-ended_idle start now scheduler has works =
-    let trace : TraceTables = has.made.0 in
-    let first = works trace has.made.1 in
+ended_idle start now scheduler has begins made works =
+    let trace : TraceTables = made.0 in
+    let first = works trace made.1 in
     works_or_idle now.stage.settings trace (rows_begun now.stage) now.stage.opened_at now.history scheduler first.request first.works
-    (has.done trace has.made.1 scheduler first.known)
+    (is_done start now has begins trace made.1 scheduler first.known)
 
 -- a stage is in the run of the traces in whose run it was at the start
 pub same_run : (start now : WorldState) → HasEnded start now → (trace : TraceTables) → IsInRunOf start.stage trace → IsInRunOf now.stage trace

@@ -14,7 +14,8 @@ use Rattle.omega_model.specs.declared.entries.Entry.TheVariants.{MachineAdd, Mac
 use Rattle.omega_model.specs.declared.rows.Row.{Row}
 use Rattle.omega_model.specs.declared.rows.Row.TheVariants.{Machine, Attr, Task as TaskEvent}
 use Rattle.omega_model.proofs.RowEnds.{EndInTurn, end_task, stop_in_turn, stopped_by, stops}
-use Rattle.omega_rounds.specs.Opening.{HasLowTask, MayFeed, MayFeedAll}
+use Rattle.omega_feed.specs.Index.{HasLowTask}
+use Rattle.omega_rounds.specs.Opening.{MayFeed, MayFeedAll}
 
 -- the end of a running task
 end_may : (history : List Entry) (task : Task) → task_at (state history).tasks task.key ≡ Some task → MayFeed history (end_task task)

@@ -45,6 +45,5 @@ pub mod PlayingOn
 pub mod RoundFailures
 pub mod ClosedRounds
 pub mod PlayersBack
-pub mod TwoSteps
 pub mod RunOn
 pub mod Reopened

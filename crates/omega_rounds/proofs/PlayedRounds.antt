@@ -1,5 +1,5 @@
 -- Rounds that are played one after the other.
-use Rattle.std.proofs.Common.{◌≡◌, ℕ, List, ◌++◌, length, take, sym, ap, subst, ◌∙◌, add-one}
+use Rattle.std.proofs.Common.{◌≡◌, ◌<◌, ℕ, zero, suc, List, ◌++◌, length, take, refl, sym, ap, subst, arith, ◌∙◌, add-one}
 use Rattle.std.proofs.lemmas.Option.{none-some}
 use Rattle.omega_model.specs.Lawful.{rows_of}
 use Rattle.omega_model.specs.Stepping.{BeginsRound}
@@ -19,14 +19,19 @@ use Rattle.omega_rounds.proofs.WorldSteps.{rows_more}
 -- the rounds that have begun are over, and the schedulers took turns
 pub record HasPlayed (start now : WorldState) : Type 0 where
   pub ended : HasEnded start now
-  pub turns : InTurns now.history
+  pub turns : 0 < now.stage.begun → InTurns now.history
 
 -- none has begun
-pub played_none : (world : WorldState) → IsAtStart world → IsInSomeRun world.stage → HasPlayed world world
-played_none world start made = record {
-  ended = ended_none world start made;
-  turns = subst InTurns (sym start.empty) (λ place entry is. absurd (none-some entry is));
-}
+pub played_none : (world : WorldState) → world.stage.begun ≡ 0 → HasPlayed world world
+played_none world none = record { ended = ended_none world none; turns = λ some. absurd (omega (arith, none, some)) }
+
+-- the schedulers took turns, also where none has begun
+pub turns_now : (start now : WorldState) → HasPlayed start now → (now.stage.begun ≡ 0 → IsAtStart now) → InTurns now.history
+turns_now start now has begins = by now.stage.begun refl
+  where
+    by : (n : ℕ) → now.stage.begun ≡ n → InTurns now.history
+    by zero none = subst InTurns (sym (begins none).empty) (λ place entry is. absurd (none-some entry is))
+    by (suc n) some = has.turns (omega (arith, some))
 
 -- the first turn of the next round begins
 begins_turn : (now next : WorldState) (number : ℕ) → InTurns now.history → (reaches : ReachesRound now next number)
@@ -52,16 +57,16 @@ begins_turn now next number turns reaches trace made opens =
     }
 
 -- one more round is played
-pub played_more : (start now next after : WorldState) (number : ℕ) → HasPlayed start now → ReachesRound now next number
+pub played_more : (start now next after : WorldState) (number : ℕ) → HasPlayed start now → (now.stage.begun ≡ 0 → IsAtStart now) → IsInSomeRun now.stage → ReachesRound now next number
     → ((trace : TraceTables) → IsInRunOf now.stage trace → OpensRound trace now next)
     → after.stage ≡ next.stage → PlaysRound next after
     → HasPlayed start after
-played_more start now next after number has reaches opens stage plays =
+played_more start now next after number has begins made reaches opens stage plays =
     let there : after.stage ≡ next_stage now.stage (length next.history) = stage ∙ reaches.stage in
     let played : (trace : TraceTables) → IsInRunOf now.stage trace → InTurns after.history × IsRoundOver trace after =
-    λ trace made. plays trace (rows_begun now.stage) now.history reaches.round (begins_turn now next number has.turns reaches trace made (opens trace made)) in
+    λ trace made. plays trace (rows_begun now.stage) now.history reaches.round (begins_turn now next number (turns_now start now has begins) reaches trace made (opens trace made)) in
     record {
       ended = ended_more start now next after number has.ended reaches stage
           (λ trace made. (played trace (subst (λ (s : Stage). IsInRunOf s trace) there made)).1);
-      turns = (played has.ended.made.0 has.ended.made.1).0;
+      turns = λ some. (played made.0 made.1).0;
     }

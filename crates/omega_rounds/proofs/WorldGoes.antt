@@ -1,5 +1,5 @@
 -- A world that doesn't go on to another round: a scheduler has work, or the run is over.
-use Rattle.std.proofs.Common.{◌≡◌, ◌≤◌, ◌+◌, ℕ, suc, true, false, List, [], ◌∷◌, length, Some, None, refl, sym, ap, subst, arith, ◌∙◌, inl, inr}
+use Rattle.std.proofs.Common.{◌≡◌, ◌≤◌, ◌+◌, ℕ, suc, true, false, List, [], ◌∷◌, length, Option, Some, None, refl, sym, ap, subst, arith, ◌∙◌, inl, inr}
 use Rattle.std.specs.Prelude.{is_some, slice_get}
 use Rattle.std.specs.List.{position}
 use Rattle.std.proofs.lemmas.Option.{slice_get_cases, slice_get_past}
@@ -39,6 +39,11 @@ a_first (request ∷ rest) some = (request, (rest, refl))
 -- no seat has work where none is the first that has
 pub idle_first : (seats : List Seat) → position has_work seats ≡ None → HaveNoWork seats
 idle_first seats none number seat here = not_first seat.desk.requests (none_first has_work seats none number seat here)
+
+-- nor where that one isn't found
+pub idle_found : (seats : List Seat) (found : Option ℕ) → is_some found ≡ false → found ≡ position has_work seats → HaveNoWork seats
+idle_found seats None none is = idle_first seats (sym is)
+idle_found seats (Some first) none is = absurd (cc)
 
 module _ (trace : TraceTables) (stage : Stage) (tasks : List WantedTask) (history : List Entry) (seats : List Seat)
     (world : IsWorld stage tasks history seats) (made : IsInRunOf stage trace) where

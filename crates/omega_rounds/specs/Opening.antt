@@ -1,13 +1,11 @@
 -- How a round opens.
-use Rattle.std.specs.Prelude.{◌≡◌, ◌<◌, ℕ, Bool, List, [], ◌∷◌, ◌++◌, Some, None, false, is_some, length, slice_get}
+use Rattle.std.specs.Prelude.{◌≡◌, ℕ, Bool, List, [], ◌∷◌, ◌++◌, Some, None, false, is_some, length, slice_get}
 use Rattle.omega_model.specs.Applying.{CapacityIsInRange, EndsRunning}
-use Rattle.omega_model.specs.ExtraTasks.{first_extra}
 use Rattle.omega_model.specs.OpenRequests.{open_requests as all_requests}
 use Rattle.omega_model.specs.State.{state}
 use Rattle.omega_model.specs.Work.{fresh}
 use Rattle.omega_model.specs.declared.entries.Entry.{Entry}
 use Rattle.omega_model.specs.declared.rows.Row.{Row}
-use Rattle.omega_model.specs.declared.rows.Row.TheVariants.{Task}
 use Rattle.omega_model.specs.declared.rows.TraceTables.{TraceTables}
 use Rattle.omega_model.specs.declared.settings.Settings.{Settings}
 use Rattle.omega_cell.specs.Cells.{is_commit}
@@ -15,11 +13,6 @@ use Rattle.omega_desk.specs.Desks.{IsSameDesk, left_at, open_requests}
 use Rattle.omega_feed.specs.Asked.{Asked, asked_after}
 use Rattle.omega_rounds.specs.Seats.{IsSeat, synced_of}
 use Rattle.omega_rounds.specs.declared.seat.Seat.{Seat}
-
--- the task of a row, if it is a task row, is none of the extras
-abbrev pub HasLowTask : Row → Type 0
-HasLowTask (Task row) = row.key.index < first_extra
-HasLowTask _ = Unit {0}
 
 -- an entry may be fed to the cell of a history, where there is room for its machine
 pub record MayFeed (history : List Entry) (entry : Entry) : Type 0 where

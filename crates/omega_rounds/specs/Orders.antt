@@ -45,20 +45,22 @@ pub record Rule : Type 0 where
   pub is_passed : List Entry → ℕ → Bool
   pub sees : List Entry → ℕ → ℕ
 
--- its words
+-- an entry keeps to the rule
 abbrev pub RuleKeeps : Rule → List Entry → Entry → Type 0
 RuleKeeps rule before entry = IsTrue (rule.keeps before entry)
 
+-- of two schedulers one goes before the other by the rule
 abbrev pub RuleBefore : Rule → List Entry → ℕ → ℕ → Type 0
 RuleBefore rule before one other = IsTrue (rule.goes_before before one other)
 
-abbrev pub RulePasses : Rule → List Entry → ℕ → Type 0
-RulePasses rule before scheduler = IsTrue (rule.is_passed before scheduler)
+-- a scheduler is passed by the rule
+abbrev pub IsPassedBy : Rule → List Entry → ℕ → Type 0
+IsPassedBy rule before scheduler = IsTrue (rule.is_passed before scheduler)
 
 -- it puts the commits of a round in one order
 abbrev pub RuleOrders : Settings → TraceTables → List Row → ℕ → Rule → Type 0
 RuleOrders settings trace rows opened_at rule =
-    Orders settings trace rows opened_at (RuleKeeps rule) (RuleBefore rule) (RulePasses rule) rule.sees
+    Orders settings trace rows opened_at (RuleKeeps rule) (RuleBefore rule) (IsPassedBy rule) rule.sees
 
 -- a history is, after these rows and this history, a whole round whose commits keep to a rule
 pub record OrderedRound (settings : Settings) (trace : TraceTables) (rows : List Row) (start : List Entry) (round : Round) (Keeps : List Entry → Entry → Type 0) (history : List Entry) : Type 0 where

@@ -51,7 +51,7 @@ pub record MayPlay (settings : Settings) (shared : TableId) (player : Player) : 
 -- a player has played: its pass has seen no less than before, and beside what it has seen its seat is still that of
 -- its scheduler, its desk is right wherever it was, and its commits may stand where they do wherever those
 -- before could. Unless it met want of memory, nothing is left at its desk, and its scheduler has not synced
--- since its last commit
+-- since its last commit, if it hadn't before
 pub record HasPlayed (settings : Settings) (old new : Player) : Type 0 where
   pub of : new.pass.of ≡ old.pass.of
   pub number : new.pass.number ≡ old.pass.number

@@ -1,4 +1,4 @@
-//! What comes next in a round, by the definitions alone.
+//! What comes next in a round, and what every commit of a lawful history is, by the definitions alone.
 ghost use Rattle.std.specs.Prelude.{◌≡◌, ℕ, ◌≤◌, List, ◌++◌, All, Option, Some, length, take, drop, slice_get};
 ghost use Rattle.omega_model.specs.Lawful.{Lawful, RoundOf, RoundSoFar, opened};
 ghost use Rattle.omega_model.specs.Planning.{plan_for};

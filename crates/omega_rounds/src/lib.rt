@@ -2,9 +2,9 @@
 //!
 //! A world is a cell that schedulers share, with a desk and a private copy of the cell for each of
 //! them. Whatever steps they do in whatever order, its history is lawful so far; `in_turns` runs it
-//! to the end with the schedulers in turns. The laws say, over the definitions alone, what comes next
-//! in a round, that nothing else could, that what is placed is on machines that meet its constraints,
-//! and that no gang is split.
+//! to the end with the schedulers in turns, `on_threads` with a thread for each. The laws say, over
+//! the definitions alone, what comes next in a round, that nothing else could, that what is placed is
+//! on machines that meet its constraints, and that a gang claims all of its request or nothing.
 #![tactic(auto)]
 
 mod laws;

@@ -10,7 +10,7 @@ ghost use Rattle.omega_model.specs.RowEntries.{row_entries};
 ghost use Rattle.omega_model.specs.Wanted.{wanted as wanted_tasks, wanted_after};
 ghost use Rattle.omega_model.specs.declared.rows.Row.{Row};
 ghost use Rattle.omega_model.specs.declared.rows.TraceTables.{TraceTables};
-ghost use Rattle.omega_rounds.specs.Opening.{BeginAll, HasLowTask, HaveNoWork, IsAsked, MayFeed, MayFeedAll, has_work};
+ghost use Rattle.omega_rounds.specs.Opening.{BeginAll, HaveNoWork, IsAsked, MayFeed, MayFeedAll, has_work};
 
 use crate::reopening::reopen_stopped;
 use crate::seat::Seat;
@@ -66,17 +66,7 @@ fn apply_row(
     ensures quiet { OnOk result (OthersAreQuiet open_jobs.new wanted.now (state cell.new.history).tasks) }
 {
     let entries = wanted.entries(alloc, row, cell.board())?;
-    check_row(row);
     feed_all(alloc, cell, wanted, open_jobs, entries)
-}
-
-// The task of a row is none of the extras, as the row's type says.
-fn check_row(row: &Row)
-    ensures { HasLowTask row.now }
-{
-    if let Row::Task(row) = row {
-        let _key = &row.key;
-    }
 }
 
 // Appends entries in order, and opens the jobs of the tasks that each of them may stop.

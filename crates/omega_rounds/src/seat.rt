@@ -21,7 +21,7 @@ use crate::steps::Stepped;
 use omega_cell::{Cell, Prepared};
 use omega_copy::PrivateCopy;
 use omega_desk::Desk;
-use omega_model::{Claim, NoMemory, Request, Requests, Settings, Txn};
+use omega_model::{NoMemory, Request, Requests, Settings, Txn};
 use std::alloc::Global;
 
 /// What belongs to one scheduler of a world.
@@ -147,7 +147,6 @@ impl Seat {
         let attempt = Attempt::of(alloc, settings, scheduler, copy, request, start, cell)?;
         let Attempt { prepared, seqs } = attempt;
         let reply = cell.commit(scheduler, self.copy.seen(), &seqs, prepared);
-        check_few(cell);
         self.desk.take(&reply);
         self.synced = false;
         Ok(reply.place)
@@ -188,22 +187,10 @@ impl Attempt {
             ≡ copied_seqs cell.old.history copy.old.seen attempt.prepared.claims) }
     {
         let txn = planned(alloc, settings, scheduler, copy, request, start)?;
-        let seqs = seqs_of(alloc, copy, txn.claims.as_slice())?;
+        let seqs = copy.seqs(alloc, txn.claims.as_slice())?;
         let prepared = reserved(alloc, cell, txn)?;
         Ok(Attempt { prepared, seqs })
     }
-}
-
-// The sequence numbers of the claims' machines in a copy.
-fn seqs_of(alloc: Global, copy: &PrivateCopy, claims: &[Claim]) -> Result<Vec<u64>, NoMemory>
-    ensures { IfOk result (λ seqs. (history : List Entry) → CopyOf copy.now history
-        → seqs.items ≡ copied_seqs history copy.now.seen claims.now) }
-{
-    let mut seqs = Vec::new(alloc);
-    for claim in claims {
-        seqs.push(copy.seq(claim.machine))?;
-    }
-    Ok(seqs)
 }
 
 // The transaction, for which the cell has made room. A transaction of 2^32 claims or more is want of
@@ -220,11 +207,4 @@ fn reserved(alloc: Global, cell: &mut Cell, txn: Txn) -> Result<Prepared, NoMemo
         Ok(prepared) => Ok(prepared),
         Err(_) => Err(NoMemory),
     }
-}
-
-// What a history keeps by its type.
-fn check_few(cell: &Cell)
-    ensures { length cell.now.history < 2 ^ 64 }
-{
-    let _length = cell.history().len();
 }

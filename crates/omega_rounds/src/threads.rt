@@ -33,9 +33,8 @@ use std::thread::Threads;
 ///
 /// The history is lawful for the settings and the trace, in whatever order the schedulers came to the
 /// cell. Nothing is said of that order, of time, nor that plans of different schedulers are made at
-/// the same time. On a history of 2^63 entries or more the schedulers work one after the other without
-/// threads, and the gate isn't asked. Costs the attempts, of which another order may need more, for each
-/// sync and each commit a turn at the cell, and for each round in which somebody has work the threads.
+/// the same time. Costs the attempts, of which another order may need more, for each sync and each
+/// commit a turn at the cell, and for each round in which somebody has work the threads.
 pub fn on_threads<R: Threads + Wait + Sync, G: Gate + Sync>(
     rt: &R,
     world: World,
@@ -48,7 +47,6 @@ pub fn on_threads<R: Threads + Wait + Sync, G: Gate + Sync>(
     ensures lawful { IfOk result (λ after. (trace : TraceTables) → IsInRunOf world.stage trace
         → Lawful world.stage.settings trace after.history) }
 {
-    world.check_run();
     let mut world = world;
     loop {
         let (next, step) = world.next_round()?;

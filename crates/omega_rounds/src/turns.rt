@@ -27,7 +27,6 @@ pub fn in_turns(world: World) -> Result<World, NoMemory>
         → (other : List Entry) → Lawful world.stage.settings trace other → InTurns other
         → other ≡ after.history) }
 {
-    world.check_run();
     let mut world = world;
     loop {
         let (next, step) = world.next_round()?;

@@ -11,7 +11,7 @@ ghost use Rattle.omega_model.specs.Stepping.{IsNew, LawfulWorld};
 ghost use Rattle.omega_model.specs.World.{NobodySynced};
 ghost use Rattle.omega_model.specs.declared.rows.TraceTables.{TraceTables};
 ghost use Rattle.omega_rounds.specs.Closed.{IsDone};
-ghost use Rattle.omega_rounds.specs.Going.{GoesOn, IsFirstAtWork, LeavesToDo, MovesOn, OpensRound, ReachesRound, StepsOn};
+ghost use Rattle.omega_rounds.specs.Going.{GoesOn, LeavesToDo, MovesOn, OpensRound, ReachesRound, StepsOn};
 ghost use Rattle.omega_rounds.specs.Opening.{AreNewSeats};
 ghost use Rattle.omega_rounds.specs.Playing.{IsAtStart, IsInSomeRun};
 ghost use Rattle.omega_rounds.specs.Stages.{IsInRunOf, first_stage, world_of};
@@ -130,6 +130,8 @@ impl World {
         ensures stage { IfOk result (λ next. MovesOn self next.0 next.1) }
         ensures run { IfOk result (λ next. (trace : TraceTables) → IsInRunOf self.stage trace
             → GoesOn trace self next.0 next.1) }
+        ensures made { IsInSomeRun self.stage }
+        ensures start { self.stage.begun ≡ 0 → IsAtStart self }
     {
         if let Some(scheduler) = first_at_work(self.seats.as_slice()) {
             return Ok((self, RoundStep::Unfinished(scheduler as u32)));
@@ -202,9 +204,9 @@ impl World {
         Ok(stepped)
     }
 
-    /// Plays the round that is under way to its end, with a thread for each scheduler; on a history of
-    /// 2^63 entries or more without threads. Where memory runs out the world is gone. May wait. Costs
-    /// the attempts, and the threads unless nobody has work.
+    /// Plays the round that is under way to its end, with a thread for each scheduler. A history of
+    /// 2^63 entries, which no memory holds, is want of memory. Where memory runs out the world is gone.
+    /// May wait. Costs the attempts, and the threads unless nobody has work.
     pub(crate) fn play_on_threads<R: Threads + Wait + Sync, G: Gate + Sync>(
         self,
         rt: &R,
@@ -216,11 +218,11 @@ impl World {
         ensures stage { IfOk result (λ after. after.stage ≡ self.stage) }
         ensures done { IfOk result IsDone }
     {
-        if self.first_at_work().is_none() {
+        if first_at_work(self.seats.as_slice()).is_none() {
             return Ok(self);
         }
         if self.cell.history().len() as u64 >= 1 << 63 {
-            return self.play_alone();
+            return Err(NoMemory);
         }
         let World {
             alloc,
@@ -245,55 +247,6 @@ impl World {
             cell,
             seats,
         })
-    }
-
-    // Plays the round that is under way to its end, one scheduler after the other.
-    fn play_alone(self) -> Result<World, NoMemory>
-        ensures stage { IfOk result (λ after. after.stage ≡ self.stage) }
-        ensures done { IfOk result IsDone }
-    {
-        let mut world = self;
-        while let Some(scheduler) = world.first_at_work() {
-            world.attempt(scheduler)?;
-        }
-        Ok(world)
-    }
-
-    // The first scheduler that has work.
-    fn first_at_work(&self) -> Option<u32>
-        ensures first { IfSome result (λ scheduler. (trace : TraceTables) → IsInRunOf self.now.stage trace
-            → IsFirstAtWork trace self.now scheduler) }
-        ensures none { result ≡ None → IsDone self.now }
-    {
-        if let Some(scheduler) = first_at_work(self.seats.as_slice()) {
-            return Some(scheduler as u32);
-        }
-        None
-    }
-
-    // An attempt of the first scheduler that has work: it takes over the history, if it hasn't, and
-    // commits.
-    fn attempt(&mut self, scheduler: u32) -> Result<(), NoMemory>
-        requires works { (trace : TraceTables) → IsInRunOf self.old.stage trace
-            → IsFirstAtWork trace self.old scheduler }
-        ensures stage { self.new.stage ≡ self.old.stage }
-        ensures fewer { OnOk result (self.new.to_do < self.old.to_do) }
-    {
-        self.check_run();
-        let stepped = self.step(scheduler)?;
-        if stepped.is_committed() {
-            return Ok(());
-        }
-        self.step(scheduler)?;
-        Ok(())
-    }
-
-    // What a world keeps by its type.
-    pub(crate) fn check_run(&self)
-        ensures made { IsInSomeRun self.now.stage }
-        ensures start { self.now.stage.begun ≡ 0 → IsAtStart self.now }
-    {
-        let _settings = &self.settings;
     }
 
     /// How many schedulers there are. Takes no memory.

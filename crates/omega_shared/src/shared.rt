@@ -16,7 +16,7 @@ use crate::pass::Pass;
 use omega_cell::Cell;
 use omega_copy::PrivateCopy;
 use omega_lock::{Lock, Seat};
-use omega_model::{Claim, Delta, NoMemory, Reply, Txn};
+use omega_model::{Delta, NoMemory, Reply, Txn};
 use std::alloc::Global;
 use std::marker::Model;
 use std::sync::Wait;
@@ -112,7 +112,7 @@ impl SharedCell {
     /// runs out the history is as before and the transaction is handed back; the turn is spent, and
     /// the pass may have seen more. May wait.
     ///
-    /// Costs the claims, each compared with those before it, and their victims.
+    /// Costs the claims, whose machines are sorted, and their victims.
     pub fn commit<R: Wait>(
         &self,
         rt: &R,
@@ -132,7 +132,7 @@ impl SharedCell {
         ensures stands { CopyOf copy.now pass.new.seen }
         ensures back { IfErr result (λ refused. refused.0 ≡ txn) }
     {
-        let seqs = seqs_of(alloc, copy, txn.claims.as_slice());
+        let seqs = copy.seqs(alloc, txn.claims.as_slice());
         self.append(rt, alloc, &mut pass.seat, copy.seen(), seqs, txn)
     }
 
@@ -210,18 +210,6 @@ impl SharedCell {
         self.lock.release(seat, held);
         reply
     }
-}
-
-// The sequence numbers of the claims' machines in a copy.
-fn seqs_of(alloc: Global, copy: &PrivateCopy, claims: &[Claim]) -> Result<Vec<u64>, NoMemory>
-    ensures { IfOk result (λ seqs. (history : List Entry) → CopyOf copy.now history
-        → seqs.items ≡ copied_seqs history copy.now.seen claims.now) }
-{
-    let mut seqs = Vec::new(alloc);
-    for claim in claims {
-        seqs.push(copy.seq(claim.machine))?;
-    }
-    Ok(seqs)
 }
 
 // The passes whose seats these are. There is room for them.

@@ -7,7 +7,7 @@ use Rattle.omega_rounds.proofs.EndedRounds.{begun_some, ended_more, ended_none, 
 use Rattle.omega_rounds.proofs.threads.on_threads.Goals as goal
 
 pub loop-next-init : goal.loop-next-init
-loop-next-init g c = ended_none c.args.world (c.check_run.ensures.start c.requires.new) c.check_run.ensures.made
+loop-next-init g c = ended_none c.args.world c.requires.new
 
 pub play_on_threads-requires-clause-begun : goal.play_on_threads-requires-clause-begun
 play_on_threads-requires-clause-begun g c κs within =
@@ -17,7 +17,7 @@ pub play_on_threads-requires-clause-nobody : goal.play_on_threads-requires-claus
 play_on_threads-requires-clause-nobody g c κs within =
     let now = c.loop-next.world in
     let next = c.in_ok-next.next in
-    nobody_begun c.args.world now next c.in-Begun.field-0 c.loop-next.invariant
+    nobody_begun now next c.in-Begun.field-0 c.next_round.ensures.made
     (subst (MovesOn now next) c.in-Begun.is c.in_ok-next.ensures.stage)
     (subst (λ (step : RoundStep). (trace : TraceTables) → IsInRunOf now.stage trace → GoesOn trace now next step) c.in-Begun.is c.in_ok-next.ensures.run)
 

@@ -7,21 +7,27 @@ use Rattle.omega_rounds.specs.Going.{GoesOn, MovesOn}
 use Rattle.omega_rounds.specs.Stages.{IsInRunOf, WorldState}
 use Rattle.omega_rounds.specs.declared.steps.RoundStep.{RoundStep}
 use Rattle.omega_rounds.proofs.EndedRounds.{same_run}
-use Rattle.omega_rounds.proofs.PlayedRounds.{played_more, played_none}
+use Rattle.omega_rounds.proofs.PlayedRounds.{played_more, played_none, turns_now}
 use Rattle.omega_rounds.proofs.TurnOrder.{only_history}
 use Rattle.omega_rounds.proofs.turns.in_turns.Goals as goal
 
 pub loop-next-init : goal.loop-next-init
-loop-next-init c = played_none c.args.world (c.check_run.ensures.start c.requires) c.check_run.ensures.made
+loop-next-init c = played_none c.args.world c.requires
 
 pub loop-next-preserved : goal.loop-next-preserved
 loop-next-preserved c =
     let now = c.loop-next.world in
     let next = c.in_ok-next.next in
-    played_more c.args.world now next c.in_ok-world-in-Begun.world c.in-Begun.field-0 c.loop-next.invariant
+    played_more c.args.world now next c.in_ok-world-in-Begun.world c.in-Begun.field-0 c.loop-next.invariant c.next_round.ensures.start c.next_round.ensures.made
     (subst (MovesOn now next) c.in-Begun.is c.in_ok-next.ensures.stage)
     (subst (λ (step : RoundStep). (trace : TraceTables) → IsInRunOf now.stage trace → GoesOn trace now next step) c.in-Begun.is c.in_ok-next.ensures.run)
     c.in_ok-world-in-Begun.ensures.stage c.in_ok-world-in-Begun.ensures.plays
+
+pub returns-in-Over-clause-turns : goal.returns-in-Over-clause-turns
+returns-in-Over-clause-turns c =
+    let now = c.loop-next.world in
+    subst (λ (w : WorldState). InTurns w.history) (sym (subst (MovesOn now c.in_ok-next.next) c.in-Over.is c.in_ok-next.ensures.stage))
+    (turns_now c.args.world now c.loop-next.invariant c.next_round.ensures.start)
 
 pub returns-in-Over-clause-only : goal.returns-in-Over-clause-only
 returns-in-Over-clause-only c trace made other lawful turns =
@@ -33,4 +39,4 @@ returns-in-Over-clause-only c trace made other lawful turns =
     only_history c.args.world.stage.settings trace other next.history lawful turns
     (subst (λ (s : Settings). Lawful s trace next.history) c.loop-next.invariant.ended.settings
     (subst (λ (w : WorldState). Lawful now.stage.settings trace w.history) (sym same) whole))
-    (subst (λ (w : WorldState). InTurns w.history) (sym same) c.loop-next.invariant.turns)
+    (subst (λ (w : WorldState). InTurns w.history) (sym same) (turns_now c.args.world now c.loop-next.invariant c.next_round.ensures.start))

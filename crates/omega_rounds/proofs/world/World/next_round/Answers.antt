@@ -1,14 +1,36 @@
 use Rattle.std.proofs.Common.{◌≡◌, ◌∙◌, List, length, sym, ap, subst}
 use Rattle.std.specs.List.{position}
 use Rattle.omega_model.specs.Lawful.{Lawful}
+use Rattle.omega_model.specs.Wanted.{WantedTask}
+use Rattle.omega_model.specs.declared.entries.Entry.{Entry}
 use Rattle.omega_model.specs.declared.rows.TraceTables.{TraceTables}
 use Rattle.omega_rounds.specs.Going.{IsFirstAtWork}
+use Rattle.omega_rounds.specs.Keeping.{IsWorld}
 use Rattle.omega_rounds.specs.Opening.{HaveNoWork, has_work}
-use Rattle.omega_rounds.specs.Stages.{IsInRunOf, WorldState, stage_of}
+use Rattle.omega_rounds.specs.Playing.{IsAtStart}
+use Rattle.omega_rounds.specs.Stages.{IsInRunOf, Stage, WorldState, stage_of}
 use Rattle.omega_rounds.specs.declared.seat.Seat.{Seat}
-use Rattle.omega_rounds.proofs.WorldBegins.{none_to_do}
+use Rattle.omega_rounds.proofs.WorldBegins.{none_to_do, world_start}
 use Rattle.omega_rounds.proofs.WorldGoes.{first_works, idle_first, run_over}
+use Rattle.omega_rounds.proofs.WorldSteps.{state_at}
 use Rattle.omega_rounds.proofs.world.World.next_round.Goals as goal
+
+starts : (seen : WorldState) (stage : Stage) (tasks : List WantedTask) (history : List Entry) (seats : List Seat) → IsWorld stage tasks history seats
+    → state_at stage history seats ≡ seen → seen.stage.begun ≡ 0 → IsAtStart seen
+starts seen stage tasks history seats world same =
+    subst (λ (w : WorldState). w.stage.begun ≡ 0 → IsAtStart w) same (world_start stage tasks history seats world)
+
+pub returns-in-Some-clause-start : goal.returns-in-Some-clause-start
+returns-in-Some-clause-start c = starts _ _ _ _ _ c.self.invariant.0 c.self.view_is
+
+pub returns-then-self-len-clause-start : goal.returns-then-self-len-clause-start
+returns-then-self-len-clause-start c = starts _ _ _ _ _ c.self.invariant.0 c.self.view_is
+
+pub returns-in_err-world-clause-start : goal.returns-in_err-world-clause-start
+returns-in_err-world-clause-start c = starts _ _ _ _ _ c.self.invariant.0 c.self.view_is
+
+pub returns-clause-start : goal.returns-clause-start
+returns-clause-start c = starts _ _ _ _ _ c.self.invariant.0 c.self.view_is
 
 pub returns-in-Some-clause-run : goal.returns-in-Some-clause-run
 returns-in-Some-clause-run c =

@@ -1,8 +1,14 @@
-use Rattle.std.proofs.Common.{◌<◌, subst, sym}
+use Rattle.std.proofs.Common.{◌<◌, ◌∙◌, List, ap, subst, sym}
+use Rattle.std.specs.List.{position}
 use Rattle.omega_model.specs.World.{NobodySynced}
+use Rattle.omega_rounds.specs.Closed.{IsDone}
+use Rattle.omega_rounds.specs.Opening.{HaveNoWork, has_work}
 use Rattle.omega_rounds.specs.Stages.{WorldState, stage_of, world_of}
+use Rattle.omega_rounds.specs.declared.seat.Seat.{Seat}
 use Rattle.omega_rounds.proofs.ClosedRounds.{closed_done, world_closed}
 use Rattle.omega_rounds.proofs.Reopened.{were_quiet}
+use Rattle.omega_rounds.proofs.WorldBegins.{nobody_works}
+use Rattle.omega_rounds.proofs.WorldGoes.{idle_found}
 use Rattle.omega_rounds.proofs.world.World.play_on_threads.Goals as goal
 
 pub invariant_of-result : goal.invariant_of-result
@@ -16,6 +22,15 @@ invariant_of-result g c = (
       c.self.inside.cell.history c.self.inside.seats.items c.self.invariant.0 c.self.inside.open_jobs c.self.inside.wanted c.in_ok-cell.cell.history
       c.in_ok-cell.ensures.back.begins c.self.invariant.1,
 )
+
+pub returns-then-is_none-clause-done : goal.returns-then-is_none-clause-done
+returns-then-is_none-clause-done g c =
+    let idle : HaveNoWork c.self.inside.seats.items =
+    idle_found c.self.inside.seats.items c.first_at_work.result c.if-is_none.ensures
+    (c.first_at_work.ensures ∙ ap (λ (seats : List Seat). position has_work seats) c.as_slice.ensures.value) in
+    subst IsDone c.self.view_is
+    (λ trace made. nobody_works trace (stage_of c.self.inside.settings c.self.inside.rounds c.self.inside.wanted c.self.inside.begun c.self.inside.opened_at) c.self.inside.wanted.tasks
+    c.self.inside.cell.history c.self.inside.seats.items c.self.invariant.0 idle made)
 
 pub returns-clause-done : goal.returns-clause-done
 returns-clause-done g c =

@@ -1,6 +1,0 @@
-use Rattle.std.proofs.Common.{◌≡◌, map, take}
-use Rattle.omega_machines.specs.Table.{seq_at}
-use Rattle.omega_rounds.proofs.seat.seqs_of.Given as goal
-
-abbrev pub invariant-loop-claim : goal.invariant-loop-claim
-invariant-loop-claim l = l.seqs.items ≡ map (λ claim. seq_at l.copy.board.table claim.machine) (take l.claim-index l.claims)
