@@ -9,6 +9,7 @@ use omega_io::{FolderTables, PassGate, StdoutSink};
 use omega_model::{NoMemory, Status};
 use omega_top::{exit_status, fault_line, omega};
 use std::env;
+use std::io::ErrorKind;
 use std::process::ExitCode;
 
 fn main(rt: HostRuntime) -> ExitCode {
@@ -34,8 +35,10 @@ fn main(rt: HostRuntime) -> ExitCode {
 
 // The program's name and its words. Words that can't be had as text are words that are refused.
 fn arguments(rt: &HostRuntime) -> Result<Vec<String>, Status> {
-    let Ok(arguments) = env::args(rt) else {
-        return Err(Status::Usage);
+    let arguments = match env::args(rt) {
+        Ok(arguments) => arguments,
+        Err(error) if error.kind() == ErrorKind::OutOfMemory => return Err(Status::NoMemory),
+        Err(_) => return Err(Status::Usage),
     };
     let mut texts = Vec::new(rt.alloc());
     for argument in arguments {

@@ -22,7 +22,7 @@ abbrev pub NeverOvercommits : List Entry → Type 0
 NeverOvercommits history = (n : ℕ) → Sound (state (take n history))
 
 -- what may be answered of tables that tell these bytes: the first refusal of theirs, a read that
--- fails before any of them, or, where there is none, how the run ended
+-- fails before any of them, or, where there is none, how the run ended; and want of memory at any time
 abbrev pub Answers : (Table → List ℕ) → Status → Type 0
 Answers bytes Done = first_refusal bytes ≡ None
 Answers bytes WriteFault = first_refusal bytes ≡ None
@@ -55,27 +55,35 @@ Writes report before now (TooLong table) = now ≡ before
 Writes report before now (BadRow table row column cause) = now ≡ before
 Writes report before now (TooMany kind number) = now ≡ before
 
+-- this holds, if the run reached its report
+abbrev pub IfReported : Type 0 → Status → Type 0
+IfReported Fact Done = Fact
+IfReported Fact WriteFault = Fact
+IfReported Fact NoMemory = ⊤
+IfReported Fact Usage = ⊤
+IfReported Fact (ReadFault table) = ⊤
+IfReported Fact (TooLong table) = ⊤
+IfReported Fact (BadRow table row column cause) = ⊤
+IfReported Fact (TooMany kind number) = ⊤
+
+-- this holds, unless the run reached its report
+abbrev pub UnlessReported : Type 0 → Status → Type 0
+UnlessReported Fact Done = ⊤
+UnlessReported Fact WriteFault = ⊤
+UnlessReported Fact NoMemory = Fact
+UnlessReported Fact Usage = Fact
+UnlessReported Fact (ReadFault table) = Fact
+UnlessReported Fact (TooLong table) = Fact
+UnlessReported Fact (BadRow table row column cause) = Fact
+UnlessReported Fact (TooMany kind number) = Fact
+
 -- a history comes with a run that reached its report, and else none does
 abbrev pub HasHistory : List Entry → Status → Type 0
-HasHistory history Done = ⊤
-HasHistory history WriteFault = ⊤
-HasHistory history NoMemory = history ≡ []
-HasHistory history Usage = history ≡ []
-HasHistory history (ReadFault table) = history ≡ []
-HasHistory history (TooLong table) = history ≡ []
-HasHistory history (BadRow table row column cause) = history ≡ []
-HasHistory history (TooMany kind number) = history ≡ []
+HasHistory history status = UnlessReported (history ≡ []) status
 
 -- the history of a run that reached its report is the whole run of the trace under the settings
 abbrev pub IsWholeRun : Settings → TraceTables → List Entry → Status → Type 0
-IsWholeRun settings trace history Done = Lawful settings trace history
-IsWholeRun settings trace history WriteFault = Lawful settings trace history
-IsWholeRun settings trace history NoMemory = ⊤
-IsWholeRun settings trace history Usage = ⊤
-IsWholeRun settings trace history (ReadFault table) = ⊤
-IsWholeRun settings trace history (TooLong table) = ⊤
-IsWholeRun settings trace history (BadRow table row column cause) = ⊤
-IsWholeRun settings trace history (TooMany kind number) = ⊤
+IsWholeRun settings trace history status = IfReported (Lawful settings trace history) status
 
 -- a history is the only one that is the whole run of the trace under the settings with the schedulers
 -- taking turns
@@ -84,26 +92,12 @@ IsTheOnly settings trace history = (other : List Entry) → Lawful settings trac
 
 -- so is the history of a run that reached its report
 abbrev pub IsOnlyRun : Settings → TraceTables → List Entry → Status → Type 0
-IsOnlyRun settings trace history Done = IsTheOnly settings trace history
-IsOnlyRun settings trace history WriteFault = IsTheOnly settings trace history
-IsOnlyRun settings trace history NoMemory = ⊤
-IsOnlyRun settings trace history Usage = ⊤
-IsOnlyRun settings trace history (ReadFault table) = ⊤
-IsOnlyRun settings trace history (TooLong table) = ⊤
-IsOnlyRun settings trace history (BadRow table row column cause) = ⊤
-IsOnlyRun settings trace history (TooMany kind number) = ⊤
+IsOnlyRun settings trace history status = IfReported (IsTheOnly settings trace history) status
 
 -- in a run that reached its report each gang claims all of its request or nothing, and no transaction
 -- evicts a task of its own job
 abbrev pub HasWholeGangs : Settings → TraceTables → List Entry → Status → Type 0
-HasWholeGangs settings trace history Done = GangsAreWhole settings trace history
-HasWholeGangs settings trace history WriteFault = GangsAreWhole settings trace history
-HasWholeGangs settings trace history NoMemory = ⊤
-HasWholeGangs settings trace history Usage = ⊤
-HasWholeGangs settings trace history (ReadFault table) = ⊤
-HasWholeGangs settings trace history (TooLong table) = ⊤
-HasWholeGangs settings trace history (BadRow table row column cause) = ⊤
-HasWholeGangs settings trace history (TooMany kind number) = ⊤
+HasWholeGangs settings trace history status = IfReported (GangsAreWhole settings trace history) status
 
 -- whatever the tables tell, there is a trace within the limits of which the history of a run that reached
 -- its report is the whole run, and of which that report, or a part of it from the front, is written
@@ -115,14 +109,7 @@ pub record IsSomeRun (settings : Settings) (history : List Entry) (status : Stat
 
 -- nothing is written by a run that doesn't reach its report
 abbrev pub WritesNothing : Option (List ℕ) → Option (List ℕ) → Status → Type 0
-WritesNothing before now Done = ⊤
-WritesNothing before now WriteFault = ⊤
-WritesNothing before now NoMemory = now ≡ before
-WritesNothing before now Usage = now ≡ before
-WritesNothing before now (ReadFault table) = now ≡ before
-WritesNothing before now (TooLong table) = now ≡ before
-WritesNothing before now (BadRow table row column cause) = now ≡ before
-WritesNothing before now (TooMany kind number) = now ≡ before
+WritesNothing before now status = UnlessReported (now ≡ before) status
 
 -- the end of a run whose tables were read
 abbrev pub EndsRun : Status → Type 0
