@@ -11,12 +11,13 @@ ghost use Rattle.omega_cases.specs.Copies.{StillStand};
 
 use crate::board::ask;
 use crate::fault::Fault;
+use crate::planning::{ask_copy, following, tell_plan, tell_trial};
 use crate::telling::{part, tell_judged, tell_part};
-use crate::values::{GREATEST, claim, is_colon, need, number, task, text};
+use crate::values::{GREATEST, claim, is_colon, mode, need, number, task, text};
 use omega_cell::Cell;
 use omega_copy::PrivateCopy;
 use omega_model::{
-    Bytes, Claims, Copied, Delta, Entry, Mode, Need, NoMemory, Outcome, Reply, Rule, TaskKey, Txn,
+    Bytes, Claims, Copied, Delta, Entry, Need, NoMemory, Outcome, Reply, Rule, TaskKey, Txn,
 };
 use std::alloc::Global;
 
@@ -33,6 +34,15 @@ use std::alloc::Global;
 /// `since NUMBER` answers what changed since the first so many entries: up to which entry it leads, and
 /// each machine as `part` of `board` tells it. `judge`, `at`, `part` and `machines` ask the board as in
 /// `board`, and `copy at 1` and the like ask the copy's.
+///
+/// `follow` goes on with a new copy that has followed the history, and answers how many entries it has
+/// seen. `plan MODE PREEMPT START JOB WISH ..` plans a request on the copy from a position on, and answers
+/// the claims, each as `TASK MACHINE VICTIMS`, `-` for none; with `evicting` evictions make room, with
+/// `sparing` they don't, and a WISH is three words: `INDEX AMOUNT PRECEDENCE`. `copy victims MACHINE JOB
+/// WISH` answers the tasks that must go for a wish, `-` where none must and `none` where no evictions make
+/// room; `copy first START AMOUNT` the first position with room. `trial CLAIM` places a claim on trial, on
+/// a new copy, and takes it back: it answers the verdict and what is evicted, and before, meanwhile and
+/// after it whether the task runs, what is free on the machine, and the first position with room for it.
 pub fn answer(alloc: Global, call: &str, words: &[Bytes]) -> Result<String, Fault> {
     if call != "script" {
         return Err(Fault::UnknownCall);
@@ -81,25 +91,15 @@ fn take(
     let call = text(call)?;
     match call {
         "sync" if words.is_empty() => sync(copy, cell, alloc, answers),
+        "follow" if words.is_empty() => follow(copy, cell, alloc, answers),
+        "plan" => tell_plan(copy, alloc, words, answers),
+        "trial" => tell_trial(cell, alloc, words, answers),
         "commit" => commit(cell, copy, alloc, words, answers),
         "since" => tell_since(cell, alloc, words, answers),
         "copy" => ask_copy(copy, alloc, words, answers),
         "judge" | "at" | "part" | "machines" => ask(cell.board(), alloc, call, words, answers),
         _ => tell_fed(cell, alloc, call, words, answers),
     }
-}
-
-/// Appends what the copy's board answers.
-fn ask_copy(
-    copy: &PrivateCopy,
-    alloc: Global,
-    words: &[Bytes],
-    answers: &mut String,
-) -> Result<(), Fault> {
-    let [call, words @ ..] = words else {
-        return Err(Fault::UnknownCall);
-    };
-    ask(copy.board(), alloc, text(call)?, words, answers)
 }
 
 /// Feeds an entry, and appends its place.
@@ -241,6 +241,21 @@ fn catch_up(copy: &mut PrivateCopy, cell: &Cell, alloc: Global) -> Result<(), No
     Ok(())
 }
 
+/// Goes on with a new copy that has followed the history, and appends how many entries it has seen.
+fn follow(
+    copy: &mut PrivateCopy,
+    cell: &Cell,
+    alloc: Global,
+    answers: &mut String,
+) -> Result<(), Fault>
+    ensures stands { OnOk result (CopyOf copy.new cell.now.history) }
+    ensures no_trial { OnOk result (copy.new.trial ≡ None) }
+{
+    *copy = following(alloc, cell)?;
+    write!(answers, "{}", copy.seen())?;
+    Ok(())
+}
+
 /// Appends what changed since the first so many entries.
 fn tell_since(
     cell: &Cell,
@@ -282,13 +297,13 @@ fn commit(
     requires stands { CopyOf copy.now cell.old.history }
     ensures { OnOk result (StillStand cell.old.history cell.new.history) }
 {
-    let [rule, mode, claims @ ..] = words else {
+    let [rule, word, claims @ ..] = words else {
         return Err(Fault::UnknownCall);
     };
     let txn = Txn {
         job: 1,
         rule: rule_of(rule)?,
-        mode: mode_of(mode)?,
+        mode: mode(word)?,
         claims: claims_of(alloc, claims)?,
     };
     let reply = commit_txn(cell, copy, alloc, txn)?;
@@ -300,15 +315,6 @@ fn rule_of(word: &Bytes) -> Result<Rule, Fault> {
     match text(word)? {
         "fine" => Ok(Rule::Fine),
         "coarse" => Ok(Rule::Coarse),
-        _ => Err(Fault::UnknownCall),
-    }
-}
-
-/// The mode of a word.
-fn mode_of(word: &Bytes) -> Result<Mode, Fault> {
-    match text(word)? {
-        "incremental" => Ok(Mode::Incremental),
-        "gang" => Ok(Mode::Gang),
         _ => Err(Fault::UnknownCall),
     }
 }

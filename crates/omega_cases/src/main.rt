@@ -12,6 +12,7 @@ mod feed;
 mod fit;
 mod line;
 mod mapreduce;
+mod planning;
 mod rows;
 mod tables;
 mod telling;

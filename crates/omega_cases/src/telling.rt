@@ -31,6 +31,15 @@ pub fn tell_free(answers: &mut String, free: Option<Need>) -> Result<(), Fault> 
     }
 }
 
+/// Appends a position, or `-` where there is none.
+pub fn tell_place(answers: &mut String, found: Option<usize>) -> Result<(), Fault> {
+    match found {
+        Some(position) => write!(answers, "{position}")?,
+        None => answers.push('-')?,
+    }
+    Ok(())
+}
+
 /// Appends the name of a task as `JOB.INDEX`.
 pub fn tell_task(answers: &mut String, key: TaskKey) -> Result<(), Fault> {
     let TaskKey { job, index } = key;

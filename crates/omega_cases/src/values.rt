@@ -1,6 +1,6 @@
 //! What words say: texts, numbers, amounts.
 use crate::fault::Fault;
-use omega_model::{Bytes, Claim, GREATEST_QUANTITY, Keys, Need, Spec, TaskKey};
+use omega_model::{Bytes, Claim, GREATEST_QUANTITY, Keys, Mode, Need, Spec, TaskKey};
 use omega_units::read_u64;
 use std::alloc::Global;
 use std::str;
@@ -142,6 +142,15 @@ pub fn spec(amount: &Bytes, prec: &Bytes) -> Result<Spec, Fault> {
         prec: byte_of(prec)?,
         differ,
     })
+}
+
+/// A mode.
+pub fn mode(word: &Bytes) -> Result<Mode, Fault> {
+    match text(word)? {
+        "incremental" => Ok(Mode::Incremental),
+        "gang" => Ok(Mode::Gang),
+        _ => Err(Fault::UnknownCall),
+    }
 }
 
 /// A claim of five words: the task's name, the machine, the amount, the precedence and the victims.

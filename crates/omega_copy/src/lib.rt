@@ -9,8 +9,6 @@
 mod copy;
 mod levels;
 mod telling;
-#[cfg(test)]
-mod tests;
 mod trial;
 
 pub use copy::PrivateCopy;

@@ -9,8 +9,6 @@
 mod evicting;
 mod planning;
 mod progress;
-#[cfg(test)]
-mod tests;
 mod trying;
 
 pub use evicting::victims;

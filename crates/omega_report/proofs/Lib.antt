@@ -1,4 +1,5 @@
 pub mod Closing
+mod Examples
 pub mod Empty
 pub mod Tallying
 pub mod PassGrows

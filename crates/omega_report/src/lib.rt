@@ -19,8 +19,6 @@ mod pass;
 mod reporting;
 mod so_far;
 mod tally;
-#[cfg(test)]
-mod tests;
 mod words;
 
 pub use laws::lawful_histories_apply;

@@ -17,8 +17,6 @@
 mod held;
 mod pass;
 mod shared;
-#[cfg(test)]
-mod tests;
 
 pub use pass::Pass;
 pub use shared::SharedCell;

@@ -8,6 +8,3 @@ mod trace;
 
 pub use status::{Line, exit_status, fault_line};
 pub use top::{omega, omega_with};
-
-#[cfg(test)]
-mod tests;

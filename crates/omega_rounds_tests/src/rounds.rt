@@ -1,7 +1,4 @@
-//! Rounds step by step, in turns and on threads, by the public functions of `omega_rounds`.
-//!
-//! They stand here, since the proof of that crate is long, and a crate with tests is proved once
-//! more with them.
+//! Rounds step by step, in turns and on threads.
 
 ghost use Rattle.std.specs.Prelude.{◌≡◌, IfOk};
 ghost use Rattle.std.specs.Thread.{IsSync};

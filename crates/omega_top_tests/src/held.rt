@@ -5,7 +5,7 @@
 
 ghost use Rattle.std.specs.Thread.{IsSync};
 
-use super::{End, Ran, expect, run_past, tables_of};
+use crate::runs::{End, Ran, expect, run_past, tables_of};
 use omega_io::{HeldGate, Point, Tables};
 use omega_model::{Entry, Judgements, NoMemory, Status, Verdict};
 use std::alloc::Global;

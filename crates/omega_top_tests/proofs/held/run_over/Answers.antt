@@ -3,7 +3,7 @@ use denote.Param.{param}
 use denote.Param.Send.{IsSync, param_sync, sendable}
 use Rattle.std.proofs.Crossing.{crosses}
 use Rattle.omega_io.proofs.held.HeldGate.TheSendSync as gate
-use Rattle.omega_top.proofs.tests.held.run_over.Goals as goal
+use Rattle.omega_top_tests.proofs.held.run_over.Goals as goal
 
 pub run_past-requires-after_bounds : goal.run_past-requires-after_bounds
 run_past-requires-after_bounds g c κs within =

@@ -2,12 +2,12 @@
 ghost use Rattle.std.specs.Prelude.{◌≡◌, ◌<◌, ◌≤◌, ◌+◌, ◌^◌, ◌∷◌, [], None, length, IfSome, OnOk};
 ghost use Rattle.omega_copy.specs.Copies.{CopyOf};
 
-use crate::{Pass, SharedCell};
 use omega_cell::Cell;
 use omega_copy::PrivateCopy;
 use omega_model::{
     Claim, Claims, Entries, Entry, Keys, Mode, Need, NoMemory, Rule, Spec, TaskKey, Txn, Verdict,
 };
+use omega_shared::{Pass, SharedCell};
 use std::alloc::Global;
 use std::process::Abort;
 use std::sync::Wait;

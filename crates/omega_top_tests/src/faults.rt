@@ -1,14 +1,12 @@
 //! Whole runs over tables and a sink in memory, whose reads and writes are cut or fail, and what is
-//! said of refusals that no run in a folder shows. All other runs are the folders of `tests/`.
+//! said of refusals that no run in a folder shows.
 
 ghost use Rattle.std.specs.Thread.{IsSync};
 
-mod held;
-mod rounds;
-
-use crate::{exit_status, fault_line, omega};
-use omega_io::{Gate, MemorySink, MemoryTables, PassGate, Tables};
-use omega_model::{Bytes, Cause, Done, Kind, NoMemory, Seq, Settings, Status, Table};
+use crate::runs::{End, MACHINE, Ran, TASK, ends_so, expect, run_past, tables_of};
+use omega_io::{MemoryTables, PassGate, Tables};
+use omega_model::{Cause, Kind, NoMemory, Settings, Status, Table};
+use omega_top::{exit_status, fault_line};
 use std::alloc::Global;
 use std::process::Abort;
 use std::sync::Wait;
@@ -16,108 +14,6 @@ use std::thread::Threads;
 
 // Room for every report of these tests, in bytes.
 const ROOM: u64 = 1000;
-
-// A machine, a task that goes there, and the report of both.
-const MACHINE: &str = "0,1,0,p,0.5,0.5\n";
-
-const TASK: &str = "0,,10,0,,0,u,0,1,0.25,0.25,0.001,0\n";
-
-const REPORT: &str = "omega 2
-round 0
-commit 1 2 10
-place 10 0 1
-use cpu 250000000 500000000 mem 250000000 500000000 disk 1000000 1000000000000
-entries 3 rounds 1
-scheduler 0 commits 0 empty 0 placing 0 conflicted 0 placed 0 refused 0 withdrawn 0 evicted 0
-scheduler 1 commits 1 empty 0 placing 1 conflicted 0 placed 1 refused 0 withdrawn 0 evicted 0
-scheduler 2 commits 0 empty 0 placing 0 conflicted 0 placed 0 refused 0 withdrawn 0 evicted 0
-use cpu 250000000 500000000 mem 250000000 500000000 disk 1000000 1000000000000
-waiting 0 abandoned 0
-";
-
-// What came of a run.
-#[derive(Drop)]
-struct Ran {
-    done: Done,
-    written: Bytes,
-}
-
-// How a run is to end: with this status, a history of so many entries and these bytes written.
-#[derive(Clone, Copy)]
-struct End<'a> {
-    status: Status,
-    entries: usize,
-    report: &'a [u8],
-}
-
-impl End<'static> {
-    // That of a whole run over the machine and its task.
-    fn done() -> End<'static> {
-        End {
-            status: Status::Done,
-            entries: 3,
-            report: REPORT.as_bytes(),
-        }
-    }
-
-    // That of a run that is refused.
-    fn refused(status: Status) -> End<'static> {
-        End {
-            status,
-            entries: 0,
-            report: b"",
-        }
-    }
-}
-
-// The bytes of a text.
-fn bytes(alloc: Global, text: &str) -> Result<Bytes, NoMemory> {
-    Ok(Seq::of(Vec::from_slice(alloc, text.as_bytes())?))
-}
-
-// Tables of which all but two are empty.
-fn tables_of(alloc: Global, machines: &str, tasks: &str) -> Result<MemoryTables, NoMemory> {
-    let tables = [
-        bytes(alloc, machines)?,
-        Seq::new(alloc),
-        bytes(alloc, tasks)?,
-        Seq::new(alloc),
-        Seq::new(alloc),
-        Seq::new(alloc),
-    ];
-    Ok(MemoryTables::new(alloc, tables))
-}
-
-// A run with these words past a gate, whose sink has room for so many bytes.
-fn run_past<R: Threads + Wait + Sync, T: Tables, G: Gate + Sync>(
-    rt: &R,
-    alloc: Global,
-    words: &[&str],
-    tables: &mut T,
-    room: u64,
-    gate: &G,
-) -> Result<Ran, NoMemory>
-    requires { IsSync R.row × IsSync G.row }
-{
-    let mut sink = MemorySink::new(alloc, room)?;
-    let done = omega(rt, alloc, words, tables, &mut sink, gate);
-    Ok(Ran {
-        done,
-        written: sink.into_bytes(),
-    })
-}
-
-// Whether a run ended so.
-fn ends_so(ran: &Ran, end: &End) -> bool {
-    ran.done.status == end.status
-        && ran.done.history.len() == end.entries
-        && ran.written.as_slice() == end.report
-}
-
-// Sees that a run ended so.
-fn expect(rt: &impl Abort, ran: &Ran, end: &End) {
-    assert!(rt; ends_so(ran, end));
-}
 
 // Sees that a replay ends so, over tables that are gone then.
 fn expect_replay<R: Threads + Wait + Sync + Abort, T: Tables + Drop>(
@@ -229,7 +125,7 @@ fn no_read_comes_behind_the_last(rt: HostRuntime) -> Result<(), NoMemory> {
 
 // How a replay ends whose sink has room for so many bytes.
 fn end_in(room: usize) -> End<'static> {
-    let report = REPORT.as_bytes();
+    let report = End::done().report;
     if room >= report.len() {
         return End::done();
     }

@@ -1,7 +1,5 @@
-use Rattle.std.proofs.Common.{sym, subst}
-use Rattle.omega_model.specs.Applying.{EachMayApply}
 use Rattle.omega_copy.proofs.Follows.{may_follow_new}
-use Rattle.omega_copy.proofs.tests.following.Goals as goal
+use Rattle.omega_cases.proofs.planning.following.Goals as goal
 
 pub follow-requires-clause-history : goal.follow-requires-clause-history
 follow-requires-clause-history c =
