@@ -13,6 +13,7 @@ mod fit;
 mod line;
 mod mapreduce;
 mod rows;
+mod running;
 mod tables;
 mod telling;
 mod units;
@@ -61,6 +62,7 @@ fn answer_words(alloc: Global, words: &[Bytes]) -> Result<String, Fault> {
         "feed" => feed::answer(alloc, call, rest),
         "fit" => fit::answer(alloc, call, rest),
         "mapreduce" => mapreduce::answer(alloc, call, rest),
+        "running" => running::answer(alloc, call, rest),
         "tables" => tables::answer(alloc, call, rest),
         "units" => units::answer(alloc, call, rest),
         "words" => words::answer(alloc, call, rest),

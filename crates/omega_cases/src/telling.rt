@@ -52,6 +52,38 @@ pub fn tell_tasks(answers: &mut String, keys: &[TaskKey]) -> Result<(), Fault> {
     Ok(())
 }
 
+/// Appends running tasks, parted by blanks, or `-` where there is none.
+pub fn tell_running(answers: &mut String, tasks: &[Task]) -> Result<(), Fault> {
+    if tasks.is_empty() {
+        answers.push('-')?;
+    }
+    for (place, task) in tasks.iter().enumerate() {
+        if place > 0 {
+            answers.push(' ')?;
+        }
+        tell_running_task(answers, task)?;
+    }
+    Ok(())
+}
+
+/// Appends a running task, or `-` where there is none.
+pub fn tell_found(answers: &mut String, task: Option<&Task>) -> Result<(), Fault> {
+    match task {
+        Some(task) => tell_running_task(answers, task),
+        None => {
+            answers.push('-')?;
+            Ok(())
+        }
+    }
+}
+
+/// Appends a running task: its name, the machine, the amount and the precedence.
+fn tell_running_task(answers: &mut String, task: &Task) -> Result<(), Fault> {
+    tell_task(answers, task.key)?;
+    write!(answers, " {} ", task.machine)?;
+    tell_spec(answers, task.spec)
+}
+
 /// Appends the words of a verdict and the names of the tasks that are evicted.
 pub fn tell_judged(
     answers: &mut String,
