@@ -9,7 +9,7 @@ ghost use Rattle.omega_model.specs.declared.cells.Task.{Task};
 ghost use Rattle.omega_model.specs.declared.entries.Entry.{Entry};
 ghost use Rattle.omega_cases.specs.Copies.{StillStand};
 
-use crate::board::ask;
+use crate::board::{ask, is_question};
 use crate::fault::Fault;
 use crate::telling::{part, tell_judged, tell_part};
 use crate::values::{GREATEST, claim, is_colon, need, number, task, text};
@@ -31,8 +31,8 @@ use std::alloc::Global;
 /// `fine` or `coarse`, the mode `incremental` or `gang`.
 ///
 /// `since NUMBER` answers what changed since the first so many entries: up to which entry it leads, and
-/// each machine as `part` of `board` tells it. `judge`, `at`, `part` and `machines` ask the board as in
-/// `board`, and `copy at 1` and the like ask the copy's.
+/// each machine as `part` of `board` tells it. `judge`, `at`, `part`, `attributes`, `position`,
+/// `machines` and `load` ask the board as in `board`, and `copy at 1` and the like ask the copy's.
 pub fn answer(alloc: Global, call: &str, words: &[Bytes]) -> Result<String, Fault> {
     if call != "script" {
         return Err(Fault::UnknownCall);
@@ -84,7 +84,7 @@ fn take(
         "commit" => commit(cell, copy, alloc, words, answers),
         "since" => tell_since(cell, alloc, words, answers),
         "copy" => ask_copy(copy, alloc, words, answers),
-        "judge" | "at" | "part" | "machines" => ask(cell.board(), alloc, call, words, answers),
+        _ if is_question(call) => ask(cell.board(), alloc, call, words, answers),
         _ => tell_fed(cell, alloc, call, words, answers),
     }
 }

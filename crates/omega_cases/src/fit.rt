@@ -1,5 +1,6 @@
 //! The first position that has room: the calls of `omega_fit`.
 use crate::fault::Fault;
+use crate::telling::tell_place;
 use crate::values::{free, is_colon, need, place, text};
 use omega_fit::{FitIndex, first_fit};
 use omega_model::{Bytes, Need};
@@ -118,20 +119,11 @@ impl Both {
         if !answers.is_empty() {
             answers.push(' ')?;
         }
-        tell(found, answers)?;
+        tell_place(answers, found)?;
         if found != asked {
             answers.push('!')?;
-            tell(asked, answers)?;
+            tell_place(answers, asked)?;
         }
         Ok(())
     }
-}
-
-/// Appends a position, or `-` where there is none.
-fn tell(found: Option<usize>, answers: &mut String) -> Result<(), Fault> {
-    match found {
-        Some(position) => write!(answers, "{position}")?,
-        None => answers.push('-')?,
-    }
-    Ok(())
 }

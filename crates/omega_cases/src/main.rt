@@ -7,6 +7,7 @@
 mod attrs;
 mod board;
 mod cell;
+mod crowd;
 mod fault;
 mod feed;
 mod fit;

@@ -2,7 +2,7 @@
 use crate::fault::Fault;
 use crate::values::text;
 use omega_model::{
-    Bytes, Entry, Need, Part, Request, Round, Row, Spec, Task, TaskKey, Verdict, Wish,
+    Attr, Bytes, Entry, Need, Part, Request, Round, Row, Spec, Task, TaskKey, Verdict, Wish,
 };
 
 /// Parts the answer of the next step from those before it.
@@ -29,6 +29,15 @@ pub fn tell_free(answers: &mut String, free: Option<Need>) -> Result<(), Fault> 
             Ok(())
         }
     }
+}
+
+/// Appends a place in a list, or `-` where there is none.
+pub fn tell_place(answers: &mut String, place: Option<usize>) -> Result<(), Fault> {
+    match place {
+        Some(place) => write!(answers, "{place}")?,
+        None => answers.push('-')?,
+    }
+    Ok(())
 }
 
 /// Appends the name of a task as `JOB.INDEX`.
@@ -141,6 +150,13 @@ fn tell_names(answers: &mut String, tasks: &[Task]) -> Result<(), Fault> {
         }
         tell_task(answers, task.key)?;
     }
+    Ok(())
+}
+
+/// Appends an attribute as `NAME=VALUE`, behind a blank.
+pub fn tell_attribute(answers: &mut String, attr: &Attr) -> Result<(), Fault> {
+    let (name, value) = (text(&attr.name)?, text(&attr.value)?);
+    write!(answers, " {name}={value}")?;
     Ok(())
 }
 
