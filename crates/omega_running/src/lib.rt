@@ -14,6 +14,3 @@ mod table;
 
 pub use standing::stands_in;
 pub use table::Running;
-
-#[cfg(test)]
-mod tests;
