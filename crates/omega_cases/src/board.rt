@@ -30,7 +30,7 @@ use std::alloc::Global;
 /// `at MACHINE` answers how many entries touched the machine, how many tasks run on all machines and
 /// what is free on this one; `part POSITION` the machine at a position of the list: its number, whether
 /// it is up, its capacity, how many attributes it has, how many entries touched it, and its tasks;
-/// `machines` the length of the list. `copy` goes on with a copy of the board, and answers its length.
+/// `machines` the length of the list.
 pub fn answer(alloc: Global, call: &str, words: &[Bytes]) -> Result<String, Fault> {
     if call != "script" {
         return Err(Fault::UnknownCall);
@@ -59,7 +59,6 @@ pub fn take(
         "place" => commit(board, alloc, words, answers),
         "try" => attempt(board, alloc, words, answers),
         "trial" => trial(board, alloc, words, answers),
-        "copy" => copy(board, alloc, words, answers),
         "judge" | "at" | "part" | "machines" => ask(board, alloc, call, words, answers),
         _ => {
             let stopped = apply(board, alloc, call, words)?;
@@ -304,17 +303,6 @@ fn place_and_take_back(
     tell_at(board, claim.machine, answers)?;
     board.undo(undo);
     Ok(())
-}
-
-/// Goes on with a copy, and appends how many machines it has.
-fn copy(
-    board: &mut Board,
-    alloc: Global,
-    words: &[Bytes],
-    answers: &mut String,
-) -> Result<(), Fault> {
-    *board = board.copy(alloc)?;
-    ask(board, alloc, "machines", words, answers)
 }
 
 /// Appends how many entries touched a machine, how many tasks run and what is free on the machine.

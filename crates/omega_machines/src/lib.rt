@@ -14,8 +14,7 @@ mod table;
 #[cfg(test)]
 mod tests;
 
-use omega_model::{Copied, Machine, Need, NoMemory};
-use std::alloc::Global;
+use omega_model::{Machine, Need};
 pub use table::MachineTable;
 
 /// A machine, what is free on it, and its sequence number: how many entries have touched it.
@@ -24,14 +23,4 @@ pub struct MachineState {
     pub machine: Machine,
     pub free: Need,
     pub seq: u64,
-}
-
-impl Copied for MachineState {
-    fn copy(&self, alloc: Global) -> Result<MachineState, NoMemory> {
-        Ok(MachineState {
-            machine: self.machine.copy(alloc)?,
-            free: self.free,
-            seq: self.seq,
-        })
-    }
 }

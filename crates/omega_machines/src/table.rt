@@ -11,7 +11,7 @@ ghost use Rattle.omega_machines.specs.Table.{machines_of, use_at, free_at, seq_a
 use crate::load::Load;
 use crate::{MachineState, attrs};
 use indexmap::IndexMap;
-use omega_model::{Bytes, Copied, Machine, Need, NoMemory, Seq};
+use omega_model::{Bytes, Machine, Need, NoMemory, Seq};
 use std::alloc::Global;
 use std::marker::Model;
 
@@ -341,21 +341,5 @@ impl MachineTable {
         ensures { position (λ machine. machine.id == id) (machines_of self.now) ≡ Some result }
     {
         self.position(id).unwrap()
-    }
-}
-
-impl Copied for MachineTable {
-    /// Costs all machines and their attributes, also in memory.
-    fn copy(&self, alloc: Global) -> Result<MachineTable, NoMemory> {
-        let mut rows = IndexMap::new(alloc);
-        for position in 0..self.rows.len() {
-            if let Some((id, state)) = self.rows.get_index(position) {
-                push(&mut rows, *id, state.copy(alloc)?)?;
-            }
-        }
-        Ok(MachineTable {
-            rows,
-            load: self.load,
-        })
     }
 }

@@ -1,9 +1,5 @@
-ghost use Rattle.std.specs.Prelude.{◌≡◌, IsTrue};
-ghost use Rattle.omega_model.specs.Machines.{is_listed};
-ghost use Rattle.omega_machines.specs.Table.{machines_of};
-
 use crate::MachineTable;
-use omega_model::{Bytes, Copied, Need, NoMemory, Seq};
+use omega_model::{Need, NoMemory};
 use std::alloc::Global;
 use std::test::Fail;
 
@@ -24,23 +20,6 @@ fn need(cpu: u64, mem: u64) -> Need
         mem,
         disk: mem,
     }
-}
-
-fn bytes(alloc: Global, text: &[u8]) -> Result<Bytes, NoMemory> {
-    Ok(Seq::of(text.to_vec(alloc)?))
-}
-
-/// The attributes of a machine as bytes: each name, value and a stop.
-fn told(alloc: Global, table: &MachineTable, position: usize) -> Result<Vec<u8>, NoMemory> {
-    let mut told = Vec::new(alloc);
-    if let Some(machine) = table.at(position) {
-        for attr in machine.attrs.as_slice() {
-            told.extend_from_slice(attr.name.as_slice())?;
-            told.extend_from_slice(attr.value.as_slice())?;
-            told.extend_from_slice(b".")?;
-        }
-    }
-    Ok(told)
 }
 
 /// A table in which these machines are mentioned, in this order.
@@ -182,100 +161,6 @@ fn touches_count(rt: HostRuntime) -> Result<(), Fail> {
     table.touch(7);
     table.touch(7);
     assert_eq!(rt; (table.seq(7), table.seq(8), table.seq(9)), (2, 0, 0));
-    Ok(())
-}
-
-/// A change of an attribute: its name, and its value or that it is unset.
-type AttrChange<'a> = (&'a [u8], Option<&'a [u8]>);
-
-/// Changes an attribute of machine 4, if it is there.
-fn change_attr(
-    alloc: Global,
-    table: &mut MachineTable,
-    change: AttrChange,
-) -> Result<(), NoMemory> {
-    let (name, value) = change;
-    let name = bytes(alloc, name)?;
-    if table.position(4).is_none() {
-        return Ok(());
-    }
-    match value {
-        Some(value) => set_attr(alloc, table, &name, value),
-        None => {
-            table.delete_attr(4, &name);
-            Ok(())
-        }
-    }
-}
-
-/// Sets an attribute of machine 4.
-fn set_attr(
-    alloc: Global,
-    table: &mut MachineTable,
-    name: &Bytes,
-    value: &[u8],
-) -> Result<(), NoMemory>
-    requires { IsTrue (is_listed 4 (machines_of table.old)) }
-{
-    let value = bytes(alloc, value)?;
-    table.set_attr(4, name, &value)
-}
-
-/// The attributes of the machine at a position, of machines 3 and 4, after the first changes of 4.
-fn told_after(
-    alloc: Global,
-    changes: &[AttrChange],
-    count: usize,
-    position: usize,
-) -> Result<Vec<u8>, NoMemory> {
-    let mut table = mentioned(alloc, &[3, 4])?;
-    for change in changes.iter().take(count) {
-        change_attr(alloc, &mut table, *change)?;
-    }
-    told(alloc, &table, position)
-}
-
-#[test]
-fn attributes_are_set_and_unset(rt: HostRuntime) -> Result<(), Fail> {
-    let changes: [AttrChange; 6] = [
-        (b"bb", Some(b"a")),
-        (b"a", Some(b"")),
-        (b"", Some(b"bb")),
-        (b"a", Some(b"bb")),
-        (b"bb", None),
-        (b"bb", None),
-    ];
-    let cases: [(usize, usize, &[u8]); 4] = [
-        (3, 1, b"bba.a.bb."),
-        (4, 1, b"bba.abb.bb."),
-        (6, 1, b"abb.bb."),
-        (6, 0, b""),
-    ];
-    for (count, position, want) in cases {
-        let told = told_after(rt.alloc(), changes.as_slice(), count, position)?;
-        assert_eq!(rt; told.as_slice(), want);
-    }
-    Ok(())
-}
-
-/// A copy of machines 3 and 4, of which 4 was touched and has an attribute.
-fn copied(alloc: Global) -> Result<MachineTable, NoMemory> {
-    let mut table = mentioned(alloc, &[3, 4])?;
-    if table.position(4).is_some() && table.seq(4) < u64::MAX {
-        table.touch(4);
-    }
-    change_attr(alloc, &mut table, (b"a", Some(b"a")))?;
-    table.copy(alloc)
-}
-
-#[test]
-fn a_copy_is_equal(rt: HostRuntime) -> Result<(), Fail> {
-    let alloc = rt.alloc();
-    let copied = copied(alloc)?;
-    assert_eq!(rt; copied.position(4), Some(1));
-    assert_eq!(rt; copied.seq(4), 1);
-    assert_eq!(rt; copied.free(4), None);
-    assert_eq!(rt; told(alloc, &copied, 1)?.as_slice(), b"aa.".as_slice());
     Ok(())
 }
 

@@ -213,26 +213,6 @@ impl Tree {
         }
         node.right.other_of_job(job, machine, gone)
     }
-
-    /// A tree of the same tasks. Takes the memory of its nodes.
-    pub fn copy(&self, alloc: Global) -> Result<Tree, NoMemory>
-        ensures { IfOk result (λ copied. tasks_of copied ≡ tasks_of self.now) }
-    {
-        let Tree::Fork(node) = self else {
-            return Ok(Tree::Leaf);
-        };
-        let left = node.left.copy(alloc)?;
-        let right = node.right.copy(alloc)?;
-        Ok(Tree::Fork(Box::new(
-            alloc,
-            Node {
-                left,
-                task: node.task,
-                height: node.height,
-                right,
-            },
-        )?))
-    }
 }
 
 /// What is left of an amount when a task of at least this precedence has taken its need.

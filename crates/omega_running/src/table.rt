@@ -209,19 +209,6 @@ impl Running {
     {
         self.by_machine.other_of_job(job, machine, gone)
     }
-
-    /// The same tasks, with no room for more. Takes the memory and time of the tasks and the trees.
-    pub fn copy(&self, alloc: Global) -> Result<Running, NoMemory>
-        ensures tasks { IfOk result (λ copied. copied.tasks ≡ self.now.tasks) }
-        ensures spare { IfOk result (λ copied. copied.spare ≡ 0) }
-    {
-        Ok(Running {
-            by_key: self.by_key.copy(alloc)?,
-            by_machine: self.by_machine.copy(alloc)?,
-            count: self.count,
-            pool: Vec::with_capacity(alloc, self.count)?,
-        })
-    }
 }
 
 /// Makes nodes until there are those for `n` tasks, for which the pool has room. Takes their

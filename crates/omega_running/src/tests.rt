@@ -73,15 +73,6 @@ fn lists_by_machine_in_order_of_eviction(rt: HostRuntime) -> Result<(), NoMemory
     Ok(())
 }
 
-#[test]
-fn lists_by_job(rt: HostRuntime) -> Result<(), NoMemory> {
-    let alloc = rt.alloc();
-    let running = filled(alloc)?;
-    let indexes = [key(7, 0), key(7, 1), key(7, 2)];
-    assert!(rt; same(&running.of_job(alloc, 7)?, indexes.as_slice()));
-    Ok(())
-}
-
 // The other task of a job on a machine, where these are gone.
 fn other(
     alloc: Global,
@@ -118,20 +109,6 @@ fn takes_out_once(rt: HostRuntime) -> Result<(), NoMemory> {
     assert_eq!(rt; running.count(), 3);
     let left = [key(5, 9), key(7, 0)];
     assert!(rt; same(&running.on_machine(alloc, 3)?, left.as_slice()));
-    let left = [key(7, 0), key(7, 2)];
-    assert!(rt; same(&running.of_job(alloc, 7)?, left.as_slice()));
-    Ok(())
-}
-
-#[test]
-fn a_copy_stays_as_it_was(rt: HostRuntime) -> Result<(), NoMemory> {
-    let alloc = rt.alloc();
-    let mut running = filled(alloc)?;
-    let copied = running.copy(alloc)?;
-    running.remove(key(7, 1));
-    assert_eq!(rt; copied.count(), 4);
-    let order = [key(7, 1), key(5, 9), key(7, 0)];
-    assert!(rt; same(&copied.on_machine(alloc, 3)?, order.as_slice()));
     Ok(())
 }
 
