@@ -6,7 +6,7 @@ use Rattle.std.proofs.lemmas.Bool.{both_ways, eqb-true, eq-eqb, not_from_false}
 use Rattle.std.proofs.lemmas.List.Elements.{filter-append}
 use Rattle.std.proofs.lemmas.Option.{same_Some}
 use Rattle.omega_model.specs.Applying.{MayPlaceAll, PlacesInOrder}
-use Rattle.omega_model.specs.Cell.{Cell, task_at, with_task, without, total, is_on, use_on, keys_of}
+use Rattle.omega_model.specs.Cell.{Cell, task_at, with_task, without, is_on, keys_of}
 use Rattle.omega_model.specs.Judge.{judge_fine, runs_on}
 use Rattle.omega_model.specs.Keys.{same_key, key_lt, is_among}
 use Rattle.omega_model.specs.Reply.{task_of, tasks_placed, tasks_after_claim, after_claim}
@@ -158,8 +158,3 @@ tasks_untouched cell (AttrDelete machine name) order places id away = refl
 tasks_untouched cell (End key machine) order places id away =
     on_kept cell.tasks id (goes_on key machine) (each_of _ (goes_on_elsewhere key machine id away) cell.tasks)
 tasks_untouched cell (Commit scheduler seen txn reply) order places id away = claims_elsewhere cell (zip txn.claims reply) id order places away
-
--- so it uses as much
-pub use_untouched : (cell : Cell) (entry : Entry) → IsInOrder ByKey cell.tasks → PlacesInOrder cell entry → (id : ℕ) → touches id entry ≡ false
-    → use_on (tasks_after cell.tasks entry) id ≡ use_on cell.tasks id
-use_untouched cell entry order places id away = ap total (tasks_untouched cell entry order places id away)

@@ -203,7 +203,7 @@ impl MachineTable {
     /// Gives an attribute of a machine a value, in its place where it is set, else after the
     /// others. Refused, it leaves the table as it was. Takes memory, and costs the machine's
     /// attributes.
-    pub fn set_attr(&mut self, id: u64, name: &Bytes, value: &Bytes) -> Result<(), NoMemory>
+    fn set_attr(&mut self, id: u64, name: &Bytes, value: &Bytes) -> Result<(), NoMemory>
         requires { IsTrue (is_listed id (machines_of self.old)) }
         ensures ok { OnOk result (self.new ≡ change_state id (with_machine (attr_set name.now value.now)) self.old) }
         ensures err { OnErr result (self.new ≡ self.old) }

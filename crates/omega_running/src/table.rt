@@ -181,16 +181,6 @@ impl Running {
         }
     }
 
-    /// The keys of a job's running tasks by index. Takes the time of what the job has, and
-    /// logarithmic in the number of tasks.
-    pub fn of_job(&self, alloc: Global, job: u64) -> Result<Keys, NoMemory>
-        ensures { IfOk result (λ keys. keys ≡ keys_of (filter (is_of_job job) self.now.tasks)) }
-    {
-        let mut found = Vec::new(alloc);
-        self.by_key.collect(job, &mut found)?;
-        keys_of(alloc, &found)
-    }
-
     /// A job's running tasks by index. Takes the time of what the job has, and logarithmic in the
     /// number of tasks.
     pub fn tasks_of_job(&self, alloc: Global, job: u64) -> Result<Tasks, NoMemory>
