@@ -17,8 +17,9 @@ use omega_model::{Keys, Need, NoMemory, Task, TaskKey};
 use std::alloc::Global;
 use std::marker::Model;
 
-/// How many trees there are: a tree has about forty tasks where 150,000 run.
-const TREES: usize = 4_096;
+/// How many trees there are: a tree has two or three tasks where 150,000 run. A tree takes 16 bytes
+/// beside its nodes, so the two forests of a board take 2 MiB.
+const TREES: usize = 65_536;
 
 /// Tasks in one of the two orders. The tasks of a job, or those of a machine, stand in one tree,
 /// which the number of the job or the machine names, so that a way down is short however many
