@@ -148,7 +148,9 @@ impl Board {
         }
     }
 
-    // Of the tasks on the machine, those that the claim lists are its victims that stand.
+    // Refused where the claim must be alone of its job and another task of the job stays on its
+    // machine. The claim's list serves for its victims that stand: of the tasks there these are the
+    // same.
     fn same_job(&self, claim: &Claim) -> Option<Verdict>
         ensures { result ≡ same_job (cell_of self.now) claim.now }
     {

@@ -113,16 +113,14 @@ impl MachineTable {
         self.rows.get_index_of(&id)
     }
 
-    /// What is in use on all machines that are up, below 2^56 in each component. Costs the same for
-    /// any number of machines.
+    /// What is in use on all machines that are up. Costs the same for any number of machines.
     pub fn used(&self) -> Need
         ensures { result ≡ used_by_all self.now }
     {
         self.load.used
     }
 
-    /// The capacity of all machines that are up, below 2^56 in each component. Costs the same for
-    /// any number of machines.
+    /// The capacity of all machines that are up. Costs the same for any number of machines.
     pub fn capacity(&self) -> Need
         ensures { result ≡ capacity_of_all self.now }
     {
