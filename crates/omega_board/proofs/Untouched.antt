@@ -29,7 +29,8 @@ use Rattle.omega_board.proofs.Claims.{absent_still}
 use Rattle.omega_board.proofs.Parts.{runs_on_is, found_on}
 use Rattle.omega_board.proofs.Placed.{placed_so, is_placed-Placed}
 use Rattle.omega_board.proofs.Places.{each_place}
-use Rattle.omega_board.proofs.Ranks.{each_here, each_rank, excess_first}
+use Rattle.omega_running.proofs.Ranked.{each_ranked}
+use Rattle.omega_board.proofs.Ranks.{each_here, excess_first}
 use Rattle.omega_board.proofs.Tasks.{each_filter, each_passes, parted, filter_and, with_ordered, without_ordered}
 
 -- where the tasks on a machine stay, they are the same
@@ -69,7 +70,7 @@ each_keys P (t ∷ tasks) each = (each.0, each_keys P tasks each.1)
 -- the tasks on a machine in order of eviction run there
 pub ranked_run : (tasks : List Task) (machine : ℕ) → IsInOrder ByKey tasks → Each (λ t. runs_on tasks machine t.key ≡ true) (ranked_on machine tasks)
 ranked_run tasks machine order =
-    each_rank (λ t. runs_on tasks machine t.key ≡ true) (filter (is_on machine) tasks)
+    each_ranked (λ t. runs_on tasks machine t.key ≡ true) (filter (is_on machine) tasks)
     (each_both (λ t. is_on machine t ≡ true) (λ t. task_at tasks t.key ≡ Some t) (λ t. runs_on tasks machine t.key ≡ true)
     (λ t on here. runs_on_is tasks machine t.key order ∙ ap (λ o. option_map_or (λ (x : Task). x.machine == machine) o false) here ∙ on)
     (filter (is_on machine) tasks) (each_passes (is_on machine) tasks) (each_filter (λ t. task_at tasks t.key ≡ Some t) (is_on machine) tasks (each_here tasks order)))
