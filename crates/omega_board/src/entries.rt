@@ -119,7 +119,7 @@ impl Board {
         ensures displaced { IfOk result (λ keys. keys ≡ []) }
         ensures err { OnErr result (self.new ≡ self.old) }
     {
-        self.displace(machine, &[])?;
+        self.list(machine)?;
         self.unset_attr(machine, name);
         Ok(Seq::new(alloc))
     }

@@ -12,6 +12,7 @@ mod orders;
 mod standing;
 mod table;
 
+pub use orders::is_among;
 pub use standing::stands_in;
 pub use table::Running;
 

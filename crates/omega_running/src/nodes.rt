@@ -208,7 +208,7 @@ impl Tree {
         if earlier.is_some() {
             return earlier;
         }
-        if !is_among(node.task.key, gone) {
+        if !is_among(node.task.key, gone.as_slice()) {
             return Some(node.task.key);
         }
         node.right.other_of_job(job, machine, gone)
