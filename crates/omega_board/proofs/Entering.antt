@@ -1,9 +1,10 @@
 -- A change of one machine that is counted on it.
-use Rattle.std.proofs.Common.{◌≡◌, ℕ, ◌+◌, ◌<◌, true, false, List, [], ◌∷◌, length, Option, Some, None, is_some, IsTrue, refl, sym, ap, ◌∙◌, subst, arith, if◌then◌else◌, ◌==◌, ◌⊎◌}
+use Rattle.std.proofs.Common.{◌≡◌, ℕ, ◌+◌, true, false, List, [], ◌∷◌, Option, Some, None, is_some, IsTrue, refl, sym, ap, ◌∙◌, subst, arith, if◌then◌else◌, ◌==◌}
 use Rattle.std.specs.List.{filter}
 use Rattle.std.specs.Option.{option_map, option_map_or}
 use Rattle.std.proofs.lemmas.Bool.{both_ways, eqb-true, eq-eqb}
 use Rattle.omega_model.specs.Need.{Fits, nothing, plus, minus}
+use Rattle.omega_model.specs.Applying.{ListsOrHasRoom}
 use Rattle.omega_model.specs.Cell.{total, is_on, use_on}
 use Rattle.omega_model.specs.Machines.{is_listed, change, removed, attr_set, attr_deleted}
 use Rattle.omega_model.specs.declared.cells.Need.{Need}
@@ -118,7 +119,7 @@ module _ (table : List MachineState) (tasks : List Task) (board : IsBoard table 
   unset_board name first last = counted_board (with_machine (attr_deleted name)) (λ s. refl) (λ s _ was. was) (each_of _ (λ t _ s up. up) tasks) first last
 
 -- with an attribute set, on a machine that is listed first
-pub attr_board : (table : List MachineState) (tasks : List Task) → IsBoard table tasks → (id : ℕ) (name value : List ℕ) (first last : List MachineState) → length table < 65536 ⊎ IsTrue (is_listed id (machines_of table))
+pub attr_board : (table : List MachineState) (tasks : List Task) → IsBoard table tasks → (id : ℕ) (name value : List ℕ) (first last : List MachineState) → ListsOrHasRoom (machines_of table) id
     → first ≡ change_state id (with_machine (attr_set name value)) (ensured_states id table) → last ≡ change_state id touched first → IsTable first → IsTable last → IsBoard last tasks
 attr_board table tasks board id name value first last room =
     counted_board (ensured_states id table) tasks (ensured_board table tasks board id (table_ensured id table board.bounded room)) id (with_machine (attr_set name value)) (λ s. refl) (λ s _ was. was) (each_of _ (λ t _ s up. up) tasks) first last

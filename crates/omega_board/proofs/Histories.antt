@@ -1,16 +1,14 @@
 -- What may be applied to the state of a history may be applied to the cell and numbers after it.
-use Rattle.std.proofs.Common.{◌≡◌, ℕ, ◌+◌, ◌-◌, ◌<◌, ◌^◌, inl, inr, List, [], ◌∷◌, ◌++◌, length, map, refl, sym, ap₂, subst, arith, if◌then◌else◌, ◌⊎◌, IsTrue}
-use Rattle.std.proofs.lemmas.List.{length-map}
+use Rattle.std.proofs.Common.{◌≡◌, ℕ, ◌+◌, ◌-◌, ◌<◌, ◌^◌, List, [], ◌∷◌, ◌++◌, map, refl, sym, ap₂, subst, if◌then◌else◌}
 use Rattle.std.proofs.lemmas.List.Sums.{fold-append}
-use Rattle.omega_model.specs.Applying.{ListsOrHasRoom, MayApply}
+use Rattle.omega_model.specs.Applying.{MayApply}
 use Rattle.omega_model.specs.Cell.{Cell}
-use Rattle.omega_model.specs.Machines.{is_listed}
 use Rattle.omega_model.specs.State.{state}
 use Rattle.omega_model.specs.Touches.{touches, seq}
 use Rattle.omega_model.specs.declared.claims.Claim.{Claim}
 use Rattle.omega_model.specs.declared.entries.Entry.{Entry}
 use Rattle.omega_machines.specs.declared.MachineState.{MachineState}
-use Rattle.omega_machines.specs.Table.{machines_of, seq_at}
+use Rattle.omega_machines.specs.Table.{seq_at}
 
 -- the sequence number of a machine after one more entry
 pub seq_push : (history : List Entry) (entry : Entry) (id : ℕ)
@@ -22,13 +20,6 @@ pub numbers_alike : (table : List MachineState) (history : List Entry) (claims :
     → map (λ (claim : Claim). seq_at table claim.machine) claims ≡ map (λ (claim : Claim). seq history claim.machine) claims
 numbers_alike table history [] numbered = refl
 numbers_alike table history (claim ∷ claims) numbered = ap₂ (λ (n : ℕ) (ns : List ℕ). n ∷ ns) (numbered claim.machine) (numbers_alike table history claims numbered)
-
--- a table has room where its machines have
-pub room_of : (table : List MachineState) (id : ℕ) → ListsOrHasRoom (machines_of table) id → length table < 65536 ⊎ IsTrue (is_listed id (machines_of table))
-room_of table id (inl few) =
-    let long : length (machines_of table) ≡ length table = length-map table (λ (s : MachineState). s.machine) in
-    inl (omega (arith, few, long))
-room_of table id (inr listed) = inr listed
 
 -- on the cell after a history
 pub may_apply : (cell : Cell) (seqs : ℕ → ℕ) (history : List Entry) (entry : Entry) → cell ≡ state history → ((id : ℕ) → seqs id ≡ seq history id)

@@ -15,6 +15,7 @@ use Rattle.omega_model.specs.declared.cells.Task.{Task}
 use Rattle.omega_running.specs.declared.orders.Order.TheVariants.{ByKey}
 use Rattle.omega_running.specs.Order.{Each, IsInOrder}
 use Rattle.omega_running.proofs.Lists.{each_map, each_both, each_of, each_back, filter_every, filter_none, filter_where}
+use Rattle.omega_running.proofs.Ranked.{each_put, each_ranked, each_unranked}
 use Rattle.omega_board.proofs.Tasks.{stays, each_filter, filter_and, filter_alike}
 use Rattle.omega_model.proofs.InOrder.{key_itself, key_differs, key_same, same_key-sym}
 use Rattle.omega_model.proofs.Amounts.{fits_tested, rank_total, plus-swap, need_is, total-cons, share}
@@ -28,16 +29,6 @@ pub each_at : {X : Type 0} (P : X → Type 0) (xs : List X) (i : ℕ) (d : X) �
 each_at P [] i d each below = absurd (omega arith)
 each_at P (x ∷ xs) zero d each below = each.0
 each_at P (x ∷ xs) (suc i) d each below = each_at P xs i d each.1 (omega arith)
-
--- what holds of each task holds of each in order of eviction
-each_put : (P : Task → Type 0) (t : Task) (tasks : List Task) → P t → Each P tasks → Each P (put_by_rank t tasks)
-each_put P t [] new each = (new, tt)
-each_put P t (o ∷ tasks) new each =
-    by_answer (goes_before o t) (λ h. rw h (each.0, each_put P t tasks new each.1)) (λ h. rw h (new, each))
-
-pub each_rank : (P : Task → Type 0) (tasks : List Task) → Each P tasks → Each P (by_rank tasks)
-each_rank P [] each = tt
-each_rank P (t ∷ tasks) each = each_put P t (by_rank tasks) each.0 (each_rank P tasks each.1)
 
 -- an order doesn't change a sum
 total-put : (p : Task → Bool) (t : Task) (tasks : List Task) → total (filter p (put_by_rank t tasks)) ≡ plus (share p t) (total (filter p tasks))
@@ -67,7 +58,7 @@ each_here (x ∷ rest) order = (
 
 pub ranked_found : (tasks : List Task) (id : ℕ) → IsInOrder ByKey tasks → Each (λ t. task_at tasks t.key ≡ Some t) (ranked_on id tasks)
 ranked_found tasks id order =
-    each_rank (λ t. task_at tasks t.key ≡ Some t) (filter (is_on id) tasks) (each_filter (λ t. task_at tasks t.key ≡ Some t) (is_on id) tasks (each_here tasks order))
+    each_ranked (λ t. task_at tasks t.key ≡ Some t) (filter (is_on id) tasks) (each_filter (λ t. task_at tasks t.key ≡ Some t) (is_on id) tasks (each_here tasks order))
 
 -- tasks of distinct names
 abbrev pub Apart : List Task → Type 0
@@ -94,7 +85,7 @@ put_apart t (o ∷ tasks) differ apart =
 
 rank_apart : (tasks : List Task) → Apart tasks → Apart (by_rank tasks)
 rank_apart [] apart = tt
-rank_apart (t ∷ tasks) apart = put_apart t (by_rank tasks) (each_rank (λ y. same_key t.key y.key ≡ false) tasks apart.0) (rank_apart tasks apart.1)
+rank_apart (t ∷ tasks) apart = put_apart t (by_rank tasks) (each_ranked (λ y. same_key t.key y.key ≡ false) tasks apart.0) (rank_apart tasks apart.1)
 
 pub ranked_apart : (tasks : List Task) (id : ℕ) → IsInOrder ByKey tasks → Apart (ranked_on id tasks)
 ranked_apart tasks id order = rank_apart (filter (is_on id) tasks) (filter_apart (is_on id) tasks (ordered_apart tasks order))
@@ -203,18 +194,6 @@ ranked_at tasks id i d order below =
       found = each_at (λ x. task_at tasks x.key ≡ Some x) ranked i none (ranked_found tasks id order) below;
     }
 
--- what holds of each in order of eviction holds of each
-each_unput : (P : Task → Type 0) (t : Task) (tasks : List Task) → Each P (put_by_rank t tasks) → P t × Each P tasks
-each_unput P t [] each = each
-each_unput P t (o ∷ tasks) each =
-    by_answer (goes_before o t)
-    (λ h. let parts = rw h at each in let rest = each_unput P t tasks parts.1 in (rest.0, (parts.0, rest.1)))
-    (λ h. let parts = rw h at each in (parts.0, parts.1))
-
-pub each_unrank : (P : Task → Type 0) (tasks : List Task) → Each P (by_rank tasks) → Each P tasks
-each_unrank P [] each = tt
-each_unrank P (t ∷ tasks) each = let parts = each_unput P t (by_rank tasks) each in (parts.0, each_unrank P tasks parts.1)
-
 -- once all on a machine stopped, none is there
 pub none-without : (tasks : List Task) (id : ℕ) → filter (is_on id) (without (keys_of (ranked_on id tasks)) tasks) ≡ []
 none-without tasks id =
@@ -223,7 +202,7 @@ none-without tasks id =
     filter_swap (is_on id) stay tasks
     ∙ filter_none stay (filter (is_on id) tasks)
     (each_map (λ t. is_among t.key names ≡ true) (λ t. stay t ≡ false) (λ t h. not_from_true _ h) (filter (is_on id) tasks)
-    (each_unrank (λ t. is_among t.key names ≡ true) (filter (is_on id) tasks) (each_among (ranked_on id tasks))))
+    (each_unranked (λ t. is_among t.key names ≡ true) (filter (is_on id) tasks) (each_among (ranked_on id tasks))))
 
 -- once those in excess stopped, the use fits
 pub excess_fits : (tasks : List Task) (id : ℕ) (cap : Need) → IsInOrder ByKey tasks → Fits (use_on (without (keys_of (excess cap (ranked_on id tasks))) tasks) id) cap

@@ -6,7 +6,7 @@ use Rattle.std.proofs.lemmas.Bool.{both_ways, eqb-true, eq-eqb, not_from_false}
 use Rattle.std.proofs.lemmas.List.Elements.{filter-append}
 use Rattle.std.proofs.lemmas.Option.{same_Some}
 use Rattle.omega_model.specs.Applying.{MayPlaceAll, PlacesInOrder}
-use Rattle.omega_model.specs.Cell.{Cell, task_at, with_task, without, total, is_on, use_on, keys_of}
+use Rattle.omega_model.specs.Cell.{Cell, task_at, with_task, without, is_on, keys_of}
 use Rattle.omega_model.specs.Judge.{judge_fine, runs_on}
 use Rattle.omega_model.specs.Keys.{same_key, key_lt, is_among}
 use Rattle.omega_model.specs.Reply.{task_of, tasks_placed, tasks_after_claim, after_claim}
@@ -29,7 +29,8 @@ use Rattle.omega_board.proofs.Claims.{absent_still}
 use Rattle.omega_board.proofs.Parts.{runs_on_is, found_on}
 use Rattle.omega_board.proofs.Placed.{placed_so, is_placed-Placed}
 use Rattle.omega_board.proofs.Places.{each_place}
-use Rattle.omega_board.proofs.Ranks.{each_here, each_rank, excess_first}
+use Rattle.omega_running.proofs.Ranked.{each_ranked}
+use Rattle.omega_board.proofs.Ranks.{each_here, excess_first}
 use Rattle.omega_board.proofs.Tasks.{each_filter, each_passes, parted, filter_and, with_ordered, without_ordered}
 
 -- where the tasks on a machine stay, they are the same
@@ -69,7 +70,7 @@ each_keys P (t ∷ tasks) each = (each.0, each_keys P tasks each.1)
 -- the tasks on a machine in order of eviction run there
 pub ranked_run : (tasks : List Task) (machine : ℕ) → IsInOrder ByKey tasks → Each (λ t. runs_on tasks machine t.key ≡ true) (ranked_on machine tasks)
 ranked_run tasks machine order =
-    each_rank (λ t. runs_on tasks machine t.key ≡ true) (filter (is_on machine) tasks)
+    each_ranked (λ t. runs_on tasks machine t.key ≡ true) (filter (is_on machine) tasks)
     (each_both (λ t. is_on machine t ≡ true) (λ t. task_at tasks t.key ≡ Some t) (λ t. runs_on tasks machine t.key ≡ true)
     (λ t on here. runs_on_is tasks machine t.key order ∙ ap (λ o. option_map_or (λ (x : Task). x.machine == machine) o false) here ∙ on)
     (filter (is_on machine) tasks) (each_passes (is_on machine) tasks) (each_filter (λ t. task_at tasks t.key ≡ Some t) (is_on machine) tasks (each_here tasks order)))
@@ -158,8 +159,3 @@ tasks_untouched cell (AttrDelete machine name) order places id away = refl
 tasks_untouched cell (End key machine) order places id away =
     on_kept cell.tasks id (goes_on key machine) (each_of _ (goes_on_elsewhere key machine id away) cell.tasks)
 tasks_untouched cell (Commit scheduler seen txn reply) order places id away = claims_elsewhere cell (zip txn.claims reply) id order places away
-
--- so it uses as much
-pub use_untouched : (cell : Cell) (entry : Entry) → IsInOrder ByKey cell.tasks → PlacesInOrder cell entry → (id : ℕ) → touches id entry ≡ false
-    → use_on (tasks_after cell.tasks entry) id ≡ use_on cell.tasks id
-use_untouched cell entry order places id away = ap total (tasks_untouched cell entry order places id away)

@@ -1,12 +1,11 @@
 //! The board.
-ghost use Rattle.std.specs.Prelude.{◌≡◌, [], IfOk};
+ghost use Rattle.std.specs.Prelude.{◌≡◌, []};
 ghost use Rattle.omega_model.specs.Legal.{Sound};
 ghost use Rattle.omega_running.specs.Kept.{KeysRise};
 ghost use Rattle.omega_running.specs.Order.{Each};
 ghost use Rattle.omega_board.specs.Board.{cell_of, IsCounted};
 
 use omega_machines::MachineTable;
-use omega_model::{Copied, NoMemory};
 use omega_running::Running;
 use std::alloc::Global;
 use std::marker::Model;
@@ -60,15 +59,5 @@ impl Board {
         ensures ordered { KeysRise self.now.tasks }
     {
         &self.running
-    }
-
-    /// An equal board, with no room for more tasks. Costs the whole board, in memory and time.
-    pub fn copy(&self, alloc: Global) -> Result<Board, NoMemory>
-        ensures { IfOk result (λ copied. copied ≡ record self.now { spare = 0 }) }
-    {
-        Ok(Board {
-            table: self.table.copy(alloc)?,
-            running: self.running.copy(alloc)?,
-        })
     }
 }

@@ -14,6 +14,7 @@ ghost use Rattle.omega_board.specs.Board.{cell_of, Stand};
 
 use crate::Board;
 use omega_model::{Claim, Need, TaskKey, Verdict};
+use omega_running::is_among;
 
 impl Board {
     /// The verdict on a claim, never `Withdrawn`, and in `evicted`, which is empty before, the
@@ -116,7 +117,7 @@ impl Board {
     fn stands(&self, machine: u64, key: &TaskKey, before: &[TaskKey]) -> bool
         ensures { result ≡ (runs_on self.now.tasks machine key.now && not (is_among key.now before.now)) }
     {
-        self.runs_on(machine, *key) && !is_among(key, before)
+        self.runs_on(machine, *key) && !is_among(*key, before)
     }
 
     fn runs_on(&self, machine: u64, key: TaskKey) -> bool
@@ -148,7 +149,9 @@ impl Board {
         }
     }
 
-    // Of the tasks on the machine, those that the claim lists are its victims that stand.
+    // Refused where the claim must be alone of its job and another task of the job stays on its
+    // machine. The claim's list serves for its victims that stand: of the tasks there these are the
+    // same.
     fn same_job(&self, claim: &Claim) -> Option<Verdict>
         ensures { result ≡ same_job (cell_of self.now) claim.now }
     {
@@ -243,11 +246,4 @@ fn has_job(job: u64, keys: &[TaskKey]) -> bool
     ensures { result ≡ list_any (λ key. key.job == job) keys.now }
 {
     keys.iter().any(|key| key.job == job)
-}
-
-fn is_among(key: &TaskKey, keys: &[TaskKey]) -> bool
-    ensures { result ≡ is_among key.now keys.now }
-{
-    keys.iter()
-        .any(|other| key.job == other.job && key.index == other.index)
 }

@@ -1,12 +1,9 @@
-//! Placed claims: applied to the board, taken back, and counted on their machines.
-ghost use Rattle.std.specs.Prelude.{◌≡◌, ◌+◌, ◌-◌, ◌<◌, ◌≤◌, ◌^◌, ℕ, [], ◌∷◌, None, length, take, sum_by, is_some, IsTrue, IfOk, if◌then◌else◌};
-ghost use Rattle.std.specs.List.{zip, list_any};
-ghost use Rattle.omega_machines.specs.Table.{machines_of, seq_at, change_state, touched};
+//! Placed claims: applied to the board and taken back.
+ghost use Rattle.std.specs.Prelude.{◌≡◌, ◌+◌, ◌<◌, ◌≤◌, ℕ, [], ◌∷◌, None, length, sum_by, is_some, IsTrue, IfOk, if◌then◌else◌};
+ghost use Rattle.omega_machines.specs.Table.{machines_of, seq_at};
 ghost use Rattle.omega_model.specs.Cell.{task_at, with_task, without};
 ghost use Rattle.omega_model.specs.Judge.{judge_fine};
-ghost use Rattle.omega_model.specs.Machines.{is_listed};
 ghost use Rattle.omega_model.specs.Reply.{tasks_placed};
-ghost use Rattle.omega_model.specs.Touches.{places_on};
 ghost use Rattle.omega_model.specs.declared.claims.Verdict.TheVariants.{Placed};
 ghost use Rattle.omega_board.specs.Board.{cell_of, table_with, IsBoard};
 ghost use Rattle.omega_board.specs.Putting.{HasRoomFor, MayStart};

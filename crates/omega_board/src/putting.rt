@@ -1,6 +1,6 @@
 //! Parts of a board: taken off it, and put on another.
 ghost use Rattle.std.specs.Prelude.{◌≡◌, ◌≤◌, ◌<◌, ◌++◌, ℕ, false, [], Some, length, slice_get, OnOk, OnErr, IfOk, if◌then◌else◌, ◌==◌};
-ghost use Rattle.std.specs.List.{All, filter, fold};
+ghost use Rattle.std.specs.List.{filter, fold};
 ghost use Rattle.omega_machines.specs.Table.{machines_of, seq_at};
 ghost use Rattle.omega_model.specs.Cell.{is_on, keys_of, use_on};
 ghost use Rattle.omega_model.specs.Fields.{greatest};

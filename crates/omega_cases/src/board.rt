@@ -36,7 +36,7 @@ use std::alloc::Global;
 /// it is up, its capacity, how many attributes it has, how many entries touched it, and its tasks;
 /// `attributes POSITION` its number and its attributes, each as `NAME=VALUE`; `position MACHINE` where
 /// it stands in the list; `machines` the length of the list; `load` what is used on all machines that
-/// are up, and their capacity. `copy` goes on with a copy of the board, and answers its length.
+/// are up, and their capacity.
 ///
 /// `many MACHINES TASKS AMOUNT`: how many machines come up, each with the greatest amount, and how many
 /// tasks of an amount are placed on them, at most so many on each and on all by turns, with what `load`
@@ -95,7 +95,6 @@ pub fn take(
         "place" => commit(board, alloc, words, answers),
         "try" => attempt(board, alloc, words, answers),
         "trial" => trial(board, alloc, words, answers),
-        "copy" => copy(board, alloc, words, answers),
         _ if is_question(call) => ask(board, alloc, call, words, answers),
         _ => {
             let stopped = apply(board, alloc, call, words)?;
@@ -363,17 +362,6 @@ fn place_and_take_back(
     tell_at(board, claim.machine, answers)?;
     board.undo(undo);
     Ok(())
-}
-
-/// Goes on with a copy, and appends how many machines it has.
-fn copy(
-    board: &mut Board,
-    alloc: Global,
-    words: &[Bytes],
-    answers: &mut String,
-) -> Result<(), Fault> {
-    *board = board.copy(alloc)?;
-    ask(board, alloc, "machines", words, answers)
 }
 
 /// Appends how many entries touched a machine, how many tasks run and what is free on the machine.

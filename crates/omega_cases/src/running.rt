@@ -2,12 +2,11 @@
 ghost use Rattle.std.specs.Prelude.{◌<◌};
 
 use crate::fault::Fault;
-use crate::telling::{part, tell_found, tell_need, tell_running, tell_task, tell_tasks};
+use crate::telling::{part, tell_found, tell_names, tell_need, tell_running, tell_task, tell_tasks};
 use crate::values::{byte, is_colon, need, number, running_task, small, task, tasks, text};
 use omega_model::{Bytes, Need, Spec, Task, TaskKey};
 use omega_running::Running;
 use std::alloc::Global;
-use std::mem;
 
 /// What each of many tasks asks for.
 const SPEC: Spec = Spec {
@@ -20,14 +19,13 @@ const SPEC: Spec = Spec {
     differ: false,
 };
 
-/// `script STEP : STEP ..`: what each step answers on running tasks and on others that are set aside,
-/// of which there are none before the first; the answers are parted by `:` too.
+/// `script STEP : STEP ..`: what each step answers on running tasks, of which there are none before the
+/// first; the answers are parted by `:` too.
 ///
 /// A TASK is four words: `NAME MACHINE AMOUNT PRECEDENCE`, where a precedence has `/differ` behind it if
 /// the task shares its machine with none of its job. `put TASK` puts it in unless its name is there, and
 /// answers whether it does. `get NAME` answers the task of this name, and `remove NAME` takes it out and
-/// answers it. `copy` sets a copy aside, in the place of the others, and `swap` goes on with those that
-/// are set aside, and sets aside what it went on with; both answer how many tasks it goes on with.
+/// answers it.
 ///
 /// `count` answers how many there are; `on_machine MACHINE` the names of a machine's tasks in order of
 /// eviction, `tasks_on MACHINE` the tasks in order of name; `of_job JOB` the names of a job's tasks,
@@ -71,10 +69,9 @@ fn take_all(
     words: &[Bytes],
     answers: &mut String,
 ) -> Result<(), Fault> {
-    let mut aside = Running::new(alloc);
     for step in words.split(is_colon) {
         part(answers)?;
-        take(running, &mut aside, alloc, step, answers)?;
+        take(running, alloc, step, answers)?;
     }
     Ok(())
 }
@@ -82,7 +79,6 @@ fn take_all(
 /// Does a step, and appends its answer.
 fn take(
     running: &mut Running,
-    aside: &mut Running,
     alloc: Global,
     step: &[Bytes],
     answers: &mut String,
@@ -93,14 +89,6 @@ fn take(
     match (text(call)?, words) {
         ("put", _) => tell_put(running, alloc, running_task(words)?, answers),
         ("remove", [name]) => tell_removed(running, task(name)?, answers),
-        ("copy", []) => {
-            *aside = running.copy(alloc)?;
-            tell_count(running, answers)
-        }
-        ("swap", []) => {
-            mem::swap(running, aside);
-            tell_count(running, answers)
-        }
         (call, _) => ask(running, alloc, call, words, answers),
     }
 }
@@ -205,7 +193,7 @@ fn list(
 ) -> Result<(), Fault> {
     match call {
         "on_machine" => tell_tasks(answers, running.on_machine(alloc, number)?.as_slice()),
-        "of_job" => tell_tasks(answers, running.of_job(alloc, number)?.as_slice()),
+        "of_job" => tell_names(answers, running.tasks_of_job(alloc, number)?.as_slice()),
         "tasks_on" => tell_running(answers, running.tasks_on(alloc, number)?.as_slice()),
         "tasks_of_job" => tell_running(answers, running.tasks_of_job(alloc, number)?.as_slice()),
         _ => Err(Fault::UnknownCall),

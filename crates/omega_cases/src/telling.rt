@@ -140,7 +140,7 @@ pub fn tell_part(answers: &mut String, part: &Part) -> Result<(), Fault> {
 }
 
 /// Appends the names of some tasks, parted by commas, or `-` where there is none.
-fn tell_names(answers: &mut String, tasks: &[Task]) -> Result<(), Fault> {
+pub fn tell_names(answers: &mut String, tasks: &[Task]) -> Result<(), Fault> {
     if tasks.is_empty() {
         answers.push('-')?;
     }

@@ -1,7 +1,7 @@
 -- What is evicted for a claim has to go.
-use Rattle.std.proofs.Common.{◌≡◌, ℕ, zero, suc, ◌<◌, Bool, true, false, not, ◌&&◌, nat_le, List, [], ◌∷◌, ◌++◌, length, map, take, drop, Option, Some, None, refl, sym, ap, ap₂, ◌∙◌, subst, arith, ◌==◌}
+use Rattle.std.proofs.Common.{◌≡◌, ℕ, zero, suc, ◌<◌, Bool, true, false, not, ◌&&◌, nat_le, List, [], ◌∷◌, ◌++◌, length, map, take, Option, Some, None, refl, sym, ap, ap₂, ◌∙◌, subst, arith, ◌==◌}
 use Rattle.std.specs.Prelude.{slice_get, IsSomeAnd}
-use Rattle.std.specs.List.{filter, find, fold, list_any, zip}
+use Rattle.std.specs.List.{filter, find, fold, zip}
 use Rattle.std.specs.Option.{option_map, option_map_or, unwrap_or}
 use Rattle.std.proofs.lemmas.Bool.{both_ways, and_parts, leb-false, or_left, or_right}
 use Rattle.std.proofs.lemmas.List.{length-take, take-take}
@@ -12,7 +12,7 @@ use Rattle.omega_model.specs.Keys.{key_lt, same_key, is_among, first_mentions, b
 use Rattle.omega_model.specs.Legal.{Legal, Follows}
 use Rattle.omega_model.specs.Reply.{admits, task_of, tasks_after_claim, after_claim, judgements, withdrawn_for, first_refused, by_mode, reply_on}
 use Rattle.omega_model.specs.State.{state, step, tasks_after, displaced, goes_on}
-use Rattle.omega_model.specs.Touches.{is_placed, touches, seq}
+use Rattle.omega_model.specs.Touches.{is_placed}
 use Rattle.omega_model.specs.declared.cells.Task.{Task}
 use Rattle.omega_model.specs.declared.cells.TaskKey.{TaskKey}
 use Rattle.omega_model.specs.declared.claims.Claim.{Claim}
@@ -20,10 +20,9 @@ use Rattle.omega_model.specs.declared.claims.Judgement.{Judgement}
 use Rattle.omega_model.specs.declared.claims.Mode.{Mode}
 use Rattle.omega_model.specs.declared.claims.Mode.TheVariants.{Incremental, Gang}
 use Rattle.omega_model.specs.declared.claims.Rule.{Rule}
-use Rattle.omega_model.specs.declared.claims.Rule.TheVariants.{Fine, Coarse}
 use Rattle.omega_model.specs.declared.claims.Txn.{Txn}
 use Rattle.omega_model.specs.declared.claims.Verdict.{Verdict}
-use Rattle.omega_model.specs.declared.claims.Verdict.TheVariants.{Changed, NoMachine, VictimRank}
+use Rattle.omega_model.specs.declared.claims.Verdict.TheVariants.{NoMachine, VictimRank}
 use Rattle.omega_model.specs.declared.entries.Entry.{Entry}
 use Rattle.omega_model.specs.declared.entries.Entry.TheVariants.{Round, MachineAdd, MachineUpdate, MachineRemove, AttrSet, AttrDelete, End, Commit}
 use Rattle.omega_running.specs.declared.orders.Order.TheVariants.{ByKey}
@@ -38,7 +37,7 @@ use Rattle.omega_cell.specs.Laws.{RunsBelow, EachHasToGo, EvictInOrder, EvictsWh
 use Rattle.omega_cell.proofs.Shortest.{IsShortest, shortest}
 use Rattle.omega_model.proofs.InOrder.{key_itself, key_differs}
 use Rattle.omega_model.proofs.Lists.{by_answer}
-use Rattle.omega_model.proofs.Admitted.{Refuses, refuses_if, refuses_running}
+use Rattle.omega_model.proofs.Admitted.{Refuses, refuses_changed, refuses_if, refuses_rank, refuses_running}
 
 -- a new task stands in its place, whatever had its name
 with_task_anew : (t : Task) (tasks : List Task) → with_task t (without (t.key ∷ []) tasks) ≡ with_task t tasks
@@ -129,11 +128,6 @@ none_passes p (k ∷ keys) none place key is = let absent = each_absent p (k ∷
     at (suc j) here f rest = rest j key here
 
 -- where a claim is placed, each victim that stands yields
-refuses_rank : (o : Option TaskKey) → Refuses (option_map VictimRank o)
-unfolding Refuses
-refuses_rank None = tt
-refuses_rank (Some key) = refl
-
 all_yield : (change : Option Verdict) (cell : Cell) (claim : Claim) → Refuses change → is_placed (verdict_given change cell claim) ≡ true
     → find (withstands cell.tasks claim.spec.prec) (standing_victims cell.tasks claim) ≡ None
 all_yield change cell claim refuses placed =
@@ -201,18 +195,13 @@ judged_go change cell claim refuses order =
     (λ t. rw t (evicted_go cell claim order (all_yield change cell claim refuses t)))
     (λ f. rw f (none_goes cell claim [] refl))
 
-refuses_rule : (history : List Entry) (seen : ℕ) (rule : Rule) (claim : Claim) → Refuses (changed history seen rule claim)
-unfolding Refuses
-refuses_rule history seen Fine claim = tt
-refuses_rule history seen Coarse claim = refuses_if (list_any (touches claim.machine) (drop seen history)) (Changed (seq history claim.machine) (seq (take seen history) claim.machine)) refl
-
 -- what is evicted for claims that are judged in order
 judgements_go : (history : List Entry) (seen : ℕ) (cell : Cell) (rule : Rule) (claims : List Claim) → IsInOrder ByKey cell.tasks
     → EvictInOrder cell (zip claims (judgements history seen cell rule claims))
 judgements_go history seen cell rule [] order place claim judgement is = absurd (none-some _ is)
 judgements_go history seen cell rule (first ∷ claims) order zero claim judgement is =
     let here : (first, judge history seen cell rule first) ≡ (claim, judgement) = same_Some _ _ is in
-    subst (λ (d : Claim × Judgement). EachHasToGo cell d.0 d.1.evicted) here (judged_go (changed history seen rule first) cell first (refuses_rule history seen rule first) order)
+    subst (λ (d : Claim × Judgement). EachHasToGo cell d.0 d.1.evicted) here (judged_go (changed history seen rule first) cell first (refuses_changed history seen rule first) order)
 judgements_go history seen cell rule (first ∷ claims) order (suc place) claim judgement is =
     let decided : Claim × Judgement = (first, judge history seen cell rule first) in
     judgements_go history seen (after_claim cell decided) rule claims (ordered_claim cell.tasks decided order) place claim judgement is

@@ -4,6 +4,7 @@ use Rattle.std.specs.List.{filter}
 use Rattle.std.proofs.Math.Nat.{mul-le-mul_left}
 use Rattle.std.proofs.lemmas.Bool.{eq-eqb, ne_eqb, eqb-true, eqb-false, cases_lt}
 use Rattle.omega_running.specs.Order.{Each}
+use Rattle.omega_running.proofs.Kept.{each_filter}
 use Rattle.omega_running.proofs.Lists.{each_map, each_append, filter_every, filter_left, filter_right}
 use Rattle.omega_model.specs.Feed.{time_of, event_rows, feed, round_number, is_of_round, each_once, round_at, rounds}
 use Rattle.omega_model.specs.declared.rows.Row.{Row}
@@ -11,13 +12,6 @@ use Rattle.omega_model.specs.declared.rows.Round.{Round}
 use Rattle.omega_model.specs.declared.rows.TraceTables.{TraceTables}
 use Rattle.omega_feed.specs.Cut.{closed, cut}
 use Rattle.omega_feed.proofs.Rising.{Rise, rise_feed}
-
-each_filter : {X : Type 0} (P : X → Type 0) (p : X → Bool) (xs : List X) → Each P xs → Each P (filter p xs)
-each_filter P p [] e = tt
-each_filter P p (x ∷ xs) e = by_cases (p x) (each_filter P p xs e.1) where
-  by_cases : (b : Bool) → Each P (filter p xs) → Each P (cond b (x ∷ filter p xs) (filter p xs))
-  by_cases true f = (e.0, f)
-  by_cases false f = f
 
 each_of_once : (P : ℕ → Type 0) (ns : List ℕ) → Each P ns → Each P (each_once ns)
 each_of_once P [] e = tt

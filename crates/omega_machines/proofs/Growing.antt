@@ -1,43 +1,24 @@
 -- A table with a new machine at its end.
-use Rattle.std.proofs.Common.{◌≡◌, ◌⊎◌, inl, inr, ℕ, ◌+◌, ◌<◌, false, nat_eq, List, [], ◌∷◌, ◌++◌, length, get_or, take, drop, slice_get, suc, refl, sym, ap, ◌∙◌, subst, arith, true≢false, Option, Some, None, is_some, IsTrue, length-append, if◌then◌else◌}
+use Rattle.std.proofs.Common.{◌≡◌, ℕ, ◌+◌, ◌<◌, false, nat_eq, List, [], ◌∷◌, ◌++◌, length, refl, sym, ap, ◌∙◌, subst, arith, true≢false, Option, Some, None, is_some, length-append, if◌then◌else◌}
 use Rattle.std.specs.Cmp.{nat_eq_equiv}
 use Rattle.std.specs.List.{IsDistinct, list_any}
 use Rattle.std.specs.Map.{keys_of, values_of, lookup}
-use Rattle.std.proofs.Math.Seq.{drop-cons}
-use Rattle.std.proofs.lemmas.List.{map-append, take_more, take-append-drop}
+use Rattle.std.proofs.lemmas.List.{map-append}
 use Rattle.std.proofs.lemmas.List.Elements.{All-push}
 use Rattle.std.proofs.lemmas.Map.Keys.{IsDistinct-push}
 use Rattle.std.proofs.lemmas.Map.Made.{is_some-lookup}
-use Rattle.std.proofs.lemmas.Option.{slice_get_within, get_or_from_slice_get}
-use Rattle.indexmap.proofs.MapLemmas.{absent_before}
+use Rattle.omega_model.specs.Applying.{ListsOrHasRoom}
+use Rattle.omega_model.specs.Limits.{most_machines}
 use Rattle.omega_model.specs.Machines.{is_listed, numbers_of}
 use Rattle.omega_model.specs.Need.{nothing}
 use Rattle.omega_model.specs.declared.cells.Attr.{Attr}
 use Rattle.omega_machines.specs.Rows.{IsKept}
 use Rattle.omega_machines.specs.Table.{MachineState, machines_of, new_state, ensured_states, IsBounded, IsTable}
-use Rattle.omega_machines.proofs.Places.{listed-keys}
+use Rattle.omega_machines.proofs.Places.{has_room, listed-keys}
 
 -- a new machine is within its bounds
 bounded-new : (id : ℕ) → IsBounded (new_state id)
 bounded-new id = record { cap = (omega arith, omega arith); free = (omega arith, omega arith); down = λ _. refl }
-
--- among distinct keys, that of an entry isn't among those before it
-pub absent_before_place : (rows : List (ℕ × MachineState)) (place key : ℕ) (state : MachineState) → IsDistinct nat_eq (keys_of rows) → Some (key, state) ≡ slice_get rows place
-    → lookup (nat_eq key) (take place rows) ≡ None
-absent_before_place rows place key state distinct at =
-    let within : place < length rows = slice_get_within rows place (key, state) (sym at) in
-    let here : get_or rows place (key, state) ≡ (key, state) = get_or_from_slice_get rows place (key, state) (key, state) (sym at) in
-    let rest : drop place rows ≡ (key, state) ∷ drop (suc place) rows = drop-cons rows place (key, state) within ∙ ap (λ row. row ∷ drop (suc place) rows) here in
-    let split : rows ≡ take place rows ++ (key, state) ∷ drop (suc place) rows = sym (take-append-drop place rows) ∙ ap (λ r. take place rows ++ r) rest in
-    absent_before nat_eq_equiv (take place rows) (drop (suc place) rows) (key, state) (subst (λ r. IsDistinct nat_eq (keys_of r)) split distinct)
-
--- and with it they are the entries up to the next place
-pub next_taken : (rows : List (ℕ × MachineState)) (place key : ℕ) (state : MachineState) → Some (key, state) ≡ slice_get rows place
-    → take place rows ++ (key, state) ∷ [] ≡ take (place + 1) rows
-next_taken rows place key state at =
-    let within : place < length rows = slice_get_within rows place (key, state) (sym at) in
-    let here : get_or rows place (key, state) ≡ (key, state) = get_or_from_slice_get rows place (key, state) (key, state) (sym at) in
-    ap (λ row. take place rows ++ row ∷ []) (sym here) ∙ sym (take_more rows place (key, state) within)
 
 module _ (rows : List (ℕ × MachineState)) (table : List MachineState) (id : ℕ) (seen : values_of rows ≡ table) (kept : IsKept rows) (absent : is_listed id (machines_of table) ≡ false) where
   -- a number that isn't listed is no key
@@ -53,7 +34,7 @@ module _ (rows : List (ℕ × MachineState)) (table : List MachineState) (id : �
       by (Some state) e = absurd (true≢false e)
 
   -- a table with room takes a new machine at its end
-  grows : length table < 65536 ⊎ IsTrue (is_listed id (machines_of table))
+  grows : ListsOrHasRoom (machines_of table) id
       → IsKept (rows ++ (id, new_state id) ∷ []) × (values_of (rows ++ (id, new_state id) ∷ []) ≡ ensured_states id table)
   grows room = (
     record {
@@ -70,8 +51,8 @@ module _ (rows : List (ℕ × MachineState)) (table : List MachineState) (id : �
       held : IsTable table
       held = subst IsTable seen kept.table
 
-      few : length table < 65536
-      few = elim room [ inl h ↦ h | inr h ↦ absurd (true≢false (sym h ∙ absent)) ]
+      few : length table < most_machines
+      few = has_room table id absent room
 
       values : values_of (rows ++ (id, new_state id) ∷ []) ≡ table ++ new_state id ∷ []
       values = map-append (λ (e : ℕ × MachineState). e.1) rows ((id, new_state id) ∷ []) ∙ ap (λ t. t ++ new_state id ∷ []) seen
@@ -83,7 +64,7 @@ module _ (rows : List (ℕ × MachineState)) (table : List MachineState) (id : �
       other = ap (list_any (nat_eq id)) (sym (ap (λ t. numbers_of (machines_of t)) seen) ∙ sym kept.keyed) ∙ no_key
 
   -- also where its empty list of attributes is made by the code
-  pub grown : (attrs : List Attr) (next : List (ℕ × MachineState)) → length table < 65536 ⊎ IsTrue (is_listed id (machines_of table)) → attrs ≡ []
+  pub grown : (attrs : List Attr) (next : List (ℕ × MachineState)) → ListsOrHasRoom (machines_of table) id → attrs ≡ []
       → next ≡ rows ++ (id, record { machine = record { id = id; up = false; cap = nothing; attrs = attrs }; free = nothing; seq = 0 }) ∷ []
       → IsKept next × (values_of next ≡ ensured_states id table)
   grown attrs next room none pushed =

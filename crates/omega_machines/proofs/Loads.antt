@@ -8,6 +8,7 @@ use Rattle.std.proofs.lemmas.Option.{none-some, same_Some}
 use Rattle.indexmap.specs.IndexMap.{set_value_at}
 use Rattle.omega_model.specs.ExtraTasks.{sum_of}
 use Rattle.omega_model.specs.Fields.{greatest, greatest_quantity}
+use Rattle.omega_model.specs.Limits.{most_machines}
 use Rattle.omega_model.specs.Need.{Fits, nothing, plus, minus}
 use Rattle.omega_model.specs.declared.cells.Need.{Need}
 use Rattle.omega_machines.specs.Load.{AreSummed, AreWords, IsInWords, less, load_of, load_of_all, replaced}
@@ -87,7 +88,7 @@ cap_bound state bounded =
     (λ up. subst (λ (b : Bool). Fits (if b then state.machine.cap else nothing) greatest) (sym up) bounded.cap)
     (λ down. subst (λ (b : Bool). Fits (if b then state.machine.cap else nothing) greatest) (sym down) (omega arith, (omega arith, omega arith)))
 
-words_below : (need : Need) (count : ℕ) → count ≤ 65536 → IsBelow need count → AreWords need
+words_below : (need : Need) (count : ℕ) → count ≤ most_machines → IsBelow need count → AreWords need
 words_below need count few below =
     let cpu : need.cpu ≤ count * 1000000000000 = below.cpu in
     let mem : need.mem ≤ count * 1000000000000 = below.mem in

@@ -1,5 +1,5 @@
 -- Where a machine stands in a table, and what is said of it there.
-use Rattle.std.proofs.Common.{◌≡◌, ℕ, ◌+◌, ◌<◌, Bool, true, cond, not, ◌||◌, nat_eq, List, [], ◌∷◌, map, length, get_or, slice_get, position, Some, None, IsTrue, IsSomeAnd, refl, sym, ap, ◌∙◌, arith, if◌then◌else◌, ◌==◌}
+use Rattle.std.proofs.Common.{◌≡◌, inl, inr, ℕ, ◌+◌, ◌<◌, Bool, true, false, true≢false, cond, not, ◌||◌, nat_eq, List, [], ◌∷◌, map, length, get_or, slice_get, position, Some, None, IsTrue, IsSomeAnd, refl, sym, ap, ◌∙◌, arith, if◌then◌else◌, ◌==◌}
 use Rattle.std.specs.Cmp.{nat_eq_equiv}
 use Rattle.std.specs.List.{list_any, position_or_len}
 use Rattle.std.specs.Map.{keys_of, values_of, lookup}
@@ -9,6 +9,8 @@ use Rattle.std.proofs.lemmas.List.{length-map}
 use Rattle.std.proofs.lemmas.List.Folds.{find_at}
 use Rattle.std.proofs.lemmas.List.Sums.{passes_at_first}
 use Rattle.std.proofs.lemmas.Option.{cond_some, slice_get-map, slice_get_within, get_or_from_slice_get}
+use Rattle.omega_model.specs.Applying.{ListsOrHasRoom}
+use Rattle.omega_model.specs.Limits.{most_machines}
 use Rattle.omega_model.specs.Machines.{is_listed, numbers_of}
 use Rattle.omega_model.specs.Need.{nothing}
 use Rattle.omega_model.specs.declared.cells.Need.{Need}
@@ -29,6 +31,13 @@ module _ {A B : Type 0} (f : A → B) (p : B → Bool) where
   list_any-map : (xs : List A) → list_any p (map f xs) ≡ list_any (λ x. p (f x)) xs
   list_any-map [] = refl
   list_any-map (x ∷ xs) = ap (λ b. p (f x) || b) (list_any-map xs)
+
+-- a table has room for a machine where the list of its machines has
+pub has_room : (table : List MachineState) (id : ℕ) → is_listed id (machines_of table) ≡ false → ListsOrHasRoom (machines_of table) id → length table < most_machines
+has_room table id absent (inl few) =
+    let long : length (machines_of table) ≡ length table = length-map table (λ (s : MachineState). s.machine) in
+    omega (arith, few, long)
+has_room table id absent (inr listed) = absurd (true≢false (sym listed ∙ absent))
 
 -- where the hash table finds a number, its machine stands
 pub position-keys : (rows : List (ℕ × MachineState)) (id : ℕ) → IsKept rows

@@ -5,6 +5,7 @@ use Rattle.std.specs.List.{All, IsDistinct, find}
 use Rattle.std.specs.Option.{option_map_or, option_and_then}
 use Rattle.omega_model.specs.ExtraTasks.{sum_of}
 use Rattle.omega_model.specs.Fields.{greatest}
+use Rattle.omega_model.specs.Limits.{most_machines}
 use Rattle.omega_model.specs.Machines.{is_listed, numbers_of, new_machine, added, updated}
 use Rattle.omega_model.specs.Need.{Fits, nothing, plus, minus}
 use Rattle.omega_model.specs.declared.cells.Need.{Need}
@@ -101,6 +102,6 @@ pub record IsBounded (state : MachineState) : Type 0 where
 
 -- what every table keeps: few machines, of distinct numbers, each within its bounds
 pub record IsTable (table : List MachineState) : Type 0 where
-  pub few : length table ≤ 65536
+  pub few : length table ≤ most_machines
   pub distinct : IsDistinct nat_eq (numbers_of (machines_of table))
   pub bounded : All IsBounded table

@@ -12,8 +12,7 @@ mod attrs;
 mod load;
 mod table;
 
-use omega_model::{Copied, Machine, Need, NoMemory};
-use std::alloc::Global;
+use omega_model::{Machine, Need};
 pub use table::MachineTable;
 
 /// A machine, what is free on it, and its sequence number: how many entries have touched it.
@@ -22,14 +21,4 @@ pub struct MachineState {
     pub machine: Machine,
     pub free: Need,
     pub seq: u64,
-}
-
-impl Copied for MachineState {
-    fn copy(&self, alloc: Global) -> Result<MachineState, NoMemory> {
-        Ok(MachineState {
-            machine: self.machine.copy(alloc)?,
-            free: self.free,
-            seq: self.seq,
-        })
-    }
 }

@@ -1,6 +1,7 @@
 //! The table of machines.
-ghost use Rattle.std.specs.Prelude.{◌≡◌, ◌-◌, ◌<◌, ◌^◌, ◌⊎◌, ◌==◌, false, [], ◌∷◌, ◌++◌, None, Some, nat_eq, length, take, drop, slice_get, option_map, position, is_some, IsTrue, IsSomeAnd, OnOk, OnErr};
+ghost use Rattle.std.specs.Prelude.{◌≡◌, ◌-◌, ◌<◌, ◌^◌, ◌==◌, false, [], ◌∷◌, ◌++◌, None, Some, nat_eq, length, take, drop, slice_get, option_map, position, is_some, IsTrue, IsSomeAnd, OnOk, OnErr};
 ghost use Rattle.indexmap.specs.IndexMap.{get, IsUnchanged};
+ghost use Rattle.omega_model.specs.Applying.{ListsOrHasRoom};
 ghost use Rattle.omega_model.specs.Fields.{greatest};
 ghost use Rattle.omega_model.specs.Machines.{is_listed, numbers_of, removed, attr_set, attr_deleted};
 ghost use Rattle.omega_model.specs.Need.{Fits, nothing};
@@ -11,7 +12,7 @@ ghost use Rattle.omega_machines.specs.Table.{machines_of, use_at, free_at, seq_a
 use crate::load::Load;
 use crate::{MachineState, attrs};
 use indexmap::IndexMap;
-use omega_model::{Bytes, Copied, Machine, Need, NoMemory, Seq};
+use omega_model::{Bytes, Machine, Need, NoMemory, Seq};
 use std::alloc::Global;
 use std::marker::Model;
 
@@ -113,16 +114,14 @@ impl MachineTable {
         self.rows.get_index_of(&id)
     }
 
-    /// What is in use on all machines that are up, below 2^56 in each component. Costs the same for
-    /// any number of machines.
+    /// What is in use on all machines that are up. Costs the same for any number of machines.
     pub fn used(&self) -> Need
         ensures { result ≡ used_by_all self.now }
     {
         self.load.used
     }
 
-    /// The capacity of all machines that are up, below 2^56 in each component. Costs the same for
-    /// any number of machines.
+    /// The capacity of all machines that are up. Costs the same for any number of machines.
     pub fn capacity(&self) -> Need
         ensures { result ≡ capacity_of_all self.now }
     {
@@ -132,7 +131,7 @@ impl MachineTable {
     /// Puts a machine that isn't there at the end of the list: down, with no capacity and no
     /// attributes. Refused, it leaves the table as it was. Takes memory.
     pub fn ensure(&mut self, id: u64) -> Result<(), NoMemory>
-        requires { length self.old < 65536 ⊎ IsTrue (is_listed id (machines_of self.old)) }
+        requires { ListsOrHasRoom (machines_of self.old) id }
         ensures ok { OnOk result (self.new ≡ ensured_states id self.old) }
         ensures err { OnErr result (self.new ≡ self.old) }
         ensures table { IsTable self.new }
@@ -203,7 +202,7 @@ impl MachineTable {
     /// Gives an attribute of a machine a value, in its place where it is set, else after the
     /// others. Refused, it leaves the table as it was. Takes memory, and costs the machine's
     /// attributes.
-    pub fn set_attr(&mut self, id: u64, name: &Bytes, value: &Bytes) -> Result<(), NoMemory>
+    fn set_attr(&mut self, id: u64, name: &Bytes, value: &Bytes) -> Result<(), NoMemory>
         requires { IsTrue (is_listed id (machines_of self.old)) }
         ensures ok { OnOk result (self.new ≡ change_state id (with_machine (attr_set name.now value.now)) self.old) }
         ensures err { OnErr result (self.new ≡ self.old) }
@@ -215,11 +214,11 @@ impl MachineTable {
         attrs::set(&mut state.machine.attrs, alloc, name, value)
     }
 
-    /// Gives an attribute of a machine a value, as `set_attr` does, and puts the machine at the end
-    /// of the list first where it isn't there. Refused, it leaves the table as it was. Costs the
-    /// machine's attributes.
+    /// Gives an attribute of a machine a value, in its place where it is set, else after the others.
+    /// Where the machine isn't there, puts it at the end of the list first. Refused, it leaves the
+    /// table as it was. Takes memory, and costs the machine's attributes.
     pub fn ensure_attr(&mut self, id: u64, name: &Bytes, value: &Bytes) -> Result<(), NoMemory>
-        requires { length self.old < 65536 ⊎ IsTrue (is_listed id (machines_of self.old)) }
+        requires { ListsOrHasRoom (machines_of self.old) id }
         ensures ok { OnOk result (self.new ≡ change_state id (with_machine (attr_set name.now value.now)) (ensured_states id self.old)) }
         ensures err { OnErr result (self.new ≡ self.old) }
         ensures table { IsTable self.new }
@@ -341,21 +340,5 @@ impl MachineTable {
         ensures { position (λ machine. machine.id == id) (machines_of self.now) ≡ Some result }
     {
         self.position(id).unwrap()
-    }
-}
-
-impl Copied for MachineTable {
-    /// Costs all machines and their attributes, also in memory.
-    fn copy(&self, alloc: Global) -> Result<MachineTable, NoMemory> {
-        let mut rows = IndexMap::new(alloc);
-        for position in 0..self.rows.len() {
-            if let Some((id, state)) = self.rows.get_index(position) {
-                push(&mut rows, *id, state.copy(alloc)?)?;
-            }
-        }
-        Ok(MachineTable {
-            rows,
-            load: self.load,
-        })
     }
 }

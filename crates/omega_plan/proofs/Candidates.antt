@@ -17,6 +17,7 @@ use Rattle.omega_running.specs.Order.{Each, IsInOrder, Rises}
 use Rattle.omega_running.specs.declared.orders.Order.TheVariants.{ByKey}
 use Rattle.omega_running.proofs.InOrder.{rank_strict}
 use Rattle.omega_running.proofs.Lists.{each_map}
+use Rattle.omega_running.proofs.Ranked.{each_put}
 use Rattle.omega_board.proofs.Parts.{withstands_is}
 use Rattle.omega_board.proofs.Ranks.{Apart, ranked_apart, ranked_found}
 use Rattle.omega_board.proofs.Standing.{Once, filter_once}
@@ -27,11 +28,6 @@ use Rattle.omega_plan.specs.Trying.{yields}
 -- whether the second of two tasks doesn't go before the first
 abbrev stands_first : Task → Task → Bool
 stands_first a b = not (goes_before b a)
-
-each_put : (P : Task → Type 0) (t : Task) (tasks : List Task) → P t → Each P tasks → Each P (put_by_rank t tasks)
-each_put P t [] new each = (new, tt)
-each_put P t (o ∷ tasks) new each =
-    by_answer (goes_before o t) (λ h. rw h (each.0, each_put P t tasks new each.1)) (λ h. rw h (new, each))
 
 -- what doesn't go before a task doesn't go before one that the task doesn't go behind
 before_neither : (a b c : Task) → goes_before c a ≡ false → goes_before a b ≡ false → goes_before c b ≡ false

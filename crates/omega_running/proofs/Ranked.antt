@@ -62,7 +62,7 @@ keys_differ : (a b : Task) → key_lt a.key b.key ≡ true → same_key a.key b.
 keys_differ a b p = not-true _ (sym (key_apart a.key b.key) ∙ or_left _ _ p)
 
 -- the order of eviction
-each_put : (P : Task → Type 0) (t : Task) (xs : List Task) → P t → Each P xs → Each P (put_by_rank t xs)
+pub each_put : (P : Task → Type 0) (t : Task) (xs : List Task) → P t → Each P xs → Each P (put_by_rank t xs)
 each_put P t [] p e = (p, tt)
 each_put P t (x ∷ xs) p e = go (goes_before x t) (each_put P t xs p e.1) where
   go : (b : Bool) → Each P (put_by_rank t xs) → Each P (cond b (x ∷ put_by_rank t xs) (t ∷ x ∷ xs))
@@ -76,11 +76,11 @@ each_unput P t (x ∷ xs) e = go (goes_before x t) (each_unput P t xs) e where
   go true rest e = let r = rest e.1 in (r.0, (e.0, r.1))
   go false rest e = e
 
-each_ranked : (P : Task → Type 0) (xs : List Task) → Each P xs → Each P (by_rank xs)
+pub each_ranked : (P : Task → Type 0) (xs : List Task) → Each P xs → Each P (by_rank xs)
 each_ranked P [] e = tt
 each_ranked P (x ∷ xs) e = each_put P x (by_rank xs) e.0 (each_ranked P xs e.1)
 
-each_unranked : (P : Task → Type 0) (xs : List Task) → Each P (by_rank xs) → Each P xs
+pub each_unranked : (P : Task → Type 0) (xs : List Task) → Each P (by_rank xs) → Each P xs
 each_unranked P [] e = tt
 each_unranked P (x ∷ xs) e = let r = each_unput P x (by_rank xs) e in (r.0, each_unranked P xs r.1)
 

@@ -1,5 +1,5 @@
 //! Several balanced trees of tasks in one of the two orders.
-ghost use Rattle.std.specs.Prelude.{◌≡◌, ◌<◌, ◌≤◌, ◌%◌, ◌++◌, [], true, length, map, option_map, IfOk, IfSome, OnOk, IsTrue, None};
+ghost use Rattle.std.specs.Prelude.{◌≡◌, ◌<◌, ◌≤◌, ◌%◌, ◌++◌, [], true, length, option_map, IfOk, IfSome, OnOk, IsTrue, None};
 ghost use Rattle.std.specs.List.{filter};
 ghost use Rattle.omega_model.specs.Cell.{task_at};
 ghost use Rattle.omega_model.specs.Jobs.{other_of_job};
@@ -17,8 +17,9 @@ use omega_model::{Keys, Need, NoMemory, Task, TaskKey};
 use std::alloc::Global;
 use std::marker::Model;
 
-/// How many trees there are: a tree has about forty tasks where 150,000 run.
-const TREES: usize = 4_096;
+/// How many trees there are: a tree has two or three tasks where 150,000 run. A tree takes 16 bytes
+/// beside its nodes, so the two forests of a board take 2 MiB.
+const TREES: usize = 65_536;
 
 /// Tasks in one of the two orders. The tasks of a job, or those of a machine, stand in one tree,
 /// which the number of the job or the machine names, so that a way down is short however many
@@ -162,16 +163,6 @@ impl Forest {
     {
         self.tree(machine)?.other_of_job(job, machine, gone)
     }
-
-    /// The same tasks in as many trees. Takes the memory of the trees and the nodes.
-    pub fn copy(&self, alloc: Global) -> Result<Forest, NoMemory>
-        ensures { IfOk result (λ copied. copied ≡ self.now) }
-    {
-        Ok(Forest {
-            order: self.order,
-            trees: copies(alloc, &self.trees)?,
-        })
-    }
 }
 
 /// Trees of no task.
@@ -184,15 +175,4 @@ fn leaves(alloc: Global) -> Result<Vec<Tree>, NoMemory>
         trees.push_reserved(Tree::Leaf);
     }
     Ok(trees)
-}
-
-/// Trees of the same tasks.
-fn copies(alloc: Global, trees: &[Tree]) -> Result<Vec<Tree>, NoMemory>
-    ensures { IfOk result (λ copied. map tasks_of copied.items ≡ map tasks_of trees.now) }
-{
-    let mut copied = Vec::new(alloc);
-    for tree in trees {
-        copied.push(tree.copy(alloc)?)?;
-    }
-    Ok(copied)
 }

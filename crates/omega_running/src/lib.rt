@@ -12,5 +12,6 @@ mod orders;
 mod standing;
 mod table;
 
+pub use orders::is_among;
 pub use standing::stands_in;
 pub use table::Running;

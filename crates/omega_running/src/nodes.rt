@@ -208,30 +208,10 @@ impl Tree {
         if earlier.is_some() {
             return earlier;
         }
-        if !is_among(node.task.key, gone) {
+        if !is_among(node.task.key, gone.as_slice()) {
             return Some(node.task.key);
         }
         node.right.other_of_job(job, machine, gone)
-    }
-
-    /// A tree of the same tasks. Takes the memory of its nodes.
-    pub fn copy(&self, alloc: Global) -> Result<Tree, NoMemory>
-        ensures { IfOk result (λ copied. tasks_of copied ≡ tasks_of self.now) }
-    {
-        let Tree::Fork(node) = self else {
-            return Ok(Tree::Leaf);
-        };
-        let left = node.left.copy(alloc)?;
-        let right = node.right.copy(alloc)?;
-        Ok(Tree::Fork(Box::new(
-            alloc,
-            Node {
-                left,
-                task: node.task,
-                height: node.height,
-                right,
-            },
-        )?))
     }
 }
 

@@ -3,7 +3,7 @@ ghost use Rattle.std.specs.Prelude.{◌≡◌};
 ghost use Rattle.omega_model.specs.Keys.{key_lt, is_among};
 ghost use Rattle.omega_running.specs.Order.{precedes, lead, is_before, is_behind};
 
-use omega_model::{Keys, Task, TaskKey};
+use omega_model::{Task, TaskKey};
 
 /// An order of tasks: by key, or by machine and then by key.
 #[derive(Clone, Copy, Debug)]
@@ -58,10 +58,9 @@ pub fn is_behind(task: &Task, machine: u64, job: u64) -> bool
 }
 
 /// Whether the key is among these. Looks at each of them at most once.
-pub fn is_among(key: TaskKey, keys: &Keys) -> bool
+pub fn is_among(key: TaskKey, keys: &[TaskKey]) -> bool
     ensures { result ≡ is_among key keys.now }
 {
-    keys.as_slice()
-        .iter()
+    keys.iter()
         .any(|other| key.job == other.job && key.index == other.index)
 }

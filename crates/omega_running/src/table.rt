@@ -181,16 +181,6 @@ impl Running {
         }
     }
 
-    /// The keys of a job's running tasks by index. Takes the time of what the job has, and
-    /// logarithmic in the number of tasks.
-    pub fn of_job(&self, alloc: Global, job: u64) -> Result<Keys, NoMemory>
-        ensures { IfOk result (λ keys. keys ≡ keys_of (filter (is_of_job job) self.now.tasks)) }
-    {
-        let mut found = Vec::new(alloc);
-        self.by_key.collect(job, &mut found)?;
-        keys_of(alloc, &found)
-    }
-
     /// A job's running tasks by index. Takes the time of what the job has, and logarithmic in the
     /// number of tasks.
     pub fn tasks_of_job(&self, alloc: Global, job: u64) -> Result<Tasks, NoMemory>
@@ -208,19 +198,6 @@ impl Running {
         ensures { result ≡ other_of_job self.now.tasks job machine gone.now }
     {
         self.by_machine.other_of_job(job, machine, gone)
-    }
-
-    /// The same tasks, with no room for more. Takes the memory and time of the tasks and the trees.
-    pub fn copy(&self, alloc: Global) -> Result<Running, NoMemory>
-        ensures tasks { IfOk result (λ copied. copied.tasks ≡ self.now.tasks) }
-        ensures spare { IfOk result (λ copied. copied.spare ≡ 0) }
-    {
-        Ok(Running {
-            by_key: self.by_key.copy(alloc)?,
-            by_machine: self.by_machine.copy(alloc)?,
-            count: self.count,
-            pool: Vec::with_capacity(alloc, self.count)?,
-        })
     }
 }
 

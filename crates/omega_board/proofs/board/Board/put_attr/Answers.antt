@@ -4,7 +4,6 @@ use Rattle.omega_model.specs.Machines.{change, ensured, attr_set}
 use Rattle.omega_machines.specs.Table.{machines_of, ensured_states, seq_at, change_state, touched, with_machine}
 use Rattle.omega_machines.proofs.Laws.{machines_ensured, ensured_listed}
 use Rattle.omega_board.specs.Board.{BoardState, CountsOn}
-use Rattle.omega_board.proofs.Histories.{room_of}
 use Rattle.omega_board.proofs.Entering.{is_change, attr_board, seq_changed, counts_from}
 use Rattle.omega_machines.proofs.Laws.{seq_ensured}
 use Rattle.omega_board.proofs.board.Board.put_attr.Goals as goal
@@ -24,7 +23,7 @@ touch-requires-clause-seq c =
 
 pub invariant_of-self-2 : goal.invariant_of-self-2
 invariant_of-self-2 c =
-    let room = room_of c.self.inside.table c.args.id (subst (λ (b : BoardState). ListsOrHasRoom (machines_of b.table) c.args.id) (sym c.self.view_is) c.requires.room) in
+    let room = subst (λ (b : BoardState). ListsOrHasRoom (machines_of b.table) c.args.id) (sym c.self.view_is) c.requires.room in
     attr_board _ _ c.self.invariant c.args.id c.args.name.now c.args.value.now _ _ room c.in_ok-ensure_attr.ensures.ok c.touch.ensures.changed c.ensure_attr.ensures.table c.touch.ensures.table
 
 pub returns-clause-machines : goal.returns-clause-machines
