@@ -204,7 +204,7 @@ impl PrivateCopy {
 
     /// Begins a trial with room for a claim on each wish of a request. Where memory runs out, none
     /// has begun.
-    pub fn scratch_room(&mut self, alloc: Global, request: &Request) -> Result<(), NoMemory>
+    pub fn begin_trial(&mut self, alloc: Global, request: &Request) -> Result<(), NoMemory>
         requires no_trial { self.old.trial ≡ None }
         ensures board { self.new.board ≡ self.old.board }
         ensures seen { self.new.seen ≡ self.old.seen }
@@ -242,7 +242,7 @@ impl PrivateCopy {
     /// Ends the trial, if one has begun: the board is as it was before its claims. The indexes are told.
     /// Costs the claims and their victims, and for each level the tasks on the claims' machines. Takes no
     /// memory.
-    pub fn drop_scratch(&mut self)
+    pub fn end_trial(&mut self)
         ensures { self.new ≡ after_trial self.old self.old.trial }
     {
         if let Some(mut trial) = self.trial.take() {

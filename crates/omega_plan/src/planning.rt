@@ -39,9 +39,9 @@ pub fn plan(
     ensures copy { copy.new ≡ copy.old }
 {
     let wishes = request.wishes.as_slice();
-    copy.scratch_room(alloc, request)?;
+    copy.begin_trial(alloc, request)?;
     let claims = claims_for_wishes(alloc, copy, wishes, start, policy.preempt);
-    copy.drop_scratch();
+    copy.end_trial();
     Ok(Txn {
         job: request.job,
         rule: policy.rule,
@@ -51,7 +51,7 @@ pub fn plan(
 }
 
 /// The claims for the wishes in order, each on the copy after the claims before it, for which its
-/// trial has room. The claims stay on the copy until the trial is dropped.
+/// trial has room. The claims stay on the copy until the trial ends.
 fn claims_for_wishes(
     alloc: Global,
     copy: &mut PrivateCopy,
