@@ -219,7 +219,7 @@ fn place_on_trial(
     make_room(copy, alloc, claim)?;
     place_there(copy, alloc, claim)?;
     let told = tell_around(copy, claim, answers);
-    copy.drop_scratch();
+    copy.end_trial();
     told
 }
 
@@ -229,7 +229,7 @@ fn make_room(copy: &mut PrivateCopy, alloc: Global, claim: &Claim) -> Result<(),
     ensures { OnOk result (IsSomeAnd copy.new.trial (λ trial. 0 < trial.room)) }
 {
     let request = alone(alloc, claim)?;
-    copy.scratch_room(alloc, &request)?;
+    copy.begin_trial(alloc, &request)?;
     Ok(())
 }
 

@@ -2,6 +2,7 @@
 use crate::attrs::constraint_of;
 use crate::fault::Fault;
 use crate::values::{GREATEST, byte, need, number, small, spec, task};
+use omega_feed::FIRST_EXTRA;
 use omega_model::{
     ActivityRow, AttrRow, Bytes, ConstraintRow, Copied, DiskRow, GREATEST_QUANTITY, MachineRow,
     Need, NoMemory, Seq, Spec, TaskKey, TaskRow, TraceTables,
@@ -10,9 +11,6 @@ use std::alloc::Global;
 
 /// The time below which rows are.
 const END_OF_TIME: u64 = 9_223_372_036_854_775_808;
-
-/// The least index that no task of a trace has.
-const FIRST_EXTRA: u32 = 2_147_483_648;
 
 /// Puts a row behind those of its table: `machine TIME MACHINE CODE AMOUNT`, where there is no disk in
 /// the amount; `attr TIME MACHINE NAME VALUE`, which sets an attribute, and `attr TIME MACHINE NAME`,

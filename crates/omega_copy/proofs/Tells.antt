@@ -1,7 +1,7 @@
 -- What an index tells, when machines are changed and when it is told.
-use Rattle.std.proofs.Common.{◌≡◌, ℕ, zero, suc, append_assoc, slice_get, ◌+◌, ◌<◌, Bool, true, false, ◌||◌, ◌&&◌, nat_eq, nat_lt, List, [], ◌∷◌, ◌++◌, map, set, length, take, drop, append-nil, position, Option, Some, None, refl, sym, ap, ap₂, ◌∙◌, subst, arith, if◌then◌else◌, ◌==◌}
+use Rattle.std.proofs.Common.{◌≡◌, ℕ, zero, suc, append_assoc, slice_get, ◌+◌, ◌<◌, Bool, true, false, ◌||◌, ◌&&◌, nat_eq, List, [], ◌∷◌, ◌++◌, map, set, length, take, drop, append-nil, position, Option, Some, None, not, refl, sym, ap, ap₂, ◌∙◌, subst, arith, if◌then◌else◌, ◌==◌}
 use Rattle.std.specs.List.{filter, zip, position_or_len, IsDistinct, AllByRecursion}
-use Rattle.std.proofs.lemmas.Bool.{both_ways, eq-eqb, eqb-true, le-leb, lt-ltb, ltb-true, false_from_ne_true}
+use Rattle.std.proofs.lemmas.Bool.{both_ways, eq-eqb, eqb-true, le-leb, ltb-true}
 use Rattle.std.proofs.lemmas.List.{drop_all, length-append, length-map, take_all}
 use Rattle.std.proofs.lemmas.Option.{cond_some, none-some, same_Some}
 use Rattle.std.proofs.lemmas.Map.Keys.{IsDistinct-head, IsDistinct-tail}
@@ -24,7 +24,7 @@ use Rattle.omega_board.proofs.Boards.{recounted-same}
 use Rattle.omega_board.proofs.Numbered.{differ_back, others_behind, unlisted_behind}
 use Rattle.omega_board.proofs.Places.{each_get}
 use Rattle.omega_cell.specs.Touched.{is_claimed}
-use Rattle.omega_copy.specs.Telling.{TellsBut, free_on, freed_of, freed_on, frees_of, grown, is_this_or, placed}
+use Rattle.omega_copy.specs.Telling.{TellsBut, TellsOf, free_on, freed_of, freed_on, frees_of, is_this_or, placed}
 use Rattle.omega_model.proofs.Lists.{by_answer}
 
 -- what could be freed on a machine depends on the tasks on it alone
@@ -154,25 +154,54 @@ module _ (stale : ℕ → Bool) (prec : ℕ) (tasks : List Task) (id : ℕ) (out
   tells_more (x ∷ xs) [] told = absurd told
   tells_more (x ∷ xs) (m ∷ ms) told = (told.0, tells_more xs ms told.1)
 
--- an index with a place for each machine isn't longer
-pub tells_grown : (stale : ℕ → Bool) (prec : ℕ) (tasks : List Task) (frees : List (Option Need)) (ms : List Machine) → TellsBut stale prec tasks frees ms
-    → TellsBut stale prec tasks (grown (length ms) frees) ms
-tells_grown stale prec tasks frees ms told =
-    let same : length frees ≡ length ms = told_length stale prec tasks frees ms told in
-    let no : nat_lt (length frees) (length ms) ≡ false = false_from_ne_true _ (λ less. let below : length frees < length ms = ltb-true _ _ less in absurd (omega (arith, below, same))) in
-    rw no told
+-- no place is missing where each machine has one
+none_missing : (frees : List (Option Need)) (rows : List Machine) → length frees ≡ length rows → placed rows frees ≡ frees
+none_missing frees rows same =
+    ap (λ (more : List Machine). frees ++ map (λ _. None) more) (drop_all (length frees) rows (omega (arith, same))) ∙ append-nil frees
+
+-- one more place behind the others is one that was missing
+pub one_more_place : (frees after : List (Option Need)) (rows : List Machine) → length frees < length rows → after ≡ frees ++ None ∷ []
+    → placed rows after ≡ placed rows frees
+one_more_place frees after rows below is = ap (placed rows) is ∙ pushed frees rows below
+  where
+    pushed : (fs : List (Option Need)) (rs : List Machine) → length fs < length rs → placed rs (fs ++ None ∷ []) ≡ placed rs fs
+    pushed [] [] less = absurd (omega arith)
+    pushed [] (r ∷ rs) less = refl
+    pushed (f ∷ fs) [] less = absurd (omega arith)
+    pushed (f ∷ fs) (r ∷ rs) less = ap (λ xs. f ∷ xs) (pushed fs rs (omega arith))
+
+-- as many machines have as many places
+pub places_alike : (frees : List (Option Need)) (a b : List Machine) → length a ≡ length b → placed a frees ≡ placed b frees
+places_alike [] [] [] same = refl
+places_alike [] [] (m ∷ ms) same = absurd (omega (arith, same))
+places_alike [] (n ∷ ns) [] same = absurd (omega (arith, same))
+places_alike [] (n ∷ ns) (m ∷ ms) same = ap (λ xs. None ∷ xs) (places_alike [] ns ms (omega (arith, same)))
+places_alike (f ∷ fs) [] [] same = refl
+places_alike (f ∷ fs) [] (m ∷ ms) same = absurd (omega (arith, same))
+places_alike (f ∷ fs) (n ∷ ns) [] same = absurd (omega (arith, same))
+places_alike (f ∷ fs) (n ∷ ns) (m ∷ ms) same = ap (λ xs. f ∷ xs) (places_alike fs ns ms (omega (arith, same)))
+
+-- an index with a place for each machine gets no further one
+pub tells_placed : (stale : ℕ → Bool) (prec : ℕ) (tasks : List Task) (frees : List (Option Need)) (ms : List Machine) → TellsBut stale prec tasks frees ms
+    → TellsBut stale prec tasks (placed ms frees) ms
+tells_placed stale prec tasks frees ms told =
+    subst (λ fs. TellsBut stale prec tasks fs ms) (sym (none_missing frees ms (told_length stale prec tasks frees ms told))) told
 
 -- a machine is listed that is left out
 pub tells_ensured : (stale : ℕ → Bool) (prec : ℕ) (tasks : List Task) (id : ℕ) → stale id ≡ true → (frees : List (Option Need)) (ms : List Machine) → TellsBut stale prec tasks frees ms
-    → TellsBut stale prec tasks (grown (length (ensured id ms)) frees) (ensured id ms)
+    → TellsBut stale prec tasks (placed (ensured id ms) frees) (ensured id ms)
 tells_ensured stale prec tasks id out frees ms told =
     by_answer (is_listed id ms)
-    (λ t. rw t (tells_grown stale prec tasks frees ms told))
+    (λ t. rw t (tells_placed stale prec tasks frees ms told))
     (λ f.
+    let rows : List Machine = ms ++ new_machine id ∷ [] in
+    let more : List (Option Need) = frees ++ None ∷ [] in
     let same : length frees ≡ length ms = told_length stale prec tasks frees ms told in
-    let long : length (ms ++ new_machine id ∷ []) ≡ length ms + 1 = length-append ms (new_machine id ∷ []) in
-    let more : nat_lt (length frees) (length (ms ++ new_machine id ∷ [])) ≡ true = lt-ltb _ _ (omega (arith, same, long)) in
-    rw (f, more) (tells_more stale prec tasks id out frees ms told))
+    let long : length rows ≡ length ms + 1 = length-append ms (new_machine id ∷ []) in
+    let longer : length more ≡ length frees + 1 = length-append frees (None ∷ []) in
+    let one : placed rows frees ≡ more =
+    sym (one_more_place frees more rows (omega (arith, same, long)) refl) ∙ none_missing more rows (omega (arith, same, long, longer)) in
+    rw f (subst (λ fs. TellsBut stale prec tasks fs rows) (sym one) (tells_more stale prec tasks id out frees ms told)))
 
 -- a machine was told of at its position
 pub told_at : (stale : ℕ → Bool) (prec : ℕ) (tasks : List Task) (id : ℕ) (table shown : List MachineState) (frees after : List (Option Need)) (place : ℕ) (value : Option Need)
@@ -191,6 +220,30 @@ tells_where s t fewer prec tasks [] [] told = tt
 tells_where s t fewer prec tasks [] (m ∷ ms) told = absurd told
 tells_where s t fewer prec tasks (f ∷ fs) [] told = absurd told
 tells_where s t fewer prec tasks (f ∷ fs) (m ∷ ms) told = (λ fresh. told.0 (fewer m.id fresh), tells_where s t fewer prec tasks fs ms told.1)
+
+-- it tells of a machine too that it tells of apart
+pub tells_joined : (stale : ℕ → Bool) (machine prec : ℕ) (tasks : List Task) (frees : List (Option Need)) (ms : List Machine)
+    → TellsOf machine prec tasks frees ms → TellsBut (is_this_or machine stale) prec tasks frees ms → TellsBut stale prec tasks frees ms
+tells_joined stale machine prec tasks [] [] own told = tt
+tells_joined stale machine prec tasks [] (m ∷ ms) own told = absurd told
+tells_joined stale machine prec tasks (f ∷ fs) [] own told = absurd told
+tells_joined stale machine prec tasks (f ∷ fs) (m ∷ ms) own told = (
+  λ fresh. by_answer (machine == m.id) (λ t. own.0 (rw t refl)) (λ other. told.0 (rw (other, fresh) refl)),
+  tells_joined stale machine prec tasks fs ms own.1 told.1,
+)
+
+-- an index with a place for each machine needn't tell any
+pub tells_none : (machine prec : ℕ) (tasks : List Task) (frees : List (Option Need)) (ms : List Machine) → length frees ≡ length ms
+    → TellsBut (is_this_or machine (λ id. not (machine == id))) prec tasks frees ms
+tells_none machine prec tasks [] [] same = tt
+tells_none machine prec tasks [] (m ∷ ms) same = absurd (omega (arith, same))
+tells_none machine prec tasks (f ∷ fs) [] same = absurd (omega (arith, same))
+tells_none machine prec tasks (f ∷ fs) (m ∷ ms) same =
+    (λ fresh. absurd (both_ways _ fresh (excluded (machine == m.id))), tells_none machine prec tasks fs ms (omega (arith, same)))
+  where
+    excluded : (b : Bool) → (b || not b) ≡ true
+    excluded true = refl
+    excluded false = refl
 
 -- an index has a place for each state
 pub told_states : (stale : ℕ → Bool) (prec : ℕ) (tasks : List Task) (frees : List (Option Need)) (table : List MachineState) → TellsBut stale prec tasks frees (machines_of table) → length frees ≡ length table
@@ -212,17 +265,6 @@ module _ (decided later : List (Claim × Judgement)) (claim : Claim) (judgement 
   -- or it wasn't
   pub passed_more : is_placed judgement.verdict ≡ false → TellsBut (is_claimed decided) prec tasks frees ms → TellsBut (is_claimed later) prec tasks frees ms
   passed_more passed so = subst (λ b. TellsBut (λ id. (b && claim.machine == id) || is_claimed later id) prec tasks frees ms) passed (split so)
-
--- one more place behind the others is one that was missing
-pub one_more_place : (frees after : List (Option Need)) (rows : List Machine) → length frees < length rows → after ≡ frees ++ None ∷ []
-    → placed rows after ≡ placed rows frees
-one_more_place frees after rows below is = ap (placed rows) is ∙ pushed frees rows below
-  where
-    pushed : (fs : List (Option Need)) (rs : List Machine) → length fs < length rs → placed rs (fs ++ None ∷ []) ≡ placed rs fs
-    pushed [] [] less = absurd (omega arith)
-    pushed [] (r ∷ rs) less = refl
-    pushed (f ∷ fs) [] less = absurd (omega arith)
-    pushed (f ∷ fs) (r ∷ rs) less = ap (λ xs. f ∷ xs) (pushed fs rs (omega arith))
 
 -- what could be freed on machines up to a place and on the one there
 freed_dropped : (f : Machine → Option Need) (ms : List Machine) (place : ℕ) (value : Option Need) → place < length ms → ((m : Machine) → slice_get ms place ≡ Some m → value ≡ f m)

@@ -1,5 +1,5 @@
 -- Claims of a trial, and what taking them back comes to.
-use Rattle.std.proofs.Common.{◌≡◌, ℕ, ◌≤◌, Bool, true, false, List, [], ◌∷◌, ◌++◌, length, Option, refl, sym, ap, ◌∙◌, subst, arith, ◌==◌}
+use Rattle.std.proofs.Common.{◌≡◌, ℕ, ◌≤◌, ◌+◌, Bool, true, false, List, [], ◌∷◌, ◌++◌, length, Option, refl, sym, ap, ◌∙◌, subst, arith, ◌==◌}
 use Rattle.std.specs.List.{filter}
 use Rattle.std.proofs.lemmas.Bool.{or_parts}
 use Rattle.std.proofs.lemmas.List.{length-map}
@@ -17,7 +17,6 @@ use Rattle.omega_model.specs.declared.claims.Judgement.{Judgement}
 use Rattle.omega_model.specs.declared.claims.Verdict.{Verdict}
 use Rattle.omega_model.specs.declared.claims.Verdict.TheVariants.{Placed}
 use Rattle.omega_model.specs.declared.entries.Entry.{Entry}
-use Rattle.omega_machines.specs.declared.MachineState.{MachineState}
 use Rattle.omega_machines.specs.Table.{machines_of}
 use Rattle.omega_running.specs.declared.orders.Order.TheVariants.{ByKey}
 use Rattle.omega_running.specs.Order.{IsInOrder}
@@ -30,12 +29,11 @@ use Rattle.omega_board.proofs.Commits.{cell_is}
 use Rattle.omega_board.proofs.Placed.{is_placed-Placed}
 use Rattle.omega_board.proofs.Rewinds.{machines_with}
 use Rattle.omega_copy.specs.Copies.{IsTrialOf}
-use Rattle.omega_cell.specs.Touched.{is_touched_by}
 use Rattle.omega_fit.specs.Positions.{Positions}
 use Rattle.omega_copy.specs.Levels.{NearEntry}
-use Rattle.omega_copy.specs.Telling.{TellsBut, freed_of, grown}
+use Rattle.omega_copy.specs.Telling.{TellsBut, freed_of}
 use Rattle.omega_copy.proofs.Tells.{tells_while}
-use Rattle.omega_copy.proofs.TellsAfter.{tells_after}
+use Rattle.omega_copy.proofs.TellsAfter.{few_after, tells_after}
 use Rattle.omega_board.proofs.Untouched.{claim_local}
 
 -- a claim that would be placed is judged so
@@ -122,9 +120,10 @@ tells_back prec frees board back undo changed spare is trial was =
 pub tells_entry : (prec : ℕ) (before after : BoardState) (entry : Entry) (index : Positions) → index.free ≡ freed_of prec (cell_of before) → 1 ≤ index.spare
     → IsInOrder ByKey before.tasks → PlacesInOrder (cell_of before) entry → cell_of after ≡ step (cell_of before) entry → NearEntry after entry prec index
 tells_entry prec before after entry index is spare order places stepped =
-    let long : length (machines_of after.table) ≡ length after.table = length-map after.table (λ (s : MachineState). s.machine) in
+    let own : length index.free ≡ length (cell_of before).machines = ap length is ∙ length-map (cell_of before).machines _ in
+    let few : length (cell_of after).machines ≤ length (cell_of before).machines + 1 =
+    subst (λ (cell : Cell). length cell.machines ≤ length (cell_of before).machines + 1) (sym stepped) (few_after (cell_of before).machines entry) in
     record {
-      room = omega (arith, spare);
-      told = subst (λ fs. TellsBut (is_touched_by entry) prec after.tasks fs (machines_of after.table)) (ap (λ n. grown n index.free) long)
-          (tells_after prec (cell_of before) (cell_of after) entry index.free is order places stepped);
+      room = omega (arith, spare, own, few);
+      told = tells_after prec (cell_of before) (cell_of after) entry index.free is order places stepped;
     }

@@ -1,5 +1,5 @@
 -- What the indexes of several precedences tell of a board.
-use Rattle.std.specs.Prelude.{◌≡◌, ◌<◌, ◌≤◌, ◌+◌, ℕ, List, IsSomeAnd, length, slice_get}
+use Rattle.std.specs.Prelude.{◌≡◌, ◌≤◌, ◌+◌, ℕ, Bool, List, IsSomeAnd, length, slice_get}
 use Rattle.omega_model.specs.Cell.{Cell}
 use Rattle.omega_model.specs.declared.entries.Entry.{Entry}
 use Rattle.omega_machines.specs.Table.{machines_of}
@@ -8,7 +8,7 @@ use Rattle.omega_board.specs.Numbers.{is_among}
 use Rattle.omega_cell.specs.Touched.{is_touched_by}
 use Rattle.omega_fit.specs.Positions.{Positions}
 use Rattle.omega_copy.specs.declared.levels.Level.{Level}
-use Rattle.omega_copy.specs.Telling.{TellsBut, freed_of, grown, placed}
+use Rattle.omega_copy.specs.Telling.{TellsBut, freed_of, placed}
 
 -- a level tells what evictions for its precedence could free on each machine
 abbrev pub Tells : Cell → Level → Type 0
@@ -18,15 +18,18 @@ Tells cell level = level.index.free ≡ freed_of level.prec cell
 abbrev pub IsLevelAt : List Level → ℕ → ℕ → Type 0
 IsLevelAt levels prec place = IsSomeAnd (slice_get levels place) (λ level. level.prec ≡ prec)
 
--- an index has a place for one more machine, and with that tells all but what an entry touches
-pub record NearEntry (board : BoardState) (entry : Entry) (prec : ℕ) (index : Positions) : Type 0 where
-  pub room : 0 < index.spare
-  pub told : TellsBut (is_touched_by entry) prec board.tasks (grown (length board.table) index.free) (machines_of board.table)
-
 -- an index has room for a place for each further machine, and with those tells all but these
-pub record NearParts (board : BoardState) (machines : List ℕ) (prec : ℕ) (index : Positions) : Type 0 where
+pub record NearPlaced (stale : ℕ → Bool) (board : BoardState) (prec : ℕ) (index : Positions) : Type 0 where
   pub room : length (machines_of board.table) ≤ length index.free + index.spare
-  pub told : TellsBut (is_among machines) prec board.tasks (placed (machines_of board.table) index.free) (machines_of board.table)
+  pub told : TellsBut stale prec board.tasks (placed (machines_of board.table) index.free) (machines_of board.table)
+
+-- the same, but for what an entry touches
+abbrev pub NearEntry : BoardState → Entry → ℕ → Positions → Type 0
+NearEntry board entry = NearPlaced (is_touched_by entry) board
+
+-- the same, but for these machines
+abbrev pub NearParts : BoardState → List ℕ → ℕ → Positions → Type 0
+NearParts board machines = NearPlaced (is_among machines) board
 
 -- an index tells all but these machines
 abbrev pub Near : BoardState → List ℕ → ℕ → Positions → Type 0

@@ -1,5 +1,5 @@
 -- What an index tells of the machines of a cell.
-use Rattle.std.specs.Prelude.{◌≡◌, ℕ, Bool, false, List, [], ◌∷◌, ◌++◌, Option, Some, None, nat_lt, ◌==◌, ◌||◌, length, map, drop, if◌then◌else◌}
+use Rattle.std.specs.Prelude.{◌≡◌, ℕ, Bool, false, List, [], ◌∷◌, ◌++◌, Option, Some, None, not, ◌==◌, ◌||◌, length, map, drop, if◌then◌else◌}
 use Rattle.omega_model.specs.Cell.{Cell, use_on}
 use Rattle.omega_model.specs.Need.{minus}
 use Rattle.omega_model.specs.declared.cells.Machine.{Machine}
@@ -35,9 +35,9 @@ TellsBut stale prec tasks (free ∷ frees) (machine ∷ machines) =
 abbrev pub is_this_or : ℕ → (ℕ → Bool) → ℕ → Bool
 is_this_or machine stale id = machine == id || stale id
 
--- an index with a place for one more machine, where there is one more
-abbrev pub grown : ℕ → List (Option Need) → List (Option Need)
-grown machines frees = if nat_lt (length frees) machines then frees ++ None ∷ [] else frees
+-- an index tells that on the machine of this number, if it is listed
+abbrev pub TellsOf : ℕ → ℕ → List Task → List (Option Need) → List Machine → Type 0
+TellsOf machine = TellsBut (λ id. not (machine == id))
 
 -- an index with a place for each further machine
 abbrev pub placed : List Machine → List (Option Need) → List (Option Need)

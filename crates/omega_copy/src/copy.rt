@@ -79,21 +79,23 @@ impl PrivateCopy {
         self.seen
     }
 
-    /// How many of the entries that it has seen touched a machine. Takes no memory.
-    pub fn seq(&self, machine: u64) -> u64
+    // How many of the entries that it has seen touched a machine.
+    fn seq(&self, machine: u64) -> u64
         ensures { result ≡ seq_at self.now.board.table machine }
     {
         self.board.machines().seq(machine)
     }
 
-    /// For each claim, how many of the entries that it has seen touched the claim's machine.
+    /// For each claim, how many of the entries that it has seen touched the claim's machine. Takes the
+    /// memory of one number a claim, and costs a look-up each.
     pub fn seqs(&self, alloc: Global, claims: &[Claim]) -> Result<Vec<u64>, NoMemory>
-        ensures { IfOk result (λ seqs. (history : List Entry) → CopyOf self.now history
+        ensures seqs { IfOk result (λ seqs. seqs.items ≡ map (λ claim. seq_at self.now.board.table claim.machine) claims.now) }
+        ensures history { IfOk result (λ seqs. (history : List Entry) → CopyOf self.now history
             → seqs.items ≡ copied_seqs history self.now.seen claims.now) }
     {
         let mut seqs = Vec::with_capacity(alloc, claims.len())?;
         for claim in claims {
-            seqs.push(self.seq(claim.machine))?;
+            seqs.push_reserved(self.seq(claim.machine));
         }
         Ok(seqs)
     }
@@ -205,7 +207,7 @@ impl PrivateCopy {
 
     /// Begins a trial with room for a claim on each wish of a request. Where memory runs out, none
     /// has begun.
-    pub fn scratch_room(&mut self, alloc: Global, request: &Request) -> Result<(), NoMemory>
+    pub fn begin_trial(&mut self, alloc: Global, request: &Request) -> Result<(), NoMemory>
         requires no_trial { self.old.trial ≡ None }
         ensures board { self.new.board ≡ self.old.board }
         ensures seen { self.new.seen ≡ self.old.seen }
@@ -241,9 +243,9 @@ impl PrivateCopy {
     }
 
     /// Ends the trial, if one has begun: the board is as it was before its claims. The indexes are told.
-    /// Costs the claims and their victims, and for each level the tasks on the claims' machines. Takes no
-    /// memory.
-    pub fn drop_scratch(&mut self)
+    /// Costs the claims and their victims, and for each level the tasks on the claims' machines, once for
+    /// claims in a row on one machine. Takes no memory.
+    pub fn end_trial(&mut self)
         ensures { self.new ≡ after_trial self.old self.old.trial }
     {
         if let Some(mut trial) = self.trial.take() {

@@ -1,10 +1,9 @@
 //! The indexes of what evictions could free, one for each precedence for which room was sought so.
-ghost use Rattle.std.specs.Prelude.{◌≡◌, ◌≤◌, ◌<◌, ℕ, IfOk, IfSome, OnOk, length};
+ghost use Rattle.std.specs.Prelude.{◌≡◌, ◌≤◌, ◌<◌, IfOk, IfSome, OnOk, length};
 ghost use Rattle.omega_model.specs.Cell.{Cell};
 ghost use Rattle.omega_board.specs.Board.{cell_of};
 ghost use Rattle.omega_running.specs.Order.{Each};
 ghost use Rattle.omega_copy.specs.Levels.{IsLevelAt, Near, NearEntry, NearParts, Tells};
-ghost use Rattle.omega_copy.specs.Telling.{freed_of};
 
 use crate::telling::{freed_at, tell_all, tell_entry, tell_parts};
 use omega_board::Board;
@@ -103,7 +102,7 @@ pub(crate) fn tell_parts_each(levels: &mut [Level], board: &Board, machines: &[u
     tell_parts_each(rest, board, machines);
 }
 
-/// Tells each level what is free on these machines, which has told all else.
+/// Tells each level what evictions for its precedence could free on these machines; it has told all else.
 pub(crate) fn tell_all_each(levels: &mut [Level], board: &Board, machines: &[u64])
     requires { Each (λ level. Near board.now machines.now level.prec level.index) levels.old }
     ensures { Each (Tells (cell_of board.now)) levels.new }

@@ -1,9 +1,9 @@
 //! A scheduler's private copy of the cell.
 //!
-//! A copy follows the history of the cell that all schedulers share, and knows what is free on each
-//! machine by an index that every change of its board is told to. For each precedence for which room
-//! was sought by evicting it has one more, of what evictions could free. A scheduler plans on it: it
-//! begins a trial, makes its claims on the copy alone, and drops them again.
+//! A copy follows the history of the cell that all schedulers share. It keeps an index of what is free on
+//! its machines, and for each precedence at which evictions were tried another, of what they could free.
+//! Every change of its board is told to each of these. A scheduler plans on it: it begins a trial, makes
+//! its claims on the copy alone, and ends the trial, which takes them back.
 #![tactic(auto)]
 
 mod copy;

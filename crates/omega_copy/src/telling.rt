@@ -1,25 +1,24 @@
 //! What changed on a board, told to an index of what evictions for a precedence could free on its machines.
-ghost use Rattle.std.specs.Prelude.{◌≡◌, ◌<◌, ◌≤◌, ◌+◌, ℕ, Bool, Some, None, length, slice_get};
+ghost use Rattle.std.specs.Prelude.{◌≡◌, ◌≤◌, ◌+◌, ℕ, Bool, Some, None, IfSome, length, slice_get};
 ghost use Rattle.std.specs.List.{zip};
 ghost use Rattle.omega_machines.specs.Table.{machines_of};
 ghost use Rattle.omega_model.specs.declared.cells.Machine.{Machine};
 ghost use Rattle.omega_board.specs.Board.{cell_of};
-ghost use Rattle.omega_board.specs.Numbers.{is_among};
 ghost use Rattle.omega_cell.specs.Touched.{is_claimed, is_number, is_touched_by};
 ghost use Rattle.omega_copy.specs.Levels.{Near, NearEntry, NearParts};
-ghost use Rattle.omega_copy.specs.Telling.{TellsBut, freed_of, freed_on, grown, is_this_or, placed};
+ghost use Rattle.omega_copy.specs.Telling.{TellsBut, TellsOf, freed_of, freed_on, is_this_or, placed};
 
 use omega_board::Board;
 use omega_fit::FitIndex;
 use omega_model::{Claim, Entry, Judgement, Need};
 
 /// Tells an index what an entry changed that was applied to the board. It has told all before it, and
-/// has room for one more machine.
+/// has room for a machine that is new.
 pub(crate) fn tell_entry(index: &mut FitIndex, prec: u8, board: &Board, entry: &Entry)
     requires { NearEntry board.now entry.now prec index.old }
     ensures { index.new.free ≡ freed_of prec (cell_of board.now) }
 {
-    grow(index, board);
+    grow_to(index, board);
     tell_touched(index, prec, board, entry);
 }
 
@@ -33,13 +32,15 @@ pub(crate) fn tell_parts(index: &mut FitIndex, prec: u8, board: &Board, machines
     tell_all(index, prec, board, machines);
 }
 
-/// Tells an index what is free on these machines, which has told all else.
+/// Tells an index what evictions for its precedence could free on these machines; it has told all else.
 pub(crate) fn tell_all(index: &mut FitIndex, prec: u8, board: &Board, machines: &[u64])
     requires { Near board.now machines.now prec index.old }
     ensures { index.new.free ≡ freed_of prec (cell_of board.now) }
 {
+    let mut last = None;
     for machine in machines {
-        tell(index, prec, board, *machine);
+        tell_next(index, prec, board, *machine, last);
+        last = Some(*machine);
     }
 }
 
@@ -59,16 +60,6 @@ pub(crate) fn freed_at(board: &Board, prec: u8, position: usize) -> Option<Need>
     Some(board.running().left_on(machine.id, prec, machine.cap))
 }
 
-// Puts a place behind the others where the board has one more machine, for which room was made.
-fn grow(index: &mut FitIndex, board: &Board)
-    requires { 0 < index.old.spare }
-    ensures { index.new.free ≡ grown (length board.now.table) index.old.free }
-{
-    if index.len() < board.machines().len() {
-        index.push_reserved(None);
-    }
-}
-
 // Puts a place behind the others for each further machine that the board has, for which room was made.
 fn grow_to(index: &mut FitIndex, board: &Board)
     requires { length (machines_of board.now.table) ≤ length index.old.free + index.old.spare }
@@ -79,7 +70,8 @@ fn grow_to(index: &mut FitIndex, board: &Board)
     }
 }
 
-// Tells the index what is free on the machines that an entry touches, which has told all else.
+// Tells the index what evictions for its precedence could free on the machines that an entry touches; it
+// has told all else.
 fn tell_touched(index: &mut FitIndex, prec: u8, board: &Board, entry: &Entry)
     requires { TellsBut (is_touched_by entry.now) prec board.now.tasks index.old.free (machines_of board.now.table) }
     ensures { index.new.free ≡ freed_of prec (cell_of board.now) }
@@ -98,7 +90,7 @@ fn tell_touched(index: &mut FitIndex, prec: u8, board: &Board, entry: &Entry)
     }
 }
 
-// Tells the index what is free on a machine, which has told all else.
+// Tells the index what evictions for its precedence could free on a machine; it has told all else.
 fn tell_one(index: &mut FitIndex, prec: u8, board: &Board, machine: u64)
     requires { TellsBut (is_number machine) prec board.now.tasks index.old.free (machines_of board.now.table) }
     ensures { index.new.free ≡ freed_of prec (cell_of board.now) }
@@ -111,14 +103,29 @@ fn tell_placed(index: &mut FitIndex, prec: u8, board: &Board, claims: &[Claim], 
     requires { TellsBut (is_claimed (zip claims.now reply.now)) prec board.now.tasks index.old.free (machines_of board.now.table) }
     ensures { index.new.free ≡ freed_of prec (cell_of board.now) }
 {
+    let mut last = None;
     for (claim, judgement) in claims.iter().zip(reply) {
         if judgement.verdict.is_placed() {
-            tell(index, prec, board, claim.machine);
+            tell_next(index, prec, board, claim.machine, last);
+            last = Some(claim.machine);
         }
     }
 }
 
-// Tells the index what is free on a machine, if it is in the list.
+// The same where this machine was told last, if one was: the same one in a row costs nothing.
+fn tell_next(index: &mut FitIndex, prec: u8, board: &Board, machine: u64, last: Option<u64>)
+    requires long { length index.old.free ≡ length board.now.table }
+    requires last { IfSome last (λ told. TellsOf told prec board.now.tasks index.old.free (machines_of board.now.table)) }
+    ensures tells { (stale : ℕ → Bool) → TellsBut (is_this_or machine stale) prec board.now.tasks index.old.free (machines_of board.now.table) → TellsBut stale prec board.now.tasks index.new.free (machines_of board.now.table) }
+    ensures own { TellsOf machine prec board.now.tasks index.new.free (machines_of board.now.table) }
+{
+    if last == Some(machine) {
+        return;
+    }
+    tell(index, prec, board, machine);
+}
+
+// Tells the index what evictions for its precedence could free on a machine, if it is in the list.
 fn tell(index: &mut FitIndex, prec: u8, board: &Board, machine: u64)
     requires { length index.old.free ≡ length board.now.table }
     ensures { (stale : ℕ → Bool) → TellsBut (is_this_or machine stale) prec board.now.tasks index.old.free (machines_of board.now.table) → TellsBut stale prec board.now.tasks index.new.free (machines_of board.now.table) }

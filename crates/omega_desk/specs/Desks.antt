@@ -34,8 +34,8 @@ pub record IsSameDesk (old new : DeskState) : Type 0 where
 
 -- the requests of jobs that aren't given up, where each job has so many commits in a row that placed
 -- nothing
-abbrev pub open_requests : Settings → (ℕ → ℕ) → List Request → List Request
-open_requests settings failing requests = filter (λ request. not (nat_le settings.give_up (failing request.job))) requests
+abbrev pub still_tried : Settings → (ℕ → ℕ) → List Request → List Request
+still_tried settings failing requests = filter (λ request. not (nat_le settings.give_up (failing request.job))) requests
 
 -- there is a request left, and the tasks of the outcomes are some of its, in their order
 abbrev pub AnswersFirst : List Request → List Outcome → Type 0

@@ -4,7 +4,7 @@ ghost use Rattle.std.specs.List.{All};
 ghost use Rattle.omega_model.specs.Draws.{drawn_start};
 ghost use Rattle.omega_model.specs.Work.{after_outcomes, fresh};
 ghost use Rattle.omega_desk.specs.Counts.{count_of};
-ghost use Rattle.omega_desk.specs.Desks.{AnswersFirst, IsSameDesk, left_at, open_requests};
+ghost use Rattle.omega_desk.specs.Desks.{AnswersFirst, IsSameDesk, left_at, still_tried};
 ghost use Rattle.omega_desk.specs.Walks.{HasDistinctWishes};
 
 use crate::failures::Failures;
@@ -71,10 +71,10 @@ impl Desk {
         ensures desk { IsSameDesk self.old self.new }
         ensures attempts { self.new.attempts ≡ self.old.attempts }
         ensures ok { OnOk result (left_at self.new ≡ fresh (left_at self.old).failing
-            (open_requests self.old.settings (left_at self.old).failing requests)) }
+            (still_tried self.old.settings (left_at self.old).failing requests)) }
         ensures err { OnErr result (left_at self.new ≡ fresh (left_at self.old).failing []) }
     {
-        let requests = open_requests(requests, &self.failures, &self.settings);
+        let requests = still_tried(requests, &self.failures, &self.settings);
         self.failures.reserve(requests.as_slice())?;
         self.waiting = VecDeque::from(requests);
         self.present = self.waiting.pop_front();
@@ -83,7 +83,7 @@ impl Desk {
 
     /// The present request with the wishes that aren't placed yet. `None` exactly where nothing is
     /// left of the round's work. Takes no memory.
-    pub fn next(&self) -> Option<&Request>
+    pub fn present(&self) -> Option<&Request>
         ensures { option_map (λ request. request.now) result ≡ slice_get self.now.requests 0 }
     {
         self.present.as_ref()
@@ -139,8 +139,8 @@ impl Desk {
 }
 
 // The requests of jobs that aren't given up.
-fn open_requests(requests: Requests, failures: &Failures, settings: &Settings) -> Vec<Request>
-    ensures { result.items ≡ open_requests settings.now (count_of failures.now.counts.entries) requests }
+fn still_tried(requests: Requests, failures: &Failures, settings: &Settings) -> Vec<Request>
+    ensures { result.items ≡ still_tried settings.now (count_of failures.now.counts.entries) requests }
 {
     let mut open = requests.into_items();
     open.retain(|request| failures.of(request.job) < u64::from(settings.give_up));

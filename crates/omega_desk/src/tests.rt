@@ -6,7 +6,7 @@ fn a_round_without_requests_leaves_no_work(rt: HostRuntime) -> Result<(), NoMemo
     let alloc = rt.alloc();
     let mut desk = Desk::new(alloc, &Settings::default(), 1);
     desk.begin(Requests::new(alloc))?;
-    assert!(rt; desk.next().is_none());
+    assert!(rt; desk.present().is_none());
     Ok(())
 }
 

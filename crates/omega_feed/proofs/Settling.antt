@@ -1,5 +1,5 @@
 -- Open places that are looked at one after the other: those whose job is quiet go.
-use Rattle.std.proofs.Common.{◌≡◌, ℕ, Bool, true, false, cond, List, [], ◌∷◌, refl, ap, sym, subst, ◌∙◌, ◌⊎◌, inl, inr}
+use Rattle.std.proofs.Common.{◌≡◌, ℕ, Bool, true, false, cond, List, [], ◌∷◌, Some, refl, ap, sym, subst, ◌∙◌, ◌⊎◌, inl, inr}
 use Rattle.std.specs.BTreeMap.{is_at}
 use Rattle.std.specs.BTreeSet as set
 use Rattle.std.specs.BTreeSet.{BTreeSet}
@@ -8,7 +8,8 @@ use Rattle.std.specs.Ordering.{nat_cmp}
 use Rattle.std.proofs.lemmas.Bool.{eqb-true, cases_Bool, both_ways, or_cases, or_left, or_right}
 use Rattle.omega_model.specs.declared.cells.Task.{Task}
 use Rattle.omega_feed.specs.Asked.{Asked}
-use Rattle.omega_feed.specs.Open.{IsQuietAt, NoneIsQuiet, OthersAreQuiet}
+use Rattle.omega_feed.specs.Open.{IsQuietAt, NoneIsQuiet, OpensAtMost, OthersAreQuiet}
+use Rattle.omega_feed.specs.Index.{job_at}
 use Rattle.omega_model.proofs.Lists.{by_answer}
 use Rattle.omega_model.proofs.Places.{at_place}
 use Rattle.omega_feed.proofs.Picked.{same_place}
@@ -90,3 +91,11 @@ others_settled asked tasks places left s quiet place job at closed =
       ]
       | inr e ↦ quiet place job at e
     ]
+
+-- one more place is that of a job
+pub opens_one : (before after : BTreeSet ℕ) (asked : Asked) (job q : ℕ) → set.Updates nat_cmp before after q true → job_at asked.jobs q ≡ Some job
+    → OpensAtMost before after asked job
+opens_one before after asked job q u at place e =
+    by_answer (is_at (nat_cmp q) place)
+    (λ t. inr (subst (λ p. job_at asked.jobs p ≡ Some job) (sym (one_place q place t)) at))
+    (λ f. inl (sym (ap (λ b. cond b true (set.contains nat_cmp before place)) f) ∙ sym (u.0 place) ∙ e))

@@ -8,6 +8,8 @@ use Rattle.omega_model.specs.Cell.{task_at}
 use Rattle.omega_model.specs.Requests.{is_running}
 use Rattle.omega_model.specs.Wanted.{WantedTask}
 use Rattle.omega_model.specs.declared.cells.Task.{Task}
+use Rattle.omega_model.specs.declared.rows.Row.{Row}
+use Rattle.omega_model.specs.declared.rows.Row.TheVariants.{Machine, Attr, Task as TaskEvent}
 use Rattle.omega_feed.specs.Asked.{Asked, activities_in, is_task_of}
 use Rattle.omega_feed.specs.Index.{job_at}
 
@@ -41,3 +43,14 @@ IsOpen places asked job = (place : ℕ) → job_at asked.jobs place ≡ Some job
 -- what was open is open
 abbrev pub StayOpen : BTreeSet ℕ → BTreeSet ℕ → Type 0
 StayOpen before after = (place : ℕ) → set.contains nat_cmp before place ≡ true → set.contains nat_cmp after place ≡ true
+
+-- what is open was open, or is the place of this job
+abbrev pub OpensAtMost : BTreeSet ℕ → BTreeSet ℕ → Asked → ℕ → Type 0
+OpensAtMost before after asked job = (place : ℕ) → set.contains nat_cmp after place ≡ true
+    → (set.contains nat_cmp before place ≡ true) ⊎ (job_at asked.jobs place ≡ Some job)
+
+-- a row opens at most the place of its task's job, and none where it is of no task
+abbrev pub RowOpens : BTreeSet ℕ → BTreeSet ℕ → Asked → Row → Type 0
+RowOpens before after asked (TaskEvent row) = OpensAtMost before after asked row.key.job
+RowOpens before after asked (Machine row) = StayOpen after before
+RowOpens before after asked (Attr row) = StayOpen after before

@@ -9,7 +9,7 @@ use std::collections::BTreeMap;
 use std::marker::Model;
 
 /// The rows of activities in the order of their file, and the activities of the last row for each
-/// job.
+/// job. No call reads the rows; a contract sees them.
 #[derive(Drop)]
 pub struct JobActivities {
     rows: Seq<ActivityRow>,

@@ -9,7 +9,8 @@ use std::alloc::Global;
 use std::collections::BTreeMap;
 use std::marker::Model;
 
-/// The rows of disks in the order of their file, and the disk of the last row for each machine.
+/// The rows of disks in the order of their file, and the disk of the last row for each machine. No call
+/// reads the rows; a contract sees them.
 #[derive(Drop)]
 pub struct MachineDisks {
     rows: Seq<DiskRow>,

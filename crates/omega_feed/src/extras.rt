@@ -12,7 +12,7 @@ use omega_running::Running;
 use std::alloc::Global;
 
 /// The least index of an extra task; the tasks of the trace have lower ones.
-const FIRST_EXTRA: u32 = 2_147_483_648;
+pub const FIRST_EXTRA: u32 = 2_147_483_648;
 
 /// The running extras of a job, by index. Costs the job's running tasks, and the logarithm of the
 /// number of all.
@@ -70,9 +70,8 @@ fn narrowed(count: usize) -> u32
     u32::try_from(count).unwrap_or(u32::MAX)
 }
 
-/// So many of the least indexes of extras that no running task of the job has, where so many extras
-/// of it run. Costs these and those that run, each times the logarithm of the number of running
-/// tasks.
+/// The `count` least indexes of extras that no running task of the job has, where `held` of its extras
+/// run. Costs these and those that run, each times the logarithm of the number of running tasks.
 pub fn free_indexes(
     alloc: Global,
     running: &Running,

@@ -18,6 +18,7 @@ mod tasks;
 mod unplaced;
 mod wanted;
 
+pub use extras::FIRST_EXTRA;
 pub use jobs::RoutedJob;
 pub use open_jobs::OpenJobs;
 pub use ordered::{feed, rounds};

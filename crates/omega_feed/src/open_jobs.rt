@@ -1,6 +1,6 @@
 //! The jobs of which something may have to be placed.
 ghost use Rattle.std.specs.Prelude.{◌≡◌, [], OnErr, OnOk};
-ghost use Rattle.omega_feed.specs.Open.{IsOpen, NoneIsQuiet, OthersAreQuiet, StayOpen};
+ghost use Rattle.omega_feed.specs.Open.{IsOpen, NoneIsQuiet, OpensAtMost, OthersAreQuiet, StayOpen};
 
 use crate::wanted::Wanted;
 use omega_board::Board;
@@ -35,16 +35,18 @@ impl OpenJobs {
         }
     }
 
-    /// Opens a job, if the trace has it. A refused call leaves what is open. Costs the logarithm of the
-    /// number of jobs.
+    /// Opens a job, if the trace has it, and no other. A refused call leaves what is open. Costs the
+    /// logarithm of the number of jobs.
     pub fn reopen(&mut self, wanted: &Wanted, job: u64) -> Result<(), NoMemory>
         ensures stay { StayOpen self.old self.new }
         ensures ok { OnOk result (IsOpen self.new wanted.now job) }
+        ensures alone { OpensAtMost self.old self.new wanted.now job }
         ensures err { OnErr result (self.new ≡ self.old) }
     {
-        if let Some(place) = wanted.place(job) {
-            self.places.insert(place)?;
-        }
+        let Some(place) = wanted.place(job) else {
+            return Ok(());
+        };
+        self.places.insert(place)?;
         Ok(())
     }
 

@@ -1,6 +1,6 @@
 //! The rows of the events in order of time, cut into rounds.
 ghost use Rattle.std.specs.Prelude.{◌≡◌, ◌<◌, ◌/◌, ◌++◌, ◌∷◌, [], map, IfOk, OnOk};
-ghost use Rattle.omega_model.specs.Feed.{by_time, time_of, event_rows, feed, rounds, round_number};
+ghost use Rattle.omega_model.specs.Feed.{by_time, time_of, event_rows, feed, rounds};
 ghost use Rattle.omega_model.specs.declared.rows.Row.TheVariants.{Machine, Attr, Task};
 ghost use Rattle.omega_model.specs.declared.rows.TraceTables.{TraceTables};
 ghost use Rattle.omega_feed.specs.Cut.{closed};

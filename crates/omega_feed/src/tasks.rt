@@ -95,7 +95,8 @@ impl WantedTasks {
     /// Applies a row: what it submits, schedules or updates is wanted as it says, and what ends in it
     /// is not. A refused call leaves the tasks. Costs the logarithm of their number.
     pub fn take(&mut self, row: &Row) -> Result<(), NoMemory>
-        ensures { OnOk result (self.new ≡ wanted_after self.old row.now) }
+        ensures ok { OnOk result (self.new ≡ wanted_after self.old row.now) }
+        ensures err { OnErr result (self.new ≡ self.old) }
     {
         match row {
             Row::Task(row) => self.take_task(row),
@@ -104,7 +105,8 @@ impl WantedTasks {
     }
 
     fn take_task(&mut self, row: &TaskRow) -> Result<(), NoMemory>
-        ensures { OnOk result (self.new ≡ wanted_after_task self.old row.now) }
+        ensures ok { OnOk result (self.new ≡ wanted_after_task self.old row.now) }
+        ensures err { OnErr result (self.new ≡ self.old) }
     {
         match self.change_of(row) {
             Change::Want => self.insert(row.key, row.spec),

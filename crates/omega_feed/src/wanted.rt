@@ -9,15 +9,15 @@ ghost use Rattle.omega_model.specs.Cell.{task_at};
 ghost use Rattle.omega_model.specs.ExtraTasks.{HasLowIndex, first_extra};
 ghost use Rattle.omega_model.specs.Requests.{is_running};
 ghost use Rattle.omega_model.specs.RowEntries.{row_entries};
-ghost use Rattle.omega_model.specs.Wanted.{wanted_after, wanted_after_task, with_wanted, is_named};
+ghost use Rattle.omega_model.specs.Wanted.{wanted_after, wanted_after_task, with_wanted};
 ghost use Rattle.omega_model.specs.declared.cells.Task.{Task};
 ghost use Rattle.omega_model.specs.declared.rows.Row.{Row};
 ghost use Rattle.omega_model.specs.declared.rows.TraceTables.{TraceTables};
 ghost use Rattle.omega_model.specs.declared.settings.Settings.{Settings};
 ghost use Rattle.omega_board.specs.Board.{cell_of};
-ghost use Rattle.omega_feed.specs.Asked.{activities_in, asked_after, asked_extra, asked_requests, asked_wish, asked_wishes, extras_after, is_task_of};
+ghost use Rattle.omega_feed.specs.Asked.{activities_in, asked_after, asked_extra, asked_wish, asked_wishes, extras_after, is_task_of};
 ghost use Rattle.omega_feed.specs.Index.{HasLowTask, job_at, routed_request, wanted_task};
-ghost use Rattle.omega_feed.specs.Open.{IsQuietAt, OthersAreQuiet, StayOpen};
+ghost use Rattle.omega_feed.specs.Open.{IsQuietAt, OpensAtMost, OthersAreQuiet, RowOpens, StayOpen};
 
 use crate::activities::JobActivities;
 use crate::constraints::TaskConstraints;
@@ -60,8 +60,9 @@ impl Model for Wanted {
 }
 
 impl Wanted {
-    /// What a trace with this feed asks for before its first row: no task is wanted. Costs a look-up
-    /// for each task row and each constraint.
+    /// What a trace with this feed asks for before its first row: no task is wanted. Costs two look-ups
+    /// for each task row, two or three for each constraint, and one for each row of disks and of
+    /// activities.
     pub fn new(
         alloc: Global,
         tables: &TraceTables,
@@ -83,9 +84,9 @@ impl Wanted {
         })
     }
 
-    /// Applies a row: what it submits, schedules or updates is wanted as it says, and its job is opened;
-    /// what ends in it is not wanted any more. A refused call leaves what is wanted, and may have opened
-    /// a job. Costs the logarithm of the number of tasks and of jobs.
+    /// Applies a row: what it submits, schedules or updates is wanted as it says, and its job is opened,
+    /// and no other; what ends in it is not wanted any more. A refused call leaves what is wanted, and may
+    /// have opened the job. Costs the logarithm of the number of tasks and of jobs.
     pub fn take(&mut self, row: &Row, open_jobs: &mut OpenJobs) -> Result<(), NoMemory>
         ensures ok { OnOk result (self.new ≡ record self.old { tasks = wanted_after self.old.tasks row.now }) }
         ensures err { OnErr result (self.new ≡ self.old) }
@@ -95,6 +96,7 @@ impl Wanted {
         ensures quiet { (tasks : List Task) → OthersAreQuiet open_jobs.old self.old tasks
             → OnOk result (OthersAreQuiet open_jobs.new self.new tasks) }
         ensures stay { StayOpen open_jobs.old open_jobs.new }
+        ensures alone { RowOpens open_jobs.old open_jobs.new self.old row.now }
     {
         match row {
             Row::Task(row) => self.take_task(row, open_jobs),
@@ -108,6 +110,7 @@ impl Wanted {
         ensures quiet { (tasks : List Task) → OthersAreQuiet open_jobs.old self.old tasks
             → OnOk result (OthersAreQuiet open_jobs.new self.new tasks) }
         ensures stay { StayOpen open_jobs.old open_jobs.new }
+        ensures alone { OpensAtMost open_jobs.old open_jobs.new self.old row.now.key.job }
     {
         match self.tasks.change_of(row) {
             Change::Want => self.want(row.key, row.spec, open_jobs),
@@ -127,6 +130,7 @@ impl Wanted {
         ensures quiet { (tasks : List Task) → OthersAreQuiet open_jobs.old self.old tasks
             → OnOk result (OthersAreQuiet open_jobs.new self.new tasks) }
         ensures stay { StayOpen open_jobs.old open_jobs.new }
+        ensures alone { OpensAtMost open_jobs.old open_jobs.new self.old key.job }
     {
         open_jobs.reopen(self, key.job)?;
         self.tasks.insert(key, spec)?;

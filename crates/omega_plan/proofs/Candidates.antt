@@ -23,7 +23,10 @@ use Rattle.omega_board.proofs.Ranks.{Apart, ranked_apart, ranked_found}
 use Rattle.omega_board.proofs.Standing.{Once, filter_once}
 use Rattle.omega_board.proofs.Tasks.{each_filter, each_passes}
 use Rattle.omega_board.proofs.Untouched.{each_keys, ranked_run}
-use Rattle.omega_plan.specs.Trying.{yields}
+
+-- whether the running task of this name gives way to a wish
+abbrev yields : List Task → Wish → TaskKey → Bool
+yields tasks wish key = option_map_or (gives_way wish) (task_at tasks key) false
 
 -- whether the second of two tasks doesn't go before the first
 abbrev stands_first : Task → Task → Bool
@@ -102,7 +105,7 @@ names_kept tasks wish (t ∷ some) found =
     (λ h. let own = here ∙ h in rw (h, own) (names_kept tasks wish some found.1))
 
 -- of the tasks on a machine in order of eviction, those that yield are the candidates
-pub candidates_are : (cell : Cell) (id : ℕ) (wish : Wish) → IsInOrder ByKey cell.tasks
+candidates_are : (cell : Cell) (id : ℕ) (wish : Wish) → IsInOrder ByKey cell.tasks
     → filter (yields cell.tasks wish) (keys_of (ranked_on id cell.tasks)) ≡ candidates cell id wish
 candidates_are cell id wish order =
     names_kept cell.tasks wish (ranked_on id cell.tasks) (ranked_found cell.tasks id order)

@@ -1,11 +1,9 @@
 -- What a machine does with a wish that is tried on it.
 use Rattle.std.specs.Prelude.{◌≡◌, ◌&&◌, ℕ, Bool, false, List, [], Option, Some, None, option_map, is_some, length, slice_get, if◌then◌else◌}
-use Rattle.std.specs.Option.{option_map_or}
-use Rattle.omega_model.specs.Cell.{Cell, task_at}
-use Rattle.omega_model.specs.Plan.{claim_of, gives_way, goes_in, victims}
+use Rattle.omega_model.specs.Cell.{Cell}
+use Rattle.omega_model.specs.Plan.{claim_of, goes_in, victims}
 use Rattle.omega_model.specs.Planning.{suits}
 use Rattle.omega_model.specs.declared.cells.Machine.{Machine}
-use Rattle.omega_model.specs.declared.cells.Task.{Task}
 use Rattle.omega_model.specs.declared.cells.TaskKey.{TaskKey}
 use Rattle.omega_model.specs.declared.claims.Claim.{Claim}
 use Rattle.omega_model.specs.declared.wishes.Wish.{Wish}
@@ -23,10 +21,6 @@ Takes cell wish position answer =
 -- the first position, round from a start, whose machine takes the wish; none where no machine does
 unfoldable pub IsFirstToTake : Cell → Wish → ℕ → Option ℕ → Type 0
 IsFirstToTake cell wish start found = IsFirst (Takes cell wish) (positions_from start (length cell.machines)) found
-
--- whether the running task of this name gives way to a wish
-abbrev pub yields : List Task → Wish → TaskKey → Bool
-yields tasks wish key = option_map_or (gives_way wish) (task_at tasks key) false
 
 -- the claim of a wish on a machine that it suits and on which evictions make room
 abbrev pub claim_on : Cell → Wish → Machine → Option Claim

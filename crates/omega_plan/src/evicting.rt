@@ -2,12 +2,12 @@
 ghost use Rattle.std.specs.Prelude.{◌≡◌, ◌≤◌, ◌<◌, None, Some, IfOk, IfSome, option_map, length};
 ghost use Rattle.omega_board.specs.Board.{cell_of};
 ghost use Rattle.omega_copy.specs.Telling.{freed_of};
-ghost use Rattle.omega_model.specs.Cell.{task_at};
+ghost use Rattle.omega_model.specs.Cell.{keys_of, task_at};
 ghost use Rattle.omega_model.specs.Legal.{Sound};
-ghost use Rattle.omega_model.specs.Plan.{candidates, victims};
+ghost use Rattle.omega_model.specs.Plan.{candidates, gives_way, victims};
 ghost use Rattle.omega_running.specs.Kept.{KeysRise};
 ghost use Rattle.omega_plan.specs.Kinds.{Serves};
-ghost use Rattle.omega_plan.specs.Trying.{AreVictimsAt, IsFirstToYield, MayYield, yields};
+ghost use Rattle.omega_plan.specs.Trying.{AreVictimsAt, IsFirstToYield, MayYield};
 
 use crate::progress::Progress;
 use crate::trying::claim_of;
@@ -15,7 +15,7 @@ use omega_attrs::eligible;
 use omega_board::Board;
 use omega_copy::PrivateCopy;
 use omega_fit::FitIndex;
-use omega_model::{Keys, NoMemory, Seq, TaskKey, Wish};
+use omega_model::{Keys, NoMemory, Seq, Task, Wish};
 use std::alloc::Global;
 
 /// A position, and the victims that make room on the machine that stands there.
@@ -26,9 +26,10 @@ pub(crate) struct Yielding {
 }
 
 /// The first position, round from the plan's start, whose machine suits the wish and where evictions
-/// make room, with the victims. Begins where the progress says. Where nowhere so much could be freed as
-/// the need is, costs nothing but what the copy's index costs; else the machines where that much could
-/// be freed are tried in order, and of each that suits the tasks are sorted.
+/// make room, with the victims. Begins where the progress says. Looks at the index's root alone where
+/// evictions could nowhere free enough of one component; else at the machines where they could free
+/// enough, of which each that suits is asked for its victims, and at worst at all positions. Costs that
+/// look, and the first time for a precedence the making of its index (all machines and their tasks).
 pub(crate) fn first_to_yield(
     alloc: Global,
     copy: &mut PrivateCopy,
@@ -113,7 +114,8 @@ fn victims_at(
 /// beginning of its tasks of other jobs with lower precedence, in order of precedence, job and
 /// index. Empty where none must go; `Ok(None)` exactly where no beginning makes room.
 ///
-/// Sorts the tasks on the machine, and judges one claim that names all those that may go.
+/// Sorts those of the machine's tasks that may go, judges one claim that names them all, and compares
+/// each candidate with those before it.
 pub fn victims(
     alloc: Global,
     board: &Board,
@@ -138,17 +140,26 @@ fn candidates(alloc: Global, board: &Board, wish: &Wish, machine: u64) -> Result
     ensures ordered { KeysRise board.now.tasks }
 {
     let running = board.running();
-    let mut keys = running.on_machine(alloc, machine)?.into_items();
-    keys.retain(|key| yields(board, wish, *key));
-    Ok(Seq::of(keys))
+    let mut tasks = running.tasks_on(alloc, machine)?.into_items();
+    tasks.retain(|task| gives_way(wish, task));
+    tasks.sort_unstable_by_key(|task| (task.spec.prec, task.key.job, task.key.index));
+    keys_of(alloc, &tasks)
 }
 
-/// Whether a running task gives way to a wish: it is of another job, and its precedence is lower.
-fn yields(board: &Board, wish: &Wish, key: TaskKey) -> bool
-    ensures { result ≡ yields board.now.tasks wish.now key }
+/// Whether a task gives way to a wish: it is of another job, and its precedence is lower.
+fn gives_way(wish: &Wish, task: &Task) -> bool
+    ensures { result ≡ gives_way wish.now task.now }
 {
-    match board.running().get(key) {
-        Some(task) => task.key.job != wish.key.job && task.spec.prec < wish.spec.prec,
-        None => false,
+    task.key.job != wish.key.job && task.spec.prec < wish.spec.prec
+}
+
+/// The keys of some tasks.
+fn keys_of(alloc: Global, tasks: &[Task]) -> Result<Keys, NoMemory>
+    ensures { IfOk result (λ keys. keys ≡ keys_of tasks.now) }
+{
+    let mut keys = Vec::new(alloc);
+    for task in tasks {
+        keys.push(task.key)?;
     }
+    Ok(Seq::of(keys))
 }

@@ -18,11 +18,14 @@ use omega_copy::PrivateCopy;
 use omega_model::{Claim, Mode, NoMemory, Policy, Request, Seq, Txn, Wish};
 use std::alloc::Global;
 
-/// The plan of a request on a copy, whose machines are tried from `start` round. Each wish gets the
-/// first machine that suits its constraints and takes it, on the cell after the claims before it:
-/// without victims where that goes, else with them where the policy preempts; a wish without a
-/// machine gets no claim. In mode `Gang` one wish without a machine leaves no claim at all. The
-/// copy is as before in both cases.
+/// The plan of a request on a copy, whose machines are tried from `start` round, a position of at most
+/// their number. Each wish gets the first machine that suits its constraints and takes it, on the cell
+/// after the claims before it: without victims where that goes, else with them where the policy
+/// preempts; a wish without a machine gets no claim. In mode `Gang` one wish without a machine leaves no
+/// claim at all. The copy is as before afterwards, also where memory runs out.
+///
+/// Takes the memory of the claims and of what takes them back. Costs each wish a search, and wishes in a
+/// row that differ in the index alone the machines once together.
 pub fn plan(
     alloc: Global,
     copy: &mut PrivateCopy,
@@ -39,9 +42,9 @@ pub fn plan(
     ensures copy { copy.new ≡ copy.old }
 {
     let wishes = request.wishes.as_slice();
-    copy.scratch_room(alloc, request)?;
+    copy.begin_trial(alloc, request)?;
     let claims = claims_for_wishes(alloc, copy, wishes, start, policy.preempt);
-    copy.drop_scratch();
+    copy.end_trial();
     Ok(Txn {
         job: request.job,
         rule: policy.rule,
@@ -51,7 +54,7 @@ pub fn plan(
 }
 
 /// The claims for the wishes in order, each on the copy after the claims before it, for which its
-/// trial has room. The claims stay on the copy until the trial is dropped.
+/// trial has room. The claims stay on the copy until the trial ends.
 fn claims_for_wishes(
     alloc: Global,
     copy: &mut PrivateCopy,
@@ -68,18 +71,18 @@ fn claims_for_wishes(
     let Some(first) = wishes.first() else {
         return Ok(claims);
     };
-    let mut kind = first;
+    let mut previous = first;
     let mut progress = Progress::at(start);
     for wish in wishes {
         let Step {
             claim,
             progress: next,
-        } = claim_for_wish(alloc, copy, wish, preempts, progress.turn(kind, wish))?;
+        } = claim_for_wish(alloc, copy, wish, preempts, progress.turn(previous, wish))?;
         if let Some(claim) = claim {
             copy.claim(alloc, &claim)?;
             claims.push(claim)?;
         }
-        kind = wish;
+        previous = wish;
         progress = next;
     }
     Ok(claims)

@@ -16,8 +16,9 @@ use omega_model::{Claim, Keys, Seq, Wish};
 use std::alloc::Global;
 
 /// The first position, round from the plan's start, whose machine suits the wish and takes it as it
-/// is. Takes no memory. Begins where the progress says; where nowhere is room for the need, looks at
-/// the top of the index alone, and else tries the machines with room in order.
+/// is. Takes no memory. Begins where the progress says. Looks at the index's root alone where every
+/// machine has too little of one component; else at the machines with room, and at worst at all
+/// positions.
 pub(crate) fn first_to_take(
     alloc: Global,
     board: &Board,

@@ -15,7 +15,7 @@ use Rattle.omega_model.specs.declared.rows.Row.{Row}
 use Rattle.omega_model.specs.declared.rows.TraceTables.{TraceTables}
 use Rattle.omega_model.specs.declared.settings.Settings.{Settings}
 use Rattle.omega_model.specs.declared.wishes.Request.{Request}
-use Rattle.omega_desk.specs.Desks.{IsSameDesk, left_at, open_requests}
+use Rattle.omega_desk.specs.Desks.{IsSameDesk, left_at, still_tried}
 use Rattle.omega_desk.specs.Walks.{HasDistinctWishes}
 use Rattle.omega_rounds.specs.Opening.{BeginAll, BeginsSeat, HaveNoWork, IsAsked}
 use Rattle.omega_rounds.specs.declared.seat.Seat.{Seat}
@@ -80,7 +80,7 @@ asked_distinct asked history cell place all is low now are =
 pub seat_begins : (asked : Asked) (history : List Entry) (cell : Cell) (place : ℕ) (all : List Request) (old new : Seat) → cell ≡ state history
     → ((settings : Settings) (trace : TraceTables) (rows : List Row) → asked ≡ asked_after settings trace rows → all ≡ all_requests settings trace rows cell place)
     → IsSameDesk old.desk new.desk → new.desk.attempts ≡ old.desk.attempts
-    → left_at new.desk ≡ fresh (left_at old.desk).failing (open_requests old.desk.settings (left_at old.desk).failing all)
+    → left_at new.desk ≡ fresh (left_at old.desk).failing (still_tried old.desk.settings (left_at old.desk).failing all)
     → new.copy ≡ old.copy → new.synced ≡ false
     → BeginsSeat asked history place old new
 seat_begins asked history cell place all old new now are desk attempts left copy synced = record {
@@ -88,7 +88,7 @@ seat_begins asked history cell place all old new now are desk attempts left copy
   attempts = attempts;
   left = λ settings trace rows asks.
       left
-      ∙ ap (λ (rs : List Request). fresh (left_at old.desk).failing (open_requests old.desk.settings (left_at old.desk).failing rs))
+      ∙ ap (λ (rs : List Request). fresh (left_at old.desk).failing (still_tried old.desk.settings (left_at old.desk).failing rs))
       (are settings trace rows asks ∙ ap (λ (c : Cell). all_requests settings trace rows c place) now);
   copy = copy;
   synced = synced;

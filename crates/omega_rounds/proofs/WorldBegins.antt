@@ -29,7 +29,7 @@ use Rattle.omega_model.specs.declared.settings.Settings.{Settings}
 use Rattle.omega_model.specs.declared.wishes.Request.{Request}
 use Rattle.omega_copy.specs.Copies.{CopyOf, CopyState}
 use Rattle.omega_desk.specs.Counts.{count_of}
-use Rattle.omega_desk.specs.Desks.{DeskState, left_at, open_requests}
+use Rattle.omega_desk.specs.Desks.{DeskState, left_at, still_tried}
 use Rattle.omega_rounds.specs.AttemptsLeft.{attempts_left}
 use Rattle.omega_rounds.specs.InRound.{RoundIsOver, rows_now}
 use Rattle.omega_rounds.specs.Keeping.{HasBegun, HasNotBegun, IsLawful, IsWorld, world_at}
@@ -91,7 +91,7 @@ none_to_do seats idle = sum_of_none to_do_of seats (λ number seat here. nothing
 -- the desk of a scheduler as a round begins
 module _ (settings : Settings) (trace : TraceTables) (before : List Entry) (rows : List Row) (base : List Entry) (scheduler : ℕ) (old new : DeskState)
     (failures : (job : ℕ) → scheduler_of settings trace job ≡ scheduler → failed base job ≡ count_of old.counts job)
-    (left : left_at new ≡ fresh (left_at old).failing (open_requests settings (left_at old).failing (all_requests settings trace rows (state base) scheduler))) where
+    (left : left_at new ≡ fresh (left_at old).failing (still_tried settings (left_at old).failing (all_requests settings trace rows (state base) scheduler))) where
   begun_requests : requests settings trace rows base scheduler ≡ new.requests
   begun_requests =
       let all : List Request = all_requests settings trace rows (state base) scheduler in
@@ -205,7 +205,7 @@ module _ (settings : Settings) (all : List Round) (asked : Asked) (begun old_pla
           desk_begins settings trace before (rows_begun later) after number found.0.desk seat.desk
           (λ job own. ap (λ (h : List Entry). failed h job) (after_is trace made) ∙ failed_opened trace (rows_begun stage) before round job ∙ desk.failures job own)
           (subst (λ (s : Settings). left_at seat.desk ≡ fresh (left_at found.0.desk).failing
-          (open_requests s (left_at found.0.desk).failing (all_requests settings trace (rows_begun later) (state after) number))) is.settings left)
+          (still_tried s (left_at found.0.desk).failing (all_requests settings trace (rows_begun later) (state after) number))) is.settings left)
 
       first_later : HasNotBegun stage (world_at before old) → HasBegun trace later (world_at after new)
       first_later none =

@@ -9,7 +9,7 @@ use Rattle.omega_model.specs.declared.rows.Row.{Row}
 use Rattle.omega_model.specs.declared.rows.TraceTables.{TraceTables}
 use Rattle.omega_model.specs.declared.settings.Settings.{Settings}
 use Rattle.omega_cell.specs.Cells.{is_commit}
-use Rattle.omega_desk.specs.Desks.{IsSameDesk, left_at, open_requests}
+use Rattle.omega_desk.specs.Desks.{IsSameDesk, left_at, still_tried}
 use Rattle.omega_feed.specs.Asked.{Asked, asked_after}
 use Rattle.omega_rounds.specs.Seats.{IsSeat, synced_of}
 use Rattle.omega_rounds.specs.declared.seat.Seat.{Seat}
@@ -47,7 +47,7 @@ pub record BeginsSeat (asked : Asked) (history : List Entry) (number : ℕ) (old
   pub attempts : new.desk.attempts ≡ old.desk.attempts
   pub left : (settings : Settings) (trace : TraceTables) (rows : List Row) → asked ≡ asked_after settings trace rows
       → left_at new.desk ≡ fresh (left_at old.desk).failing
-      (open_requests old.desk.settings (left_at old.desk).failing (all_requests settings trace rows (state history) number))
+      (still_tried old.desk.settings (left_at old.desk).failing (all_requests settings trace rows (state history) number))
   pub copy : new.copy ≡ old.copy
   pub synced : new.synced ≡ false
 

@@ -168,5 +168,5 @@ pub(crate) fn begin_all(
 pub(crate) fn first_at_work(seats: &[Seat]) -> Option<usize>
     ensures { result ≡ position has_work seats.now }
 {
-    seats.iter().position(|seat| seat.desk.next().is_some())
+    seats.iter().position(|seat| seat.desk.present().is_some())
 }

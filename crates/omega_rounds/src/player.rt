@@ -38,7 +38,7 @@ impl Player {
         requires may_play { MayPlay settings.now shared.now.of self.old }
         ensures played { HasPlayed settings.now self.old self.new }
     {
-        while self.seat.desk.next().is_some() {
+        while self.seat.desk.present().is_some() {
             if self.attempt(rt, alloc, settings, shared, gate).is_err() {
                 self.failed = true;
                 return;
@@ -104,7 +104,7 @@ impl Player {
     {
         let number = self.pass.number();
         let start = self.seat.start();
-        let Some(request) = self.seat.desk.next() else {
+        let Some(request) = self.seat.desk.present() else {
             unreachable!()
         };
         let copy = &mut self.seat.copy;

@@ -6,7 +6,7 @@ ghost use Rattle.omega_model.specs.declared.entries.Entry.{Entry};
 ghost use Rattle.omega_cell.specs.Cells.{HasRoom};
 ghost use Rattle.omega_cell.specs.Claiming.{copied_seqs};
 ghost use Rattle.omega_copy.specs.Copies.{CopyOf};
-ghost use Rattle.omega_desk.specs.Desks.{IsSameDesk, left_at, open_requests};
+ghost use Rattle.omega_desk.specs.Desks.{IsSameDesk, left_at, still_tried};
 ghost use Rattle.omega_desk.specs.Walks.{HasDistinctWishes};
 ghost use Rattle.omega_model.specs.Draws.{drawn_start};
 ghost use Rattle.omega_model.specs.Policy.{schedulers};
@@ -56,7 +56,7 @@ impl Seat {
         ensures desk { IsSameDesk self.old.desk self.new.desk }
         ensures attempts { self.new.desk.attempts ≡ self.old.desk.attempts }
         ensures left { OnOk result (left_at self.new.desk ≡ fresh (left_at self.old.desk).failing
-            (open_requests self.old.desk.settings (left_at self.old.desk).failing requests)) }
+            (still_tried self.old.desk.settings (left_at self.old.desk).failing requests)) }
         ensures copy { self.new.copy ≡ self.old.copy }
         ensures synced { OnOk result (self.new.synced ≡ false) }
     {
@@ -83,7 +83,7 @@ impl Seat {
         ensures desk { OnErr result (self.new.desk ≡ self.old.desk) }
         ensures synced { OnErr result (synced_of self.new ≡ synced_of self.old) }
     {
-        if self.desk.next().is_none() {
+        if self.desk.present().is_none() {
             return Ok(Stepped::Idle);
         }
         if !self.synced {
@@ -140,7 +140,7 @@ impl Seat {
         ensures desk { OnErr result (self.new ≡ self.old) }
     {
         let start = self.start();
-        let Some(request) = self.desk.next() else {
+        let Some(request) = self.desk.present() else {
             unreachable!()
         };
         let copy = &mut self.copy;

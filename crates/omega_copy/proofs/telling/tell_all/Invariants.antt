@@ -1,9 +1,11 @@
-use Rattle.std.proofs.Common.{◌==◌, drop}
+use Rattle.std.proofs.Common.{◌==◌, IfSome, drop}
 use Rattle.std.specs.List.{list_any}
 use Rattle.omega_machines.specs.Table.{machines_of}
-use Rattle.omega_copy.specs.Telling.{TellsBut}
+use Rattle.omega_copy.specs.Telling.{TellsBut, TellsOf}
 use Rattle.omega_copy.proofs.telling.tell_all.Given as goal
 
 abbrev pub invariant-loop-machine : goal.invariant-loop-machine
-invariant-loop-machine l =
-    TellsBut (λ id. list_any (λ machine. machine == id) (drop l.machine-index l.machines)) l.prec l.fn.board.tasks l.index.free (machines_of l.fn.board.table)
+invariant-loop-machine l = record {
+  told : TellsBut (λ id. list_any (λ machine. machine == id) (drop l.machine-index l.machines)) l.prec l.fn.board.tasks l.index.free (machines_of l.fn.board.table);
+  last : IfSome l.last (λ told. TellsOf told l.prec l.fn.board.tasks l.index.free (machines_of l.fn.board.table));
+}

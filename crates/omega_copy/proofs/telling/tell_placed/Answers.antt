@@ -17,11 +17,14 @@ loop-claim-init c =
     let all = c.into_iter-claim-iterator.result in
     let first : iter_rest (zip_first all) ≡ c.args.claims.now = search rules in
     let second : iter_rest (zip_second all) ≡ c.args.reply.now = search rules in
-    subst (λ (decided : List (Claim × Judgement)). TellsBut (is_claimed decided) c.args.prec c.args.board.now.tasks c.args.index.now.free (machines_of c.args.board.now.table))
-    (sym (λ i. zip (first i) (second i))) c.requires
+    record {
+      told = subst (λ (decided : List (Claim × Judgement)). TellsBut (is_claimed decided) c.args.prec c.args.board.now.tasks c.args.index.now.free (machines_of c.args.board.now.table))
+          (sym (λ i. zip (first i) (second i))) c.requires;
+      last = tt;
+    }
 
-pub tell-requires : goal.tell-requires
-tell-requires c = told_states _ c.args.prec c.args.board.now.tasks c.loop-claim.index.free c.args.board.now.table c.loop-claim.invariant
+pub tell_next-requires-clause-long : goal.tell_next-requires-clause-long
+tell_next-requires-clause-long c = told_states _ c.args.prec c.args.board.now.tasks c.loop-claim.index.free c.args.board.now.table c.loop-claim.invariant.told
 
 pub loop-claim-preserved-then-is_placed : goal.loop-claim-preserved-then-is_placed
 loop-claim-preserved-then-is_placed c =
@@ -31,9 +34,12 @@ loop-claim-preserved-then-is_placed c =
     let judgement : Judgement = c.in-Some.judgement.now in
     let later : List (Claim × Judgement) = zip (iter_rest (zip_first rest)) (iter_rest (zip_second rest)) in
     let more = Zip-more left rest c.next.result (c.in-Some.claim, c.in-Some.judgement) c.in-Some.is c.next.ensures.steps in
-    c.tell.ensures (is_claimed later)
-    (placed_more (zip (iter_rest (zip_first left)) (iter_rest (zip_second left))) later claim judgement (zipped_more _ _ _ _ claim judgement more.0 more.1)
-    c.args.prec c.args.board.now.tasks c.loop-claim.index.free (machines_of c.args.board.now.table) (sym c.if-is_placed.ensures) c.loop-claim.invariant)
+    record {
+      told = c.tell_next.ensures.tells (is_claimed later)
+          (placed_more (zip (iter_rest (zip_first left)) (iter_rest (zip_second left))) later claim judgement (zipped_more _ _ _ _ claim judgement more.0 more.1)
+          c.args.prec c.args.board.now.tasks c.loop-claim.index.free (machines_of c.args.board.now.table) (sym c.if-is_placed.ensures) c.loop-claim.invariant.told);
+      last = c.tell_next.ensures.own;
+    }
 
 pub loop-claim-preserved : goal.loop-claim-preserved
 loop-claim-preserved c =
@@ -43,12 +49,15 @@ loop-claim-preserved c =
     let judgement : Judgement = c.in-Some.judgement.now in
     let later : List (Claim × Judgement) = zip (iter_rest (zip_first rest)) (iter_rest (zip_second rest)) in
     let more = Zip-more left rest c.next.result (c.in-Some.claim, c.in-Some.judgement) c.in-Some.is c.next.ensures.steps in
-    passed_more (zip (iter_rest (zip_first left)) (iter_rest (zip_second left))) later claim judgement (zipped_more _ _ _ _ claim judgement more.0 more.1)
-    c.args.prec c.args.board.now.tasks c.loop-claim.index.free (machines_of c.args.board.now.table) (sym c.if-is_placed.ensures) c.loop-claim.invariant
+    record {
+      told = passed_more (zip (iter_rest (zip_first left)) (iter_rest (zip_second left))) later claim judgement (zipped_more _ _ _ _ claim judgement more.0 more.1)
+          c.args.prec c.args.board.now.tasks c.loop-claim.index.free (machines_of c.args.board.now.table) (sym c.if-is_placed.ensures) c.loop-claim.invariant.told;
+      last = c.loop-claim.invariant.last;
+    }
 
 pub returns : goal.returns
 returns c =
     let left = c.loop-claim.claim-iterator in
     let none = zipped_out (iter_rest (zip_first left)) (iter_rest (zip_second left)) (either_empty_from_Zip left c.next.new.self c.next.result c.in-None.is c.next.ensures.steps) in
     told_all c.args.prec c.args.board.now.tasks c.loop-claim.index.free (machines_of c.args.board.now.table)
-    (subst (λ (decided : List (Claim × Judgement)). TellsBut (is_claimed decided) c.args.prec c.args.board.now.tasks c.loop-claim.index.free (machines_of c.args.board.now.table)) none c.loop-claim.invariant)
+    (subst (λ (decided : List (Claim × Judgement)). TellsBut (is_claimed decided) c.args.prec c.args.board.now.tasks c.loop-claim.index.free (machines_of c.args.board.now.table)) none c.loop-claim.invariant.told)

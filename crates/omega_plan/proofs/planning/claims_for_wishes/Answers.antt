@@ -29,9 +29,9 @@ loop-wish-preserved c =
     elim c.match-claim.branch [
       | in-Some-claim+in_ok-claim-2+in_ok-push w ↦
           planned_as c.match-claim.copy w.claim.new.self c.args.copy.now c.match-claim.claims.items w.push.new.self.items c.args.start c.args.preempts wishes (at.wish-index + 1)
-          c.match-claim.kind.now c.wish-item.result c.match-claim.progress step.progress
-          w.copy-is (ap (λ cs. cs.items) w.claims-is) (ap (λ k. k.now) w.kind-is) w.progress-is
-          (planned_more at.copy c.args.copy.now w.claim.new.self at.claims.items w.push.new.self.items c.args.start c.args.preempts wishes at.wish-index at.kind.now c.wish-item.result
+          c.match-claim.previous.now c.wish-item.result c.match-claim.progress step.progress
+          w.copy-is (ap (λ cs. cs.items) w.claims-is) (ap (λ k. k.now) w.previous-is) w.progress-is
+          (planned_more at.copy c.args.copy.now w.claim.new.self at.claims.items w.push.new.self.items c.args.start c.args.preempts wishes at.wish-index at.previous.now c.wish-item.result
           at.progress c.turn.result step at.invariant c.loop-wish-test.true c.wish-item.is c.turn.ensures.start c.in_ok-claim.ensures.step
           (w.in_ok-claim-2.ensures.cell
           ∙ ap (λ (copy : CopyState). after_claim (cell_of copy.board) (w.in-Some-claim.claim, judge_fine (cell_of copy.board) w.in-Some-claim.claim)) same
@@ -41,9 +41,9 @@ loop-wish-preserved c =
           (still_room (length wishes) at.wish-index at.copy.trial w.claim.new.self.trial c.loop-wish-test.true (w.in_ok-claim-2.ensures.trial ∙ ap (λ (copy : CopyState). option_map one_less copy.trial) same) at.invariant.room))
       | in_default-claim w ↦
           planned_as c.match-claim.copy at.copy c.args.copy.now c.match-claim.claims.items at.claims.items c.args.start c.args.preempts wishes (at.wish-index + 1)
-          c.match-claim.kind.now c.wish-item.result c.match-claim.progress step.progress
-          (w.copy-is ∙ same) (ap (λ cs. cs.items) w.claims-is) (ap (λ k. k.now) w.kind-is) w.progress-is
-          (planned_more at.copy c.args.copy.now at.copy at.claims.items at.claims.items c.args.start c.args.preempts wishes at.wish-index at.kind.now c.wish-item.result
+          c.match-claim.previous.now c.wish-item.result c.match-claim.progress step.progress
+          (w.copy-is ∙ same) (ap (λ cs. cs.items) w.claims-is) (ap (λ k. k.now) w.previous-is) w.progress-is
+          (planned_more at.copy c.args.copy.now at.copy at.claims.items at.claims.items c.args.start c.args.preempts wishes at.wish-index at.previous.now c.wish-item.result
           at.progress c.turn.result step at.invariant c.loop-wish-test.true c.wish-item.is c.turn.ensures.start c.in_ok-claim.ensures.step
           (ap (after_planned cell) (sym w.in_default-claim.is))
           (sym (append-nil at.claims.items) ∙ ap (λ (o : Option Claim). at.claims.items ++ and_claims o []) (sym w.in_default-claim.is))

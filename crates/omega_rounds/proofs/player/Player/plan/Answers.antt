@@ -8,9 +8,9 @@ use Rattle.omega_rounds.proofs.player.Player.plan.Goals as goal
 pub unreachable-requires : goal.unreachable-requires
 unreachable-requires c =
     c.requires.work (first_none c.args.self.now.seat.desk.requests
-    (sym (ap (option_map (λ (r : Bor Request). r.now)) c.in_default.is) ∙ c.next.ensures))
+    (sym (ap (option_map (λ (r : Bor Request). r.now)) c.in_default.is) ∙ c.present.ensures))
 
 pub returns-clause-plans : goal.returns-clause-plans
 returns-clause-plans c =
     plans_first c.args.settings.now c.args.self.now c.number-number.result c.start-start.result c.in-Some.request.now c.in_ok-txn.txn c.requires.seat c.number-number.ensures.number
-    (sym (ap (option_map (λ (r : Bor Request). r.now)) c.in-Some.is) ∙ c.next.ensures) c.start-start.ensures.drawn c.in_ok-txn.ensures.txn
+    (sym (ap (option_map (λ (r : Bor Request). r.now)) c.in-Some.is) ∙ c.present.ensures) c.start-start.ensures.drawn c.in_ok-txn.ensures.txn

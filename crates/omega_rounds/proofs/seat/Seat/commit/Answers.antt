@@ -14,7 +14,7 @@ use Rattle.omega_rounds.proofs.seat.Seat.commit.Goals as goal
 pub unreachable-requires : goal.unreachable-requires
 unreachable-requires c =
     c.requires.work (first_none c.args.self.now.desk.requests
-    (sym (ap (option_map (λ (r : Bor Request). r.now)) c.in_default.is) ∙ c.next.ensures))
+    (sym (ap (option_map (λ (r : Bor Request). r.now)) c.in_default.is) ∙ c.present.ensures))
 
 pub of-requires-clause-start : goal.of-requires-clause-start
 of-requires-clause-start c =
@@ -24,7 +24,7 @@ pub take-requires-clause-answers : goal.take-requires-clause-answers
 take-requires-clause-answers c =
     answers_first c.args.settings.now c.args.scheduler c.args.cell.now.history c.of.new.cell.history c.args.self.now.copy.seen c.args.self.now.desk.requests
     c.in-Some.request.now c.in_ok-attempt.attempt.prepared c.commit-reply.result.outcomes
-    (sym (ap (option_map (λ (r : Bor Request). r.now)) c.in-Some.is) ∙ c.next.ensures)
+    (sym (ap (option_map (λ (r : Bor Request). r.now)) c.in-Some.is) ∙ c.present.ensures)
     c.in_ok-attempt.ensures.txn
     (c.commit-reply.ensures.outcomes
     ∙ ap (λ (n : ℕ). outcomes_of c.in_ok-attempt.attempt.prepared.claims (reply_of c.of.new.cell.history n c.in_ok-attempt.attempt.prepared))
@@ -42,7 +42,7 @@ on_commit c =
       seat = c.requires.seat;
       tries = c.requires.range.tries.0;
       synced = c.requires.synced;
-      first = sym (ap (option_map (λ (r : Bor Request). r.now)) c.in-Some.is) ∙ c.next.ensures;
+      first = sym (ap (option_map (λ (r : Bor Request). r.now)) c.in-Some.is) ∙ c.present.ensures;
       is = c.in_ok-attempt.ensures.txn;
       appended = c.commit-reply.ensures.history
           ∙ ap₂ (λ (h : List Entry) (n : ℕ). h ++ Commit c.args.scheduler n txn (reply_of h n txn) ∷ []) held seen;

@@ -3,7 +3,7 @@ use Rattle.std.specs.List.{filter}
 use Rattle.std.proofs.lemmas.Fn.{filter_same}
 use Rattle.omega_model.specs.declared.wishes.Request.{Request}
 use Rattle.omega_desk.specs.Counts.{count_of}
-use Rattle.omega_desk.proofs.desk.open_requests.Goals as goal
+use Rattle.omega_desk.proofs.desk.still_tried.Goals as goal
 
 pub returns : goal.returns
 returns c =

@@ -6,7 +6,7 @@ use Rattle.omega_copy.specs.Copies.{IsTrialOf}
 use Rattle.omega_copy.specs.Levels.{Near, Tells}
 use Rattle.omega_copy.specs.declared.levels.Level.{Level}
 use Rattle.omega_copy.proofs.Trials.{tells_back}
-use Rattle.omega_copy.proofs.copy.PrivateCopy.drop_scratch.Goals as goal
+use Rattle.omega_copy.proofs.copy.PrivateCopy.end_trial.Goals as goal
 
 pub tell_all-requires : goal.tell_all-requires
 tell_all-requires c =
