@@ -20,7 +20,7 @@ pub struct Constraint {
     pub value: Bytes,
 }
 
-/// A task that is wanted and doesn't run.
+/// A task to be placed: a wanted one that doesn't run, or an extra one of a MapReduce job.
 #[derive(Debug, Drop)]
 pub struct Wish {
     pub key: TaskKey,
