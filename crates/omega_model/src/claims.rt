@@ -118,36 +118,9 @@ impl Copied for Claim {
     }
 }
 
-impl Copied for Txn {
-    fn copy(&self, alloc: Global) -> Result<Txn, NoMemory> {
-        Ok(Txn {
-            job: self.job,
-            rule: self.rule,
-            mode: self.mode,
-            claims: self.claims.copy(alloc)?,
-        })
-    }
-}
-
-impl Copied for Verdict {
-    fn copy(&self, _alloc: Global) -> Result<Verdict, NoMemory> {
-        Ok(*self)
-    }
-}
-
 impl Copied for Judgement {
     fn copy(&self, alloc: Global) -> Result<Judgement, NoMemory> {
         Ok(Judgement {
-            verdict: self.verdict,
-            evicted: self.evicted.copy(alloc)?,
-        })
-    }
-}
-
-impl Copied for Outcome {
-    fn copy(&self, alloc: Global) -> Result<Outcome, NoMemory> {
-        Ok(Outcome {
-            key: self.key,
             verdict: self.verdict,
             evicted: self.evicted.copy(alloc)?,
         })
