@@ -105,7 +105,7 @@ impl Model for ConstraintRow {
     ghost invariant = { λ r. r.key.index < 2 ^ 31 };
 }
 
-/// A row of `mapreduce_jobs`. There are at most 10,000 activities.
+/// A row of `mapreduce_jobs`. There are at most `MOST_ACTIVITIES` activities.
 #[derive(Clone, Copy, Debug)]
 pub struct ActivityRow {
     pub job: u64,
@@ -114,13 +114,13 @@ pub struct ActivityRow {
 
 impl Model for ActivityRow {
     ghost use Rattle.std.specs.Prelude.{◌≤◌};
-    ghost use Rattle.omega_model.specs.Fields.{ActivityFields};
+    ghost use Rattle.omega_model.specs.Fields.{ActivityFields, most_activities};
 
     ghost Value = { ActivityFields };
 
     ghost view = { λ r. record { job = r.job; activities = r.activities } };
 
-    ghost invariant = { λ r. r.activities ≤ 10000 };
+    ghost invariant = { λ r. r.activities ≤ most_activities };
 
     ghost inverse = { λ v. record { job = v.job; activities = v.activities } };
 }
