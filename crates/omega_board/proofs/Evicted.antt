@@ -7,7 +7,8 @@ use Rattle.std.proofs.lemmas.List.{take_all, take-append-drop}
 use Rattle.std.proofs.lemmas.List.Folds.{list_any-append}
 use Rattle.omega_model.specs.Keys.{same_key, is_among, beginnings}
 use Rattle.omega_model.specs.Cell.{Cell}
-use Rattle.omega_model.specs.Judge.{runs_on, standing_victims, stays_of_job, has_rival, makes_room, evicted_for, free_without}
+use Rattle.omega_model.specs.Judge.{runs_on, standing_victims, has_rival, makes_room, evicted_for, free_without}
+use Rattle.omega_model.specs.Jobs.{stays_of_job}
 use Rattle.omega_model.specs.Need.{fits}
 use Rattle.omega_model.specs.declared.cells.TaskKey.{TaskKey}
 use Rattle.omega_model.specs.declared.cells.Task.{Task}

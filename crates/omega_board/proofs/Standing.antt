@@ -9,8 +9,8 @@ use Rattle.std.proofs.lemmas.List.Folds.{list_any-append}
 use Rattle.std.proofs.lemmas.Option.{none-some, same_Some}
 use Rattle.omega_model.specs.Keys.{same_key, is_among, first_mentions}
 use Rattle.omega_model.specs.Cell.{Cell, stays_on}
-use Rattle.omega_model.specs.Jobs.{other_of_job}
-use Rattle.omega_model.specs.Judge.{runs_on, standing_victims, stays_of_job, rival, same_job}
+use Rattle.omega_model.specs.Jobs.{other_of_job, stays_of_job}
+use Rattle.omega_model.specs.Judge.{runs_on, standing_victims, rival, same_job}
 use Rattle.omega_model.specs.declared.cells.TaskKey.{TaskKey}
 use Rattle.omega_model.specs.declared.cells.Task.{Task}
 use Rattle.omega_model.specs.declared.claims.Claim.{Claim}

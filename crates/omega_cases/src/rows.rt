@@ -4,8 +4,8 @@ use crate::fault::Fault;
 use crate::values::{GREATEST, byte, need, number, small, spec, task};
 use omega_feed::FIRST_EXTRA;
 use omega_model::{
-    ActivityRow, AttrRow, Bytes, ConstraintRow, Copied, DiskRow, GREATEST_QUANTITY, MachineRow,
-    Need, NoMemory, Seq, Spec, TaskKey, TaskRow, TraceTables,
+    ActivityRow, AttrRow, Bytes, ConstraintRow, Copied, DiskRow, GREATEST_QUANTITY,
+    MOST_ACTIVITIES, MachineRow, Need, NoMemory, Seq, Spec, TaskKey, TaskRow, TraceTables,
 };
 use std::alloc::Global;
 
@@ -136,7 +136,7 @@ fn activity_row(words: &[Bytes]) -> Result<ActivityRow, Fault> {
         return Err(Fault::UnknownCall);
     };
     let (job, activities) = (number(job)?, small(count)?);
-    if activities > 10_000 {
+    if activities > MOST_ACTIVITIES {
         return Err(Fault::MayNot);
     }
     Ok(ActivityRow { job, activities })

@@ -8,7 +8,7 @@ use Rattle.omega_model.specs.Cell.{Cell, task_at}
 use Rattle.omega_model.specs.ExtraTasks.{extra_wish, first_extra, free_indexes, is_extra_of, running_extras, wanted_of, wishes_after, used_in, capacity_in_all}
 use Rattle.omega_model.specs.Extras.{allowed, extras, keeps_within, target}
 use Rattle.omega_model.specs.Jobs.{is_of_job}
-use Rattle.omega_model.specs.Requests.{is_running, is_waiting}
+use Rattle.omega_model.specs.Requests.{is_waiting}
 use Rattle.omega_model.specs.Wanted.{WantedTask}
 use Rattle.omega_model.specs.declared.cells.Need.{Need}
 use Rattle.omega_model.specs.declared.cells.Task.{Task}
@@ -103,11 +103,11 @@ pub extras_asked : (settings : Settings) (trace : TraceTables) (rows : List Row)
 extras_asked settings trace rows cell tasks job activities = extras_same settings trace rows cell tasks job activities (wanted_of job tasks) refl
 
 -- a job's wanted tasks that don't run
-pub waiting_of : (cell : Cell) (job : ℕ) (tasks : List WantedTask) → filter (λ task. not (is_running (task_at cell.tasks task.key))) (wanted_of job tasks) ≡ filter (is_waiting cell job) tasks
+pub waiting_of : (cell : Cell) (job : ℕ) (tasks : List WantedTask) → filter (λ task. not (is_some (task_at cell.tasks task.key))) (wanted_of job tasks) ≡ filter (is_waiting cell job) tasks
 waiting_of cell job [] = refl
 waiting_of cell job (t ∷ ts) =
     by_answer (t.key.job == job)
-    (λ own. by_answer (not (is_running (task_at cell.tasks t.key)))
+    (λ own. by_answer (not (is_some (task_at cell.tasks t.key)))
     (λ idle. rw (own, idle) (ap (λ z. t ∷ z) (waiting_of cell job ts)))
     (λ busy. rw (own, busy) (waiting_of cell job ts)))
     (λ other. rw other (waiting_of cell job ts))

@@ -10,7 +10,6 @@ use Rattle.std.proofs.lemmas.List.Elements.{All-append, All-cons, All-filter, Al
 use Rattle.std.proofs.lemmas.List.Folds.{list_any-append}
 use Rattle.omega_model.specs.Cell.{task_at}
 use Rattle.omega_model.specs.Keys.{key_lt}
-use Rattle.omega_model.specs.Requests.{is_running}
 use Rattle.omega_model.specs.Wanted.{WantedTask, with_wanted, is_named}
 use Rattle.omega_model.specs.declared.cells.Spec.{Spec}
 use Rattle.omega_model.specs.declared.cells.Task.{Task}
@@ -114,14 +113,14 @@ pub all_run_from : (job : ℕ) (tasks : List Task) (es : List (TaskKey × Spec))
     → All (RunsIfOf job tasks) (map wanted_task es)
 all_run_from job tasks [] none = All-nil _
 all_run_from job tasks (e ∷ es) none =
-    by_cases (e.0.job == job) (is_running (task_at tasks e.0)) refl refl none (all_run_from job tasks es) where
+    by_cases (e.0.job == job) (is_some (task_at tasks e.0)) refl refl none (all_run_from job tasks es) where
       P : WantedTask → Type 0
       P = RunsIfOf job tasks
 
       some : {X : Type 0} (x : X) (xs : List X) → x ∷ xs ≡ [] → ⊥
       some x xs d = cc
 
-      by_cases : (b r : Bool) → (e.0.job == job) ≡ b → is_running (task_at tasks e.0) ≡ r
+      by_cases : (b r : Bool) → (e.0.job == job) ≡ b → is_some (task_at tasks e.0) ≡ r
           → filter (idle tasks) (cond b (e ∷ filter (λ e. e.0.job == job) es) (filter (λ e. e.0.job == job) es)) ≡ []
           → (filter (idle tasks) (filter (λ e. e.0.job == job) es) ≡ [] → All P (map wanted_task es))
           → All P (map wanted_task (e ∷ es))
@@ -143,13 +142,13 @@ none_idle job tasks (e ∷ es) all =
 
 -- so where one is idle, not all of them run
 pub one_idle : (job : ℕ) (tasks : List Task) (es : List (TaskKey × Spec)) (e : TaskKey × Spec) (rest : List (TaskKey × Spec))
-    → filter (idle tasks) (e ∷ rest) ≡ filter (idle tasks) (filter (λ e. e.0.job == job) es) → is_running (task_at tasks e.0) ≡ false
+    → filter (idle tasks) (e ∷ rest) ≡ filter (idle tasks) (filter (λ e. e.0.job == job) es) → is_some (task_at tasks e.0) ≡ false
     → All (RunsIfOf job tasks) (map wanted_task es) → ⊥
 one_idle job tasks es e rest found waits all = some (filter (idle tasks) rest) (rw waits at (found ∙ none_idle job tasks es all)) where
   some : (xs : List (TaskKey × Spec)) → e ∷ xs ≡ [] → ⊥
   some xs d = cc
 
 -- a task that isn't found doesn't run
-pub none_found : {X : Type 0} (task : X → Task) (found : Option X) → is_some found ≡ false → is_running (option_map task found) ≡ false
+pub none_found : {X : Type 0} (task : X → Task) (found : Option X) → is_some found ≡ false → is_some (option_map task found) ≡ false
 none_found task None none = refl
 none_found task (Some x) none = none

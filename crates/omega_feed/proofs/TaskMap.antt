@@ -19,7 +19,6 @@ use Rattle.omega_running.specs.Order.{Each}
 use Rattle.omega_running.proofs.Lists.{each_map, filter_none, filter_every, filter_where}
 use Rattle.omega_model.specs.Keys.{same_key, key_lt}
 use Rattle.omega_model.specs.Cell.{task_at}
-use Rattle.omega_model.specs.Requests.{is_running}
 use Rattle.omega_model.specs.declared.cells.Task.{Task}
 use Rattle.omega_model.specs.Wanted.{WantedTask, with_wanted, is_named}
 use Rattle.omega_model.specs.declared.cells.Spec.{Spec}
@@ -237,7 +236,7 @@ between_at job low high es narrow p q =
 
 -- whether the task of an entry doesn't run
 abbrev pub idle : List Task → TaskKey × Spec → Bool
-idle running entry = not (is_running (task_at running entry.0))
+idle running entry = not (is_some (task_at running entry.0))
 
 -- the tasks of a job, as entries and as wanted tasks
 pub of_job_is : (job : ℕ) (es : List (TaskKey × Spec)) → map wanted_task (filter (λ e. e.0.job == job) es) ≡ wanted_of job (map wanted_task es)

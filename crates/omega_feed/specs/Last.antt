@@ -4,7 +4,7 @@ use Rattle.std.specs.BTreeMap as tree
 use Rattle.std.specs.BTreeMap.{BTreeMap}
 use Rattle.std.specs.List.{filter, last_or}
 use Rattle.std.specs.Ordering.{nat_cmp}
-use Rattle.omega_model.specs.Fields.{ActivityFields, DiskFields, greatest_quantity}
+use Rattle.omega_model.specs.Fields.{ActivityFields, DiskFields, greatest_quantity, most_activities}
 
 -- the map has for each name the amount of the last row of that name, which is at most `most`
 pub record AreLast (Row : Type 0) (name amount : Row → ℕ) (most : ℕ) (last : BTreeMap ℕ ℕ) (rows : List Row) : Type 0 where
@@ -17,4 +17,4 @@ AreLastDisks = AreLast DiskFields (λ row. row.machine) (λ row. row.disk) great
 
 -- the activities of each job
 abbrev pub AreLastActivities : BTreeMap ℕ ℕ → List ActivityFields → Type 0
-AreLastActivities = AreLast ActivityFields (λ row. row.job) (λ row. row.activities) 10000
+AreLastActivities = AreLast ActivityFields (λ row. row.job) (λ row. row.activities) most_activities

@@ -1,11 +1,10 @@
 -- The jobs of which something may have to be placed, by their places among all jobs.
-use Rattle.std.specs.Prelude.{◌≡◌, ◌⊎◌, ℕ, true, false, All, List, Some, None}
+use Rattle.std.specs.Prelude.{◌≡◌, ◌⊎◌, ℕ, true, false, All, List, Some, None, is_some}
 use Rattle.std.specs.BTreeSet as set
 use Rattle.std.specs.BTreeSet.{BTreeSet}
 use Rattle.std.specs.List.{list_any}
 use Rattle.std.specs.Ordering.{nat_cmp}
 use Rattle.omega_model.specs.Cell.{task_at}
-use Rattle.omega_model.specs.Requests.{is_running}
 use Rattle.omega_model.specs.Wanted.{WantedTask}
 use Rattle.omega_model.specs.declared.cells.Task.{Task}
 use Rattle.omega_model.specs.declared.rows.Row.{Row}
@@ -15,7 +14,7 @@ use Rattle.omega_feed.specs.Index.{job_at}
 
 -- if a wanted task is of this job, it is among the running ones
 abbrev pub RunsIfOf : ℕ → List Task → WantedTask → Type 0
-RunsIfOf job tasks task = is_task_of job task ≡ true → is_running (task_at tasks task.key) ≡ true
+RunsIfOf job tasks task = is_task_of job task ≡ true → is_some (task_at tasks task.key) ≡ true
 
 -- nothing of a job waits: each of its wanted tasks runs, and it gets no extras, since it has no
 -- activities or no task of it is wanted

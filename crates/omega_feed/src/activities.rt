@@ -1,5 +1,6 @@
 //! The activities of MapReduce jobs.
 ghost use Rattle.std.specs.Prelude.{◌≡◌, ◌≤◌, IfOk, IfSome};
+ghost use Rattle.omega_model.specs.Fields.{most_activities};
 ghost use Rattle.omega_feed.specs.Asked.{activities_in};
 ghost use Rattle.omega_feed.specs.Last.{AreLastActivities};
 
@@ -45,7 +46,7 @@ impl JobActivities {
     /// memory.
     pub fn of(&self, job: u64) -> Option<u32>
         ensures activities { result ≡ activities_in self.now job }
-        ensures range { IfSome result (λ activities. activities ≤ 10000) }
+        ensures range { IfSome result (λ activities. activities ≤ most_activities) }
     {
         self.last.get(&job).copied()
     }

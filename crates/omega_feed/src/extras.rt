@@ -3,6 +3,7 @@ ghost use Rattle.std.specs.Prelude.{◌≡◌, ◌≤◌, ◌<◌, ◌+◌, IfOk
 ghost use Rattle.std.specs.List.{filter};
 ghost use Rattle.omega_model.specs.ExtraTasks.{capacity_in_all, first_extra, free_indexes, is_extra_of, used_in};
 ghost use Rattle.omega_model.specs.Extras.{extras};
+ghost use Rattle.omega_model.specs.Fields.{most_activities};
 ghost use Rattle.omega_board.specs.Board.{cell_of};
 
 use omega_board::Board;
@@ -80,7 +81,7 @@ pub fn free_indexes(
     count: u32,
 ) -> Result<Vec<u32>, NoMemory>
     requires held { held ≡ length (filter (is_extra_of job) running.now.tasks) }
-    requires few { held + count ≤ 10000 }
+    requires few { held + count ≤ most_activities }
     ensures { IfOk result (λ found. found.items ≡ free_indexes (map (λ task. task.key.index) (filter (is_extra_of job) running.now.tasks)) count) }
 {
     let mut found = Vec::new(alloc);

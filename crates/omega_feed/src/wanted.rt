@@ -1,5 +1,5 @@
 //! What a trace asks for, row by row.
-ghost use Rattle.std.specs.Prelude.{◌≡◌, ◌<◌, ◌++◌, ◌∷◌, ◌↔◌, ◌⊎◌, ℕ, false, [], Some, None, All, List, map, not, IfOk, IsTrue, OnOk, OnErr};
+ghost use Rattle.std.specs.Prelude.{◌≡◌, ◌<◌, ◌++◌, ◌∷◌, ◌↔◌, ◌⊎◌, ℕ, false, [], Some, None, All, List, map, not, IfOk, IsTrue, OnOk, OnErr, is_some};
 ghost use Rattle.std.specs.List.{filter, list_any};
 ghost use Rattle.omega_model.specs.Applying.{CapacityIsInRange};
 ghost use Rattle.omega_model.specs.OpenRequests.{open_requests};
@@ -7,7 +7,6 @@ ghost use Rattle.omega_model.specs.Feed.{feed};
 ghost use Rattle.omega_model.specs.Ranges.{IsInRange};
 ghost use Rattle.omega_model.specs.Cell.{task_at};
 ghost use Rattle.omega_model.specs.ExtraTasks.{HasLowIndex, first_extra};
-ghost use Rattle.omega_model.specs.Requests.{is_running};
 ghost use Rattle.omega_model.specs.RowEntries.{row_entries};
 ghost use Rattle.omega_model.specs.Wanted.{wanted_after, wanted_after_task, with_wanted};
 ghost use Rattle.omega_model.specs.declared.cells.Task.{Task};
@@ -252,7 +251,7 @@ impl Wanted {
         wanted: &[(TaskKey, Spec)],
         running: &Running,
     ) -> Result<Wishes, NoMemory>
-        ensures { IfOk result (λ wishes. wishes ≡ map (asked_wish self.now.constraints) (filter (λ task. not (is_running (task_at running.now.tasks task.key))) (map wanted_task wanted.now))) }
+        ensures { IfOk result (λ wishes. wishes ≡ map (asked_wish self.now.constraints) (filter (λ task. not (is_some (task_at running.now.tasks task.key))) (map wanted_task wanted.now))) }
     {
         let mut wishes = Wishes::new(alloc);
         for (key, spec) in wanted {

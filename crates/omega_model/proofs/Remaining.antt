@@ -42,30 +42,30 @@ standing_kept settings scheduler standing (entry ∷ later) none =
     ap (λ (s : Option Standing). fold (after_entry settings scheduler) s later) (after_entry-other settings scheduler standing entry parts.0)
     ∙ standing_kept settings scheduler standing later parts.1
 
-module _ (settings : Settings) (trace : TraceTables) (rows : List Row) (opened scheduler : ℕ) where
-  standing_later : (history later : List Entry) → opened ≤ length history → commits_of scheduler later ≡ 0
-      → standing_of settings trace rows opened scheduler (history ++ later) ≡ standing_of settings trace rows opened scheduler history
+module _ (settings : Settings) (trace : TraceTables) (rows : List Row) (opened_at scheduler : ℕ) where
+  standing_later : (history later : List Entry) → opened_at ≤ length history → commits_of scheduler later ≡ 0
+      → standing_of settings trace rows opened_at scheduler (history ++ later) ≡ standing_of settings trace rows opened_at scheduler history
   standing_later history later within none =
-      rw (take-append-le opened history later within, drop-append-le opened history later within)
-      (fold-append (after_entry settings scheduler) _ (drop opened history) later
-      ∙ standing_kept settings scheduler (standing_of settings trace rows opened scheduler history) later none)
+      rw (take-append-le opened_at history later within, drop-append-le opened_at history later within)
+      (fold-append (after_entry settings scheduler) _ (drop opened_at history) later
+      ∙ standing_kept settings scheduler (standing_of settings trace rows opened_at scheduler history) later none)
 
   -- what was left is left after entries that are no commits of the scheduler
-  pub left_grown : (history later : List Entry) (left : List Request) → opened ≤ length history → commits_of scheduler later ≡ 0
-      → HasLeft settings trace rows opened scheduler history left → HasLeft settings trace rows opened scheduler (history ++ later) left
+  pub left_grown : (history later : List Entry) (left : List Request) → opened_at ≤ length history → commits_of scheduler later ≡ 0
+      → HasLeft settings trace rows opened_at scheduler history left → HasLeft settings trace rows opened_at scheduler (history ++ later) left
   left_grown history [] left within none has =
-      subst (λ es. HasLeft settings trace rows opened scheduler es left) (sym (append-nil history)) has
+      subst (λ es. HasLeft settings trace rows opened_at scheduler es left) (sym (append-nil history)) has
   left_grown history (entry ∷ later) left within none has =
       let parts = none_among scheduler entry later none in
-      let more : opened ≤ length (history ++ entry ∷ []) = omega (arith, within, length-append history (entry ∷ [])) in
-      subst (λ es. HasLeft settings trace rows opened scheduler es left) (append_assoc history (entry ∷ []) later)
+      let more : opened_at ≤ length (history ++ entry ∷ []) = omega (arith, within, length-append history (entry ∷ [])) in
+      subst (λ es. HasLeft settings trace rows opened_at scheduler es left) (append_assoc history (entry ∷ []) later)
       (left_grown (history ++ entry ∷ []) later left more parts.1
-      (has_left-other settings trace rows opened scheduler history entry left parts.0 within has))
+      (has_left-other settings trace rows opened_at scheduler history entry left parts.0 within has))
 
   -- and what is left after them was left before
-  pub left_shrunk : (history later : List Entry) (left : List Request) → opened ≤ length history → commits_of scheduler later ≡ 0
-      → HasLeft settings trace rows opened scheduler (history ++ later) left → HasLeft settings trace rows opened scheduler history left
+  pub left_shrunk : (history later : List Entry) (left : List Request) → opened_at ≤ length history → commits_of scheduler later ≡ 0
+      → HasLeft settings trace rows opened_at scheduler (history ++ later) left → HasLeft settings trace rows opened_at scheduler history left
   left_shrunk history later left within none has = record {
     remains = ap (option_map (λ (standing : Standing). standing.requests)) (sym (standing_later history later within none)) ∙ has.remains;
-    due = by_place_front (λ place. opened ≤ place) (IsDue settings trace rows opened scheduler) history later has.due;
+    due = by_place_front (λ place. opened_at ≤ place) (IsDue settings trace rows opened_at scheduler) history later has.due;
   }

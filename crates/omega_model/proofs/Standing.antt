@@ -21,13 +21,13 @@ use Rattle.omega_model.specs.declared.wishes.Request.{Request}
 use Rattle.omega_model.proofs.Growing.{by_place_push_where}
 
 -- the standing after one more entry is one step on
-pub standing_push : (settings : Settings) (trace : TraceTables) (rows : List Row) (opened scheduler : ℕ) (history : List Entry) (entry : Entry)
-    → opened ≤ length history
-    → standing_of settings trace rows opened scheduler (history ++ entry ∷ [])
-    ≡ after_entry settings scheduler (standing_of settings trace rows opened scheduler history) entry
-standing_push settings trace rows opened scheduler history entry within =
-    rw (take-append-le opened history (entry ∷ []) within, drop-append-le opened history (entry ∷ []) within)
-    (fold-append (after_entry settings scheduler) _ (drop opened history) (entry ∷ []))
+pub standing_push : (settings : Settings) (trace : TraceTables) (rows : List Row) (opened_at scheduler : ℕ) (history : List Entry) (entry : Entry)
+    → opened_at ≤ length history
+    → standing_of settings trace rows opened_at scheduler (history ++ entry ∷ [])
+    ≡ after_entry settings scheduler (standing_of settings trace rows opened_at scheduler history) entry
+standing_push settings trace rows opened_at scheduler history entry within =
+    rw (take-append-le opened_at history (entry ∷ []) within, drop-append-le opened_at history (entry ∷ []) within)
+    (fold-append (after_entry settings scheduler) _ (drop opened_at history) (entry ∷ []))
 
 -- an entry that is no commit of a scheduler leaves its standing
 pub after_entry-other : (settings : Settings) (scheduler : ℕ) (standing : Option Standing) (entry : Entry)
@@ -43,30 +43,30 @@ after_entry-other settings scheduler (Some standing) (End key machine) other = r
 after_entry-other settings scheduler (Some standing) (Commit by seen txn reply) other = rw other refl
 
 -- an entry that is no commit of a scheduler is nothing that is due of it
-pub due_of_other : (settings : Settings) (trace : TraceTables) (rows : List Row) (opened scheduler : ℕ) (before : List Entry) (entry : Entry)
-    → is_commit_of scheduler entry ≡ false → IsDue settings trace rows opened scheduler before entry
-due_of_other settings trace rows opened scheduler before (Round number) other = tt
-due_of_other settings trace rows opened scheduler before (MachineAdd machine cap) other = tt
-due_of_other settings trace rows opened scheduler before (MachineUpdate machine cap) other = tt
-due_of_other settings trace rows opened scheduler before (MachineRemove machine) other = tt
-due_of_other settings trace rows opened scheduler before (AttrSet machine name value) other = tt
-due_of_other settings trace rows opened scheduler before (AttrDelete machine name) other = tt
-due_of_other settings trace rows opened scheduler before (End key machine) other = tt
-due_of_other settings trace rows opened scheduler before (Commit by seen txn reply) other = λ same. absurd (eqb-false by scheduler other same)
+pub due_of_other : (settings : Settings) (trace : TraceTables) (rows : List Row) (opened_at scheduler : ℕ) (before : List Entry) (entry : Entry)
+    → is_commit_of scheduler entry ≡ false → IsDue settings trace rows opened_at scheduler before entry
+due_of_other settings trace rows opened_at scheduler before (Round number) other = tt
+due_of_other settings trace rows opened_at scheduler before (MachineAdd machine cap) other = tt
+due_of_other settings trace rows opened_at scheduler before (MachineUpdate machine cap) other = tt
+due_of_other settings trace rows opened_at scheduler before (MachineRemove machine) other = tt
+due_of_other settings trace rows opened_at scheduler before (AttrSet machine name value) other = tt
+due_of_other settings trace rows opened_at scheduler before (AttrDelete machine name) other = tt
+due_of_other settings trace rows opened_at scheduler before (End key machine) other = tt
+due_of_other settings trace rows opened_at scheduler before (Commit by seen txn reply) other = λ same. absurd (eqb-false by scheduler other same)
 
 -- one more entry that is no commit of a scheduler leaves what it has left
-pub has_left-other : (settings : Settings) (trace : TraceTables) (rows : List Row) (opened scheduler : ℕ) (history : List Entry) (entry : Entry) (left : List Request)
-    → is_commit_of scheduler entry ≡ false → opened ≤ length history
-    → HasLeft settings trace rows opened scheduler history left
-    → HasLeft settings trace rows opened scheduler (history ++ entry ∷ []) left
-has_left-other settings trace rows opened scheduler history entry left other within has = record {
+pub has_left-other : (settings : Settings) (trace : TraceTables) (rows : List Row) (opened_at scheduler : ℕ) (history : List Entry) (entry : Entry) (left : List Request)
+    → is_commit_of scheduler entry ≡ false → opened_at ≤ length history
+    → HasLeft settings trace rows opened_at scheduler history left
+    → HasLeft settings trace rows opened_at scheduler (history ++ entry ∷ []) left
+has_left-other settings trace rows opened_at scheduler history entry left other within has = record {
   remains =
       ap (option_map (λ (standing : Standing). standing.requests))
-      (standing_push settings trace rows opened scheduler history entry within
-      ∙ after_entry-other settings scheduler (standing_of settings trace rows opened scheduler history) entry other)
+      (standing_push settings trace rows opened_at scheduler history entry within
+      ∙ after_entry-other settings scheduler (standing_of settings trace rows opened_at scheduler history) entry other)
       ∙ has.remains;
-  due = by_place_push_where (λ place. opened ≤ place) (IsDue settings trace rows opened scheduler) history entry has.due
-      (due_of_other settings trace rows opened scheduler history entry other);
+  due = by_place_push_where (λ place. opened_at ≤ place) (IsDue settings trace rows opened_at scheduler) history entry has.due
+      (due_of_other settings trace rows opened_at scheduler history entry other);
 }
 
 -- whether a reply places a claim is whether the outcomes do

@@ -1,7 +1,7 @@
 -- The columns of a record: what each may hold, and the row that they make together.
 use Rattle.std.specs.Prelude.{ℕ, ◌+◌, ◌==◌, nat_le, List, [], ◌∷◌, length, Option, Some, None, Result, Ok, Err, if◌then◌else◌}
 use Rattle.std.specs.Option.{ok_or}
-use Rattle.omega_model.specs.Fields.{MachineFields, AttrFields, TaskFields, ConstraintFields, ActivityFields, DiskFields}
+use Rattle.omega_model.specs.Fields.{MachineFields, AttrFields, TaskFields, ConstraintFields, ActivityFields, DiskFields, most_activities}
 use Rattle.omega_model.specs.Numbers.{whole, units_up, units_down}
 use Rattle.omega_model.specs.Rows.{column}
 use Rattle.omega_model.specs.declared.cells.Need.{Need}
@@ -151,12 +151,12 @@ constraint_row fields =
     and_then (number_in 3 4 fields) (λ code.
     Ok record { key = task; constraint = record { op = operator code; name = column fields 5; value = column fields 6 } }))))
 
--- the row of `mapreduce_jobs`: job, and activities to 10,000
+-- the row of `mapreduce_jobs`: job, and activities to the most that a job may have
 abbrev pub activity_row : List (List ℕ) → Result ActivityFields BadColumn
 activity_row fields =
     with_fields 2 fields (
     and_then (id_in 1 fields) (λ work.
-    and_then (number_in 10000 2 fields) (λ number.
+    and_then (number_in most_activities 2 fields) (λ number.
     Ok record { job = work; activities = number })))
 
 -- the row of `machine_disk`: machine, disk

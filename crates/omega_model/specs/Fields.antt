@@ -48,6 +48,10 @@ pub record DiskFields : Type 0 where
 abbrev pub greatest_quantity : ℕ
 greatest_quantity = 1000000000000
 
+-- how many activities a MapReduce job may have
+abbrev pub most_activities : ℕ
+most_activities = 10000
+
 -- so much of each component
 abbrev pub greatest : Need
 greatest = record { cpu = greatest_quantity; mem = greatest_quantity; disk = greatest_quantity }

@@ -3,7 +3,8 @@ use Rattle.std.specs.Prelude.{ℕ, Bool, true, false, List, [], ◌∷◌, Optio
 use Rattle.std.specs.List.{filter, find, list_any}
 use Rattle.omega_model.specs.Need.{fits, minus, nothing}
 use Rattle.omega_model.specs.Keys.{same_key, first_mentions, beginnings}
-use Rattle.omega_model.specs.Cell.{Cell, machine_at, task_at, rest_on, stays_on}
+use Rattle.omega_model.specs.Cell.{Cell, machine_at, task_at, rest_on}
+use Rattle.omega_model.specs.Jobs.{stays_of_job}
 use Rattle.omega_model.specs.Touches.{is_placed, touches, seq}
 use Rattle.omega_model.specs.declared.cells.Need.{Need}
 use Rattle.omega_model.specs.declared.cells.Machine.{Machine}
@@ -75,10 +76,6 @@ withstands tasks prec key = list_any (λ task. same_key task.key key && nat_le p
 abbrev pub victim_rank : Cell → Claim → Option Verdict
 victim_rank cell claim =
     option_map VictimRank (find (withstands cell.tasks claim.spec.prec) (standing_victims cell.tasks claim))
-
--- whether a task of this job runs on this machine and is not among those that go
-abbrev pub stays_of_job : ℕ → ℕ → List TaskKey → Task → Bool
-stays_of_job job id gone task = task.key.job == job && stays_on id gone task
 
 -- the first task of the claim's job that stays on its machine once these are off it
 abbrev pub rival : Cell → Claim → List TaskKey → Option Task

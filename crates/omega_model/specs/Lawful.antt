@@ -49,7 +49,7 @@ note_commit scheduler last _ = record { place = last.place + 1; after = last.aft
 abbrev pub after_last : ℕ → List Entry → ℕ
 after_last scheduler history = (fold (note_commit scheduler) (record { place = 0; after = 0 }) history).after
 
--- a commit may stand after these entries of a round whose rows end at place opened: its scheduler is
+-- a commit may stand after these entries of a round whose rows end at place opened_at: its scheduler is
 -- one of the settings', its copy had seen the round's rows and the scheduler's own last commit and no
 -- entry that wasn't there, and the reply is the one that is due
 pub record MayCommit (settings : Settings) (opened_at : ℕ) (before : List Entry) (scheduler seen : ℕ) (txn : Txn) (reply : List Judgement) : Type 0 where
@@ -94,8 +94,7 @@ Lawful settings trace history = Rounds settings trace [] [] (rounds trace settin
 abbrev pub rows_of : List Round → List Row
 rows_of some = flat_map (λ round. round.rows) some
 
--- a history is the run of a trace up to some moment: it is empty, or some first rounds are whole and
--- the next one has begun
+-- some first rounds are whole and the next one has begun
 pub record Underway (settings : Settings) (trace : TraceTables) (history : List Entry) : Type 0 where
   pub done : ℕ
   pub round : Round
@@ -104,5 +103,6 @@ pub record Underway (settings : Settings) (trace : TraceTables) (history : List 
   pub whole : Rounds settings trace [] [] (take done (rounds trace settings.window)) start
   pub begun : RoundSoFar settings trace (rows_of (take done (rounds trace settings.window))) start round history
 
+-- a history is the run of a trace up to some moment: it is empty or under way
 abbrev pub LawfulSoFar : Settings → TraceTables → List Entry → Type 0
 LawfulSoFar settings trace history = (history ≡ []) ⊎ Underway settings trace history

@@ -1,11 +1,11 @@
 -- Histories whose replies are right, and cells that no machine overcommits.
-use Rattle.std.specs.Prelude.{◌≡◌, ℕ, ◌≤◌, List, Some, All, length, take, slice_get, IsTrue}
+use Rattle.std.specs.Prelude.{◌≡◌, ℕ, ◌≤◌, List, Some, All, length, take, slice_get, IsTrue, nat_eq}
 use Rattle.std.specs.List.{IsDistinct}
-use Rattle.std.specs.Prelude.{map, nat_eq}
 use Rattle.omega_model.specs.Need.{Fits}
 use Rattle.omega_model.specs.Keys.{same_key}
 use Rattle.omega_model.specs.Cell.{Cell, machine_at, keys_of, use_on}
 use Rattle.omega_model.specs.Judge.{is_up}
+use Rattle.omega_model.specs.Machines.{numbers_of}
 use Rattle.omega_model.specs.State.{reply_of}
 use Rattle.omega_model.specs.declared.entries.Entry.{Entry}
 use Rattle.omega_model.specs.declared.entries.Entry.TheVariants.{Commit}
@@ -25,5 +25,5 @@ Legal history = (place : ℕ) (entry : Entry) → slice_get history place ≡ So
 pub record Sound (cell : Cell) : Type 0 where
   pub keys : IsDistinct same_key (keys_of cell.tasks)
   pub placed : All (λ task. IsTrue (is_up (machine_at cell.machines task.machine))) cell.tasks
-  pub numbers : IsDistinct nat_eq (map (λ machine. machine.id) cell.machines)
+  pub numbers : IsDistinct nat_eq (numbers_of cell.machines)
   pub within : All (λ machine. Fits (use_on cell.tasks machine.id) machine.cap) cell.machines

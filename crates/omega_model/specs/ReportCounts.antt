@@ -1,11 +1,11 @@
 -- What the last lines of a report count: the commits of each scheduler with what was answered to them,
 -- and what the trace asks for that doesn't run.
-use Rattle.std.specs.Prelude.{ℕ, Bool, true, false, List, [], ◌&&◌, not, length, map}
+use Rattle.std.specs.Prelude.{ℕ, Bool, true, false, List, [], ◌&&◌, not, is_some, length, map}
 use Rattle.std.specs.List.{filter, flat_map, list_any, count_by}
 use Rattle.omega_model.specs.Cell.{Cell, task_at}
 use Rattle.omega_model.specs.Feed.{feed, each_once}
 use Rattle.omega_model.specs.Reply.{admits}
-use Rattle.omega_model.specs.Requests.{is_running, given_up}
+use Rattle.omega_model.specs.Requests.{given_up}
 use Rattle.omega_model.specs.State.{state}
 use Rattle.omega_model.specs.Touches.{is_placed}
 use Rattle.omega_model.specs.Wanted.{WantedTask, wanted}
@@ -86,7 +86,7 @@ counts_of scheduler history = record {
 
 -- whether a wanted task doesn't run
 abbrev pub waits : Cell → WantedTask → Bool
-waits cell task = not (is_running (task_at cell.tasks task.key))
+waits cell task = not (is_some (task_at cell.tasks task.key))
 
 -- the tasks that are wanted after all rows of a trace and don't run
 abbrev pub waiting : TraceTables → Cell → List WantedTask

@@ -1,5 +1,5 @@
 -- What each scheduler is asked to place in a round.
-use Rattle.std.specs.Prelude.{ℕ, Bool, true, false, List, [], ◌∷◌, ◌++◌, Option, Some, None, ◌+◌, ◌==◌, ◌&&◌, not, nat_le, map, if◌then◌else◌}
+use Rattle.std.specs.Prelude.{ℕ, Bool, List, [], ◌∷◌, ◌++◌, Option, Some, None, ◌+◌, ◌==◌, ◌&&◌, not, is_some, nat_le, map, if◌then◌else◌}
 use Rattle.std.specs.List.{filter, filter_map, fold, list_any}
 use Rattle.omega_model.specs.Cell.{Cell, task_at}
 use Rattle.omega_model.specs.ExtraTasks.{wishes_for_extras}
@@ -9,7 +9,6 @@ use Rattle.omega_model.specs.Routing.{scheduler_of}
 use Rattle.omega_model.specs.State.{state}
 use Rattle.omega_model.specs.Wanted.{WantedTask, wanted}
 use Rattle.omega_model.specs.Wishes.{wish_of}
-use Rattle.omega_model.specs.declared.cells.Task.{Task}
 use Rattle.omega_model.specs.declared.entries.Entry.{Entry}
 use Rattle.omega_model.specs.declared.entries.Entry.TheVariants.{Commit}
 use Rattle.omega_model.specs.declared.rows.Row.{Row}
@@ -28,14 +27,9 @@ job_of_row _ = None
 abbrev pub jobs_in_order : List Row → List ℕ
 jobs_in_order rows = each_once (filter_map job_of_row rows)
 
--- whether there is a task
-abbrev pub is_running : Option Task → Bool
-is_running None = false
-is_running (Some task) = true
-
 -- whether a wanted task is of this job and doesn't run
 abbrev pub is_waiting : Cell → ℕ → WantedTask → Bool
-is_waiting cell job task = task.key.job == job && not (is_running (task_at cell.tasks task.key))
+is_waiting cell job task = task.key.job == job && not (is_some (task_at cell.tasks task.key))
 
 -- the wishes of a job: its wanted tasks that don't run, by index, and then its extras
 abbrev pub wishes_of : Settings → TraceTables → Cell → List WantedTask → ℕ → List Wish

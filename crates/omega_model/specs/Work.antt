@@ -89,13 +89,13 @@ after_entry settings scheduler (Some standing) (Commit by seen txn reply) =
     else Some standing
 after_entry settings scheduler (Some standing) _ = Some standing
 
--- the requests of a scheduler after the entries of a history from place opened on, at which the
+-- the requests of a scheduler after the entries of a history from place opened_at on, at which the
 -- round's rows were applied
 abbrev pub standing_of : Settings → TraceTables → List Row → ℕ → ℕ → List Entry → Option Standing
-standing_of settings trace rows opened scheduler history =
+standing_of settings trace rows opened_at scheduler history =
     fold (after_entry settings scheduler)
-    (Some (fresh (failed (take opened history)) (requests settings trace rows (take opened history) scheduler)))
-    (drop opened history)
+    (Some (fresh (failed (take opened_at history)) (requests settings trace rows (take opened_at history) scheduler)))
+    (drop opened_at history)
 
 -- whether an entry is a commit of this scheduler
 abbrev pub is_commit_of : ℕ → Entry → Bool
@@ -131,14 +131,14 @@ AgreesWithFirst settings scheduler before seen txn (Some standing) =
 
 -- an entry after these, if it is a commit of the scheduler, agrees with the first request that remains
 abbrev pub IsDue : Settings → TraceTables → List Row → ℕ → ℕ → List Entry → Entry → Type 0
-IsDue settings trace rows opened scheduler before (Commit by seen txn reply) =
+IsDue settings trace rows opened_at scheduler before (Commit by seen txn reply) =
     by ≡ scheduler
-    → AgreesWithFirst settings scheduler before seen txn (standing_of settings trace rows opened scheduler before)
-IsDue settings trace rows opened scheduler before _ = Unit {0}
+    → AgreesWithFirst settings scheduler before seen txn (standing_of settings trace rows opened_at scheduler before)
+IsDue settings trace rows opened_at scheduler before _ = Unit {0}
 
--- what is left of the scheduler's requests is this, and each of its commits since place opened agrees
+-- what is left of the scheduler's requests is this, and each of its commits since place opened_at agrees
 -- with the first request that remained before it
-pub record HasLeft (settings : Settings) (trace : TraceTables) (rows : List Row) (opened scheduler : ℕ) (history : List Entry) (left : List Request) : Type 0 where
-  pub remains : option_map (λ (standing : Standing). standing.requests) (standing_of settings trace rows opened scheduler history) ≡ Some left
-  pub due : (place : ℕ) (entry : Entry) → slice_get history place ≡ Some entry → opened ≤ place
-      → IsDue settings trace rows opened scheduler (take place history) entry
+pub record HasLeft (settings : Settings) (trace : TraceTables) (rows : List Row) (opened_at scheduler : ℕ) (history : List Entry) (left : List Request) : Type 0 where
+  pub remains : option_map (λ (standing : Standing). standing.requests) (standing_of settings trace rows opened_at scheduler history) ≡ Some left
+  pub due : (place : ℕ) (entry : Entry) → slice_get history place ≡ Some entry → opened_at ≤ place
+      → IsDue settings trace rows opened_at scheduler (take place history) entry

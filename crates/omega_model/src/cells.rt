@@ -67,7 +67,8 @@ pub struct Spec {
     pub need: Need,
     /// The precedence: a greater one may evict a lower one.
     pub prec: u8,
-    /// The different-machines flag: no other task of the job may share the machine.
+    /// The different-machines flag: the task is placed only where no other task of its job stays; one
+    /// that comes later without the flag may join it.
     pub differ: bool,
 }
 

@@ -12,6 +12,7 @@ pub struct Claim {
     pub key: TaskKey,
     pub machine: u64,
     pub spec: Spec,
+    /// The tasks that may be evicted, the first first.
     pub victims: Keys,
 }
 
@@ -60,9 +61,11 @@ pub enum Verdict {
     VictimRank(TaskKey),
     /// A task of the same job that stays on the machine.
     SameJob(TaskKey),
-    /// What is free on the machine, which is too little.
+    /// What is free on the machine once the claim's victims that run there are off it, in units of
+    /// 10^-9; it is too little.
     Full(Need),
-    /// The claim would be placed, but its gang is refused for the claim at this place.
+    /// The claim would be placed, but its gang is refused for the claim at this place of the
+    /// transaction, from 0.
     Withdrawn(u32),
 }
 
@@ -75,8 +78,8 @@ impl Verdict {
     }
 }
 
-/// The verdict on a claim, and the tasks that were evicted for it in order. None are where the
-/// claim isn't placed.
+/// The verdict on a claim, and the tasks that it evicts, in order. It evicts nothing where the claim
+/// isn't placed.
 #[derive(Debug, Drop)]
 pub struct Judgement {
     pub verdict: Verdict,
@@ -115,36 +118,9 @@ impl Copied for Claim {
     }
 }
 
-impl Copied for Txn {
-    fn copy(&self, alloc: Global) -> Result<Txn, NoMemory> {
-        Ok(Txn {
-            job: self.job,
-            rule: self.rule,
-            mode: self.mode,
-            claims: self.claims.copy(alloc)?,
-        })
-    }
-}
-
-impl Copied for Verdict {
-    fn copy(&self, _alloc: Global) -> Result<Verdict, NoMemory> {
-        Ok(*self)
-    }
-}
-
 impl Copied for Judgement {
     fn copy(&self, alloc: Global) -> Result<Judgement, NoMemory> {
         Ok(Judgement {
-            verdict: self.verdict,
-            evicted: self.evicted.copy(alloc)?,
-        })
-    }
-}
-
-impl Copied for Outcome {
-    fn copy(&self, alloc: Global) -> Result<Outcome, NoMemory> {
-        Ok(Outcome {
-            key: self.key,
             verdict: self.verdict,
             evicted: self.evicted.copy(alloc)?,
         })

@@ -20,14 +20,14 @@ pub fn states_of_legal_histories()
 /// they follow a history that holds the round's rows, just the same is left with them as without.
 /// Does nothing: the contract is the law.
 pub fn work_that_is_left()
-    ensures grows { (settings : Settings) (trace : TraceTables) (rows : List Row) (opened scheduler : ℕ)
+    ensures grows { (settings : Settings) (trace : TraceTables) (rows : List Row) (opened_at scheduler : ℕ)
         (history later : List Entry) (left : List Request)
-        → opened ≤ length history → commits_of scheduler later ≡ 0
-        → HasLeft settings trace rows opened scheduler history left
-        → HasLeft settings trace rows opened scheduler (history ++ later) left }
-    ensures shrinks { (settings : Settings) (trace : TraceTables) (rows : List Row) (opened scheduler : ℕ)
+        → opened_at ≤ length history → commits_of scheduler later ≡ 0
+        → HasLeft settings trace rows opened_at scheduler history left
+        → HasLeft settings trace rows opened_at scheduler (history ++ later) left }
+    ensures shrinks { (settings : Settings) (trace : TraceTables) (rows : List Row) (opened_at scheduler : ℕ)
         (history later : List Entry) (left : List Request)
-        → opened ≤ length history → commits_of scheduler later ≡ 0
-        → HasLeft settings trace rows opened scheduler (history ++ later) left
-        → HasLeft settings trace rows opened scheduler history left }
+        → opened_at ≤ length history → commits_of scheduler later ≡ 0
+        → HasLeft settings trace rows opened_at scheduler (history ++ later) left
+        → HasLeft settings trace rows opened_at scheduler history left }
 {}

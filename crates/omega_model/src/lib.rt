@@ -25,7 +25,7 @@ pub use claims::{
 pub use delta::{Delta, Part, Parts};
 pub use entries::{Entries, Entry};
 pub use laws::{states_of_legal_histories, work_that_is_left};
-pub use limits::{GREATEST_QUANTITY, LONGEST_TABLE, MOST_MACHINES, MOST_ROWS};
+pub use limits::{GREATEST_QUANTITY, LONGEST_TABLE, MOST_ACTIVITIES, MOST_MACHINES, MOST_ROWS};
 pub use list::{Bytes, Copied, NoMemory, Seq};
 pub use results::{Cause, Done, Kind, Status};
 pub use rows::{

@@ -22,7 +22,7 @@ impl<T: Drop> From<AllocFailed<T>> for NoMemory {
 
 /// A value of which an equal one can be made, where there is memory for it.
 pub trait Copied: Sized {
-    /// An equal value.
+    /// An equal value. Costs its size; where memory runs out what was copied is dropped.
     fn copy(&self, alloc: Global) -> Result<Self, NoMemory>
         ensures { IfOk result (λ copied. copied ≡ self.now) };
 }
@@ -132,9 +132,9 @@ impl<T: Copy> Seq<T> {
 
 impl<T: Copied + Drop> Copied for Seq<T> {
     fn copy(&self, alloc: Global) -> Result<Seq<T>, NoMemory> {
-        let mut copied = Vec::new(alloc);
+        let mut copied = Vec::with_capacity(alloc, self.items.len())?;
         for item in self.items.as_slice() {
-            copied.push(item.copy(alloc)?)?;
+            copied.push_reserved(item.copy(alloc)?);
         }
         Ok(Seq { items: copied })
     }

@@ -26,9 +26,13 @@ pub enum Kind {
 /// How a run ended.
 #[derive(Clone, Copy, Debug, PartialEq, Eq)]
 pub enum Status {
+    /// All was read, done and written.
     Done,
+    /// The words are refused.
     Usage,
+    /// This table can't be read.
     ReadFault(Table),
+    /// This table has more bytes than a table may have.
     TooLong(Table),
     /// Rows count from 1, columns from 1; column 0 stands for the number of fields.
     BadRow {
@@ -37,8 +41,11 @@ pub enum Status {
         column: u32,
         cause: Cause,
     },
+    /// This many there are, which is above the limit.
     TooMany(Kind, u64),
+    /// The report or a table that was generated can't be written.
     WriteFault,
+    /// Memory ran out.
     NoMemory,
 }
 

@@ -105,7 +105,7 @@ impl Model for ConstraintRow {
     ghost invariant = { λ r. r.key.index < 2 ^ 31 };
 }
 
-/// A row of `mapreduce_jobs`. There are at most 10,000 activities.
+/// A row of `mapreduce_jobs`. There are at most `MOST_ACTIVITIES` activities.
 #[derive(Clone, Copy, Debug)]
 pub struct ActivityRow {
     pub job: u64,
@@ -114,13 +114,13 @@ pub struct ActivityRow {
 
 impl Model for ActivityRow {
     ghost use Rattle.std.specs.Prelude.{◌≤◌};
-    ghost use Rattle.omega_model.specs.Fields.{ActivityFields};
+    ghost use Rattle.omega_model.specs.Fields.{ActivityFields, most_activities};
 
     ghost Value = { ActivityFields };
 
     ghost view = { λ r. record { job = r.job; activities = r.activities } };
 
-    ghost invariant = { λ r. r.activities ≤ 10000 };
+    ghost invariant = { λ r. r.activities ≤ most_activities };
 
     ghost inverse = { λ v. record { job = v.job; activities = v.activities } };
 }
@@ -191,12 +191,6 @@ pub type Rows = Seq<Row>;
 
 pub type Rounds = Seq<Round>;
 
-impl Copied for MachineRow {
-    fn copy(&self, _alloc: Global) -> Result<MachineRow, NoMemory> {
-        Ok(*self)
-    }
-}
-
 impl Copied for AttrRow {
     fn copy(&self, alloc: Global) -> Result<AttrRow, NoMemory> {
         Ok(AttrRow {
@@ -206,12 +200,6 @@ impl Copied for AttrRow {
             value: self.value.copy(alloc)?,
             deleted: self.deleted,
         })
-    }
-}
-
-impl Copied for TaskRow {
-    fn copy(&self, _alloc: Global) -> Result<TaskRow, NoMemory> {
-        Ok(*self)
     }
 }
 
@@ -233,24 +221,5 @@ impl Copied for ActivityRow {
 impl Copied for DiskRow {
     fn copy(&self, _alloc: Global) -> Result<DiskRow, NoMemory> {
         Ok(*self)
-    }
-}
-
-impl Copied for Row {
-    fn copy(&self, alloc: Global) -> Result<Row, NoMemory> {
-        Ok(match self {
-            Row::Machine(row) => Row::Machine(*row),
-            Row::Attr(row) => Row::Attr(row.copy(alloc)?),
-            Row::Task(row) => Row::Task(*row),
-        })
-    }
-}
-
-impl Copied for Round {
-    fn copy(&self, alloc: Global) -> Result<Round, NoMemory> {
-        Ok(Round {
-            number: self.number,
-            rows: self.rows.copy(alloc)?,
-        })
     }
 }

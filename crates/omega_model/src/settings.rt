@@ -35,27 +35,29 @@ pub enum Format {
     Json,
 }
 
-/// Everything that a run depends on beside its tables.
+/// Everything that a run depends on beside its tables. The type allows any number; the ranges below
+/// are those that the words can say.
 #[derive(Clone, Copy, Debug, PartialEq, Eq)]
 pub struct Settings {
     pub command: Command,
     pub seed: u64,
-    /// How many batch schedulers there are.
+    /// How many batch schedulers there are: from 1 to 30.
     pub batch: u32,
     pub rule: Rule,
     pub mode: Mode,
     pub preempt: Preempt,
+    /// A percentage is at most 100.
     pub extra: Extra,
-    /// How many attempts a request has in a round.
+    /// How many attempts a request has in a round: from 1 to 100.
     pub tries: u32,
-    /// After how many commits in a row that place nothing a job is given up.
+    /// After how many commits in a row that place nothing a job is given up: from 1 to 1000.
     pub give_up: u32,
-    /// The length of a round in microseconds of the trace.
+    /// The length of a round in microseconds of the trace: from 1 to 2^40.
     pub window: u64,
     pub format: Format,
-    /// How many machines are generated.
+    /// How many machines are generated: at most 4096.
     pub machines: u32,
-    /// How many jobs are generated.
+    /// How many jobs are generated: at most 20,000.
     pub jobs: u32,
 }
 

@@ -1,5 +1,5 @@
 //! Text, which contracts see as its bytes.
-ghost use Rattle.std.specs.Prelude.{◌≡◌, ◌↔◌, IsTrue, length};
+ghost use Rattle.std.specs.Prelude.{◌≡◌};
 ghost use Rattle.std.specs.String.{string_bytes};
 
 use std::marker::Model;
@@ -25,20 +25,6 @@ impl Text {
         ensures { result ≡ string_bytes text }
     {
         Text { string: text }
-    }
-
-    /// The length in bytes.
-    pub fn len(&self) -> usize
-        ensures { result ≡ length self.now }
-    {
-        self.string.len()
-    }
-
-    /// Whether there is no byte.
-    pub fn is_empty(&self) -> bool
-        ensures { IsTrue result ↔ (length self.now ≡ 0) }
-    {
-        self.string.is_empty()
     }
 
     /// The text itself.

@@ -20,7 +20,7 @@ pub struct Constraint {
     pub value: Bytes,
 }
 
-/// A task that is wanted and doesn't run.
+/// A task to be placed: a wanted one that doesn't run, or an extra one of a MapReduce job.
 #[derive(Debug, Drop)]
 pub struct Wish {
     pub key: TaskKey,
@@ -47,25 +47,6 @@ impl Copied for Constraint {
             op: self.op,
             name: self.name.copy(alloc)?,
             value: self.value.copy(alloc)?,
-        })
-    }
-}
-
-impl Copied for Wish {
-    fn copy(&self, alloc: Global) -> Result<Wish, NoMemory> {
-        Ok(Wish {
-            key: self.key,
-            spec: self.spec,
-            constraints: self.constraints.copy(alloc)?,
-        })
-    }
-}
-
-impl Copied for Request {
-    fn copy(&self, alloc: Global) -> Result<Request, NoMemory> {
-        Ok(Request {
-            job: self.job,
-            wishes: self.wishes.copy(alloc)?,
         })
     }
 }

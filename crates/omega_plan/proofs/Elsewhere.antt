@@ -3,7 +3,8 @@ use Rattle.std.proofs.Common.{◌≡◌, ℕ, Bool, true, false, not, ◌&&◌, 
 use Rattle.std.specs.List.{filter, list_any}
 use Rattle.std.proofs.lemmas.Bool.{and_parts, both_ways, false_from_ne_true}
 use Rattle.omega_model.specs.Cell.{Cell, by_rank, is_on, keys_of, machine_at, rest_on, total}
-use Rattle.omega_model.specs.Judge.{capacity_of, judge_fine, makes_room, stays_of_job, would_be_placed}
+use Rattle.omega_model.specs.Judge.{capacity_of, judge_fine, makes_room, would_be_placed}
+use Rattle.omega_model.specs.Jobs.{stays_of_job}
 use Rattle.omega_model.specs.Keys.{is_among}
 use Rattle.omega_model.specs.Need.{fits, minus}
 use Rattle.omega_model.specs.Plan.{candidates, claim_of, gives_way}

@@ -4,7 +4,8 @@ use Rattle.std.specs.List.{filter, find, list_any, range_with_len}
 use Rattle.std.specs.Option.{option_map, unwrap_or}
 use Rattle.std.proofs.lemmas.Bool.{and_from, and_parts, both_ways, false_from_ne_true, not-true, not_from_false, or_from, or_parts}
 use Rattle.omega_model.specs.Cell.{Cell, machine_at, rest_on, stays_on, task_at}
-use Rattle.omega_model.specs.Judge.{already_running, capacity_of, evicted_for, first_that_applies, free_without, full, has_rival, is_up, judge_fine, makes_room, no_machine, refusal_if, rival, runs_on, same_job, standing_victims, stays_of_job, verdict_given, victim_rank, withstands, would_be_placed}
+use Rattle.omega_model.specs.Judge.{already_running, capacity_of, evicted_for, first_that_applies, free_without, full, has_rival, is_up, judge_fine, makes_room, no_machine, refusal_if, rival, runs_on, same_job, standing_victims, verdict_given, victim_rank, withstands, would_be_placed}
+use Rattle.omega_model.specs.Jobs.{stays_of_job}
 use Rattle.omega_model.specs.Keys.{beginnings, is_among, same_key}
 use Rattle.omega_model.specs.Need.{Fits, minus}
 use Rattle.omega_model.specs.Plan.{candidates, claim_of, goes_in, victims}

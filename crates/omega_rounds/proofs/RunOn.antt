@@ -1,4 +1,5 @@
 -- Which tasks run on after an entry: those that ran and that it may not stop.
+use Rattle.std.specs.Prelude.{is_some}
 use Rattle.std.proofs.Common.{◌≡◌, Bool, true, false, List, [], ◌∷◌, ◌++◌, refl, sym, ap, subst, ◌∙◌}
 use Rattle.std.specs.List.{filter, flat_map, fold, zip}
 use Rattle.std.proofs.lemmas.Bool.{not_from_false, or_parts}
@@ -9,7 +10,6 @@ use Rattle.omega_model.specs.Cell.{keys_of, task_at, total, with_task, without}
 use Rattle.omega_model.specs.Keys.{is_among, key_lt, same_key}
 use Rattle.omega_model.specs.Need.{fits}
 use Rattle.omega_model.specs.Reply.{admits, task_of, tasks_after_claim}
-use Rattle.omega_model.specs.Requests.{is_running}
 use Rattle.omega_model.specs.State.{excess, goes_on, ranked_on, tasks_after}
 use Rattle.omega_model.specs.declared.cells.Need.{Need}
 use Rattle.omega_model.specs.declared.cells.Task.{Task}
@@ -24,7 +24,7 @@ use Rattle.omega_rounds.specs.Reopening.{may_stop}
 
 -- the task of this name runs
 abbrev Runs : List Task → TaskKey → Type 0
-Runs tasks key = is_running (task_at tasks key) ≡ true
+Runs tasks key = is_some (task_at tasks key) ≡ true
 
 -- a task that runs does so where others stand behind
 runs_front : (xs ys : List Task) (key : TaskKey) → Runs xs key → Runs (xs ++ ys) key
@@ -42,7 +42,7 @@ runs_behind (x ∷ xs) ys key runs =
 runs_filtered : (p : Task → Bool) (tasks : List Task) (key : TaskKey) → ((t : Task) → t.key ≡ key → p t ≡ true) → Runs tasks key
     → Runs (filter p tasks) key
 runs_filtered p tasks key stays runs =
-    ap is_running (find_filtered (λ t. same_key t.key key) p (λ t same. stays t (key_same t.key key same)) tasks) ∙ runs
+    ap is_some (find_filtered (λ t. same_key t.key key) p (λ t same. stays t (key_same t.key key same)) tasks) ∙ runs
 
 -- with one more task
 runs_with : (task : Task) (tasks : List Task) (key : TaskKey) → Runs tasks key → Runs (with_task task tasks) key
@@ -51,7 +51,7 @@ runs_with task tasks key runs =
     let back : List Task = filter (λ o. key_lt task.key o.key) tasks in
     by_answer (same_key key task.key)
     (λ same.
-    subst (λ (k : TaskKey). Runs (with_task task tasks) k) (sym (key_same key task.key same)) (ap is_running (found_new task tasks)))
+    subst (λ (k : TaskKey). Runs (with_task task tasks) k) (sym (key_same key task.key same)) (ap is_some (found_new task tasks)))
     (λ other.
     by_answer (key_lt key task.key)
     (λ before.
@@ -65,7 +65,7 @@ runs_with task tasks key runs =
 
 -- without others
 runs_without : (keys : List TaskKey) (tasks : List Task) (key : TaskKey) → is_among key keys ≡ false → Runs tasks key → Runs (without keys tasks) key
-runs_without keys tasks key stays runs = ap is_running (found_still keys tasks key stays) ∙ runs
+runs_without keys tasks key stays runs = ap is_some (found_still keys tasks key stays) ∙ runs
 
 -- after a claim that doesn't evict it
 runs_after_claim : (tasks : List Task) (claim : Claim) (judgement : Judgement) (key : TaskKey) → is_among key judgement.evicted ≡ false → Runs tasks key

@@ -8,7 +8,7 @@ use Rattle.std.proofs.lemmas.List.Elements.{filter-append}
 use Rattle.std.proofs.lemmas.List.Folds.{find-append}
 use Rattle.omega_model.specs.Keys.{key_lt, same_key, is_among}
 use Rattle.omega_model.specs.Cell.{task_at, stays_on}
-use Rattle.omega_model.specs.Jobs.{is_of_job, other_of_job}
+use Rattle.omega_model.specs.Jobs.{is_of_job, other_of_job, stays_of_job}
 use Rattle.omega_model.specs.declared.cells.TaskKey.{TaskKey}
 use Rattle.omega_model.specs.declared.cells.Task.{Task}
 use Rattle.omega_running.specs.declared.orders.Order.{Order}
@@ -104,18 +104,14 @@ pub led_here : {order : Order} {d l : List Task} {x : Task} {r : List Task} (n :
 led_here {order} {d} {l} {x} {r} n f p =
     rw f.is (filter-append (λ y. eqb (lead order y) n) l (x ∷ r) ∙ rw (eq-eqb (lead order x) n p) refl)
 
--- the test of `other_of_job`
-abbrev is_other : ℕ → ℕ → List TaskKey → Task → Bool
-is_other job machine gone task = is_of_job job task && stays_on machine gone task
-
-other_not_behind : (job machine : ℕ) (gone : List TaskKey) (y : Task) → is_behind y machine job ≡ true → is_other job machine gone y ≡ false
+other_not_behind : (job machine : ℕ) (gone : List TaskKey) (y : Task) → is_behind y machine job ≡ true → stays_of_job job machine gone y ≡ false
 other_not_behind job machine gone y p =
     elim (or_cases (ltb machine y.machine) (eqb machine y.machine && ltb job y.key.job) p) [
       | inl e ↦ let h : machine < y.machine = ltb-true machine y.machine e in and_right (is_of_job job y) _ (and_left _ _ (ne_eqb y.machine machine (omega arith)))
       | inr e ↦ let h : job < y.key.job = ltb-true job y.key.job (and_parts (eqb machine y.machine) (ltb job y.key.job) e).1 in and_left _ (stays_on machine gone y) (ne_eqb y.key.job job (omega arith))
     ]
 
-other_not_before : (job machine : ℕ) (gone : List TaskKey) (y : Task) → is_before y machine job ≡ true → is_other job machine gone y ≡ false
+other_not_before : (job machine : ℕ) (gone : List TaskKey) (y : Task) → is_before y machine job ≡ true → stays_of_job job machine gone y ≡ false
 other_not_before job machine gone y p =
     elim (or_cases (ltb y.machine machine) (eqb y.machine machine && ltb y.key.job job) p) [
       | inl e ↦ let h : y.machine < machine = ltb-true y.machine machine e in and_right (is_of_job job y) _ (and_left _ _ (ne_eqb y.machine machine (omega arith)))
@@ -132,13 +128,13 @@ before_more job machine x y p q =
 
 pub other_at_left : {d l : List Task} {x : Task} {r : List Task} (job machine : ℕ) (gone : List TaskKey) → AtFork ByMachine d l x r → is_behind x machine job ≡ true → other_of_job d job machine gone ≡ other_of_job l job machine gone
 other_at_left {d} {l} {x} {r} job machine gone f p =
-    let later : Each (λ y. is_other job machine gone y ≡ false) (x ∷ r) = (other_not_behind job machine gone x p, each_map (λ y. precedes ByMachine x y ≡ true) (λ y. is_other job machine gone y ≡ false) (λ y q. other_not_behind job machine gone y (behind_more job machine x y p q)) r f.after) in
-    rw f.is (ap (option_map (λ (y : Task). y.key)) (find_left (is_other job machine gone) l (x ∷ r) later))
+    let later : Each (λ y. stays_of_job job machine gone y ≡ false) (x ∷ r) = (other_not_behind job machine gone x p, each_map (λ y. precedes ByMachine x y ≡ true) (λ y. stays_of_job job machine gone y ≡ false) (λ y q. other_not_behind job machine gone y (behind_more job machine x y p q)) r f.after) in
+    rw f.is (ap (option_map (λ (y : Task). y.key)) (find_left (stays_of_job job machine gone) l (x ∷ r) later))
 
 pub other_at_right : {d l : List Task} {x : Task} {r : List Task} (job machine : ℕ) (gone : List TaskKey) → AtFork ByMachine d l x r → is_before x machine job ≡ true → other_of_job d job machine gone ≡ other_of_job r job machine gone
 other_at_right {d} {l} {x} {r} job machine gone f p =
-    let earlier : Each (λ y. is_other job machine gone y ≡ false) (l ++ x ∷ []) = each_append (λ y. is_other job machine gone y ≡ false) l (x ∷ []) (each_map (λ y. precedes ByMachine y x ≡ true) (λ y. is_other job machine gone y ≡ false) (λ y q. other_not_before job machine gone y (before_more job machine x y p q)) l f.before) (other_not_before job machine gone x p, tt) in
-    rw (f.is, ← append_assoc l (x ∷ []) r) (ap (option_map (λ (y : Task). y.key)) (find_right (is_other job machine gone) (l ++ x ∷ []) r earlier))
+    let earlier : Each (λ y. stays_of_job job machine gone y ≡ false) (l ++ x ∷ []) = each_append (λ y. stays_of_job job machine gone y ≡ false) l (x ∷ []) (each_map (λ y. precedes ByMachine y x ≡ true) (λ y. stays_of_job job machine gone y ≡ false) (λ y q. other_not_before job machine gone y (before_more job machine x y p q)) l f.before) (other_not_before job machine gone x p, tt) in
+    rw (f.is, ← append_assoc l (x ∷ []) r) (ap (option_map (λ (y : Task). y.key)) (find_right (stays_of_job job machine gone) (l ++ x ∷ []) r earlier))
 
 -- the first of two that there is
 or_first : (a b : Option Task) → is_some (option_map (λ (y : Task). y.key) a) ≡ true → option_map (λ (y : Task). y.key) (option_or a b) ≡ option_map (λ (y : Task). y.key) a
@@ -151,7 +147,7 @@ or_second (Some y) b e = absurd (cc)
 
 pub other_earlier : {d l : List Task} {x : Task} {r : List Task} (job machine : ℕ) (gone : List TaskKey) → AtFork ByMachine d l x r → is_some (other_of_job l job machine gone) ≡ true → other_of_job d job machine gone ≡ other_of_job l job machine gone
 other_earlier {d} {l} {x} {r} job machine gone f e =
-    rw (f.is, find-append (is_other job machine gone) l (x ∷ r)) (or_first (find (is_other job machine gone) l) (find (is_other job machine gone) (x ∷ r)) e)
+    rw (f.is, find-append (stays_of_job job machine gone) l (x ∷ r)) (or_first (find (stays_of_job job machine gone) l) (find (stays_of_job job machine gone) (x ∷ r)) e)
 
 same_group : (job machine : ℕ) (x : Task) → is_before x machine job ≡ false → is_behind x machine job ≡ false → (eqb x.machine machine && eqb x.key.job job) ≡ true
 same_group job machine x p q =
@@ -161,10 +157,10 @@ same_group job machine x p q =
 pub other_here : {d l : List Task} {x : Task} {r : List Task} (job machine : ℕ) (gone : List TaskKey) → AtFork ByMachine d l x r → is_before x machine job ≡ false → is_behind x machine job ≡ false → is_some (other_of_job l job machine gone) ≡ false → is_among x.key gone ≡ false → other_of_job d job machine gone ≡ Some x.key
 other_here {d} {l} {x} {r} job machine gone f p q none among =
     let parts = and_parts (eqb x.machine machine) (eqb x.key.job job) (same_group job machine x p q) in
-    let is : is_other job machine gone x ≡ true = rw (parts.0, parts.1, among) refl in
-    rw (f.is, find-append (is_other job machine gone) l (x ∷ r)) (or_second (find (is_other job machine gone) l) (find (is_other job machine gone) (x ∷ r)) none ∙ rw is refl)
+    let is : stays_of_job job machine gone x ≡ true = rw (parts.0, parts.1, among) refl in
+    rw (f.is, find-append (stays_of_job job machine gone) l (x ∷ r)) (or_second (find (stays_of_job job machine gone) l) (find (stays_of_job job machine gone) (x ∷ r)) none ∙ rw is refl)
 
 pub other_later : {d l : List Task} {x : Task} {r : List Task} (job machine : ℕ) (gone : List TaskKey) → AtFork ByMachine d l x r → is_some (other_of_job l job machine gone) ≡ false → is_among x.key gone ≡ true → other_of_job d job machine gone ≡ other_of_job r job machine gone
 other_later {d} {l} {x} {r} job machine gone f none among =
-    let is : is_other job machine gone x ≡ false = and_right _ _ (and_right _ _ (not_from_true _ among)) in
-    rw (f.is, find-append (is_other job machine gone) l (x ∷ r)) (or_second (find (is_other job machine gone) l) (find (is_other job machine gone) (x ∷ r)) none ∙ rw is refl)
+    let is : stays_of_job job machine gone x ≡ false = and_right _ _ (and_right _ _ (not_from_true _ among)) in
+    rw (f.is, find-append (stays_of_job job machine gone) l (x ∷ r)) (or_second (find (stays_of_job job machine gone) l) (find (stays_of_job job machine gone) (x ∷ r)) none ∙ rw is refl)

@@ -1,12 +1,12 @@
 -- What keeps the two lists of tasks the same when one is put in or taken out.
-use Rattle.std.proofs.Common.{◌≡◌, ℕ, Bool, true, false, ◌||◌, ◌&&◌, not, cond, eqb, List, [], ◌∷◌, ◌++◌, Some, None, refl, ap, ap₂, sym, ◌∙◌, ◌⊎◌, inl, inr}
+use Rattle.std.proofs.Common.{◌≡◌, ℕ, Bool, true, false, ◌||◌, not, cond, eqb, List, [], ◌∷◌, ◌++◌, Some, None, refl, ap, ap₂, sym, ◌∙◌, ◌⊎◌, inl, inr}
 use Rattle.std.specs.List.{filter, find, list_any}
 use Rattle.std.specs.Option.{option_map}
 use Rattle.std.proofs.lemmas.Bool.{both_ways, eqb-true, eq-eqb, and_parts, or_cases, or_left, or_right, or_from, not_from_true, not_from_false, not-false, false_from_ne_true}
 use Rattle.std.proofs.lemmas.List.Elements.{filter-append, filter_agree}
 use Rattle.omega_model.specs.Keys.{key_lt, same_key, is_among}
-use Rattle.omega_model.specs.Cell.{task_at, with_task, without, is_on, stays_on}
-use Rattle.omega_model.specs.Jobs.{is_of_job, other_of_job}
+use Rattle.omega_model.specs.Cell.{task_at, with_task, without, is_on}
+use Rattle.omega_model.specs.Jobs.{other_of_job, stays_of_job}
 use Rattle.omega_model.specs.declared.cells.TaskKey.{TaskKey}
 use Rattle.omega_model.specs.declared.cells.Task.{Task}
 use Rattle.omega_running.specs.declared.orders.Order.{Order}
@@ -262,7 +262,7 @@ taken_same t by_key by_machine u e same machine = go (is_on machine t) refl wher
 
 pub other_same : (by_key by_machine : List Task) → ((machine : ℕ) → filter (is_on machine) by_machine ≡ filter (is_on machine) by_key) → (job machine : ℕ) (gone : List TaskKey) → other_of_job by_machine job machine gone ≡ other_of_job by_key job machine gone
 other_same by_key by_machine same job machine gone =
-    let test = λ (task : Task). is_of_job job task && stays_on machine gone task in
+    let test = stays_of_job job machine gone in
     let on : (task : Task) → test task ≡ true → is_on machine task ≡ true = λ task h. (and_parts _ _ (and_parts _ _ h).1).0 in
     ap (option_map (λ (task : Task). task.key)) (sym (find_in_filter test (is_on machine) by_machine on) ∙ ap (find test) (same machine) ∙ find_in_filter test (is_on machine) by_key on)
 

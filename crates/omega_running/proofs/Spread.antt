@@ -1,5 +1,5 @@
 -- Tasks that are spread over several trees: what is put into one tree, taken out of it or looked up in it is so for all of them.
-use Rattle.std.proofs.Common.{◌≡◌, ℕ, ◌<◌, ◌≤◌, ◌+◌, ◌%◌, Bool, true, false, ◌||◌, ◌&&◌, not, eqb, cond, List, [], ◌∷◌, ◌++◌, length, length-append, length-set, map, get_or, set, zero, suc, refl, ap, sym, subst, ◌∙◌, arith}
+use Rattle.std.proofs.Common.{◌≡◌, ℕ, ◌<◌, ◌≤◌, ◌+◌, ◌%◌, Bool, true, false, ◌||◌, not, eqb, cond, List, [], ◌∷◌, ◌++◌, length, length-append, length-set, map, get_or, set, zero, suc, refl, ap, sym, subst, ◌∙◌, arith}
 use Rattle.std.specs.List.{filter, list_any}
 use Rattle.std.proofs.lemmas.Bool.{both_ways, eqb-true, eq-eqb, ne_eqb, and_parts, or_left, or_right, or_from, not_from_true, not-false}
 use Rattle.std.proofs.lemmas.List.{length-map, get_or-map, get_or-set_same, get_or-set_other, map-set}
@@ -7,8 +7,8 @@ use Rattle.std.proofs.lemmas.List.Elements.{filter-append}
 use Rattle.std.proofs.lemmas.List.Filters.{length-filter_both}
 use Rattle.std.specs.Option.{option_map}
 use Rattle.omega_model.specs.Keys.{same_key}
-use Rattle.omega_model.specs.Cell.{task_at, stays_on}
-use Rattle.omega_model.specs.Jobs.{is_of_job, other_of_job}
+use Rattle.omega_model.specs.Cell.{task_at}
+use Rattle.omega_model.specs.Jobs.{other_of_job, stays_of_job}
 use Rattle.omega_model.specs.declared.cells.TaskKey.{TaskKey}
 use Rattle.omega_model.specs.declared.cells.Task.{Task}
 use Rattle.omega_running.specs.declared.orders.Order.{Order}
@@ -343,7 +343,7 @@ led_in_tree order trees number xs =
 pub other_in_tree : (trees job machine : ℕ) (gone : List TaskKey) (xs : List Task) → other_of_job (filter (is_at ByMachine trees (machine % trees)) xs) job machine gone ≡ other_of_job xs job machine gone
 other_in_tree trees job machine gone xs =
     ap (option_map (λ (y : Task). y.key))
-    (find_in_filter (λ y. is_of_job job y && stays_on machine gone y) (is_at ByMachine trees (machine % trees)) xs
+    (find_in_filter (stays_of_job job machine gone) (is_at ByMachine trees (machine % trees)) xs
     (λ y q. same_place ByMachine trees machine y (eqb-true _ _ (and_parts _ _ (and_parts _ _ q).1).0)))
 
 pub place_at : (order : Order) (ts : List Tree) (i : ℕ) (t : Task) (tree : Tree) → i ≡ lead order t % length ts → i < length ts → IsSpread order (length ts) 0 (map tasks_of ts) → has_place order t (gathered order (map tasks_of ts)) ≡ true → tree ≡ get_or ts i tree → has_place order t (tasks_of tree) ≡ true

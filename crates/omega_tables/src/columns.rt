@@ -9,8 +9,8 @@ ghost use Rattle.omega_tables.specs.Checking.{has_fields, attr_numbers, constrai
 
 use csv::ByteRecord;
 use omega_model::{
-    ActivityRow, AttrRow, Bytes, Cause, Constraint, ConstraintRow, DiskRow, MachineRow, Need,
-    NoMemory, Op, Seq, Spec, TaskKey, TaskRow,
+    ActivityRow, AttrRow, Bytes, Cause, Constraint, ConstraintRow, DiskRow, MOST_ACTIVITIES,
+    MachineRow, Need, NoMemory, Op, Seq, Spec, TaskKey, TaskRow,
 };
 use omega_units::{Rounding, read_quantity, read_u64};
 use std::alloc::Global;
@@ -209,7 +209,7 @@ pub fn activity_row(fields: &ByteRecord) -> Result<ActivityRow, BadColumn>
     has_fields(2, fields)?;
     Ok(ActivityRow {
         job: id_in(1, fields)?,
-        activities: number_in(10_000, 2, fields)? as u32,
+        activities: number_in(u64::from(MOST_ACTIVITIES), 2, fields)? as u32,
     })
 }
 

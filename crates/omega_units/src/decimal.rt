@@ -8,9 +8,10 @@ ghost use Rattle.omega_units.specs.Parts.{decimal_of, value_of, significand_of, 
 
 use crate::Rounding;
 use crate::digits::{read_joined, read_number};
+use omega_model::GREATEST_QUANTITY;
 
 /// The greatest number of units: 1000 times 10^9.
-const MOST: u128 = 1_000_000_000_000;
+const MOST: u128 = GREATEST_QUANTITY as u128;
 
 /// A quantity as it is written: its digits as one number, how many of them stand behind the point,
 /// and the exponent with its sign.

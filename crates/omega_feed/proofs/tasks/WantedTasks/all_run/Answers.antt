@@ -1,8 +1,8 @@
+use Rattle.std.specs.Prelude.{is_some}
 use Rattle.std.proofs.Common.{◌≡◌, ◌==◌, [], false, refl, ap, sym, subst, ◌∙◌}
 use Rattle.std.specs.List.{All, filter}
 use Rattle.std.proofs.lemmas.Bool.{both_ways}
 use Rattle.omega_model.specs.Cell.{task_at}
-use Rattle.omega_model.specs.Requests.{is_running}
 use Rattle.omega_feed.specs.Open.{RunsIfOf}
 use Rattle.omega_feed.proofs.Quiet.{all_run_from, none_found, one_idle}
 use Rattle.omega_feed.proofs.TaskMap.{between_at, idle}
@@ -27,7 +27,7 @@ returns-then-is_none c =
     let found = c.into_iter-key-iterator.ensures.into_iter_gives
     ∙ c.range-key-items.ensures.between c.new.ensures.exhausted
     ∙ between_at c.args.job _ _ es c.self.invariant.low (c.new.ensures.start ∙ c.keys_of.ensures.first) (c.new.ensures.end ∙ c.keys_of.ensures.last) in
-    let waits : is_running (task_at tasks key) ≡ false = ap is_running (sym c.get.ensures.task) ∙ none_found _ c.get.result c.if-is_none.ensures in
+    let waits : is_some (task_at tasks key) ≡ false = ap is_some (sym c.get.ensures.task) ∙ none_found _ c.get.result c.if-is_none.ensures in
     let here = sym (ap (filter (idle tasks)) c.in-Some.ensures.steps) ∙ c.loop-key.invariant ∙ ap (filter (idle tasks)) found in (
       λ f. absurd (both_ways _ refl f),
       λ all. absurd (one_idle c.args.job tasks es (key, c.in-Some._spec.now) c.next.new.self here waits

@@ -1,9 +1,10 @@
+use Rattle.std.specs.Prelude.{is_some}
 use Rattle.std.proofs.Common.{◌≡◌, ◌++◌, map, not, ap, ◌∙◌}
 use Rattle.std.specs.List.{filter}
 use Rattle.omega_board.specs.Board.{cell_of}
 use Rattle.omega_model.specs.Cell.{Cell, task_at}
 use Rattle.omega_model.specs.ExtraTasks.{wanted_of}
-use Rattle.omega_model.specs.Requests.{is_running, is_waiting}
+use Rattle.omega_model.specs.Requests.{is_waiting}
 use Rattle.omega_feed.specs.Asked.{Asked, activities_in, asked_wish, extras_after}
 use Rattle.omega_feed.specs.Index.{wanted_task}
 use Rattle.omega_feed.proofs.AskedAfter.{if_ok_weaker}
@@ -20,7 +21,7 @@ returns c =
     let again : map wanted_task c.deref-2.result.now ≡ wanted_of c.args.job asked.tasks = ap (map wanted_task) c.deref-2.ensures.value ∙ own in
     let waiting : c.in_ok-wishes.wishes ≡ map (asked_wish asked.constraints) (filter (is_waiting cell c.args.job) asked.tasks) =
     c.in_ok-wishes.ensures
-    ∙ (λ i. map (asked_wish asked.constraints) (filter (λ task. not (is_running (task_at (c.running.ensures.tasks i) task.key))) (models i)))
+    ∙ (λ i. map (asked_wish asked.constraints) (filter (λ task. not (is_some (task_at (c.running.ensures.tasks i) task.key))) (models i)))
     ∙ ap (map (asked_wish asked.constraints)) (waiting_of cell c.args.job asked.tasks) in
     if_ok_weaker c.with_extras.result
     (λ all is. is ∙ (λ i. waiting i ++ extras_after asked cell c.args.job (activities_in asked.activities c.args.job) (again i)))

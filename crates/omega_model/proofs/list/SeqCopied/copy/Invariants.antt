@@ -1,5 +1,6 @@
-use Rattle.std.proofs.Common.{◌≡◌, take}
+use Rattle.std.proofs.Common.{◌≡◌, ◌≤◌, length, take}
+use Rattle.std.specs.Prelude.{vec_capacity}
 use Rattle.omega_model.proofs.list.SeqCopied.copy.Given as goal
 
 abbrev pub invariant-loop-item : goal.invariant-loop-item
-invariant-loop-item g l = l.copied.items ≡ take l.item-index l.item-items
+invariant-loop-item g l = (l.copied.items ≡ take l.item-index l.item-items) × (length l.item-items ≤ vec_capacity l.copied)
