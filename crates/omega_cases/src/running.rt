@@ -2,7 +2,9 @@
 ghost use Rattle.std.specs.Prelude.{◌<◌};
 
 use crate::fault::Fault;
-use crate::telling::{part, tell_found, tell_names, tell_need, tell_running, tell_task, tell_tasks};
+use crate::telling::{
+    part, tell_found, tell_names, tell_need, tell_running, tell_task, tell_tasks,
+};
 use crate::values::{byte, is_colon, need, number, running_task, small, task, tasks, text};
 use omega_model::{Bytes, Need, Spec, Task, TaskKey};
 use omega_running::Running;
