@@ -5,10 +5,14 @@ ghost use Rattle.omega_model.specs.declared.claims.Mode.{Mode};
 ghost use Rattle.omega_model.specs.declared.claims.Rule.{Rule};
 ghost use Rattle.omega_model.specs.declared.entries.Entry.{Entry};
 
+use crate::crowd::many;
 use crate::fault::Fault;
-use crate::telling::{part, tell_free, tell_judged, tell_part, tell_tasks};
-use crate::values::{GREATEST, claim, is_colon, need, number, place, task, text};
+use crate::telling::{
+    part, tell_attribute, tell_free, tell_judged, tell_need, tell_part, tell_place, tell_tasks,
+};
+use crate::values::{GREATEST, claim, is_colon, need, number, place, small, task, text};
 use omega_board::{Board, Undo};
+use omega_machines::MachineTable;
 use omega_model::{
     Bytes, Claim, Claims, Copied, Entry, Judgement, Keys, Mode, Need, Rule, Seq, TaskKey, Txn,
     Verdict,
@@ -30,18 +34,50 @@ use std::alloc::Global;
 /// `at MACHINE` answers how many entries touched the machine, how many tasks run on all machines and
 /// what is free on this one; `part POSITION` the machine at a position of the list: its number, whether
 /// it is up, its capacity, how many attributes it has, how many entries touched it, and its tasks;
-/// `machines` the length of the list.
+/// `attributes POSITION` its number and its attributes, each as `NAME=VALUE`; `position MACHINE` where
+/// it stands in the list; `machines` the length of the list; `load` what is used on all machines that
+/// are up, and their capacity.
+///
+/// `many MACHINES TASKS AMOUNT`: how many machines come up, each with the greatest amount, and how many
+/// tasks of an amount are placed on them, at most so many on each and on all by turns, with what `load`
+/// answers then; and when they have all ended, the same, and what `at` answers of the last machine.
 pub fn answer(alloc: Global, call: &str, words: &[Bytes]) -> Result<String, Fault> {
-    if call != "script" {
-        return Err(Fault::UnknownCall);
-    }
     let mut board = Board::new(alloc);
     let mut answers = String::new(alloc);
-    for step in words.split(is_colon) {
-        part(&mut answers)?;
-        take(&mut board, alloc, step, &mut answers)?;
-    }
+    answer_on(&mut board, alloc, call, words, &mut answers)?;
     Ok(answers)
+}
+
+/// Appends the answer of a call on a board that is empty yet.
+fn answer_on(
+    board: &mut Board,
+    alloc: Global,
+    call: &str,
+    words: &[Bytes],
+    answers: &mut String,
+) -> Result<(), Fault> {
+    match (call, words) {
+        ("script", _) => take_all(board, alloc, words, answers),
+        ("many", [machines, tasks, amount]) => {
+            let (machines, tasks) = (number(machines)?, small(tasks)?);
+            many(board, alloc, machines, tasks, need(amount)?, answers)
+        }
+        _ => Err(Fault::UnknownCall),
+    }
+}
+
+/// Does all steps, and appends their answers.
+fn take_all(
+    board: &mut Board,
+    alloc: Global,
+    words: &[Bytes],
+    answers: &mut String,
+) -> Result<(), Fault> {
+    for step in words.split(is_colon) {
+        part(answers)?;
+        take(board, alloc, step, answers)?;
+    }
+    Ok(())
 }
 
 /// Does a step, and appends its answer.
@@ -59,12 +95,20 @@ pub fn take(
         "place" => commit(board, alloc, words, answers),
         "try" => attempt(board, alloc, words, answers),
         "trial" => trial(board, alloc, words, answers),
-        "judge" | "at" | "part" | "machines" => ask(board, alloc, call, words, answers),
+        _ if is_question(call) => ask(board, alloc, call, words, answers),
         _ => {
             let stopped = apply(board, alloc, call, words)?;
             tell_tasks(answers, stopped.as_slice())
         }
     }
+}
+
+/// Whether a step changes nothing.
+pub fn is_question(call: &str) -> bool {
+    matches!(
+        call,
+        "judge" | "at" | "part" | "attributes" | "position" | "machines" | "load"
+    )
 }
 
 /// Appends the answer of a step that changes nothing.
@@ -82,10 +126,25 @@ pub fn ask(
         ("judge", _) => judge(board, alloc, words, None, answers),
         ("at", [machine]) => tell_at(board, number(machine)?, answers),
         ("part", [position]) => tell_position(board, alloc, place(position)?, answers),
+        _ => ask_machines(board.machines(), call, words, answers),
+    }
+}
+
+/// Appends what the table of machines answers.
+fn ask_machines(
+    machines: &MachineTable,
+    call: &str,
+    words: &[Bytes],
+    answers: &mut String,
+) -> Result<(), Fault> {
+    match (call, words) {
+        ("attributes", [position]) => tell_attributes(machines, place(position)?, answers),
+        ("position", [machine]) => tell_place(answers, machines.position(number(machine)?)),
         ("machines", []) => {
-            write!(answers, "{}", board.machines().len())?;
+            write!(answers, "{}", machines.len())?;
             Ok(())
         }
+        ("load", []) => tell_load(machines, answers),
         _ => Err(Fault::UnknownCall),
     }
 }
@@ -108,7 +167,7 @@ fn apply(board: &mut Board, alloc: Global, call: &str, words: &[Bytes]) -> Resul
 }
 
 /// A machine is added.
-fn add(board: &mut Board, alloc: Global, machine: u64, cap: Need) -> Result<Keys, Fault> {
+pub fn add(board: &mut Board, alloc: Global, machine: u64, cap: Need) -> Result<Keys, Fault> {
     let room = board.machines().len() < 65536 && cap.fits(GREATEST);
     if room && board.machines().seq(machine) < u64::MAX {
         Ok(board.apply_entry(alloc, &Entry::MachineAdd { machine, cap })?)
@@ -171,7 +230,7 @@ fn delete(board: &mut Board, alloc: Global, machine: u64, name: &Bytes) -> Resul
 }
 
 /// A running task ends.
-fn end(board: &mut Board, alloc: Global, key: TaskKey) -> Result<Keys, Fault> {
+pub fn end(board: &mut Board, alloc: Global, key: TaskKey) -> Result<Keys, Fault> {
     let Some(task) = board.running().get(key) else {
         return Err(Fault::MayNot);
     };
@@ -209,8 +268,8 @@ fn commit(
     tell_judged(answers, judgement.verdict, judgement.evicted.as_slice())
 }
 
-/// The same, with what is answered to it.
-fn commit_claim(board: &mut Board, alloc: Global, claim: Claim) -> Result<Judgement, Fault> {
+/// Judges a claim, and applies a commit of it where it is placed. Answers the judgement.
+pub fn commit_claim(board: &mut Board, alloc: Global, claim: Claim) -> Result<Judgement, Fault> {
     let mut evicted = Vec::with_capacity(alloc, claim.victims.len())?;
     let verdict = board.judge(&claim, None, &mut evicted);
     let evicted = Seq::of(evicted);
@@ -306,7 +365,7 @@ fn place_and_take_back(
 }
 
 /// Appends how many entries touched a machine, how many tasks run and what is free on the machine.
-fn tell_at(board: &Board, machine: u64, answers: &mut String) -> Result<(), Fault> {
+pub fn tell_at(board: &Board, machine: u64, answers: &mut String) -> Result<(), Fault> {
     let machines = board.machines();
     write!(answers, "{} ", machines.seq(machine))?;
     write!(answers, "{} ", board.running().count())?;
@@ -326,4 +385,28 @@ fn tell_position(
     }
     let found = board.part(alloc, position)?;
     tell_part(answers, &found)
+}
+
+/// Appends the number of the machine at a position and its attributes, or `-` where there is none.
+fn tell_attributes(
+    machines: &MachineTable,
+    position: usize,
+    answers: &mut String,
+) -> Result<(), Fault> {
+    let Some(machine) = machines.at(position) else {
+        answers.push('-')?;
+        return Ok(());
+    };
+    write!(answers, "{}", machine.id)?;
+    for attr in machine.attrs.as_slice() {
+        tell_attribute(answers, attr)?;
+    }
+    Ok(())
+}
+
+/// Appends what is used on all machines that are up, and their capacity.
+pub fn tell_load(machines: &MachineTable, answers: &mut String) -> Result<(), Fault> {
+    tell_need(answers, machines.used())?;
+    answers.push(' ')?;
+    tell_need(answers, machines.capacity())
 }

@@ -9,7 +9,7 @@ ghost use Rattle.omega_model.specs.declared.cells.Task.{Task};
 ghost use Rattle.omega_model.specs.declared.entries.Entry.{Entry};
 ghost use Rattle.omega_cases.specs.Copies.{StillStand};
 
-use crate::board::ask;
+use crate::board::{ask, is_question};
 use crate::fault::Fault;
 use crate::planning::{ask_copy, following, tell_plan, tell_trial};
 use crate::telling::{part, tell_judged, tell_part};
@@ -32,8 +32,8 @@ use std::alloc::Global;
 /// `fine` or `coarse`, the mode `incremental` or `gang`.
 ///
 /// `since NUMBER` answers what changed since the first so many entries: up to which entry it leads, and
-/// each machine as `part` of `board` tells it. `judge`, `at`, `part` and `machines` ask the board as in
-/// `board`, and `copy at 1` and the like ask the copy's.
+/// each machine as `part` of `board` tells it. `judge`, `at`, `part`, `attributes`, `position`,
+/// `machines` and `load` ask the board as in `board`, and `copy at 1` and the like ask the copy's.
 ///
 /// `follow` goes on with a new copy that has followed the history, and answers how many entries it has
 /// seen. `plan MODE PREEMPT START JOB WISH ..` plans a request on the copy from a position on, and answers
@@ -97,7 +97,7 @@ fn take(
         "commit" => commit(cell, copy, alloc, words, answers),
         "since" => tell_since(cell, alloc, words, answers),
         "copy" => ask_copy(copy, alloc, words, answers),
-        "judge" | "at" | "part" | "machines" => ask(cell.board(), alloc, call, words, answers),
+        _ if is_question(call) => ask(cell.board(), alloc, call, words, answers),
         _ => tell_fed(cell, alloc, call, words, answers),
     }
 }

@@ -7,6 +7,7 @@
 mod attrs;
 mod board;
 mod cell;
+mod crowd;
 mod fault;
 mod feed;
 mod fit;
@@ -14,6 +15,7 @@ mod line;
 mod mapreduce;
 mod planning;
 mod rows;
+mod running;
 mod tables;
 mod telling;
 mod units;
@@ -62,6 +64,7 @@ fn answer_words(alloc: Global, words: &[Bytes]) -> Result<String, Fault> {
         "feed" => feed::answer(alloc, call, rest),
         "fit" => fit::answer(alloc, call, rest),
         "mapreduce" => mapreduce::answer(alloc, call, rest),
+        "running" => running::answer(alloc, call, rest),
         "tables" => tables::answer(alloc, call, rest),
         "units" => units::answer(alloc, call, rest),
         "words" => words::answer(alloc, call, rest),

@@ -4,7 +4,6 @@ use crate::values::{number, text};
 use omega_io::SteadyTables;
 use omega_model::{Bytes, Copied, Seq, Table, TraceTables};
 use omega_tables::{over_limit, parse_table, read_bytes, read_tables};
-use omega_units::push_u64;
 use std::alloc::Global;
 
 /// `parse TABLE TEXT ..`: the refusals of the texts, each parsed behind those before it, and then the
@@ -19,12 +18,12 @@ pub fn answer(alloc: Global, call: &str, words: &[Bytes]) -> Result<String, Faul
         ("read", _) => read(alloc, words),
         ("bytes", [table, texts @ ..]) => bytes(alloc, table_of(table)?, texts),
         ("limit", [table, count, front, back, attrs]) => {
-            let lines = numbered(alloc, number(count)?, front.as_slice(), back.as_slice())?;
-            limit(alloc, table_of(table)?, lines.as_slice(), attrs.as_slice())
+            let lines = numbered(alloc, number(count)?, text(front)?, text(back)?)?;
+            limit(alloc, table_of(table)?, lines.as_bytes(), attrs.as_slice())
         }
         ("many", [count, front, back, others @ ..]) => {
-            let lines = numbered(alloc, number(count)?, front.as_slice(), back.as_slice())?;
-            many(alloc, lines, others)
+            let lines = numbered(alloc, number(count)?, text(front)?, text(back)?)?;
+            many(alloc, Seq::of(lines.into_bytes()), others)
         }
         _ => Err(Fault::UnknownCall),
     }
@@ -120,12 +119,10 @@ fn bytes(alloc: Global, table: Table, texts: &[Bytes]) -> Result<String, Fault> 
 }
 
 /// So many lines, which differ in a number from 0 on.
-fn numbered(alloc: Global, count: u64, front: &[u8], back: &[u8]) -> Result<Bytes, Fault> {
-    let mut lines = Seq::new(alloc);
+fn numbered(alloc: Global, count: u64, front: &str, back: &str) -> Result<String, Fault> {
+    let mut lines = String::new(alloc);
     for number in 0..count {
-        lines.extend_from_slice(front)?;
-        push_u64(&mut lines, number)?;
-        lines.extend_from_slice(back)?;
+        write!(lines, "{front}{number}{back}")?;
     }
     Ok(lines)
 }

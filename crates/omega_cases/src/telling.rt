@@ -2,7 +2,7 @@
 use crate::fault::Fault;
 use crate::values::text;
 use omega_model::{
-    Bytes, Entry, Need, Part, Request, Round, Row, Spec, Task, TaskKey, Verdict, Wish,
+    Attr, Bytes, Entry, Need, Part, Request, Round, Row, Spec, Task, TaskKey, Verdict, Wish,
 };
 
 /// Parts the answer of the next step from those before it.
@@ -31,10 +31,10 @@ pub fn tell_free(answers: &mut String, free: Option<Need>) -> Result<(), Fault> 
     }
 }
 
-/// Appends a position, or `-` where there is none.
-pub fn tell_place(answers: &mut String, found: Option<usize>) -> Result<(), Fault> {
-    match found {
-        Some(position) => write!(answers, "{position}")?,
+/// Appends a place in a list, or `-` where there is none.
+pub fn tell_place(answers: &mut String, place: Option<usize>) -> Result<(), Fault> {
+    match place {
+        Some(place) => write!(answers, "{place}")?,
         None => answers.push('-')?,
     }
     Ok(())
@@ -59,6 +59,38 @@ pub fn tell_tasks(answers: &mut String, keys: &[TaskKey]) -> Result<(), Fault> {
         tell_task(answers, *key)?;
     }
     Ok(())
+}
+
+/// Appends running tasks, parted by blanks, or `-` where there is none.
+pub fn tell_running(answers: &mut String, tasks: &[Task]) -> Result<(), Fault> {
+    if tasks.is_empty() {
+        answers.push('-')?;
+    }
+    for (place, task) in tasks.iter().enumerate() {
+        if place > 0 {
+            answers.push(' ')?;
+        }
+        tell_running_task(answers, task)?;
+    }
+    Ok(())
+}
+
+/// Appends a running task, or `-` where there is none.
+pub fn tell_found(answers: &mut String, task: Option<&Task>) -> Result<(), Fault> {
+    match task {
+        Some(task) => tell_running_task(answers, task),
+        None => {
+            answers.push('-')?;
+            Ok(())
+        }
+    }
+}
+
+/// Appends a running task: its name, the machine, the amount and the precedence.
+fn tell_running_task(answers: &mut String, task: &Task) -> Result<(), Fault> {
+    tell_task(answers, task.key)?;
+    write!(answers, " {} ", task.machine)?;
+    tell_spec(answers, task.spec)
 }
 
 /// Appends the words of a verdict and the names of the tasks that are evicted.
@@ -118,6 +150,13 @@ fn tell_names(answers: &mut String, tasks: &[Task]) -> Result<(), Fault> {
         }
         tell_task(answers, task.key)?;
     }
+    Ok(())
+}
+
+/// Appends an attribute as `NAME=VALUE`, behind a blank.
+pub fn tell_attribute(answers: &mut String, attr: &Attr) -> Result<(), Fault> {
+    let (name, value) = (text(&attr.name)?, text(&attr.value)?);
+    write!(answers, " {name}={value}")?;
     Ok(())
 }
 

@@ -1,6 +1,6 @@
 //! What words say: texts, numbers, amounts.
 use crate::fault::Fault;
-use omega_model::{Bytes, Claim, GREATEST_QUANTITY, Keys, Mode, Need, Spec, TaskKey};
+use omega_model::{Bytes, Claim, GREATEST_QUANTITY, Keys, Mode, Need, Spec, Task, TaskKey};
 use omega_units::read_u64;
 use std::alloc::Global;
 use std::str;
@@ -163,5 +163,17 @@ pub fn claim(alloc: Global, words: &[Bytes]) -> Result<Claim, Fault> {
         machine: number(machine)?,
         spec: spec(amount, prec)?,
         victims: tasks(alloc, victims)?,
+    })
+}
+
+/// A running task of four words: its name, the machine, the amount and the precedence.
+pub fn running_task(words: &[Bytes]) -> Result<Task, Fault> {
+    let [key, machine, amount, prec] = words else {
+        return Err(Fault::UnknownCall);
+    };
+    Ok(Task {
+        key: task(key)?,
+        machine: number(machine)?,
+        spec: spec(amount, prec)?,
     })
 }

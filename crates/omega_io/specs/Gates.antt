@@ -4,7 +4,7 @@ use Rattle.omega_io.specs.declared.edges.Point.{Point}
 use Rattle.omega_io.specs.declared.held.Hold.{Hold}
 
 -- a gate's order: each scheduler that is held, at which point, and until which scheduler has come to which
--- point; and how often a caller looks at most
+-- point; and how often a caller looks at most in one hold
 pub record GateState : Type 0 where
   pub order : List (ℕ × Point × ℕ × Point)
   pub looks : ℕ

@@ -63,8 +63,8 @@ impl Hold {
 /// A gate with an order: each hold of it stops a scheduler at a point until another scheduler has
 /// come to a point. A hold ends too once its caller has looked a bounded number of times.
 ///
-/// A contract knows the order, and how often a caller looks at most. It knows nothing of who has
-/// come where.
+/// A contract knows the order, and how often a caller looks at most in one hold. It knows nothing
+/// of who has come where.
 #[derive(Drop)]
 pub struct HeldGate {
     holds: Vec<Hold>,

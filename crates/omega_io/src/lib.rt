@@ -1,7 +1,7 @@
 //! The edges of the program: tables that are read, a sink that is written, and a gate.
 //!
 //! The three traits say what a read, a write and a gate may do. The objects in memory serve
-//! tests, the steady ones never fail, and the real ones read a folder and write to standard
+//! tests, the steady tables never fail, and the real objects read a folder and write to standard
 //! output. Of the gates one returns at once, and one holds schedulers in an order.
 #![tactic(auto)]
 
@@ -21,7 +21,7 @@ pub use folder::FolderTables;
 pub use held::HeldGate;
 pub use memory::{MemorySink, MemoryTables};
 pub use stdout::StdoutSink;
-pub use steady::{SteadySink, SteadyTables};
+pub use steady::SteadyTables;
 pub use writing::write_all;
 
 #[cfg(test)]

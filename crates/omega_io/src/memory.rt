@@ -11,16 +11,16 @@ use std::alloc::Global;
 
 // The unread bytes of one table, and its faults.
 #[derive(Drop)]
-pub struct Held {
+pub struct TableInMemory {
     unread: Unread,
     faults: u64,
 }
 
-impl Held {
-    fn new(bytes: Bytes) -> Held
+impl TableInMemory {
+    fn new(bytes: Bytes) -> TableInMemory
         ensures { result ≡ record { unread = bytes; faults = 0 } }
     {
-        Held {
+        TableInMemory {
             unread: Unread::new(bytes),
             faults: 0,
         }
@@ -49,7 +49,7 @@ impl Held {
 pub struct MemoryTables {
     alloc: Global,
     folder: Option<Text>,
-    held: ByTable<Held>,
+    held: ByTable<TableInMemory>,
     largest: usize,
     calls: Calls,
     ghost cuts: { 0 < largest },
@@ -71,12 +71,12 @@ impl MemoryTables {
             alloc,
             folder: None,
             held: ByTable {
-                machine_events: Held::new(machines),
-                machine_attributes: Held::new(attributes),
-                task_events: Held::new(tasks),
-                task_constraints: Held::new(constraints),
-                mapreduce_jobs: Held::new(jobs),
-                machine_disk: Held::new(disks),
+                machine_events: TableInMemory::new(machines),
+                machine_attributes: TableInMemory::new(attributes),
+                task_events: TableInMemory::new(tasks),
+                task_constraints: TableInMemory::new(constraints),
+                mapreduce_jobs: TableInMemory::new(jobs),
+                machine_disk: TableInMemory::new(disks),
             },
             largest: usize::MAX,
             calls: Calls::new(),
@@ -150,7 +150,8 @@ pub struct MemorySink {
 }
 
 impl MemorySink {
-    /// An empty sink with room for `most` bytes, so that its writes take no memory.
+    /// An empty sink with room for `most` bytes, so that its writes take no memory. A write once it
+    /// is full fails.
     pub fn new(alloc: Global, most: u64) -> Result<MemorySink, NoMemory>
         ensures written { IfOk result (λ sink. ⟦<MemorySink as Sink>⟧.written sink ≡ Some []) }
         ensures count { IfOk result (λ sink. ⟦<MemorySink as Sink>⟧.faults sink ≡ 0) }

@@ -1,10 +1,10 @@
-//! Tables and a sink that never fail.
+//! Tables that never fail.
 ghost use Rattle.std.specs.Prelude.{◌≡◌, None, Some};
 ghost use Rattle.omega_io.specs.ByTable.{bytes_of};
 ghost use Rattle.omega_model.specs.declared.rows.Table.{Table};
 
 use crate::by_table::ByTable;
-use crate::edges::{Failed, Sink, Tables};
+use crate::edges::{Failed, Tables};
 use crate::unread::Unread;
 use omega_model::{Bytes, NoMemory, Table, Text};
 use std::alloc::Global;
@@ -61,34 +61,6 @@ impl Tables for SteadyTables {
     }
 
     fn faults(&self, _table: Table) -> u64 {
-        0
-    }
-}
-
-/// A sink that takes every piece whole, keeps none of it and tells no content. Its count is the
-/// constant 0. A write takes no memory.
-#[derive(Clone, Copy, Debug)]
-pub struct SteadySink;
-
-impl SteadySink {
-    /// The sink.
-    pub fn new() -> SteadySink {
-        SteadySink
-    }
-}
-
-impl Sink for SteadySink {
-    ghost use Rattle.std.specs.Prelude.{None};
-
-    ghost written = { λ _. None };
-
-    ghost faults = { λ _. 0 };
-
-    fn write(&mut self, piece: &[u8]) -> Result<usize, Failed> {
-        Ok(piece.len())
-    }
-
-    fn faults(&self) -> u64 {
         0
     }
 }

@@ -1,7 +1,7 @@
 //! Reads and writes that are cut or fail, real files, standard output, and holds at a gate.
 use crate::{
     Failed, FolderTables, Gate, HeldGate, MemorySink, MemoryTables, PassGate, Point, Sink,
-    StdoutSink, SteadySink, SteadyTables, Tables, write_all,
+    StdoutSink, SteadyTables, Tables, write_all,
 };
 use omega_model::{Bytes, NoMemory, Seq, Table};
 use std::alloc::{AllocError, Global};
@@ -212,15 +212,9 @@ fn failing_sinks(rt: HostRuntime) -> Result<(), Fail> {
     Ok(())
 }
 
-// What the real sink and the steady one answer to a whole text, and their faults.
-fn write_outside(rt: &HostRuntime) -> [(Result<(), Failed>, u64); 2] {
-    let real = write_text(&mut StdoutSink::new(rt));
-    [real, write_text(&mut SteadySink::new())]
-}
-
 #[test]
 fn outside(rt: HostRuntime) {
-    assert_eq!(rt; write_outside(&rt), [(Ok(()), 0); 2]);
+    assert_eq!(rt; write_text(&mut StdoutSink::new(&rt)), (Ok(()), 0));
     PassGate.at(1, Point::Planned);
 }
 

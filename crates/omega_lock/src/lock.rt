@@ -39,6 +39,9 @@ impl<T: Counted> Model for Lock<T> {
 impl<T: Counted> Lock<T> {
     /// Makes a lock around a value, and a seat for each caller, which has so many turns. The seat at
     /// place `i` has the number `i`. Where memory runs out the value is handed back. May wait.
+    ///
+    /// That the seats are `new_seats` says how many there are and which stands at a place too; both
+    /// have clauses of their own for callers that know nothing of that definition.
     #[tactic(auto, using(crate::proofs::NewSeats::seats_at, crate::proofs::NewSeats::seats_count))]
     pub fn begin<R: Wait>(
         rt: &R,
@@ -50,6 +53,7 @@ impl<T: Counted> Lock<T> {
         requires callers { (1 ≤ callers) × (callers ≤ 32) }
         requires short { length (T.entries value) < 2 ^ 63 }
         ensures callers { IfOk result (λ made. made.0.callers ≡ callers) }
+        ensures turns { IfOk result (λ made. made.0.turns ≡ turns) }
         ensures first { IfOk result (λ made. made.0.first ≡ T.entries value) }
         ensures count { IfOk result (λ made. length made.1.items ≡ callers) }
         ensures seat { IfOk result (λ made. (i : ℕ) → i < callers

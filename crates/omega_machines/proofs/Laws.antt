@@ -1,5 +1,5 @@
 -- What the words on tables say of one another, for proofs over a table.
-use Rattle.std.proofs.Common.{◌≡◌, ℕ, ◌≢◌, Bool, true, false, cond, ◌||◌, nat_eq, List, [], ◌∷◌, ◌++◌, Option, Some, None, is_some, IsTrue, IsSomeAnd, refl, sym, ap, ◌∙◌, subst, arith, if◌then◌else◌, ◌==◌}
+use Rattle.std.proofs.Common.{◌≡◌, ℕ, ◌≢◌, Bool, true, false, cond, ◌||◌, nat_eq, List, [], ◌∷◌, ◌++◌, Option, Some, None, is_some, IsTrue, refl, sym, ap, ◌∙◌, subst, if◌then◌else◌, ◌==◌}
 use Rattle.std.specs.List.{All, list_any}
 use Rattle.std.specs.Option.{option_map, option_map_or, option_and_then}
 use Rattle.std.proofs.lemmas.Bool.{eqb-true, eq-eqb}
@@ -8,12 +8,10 @@ use Rattle.std.proofs.lemmas.List.Elements.{All-nil, All-cons, All-head, All-tai
 use Rattle.std.proofs.lemmas.List.Folds.{list_any-append}
 use Rattle.std.proofs.lemmas.Option.{none-some, same_Some}
 use Rattle.omega_model.specs.Cell.{machine_at}
-use Rattle.omega_model.specs.Fields.{greatest}
 use Rattle.omega_model.specs.Machines.{change, is_listed, new_machine, ensured}
-use Rattle.omega_model.specs.Need.{Fits, nothing}
-use Rattle.omega_model.specs.declared.cells.Need.{Need}
+use Rattle.omega_model.specs.Need.{nothing}
 use Rattle.omega_model.specs.declared.cells.Machine.{Machine}
-use Rattle.omega_machines.specs.Table.{MachineState, machines_of, state_at, used, use_at, free_if_up, free_at, seq_at, change_state, new_state, ensured_states, charged, IsBounded, IsTable}
+use Rattle.omega_machines.specs.Table.{MachineState, machines_of, state_at, used, use_at, free_if_up, free_at, seq_at, change_state, new_state, ensured_states, IsBounded}
 use Rattle.omega_model.proofs.Lists.{by_answer}
 
 -- the machine of a number is that of its state
@@ -133,29 +131,3 @@ found_bounded (s ∷ ss) id state all found =
     by_answer (s.machine.id == id)
     (λ t. subst IsBounded (same_Some s state (rw t at found)) (All-head IsBounded s ss all))
     (λ f. found_bounded ss id state (All-tail IsBounded s ss all) (rw f at found))
-
--- no more is in use on a machine than the greatest quantity
-pub use_bounded : (table : List MachineState) (id : ℕ) → IsTable table → Fits (use_at table id) greatest
-use_bounded table id held = by (state_at table id) refl
-  where
-    by : (o : Option MachineState) → state_at table id ≡ o → Fits (option_map_or used o nothing) greatest
-    by None found = (omega arith, omega arith)
-    by (Some state) found =
-        let bounded = found_bounded table id state held.bounded found in
-        (omega (arith, bounded.cap.0), omega (arith, bounded.cap.1))
-
--- what was charged is in use
-pub use_charged : (table : List MachineState) (id : ℕ) (need : Need) → IsTable table → IsSomeAnd (free_at table id) (λ free. Fits need free)
-    → Fits need (use_at (change_state id (charged need) table) id)
-use_charged table id need held room =
-    subst (λ o. Fits need (option_map_or used o nothing)) (sym (state_changed id (charged need) (λ _. refl) table)) (by (state_at table id) refl room)
-  where
-    by : (o : Option MachineState) → state_at table id ≡ o → IsSomeAnd (option_and_then free_if_up o) (λ free. Fits need free) → Fits need (option_map_or used (option_map (charged need) o) nothing)
-    by None found there = absurd there
-    by (Some state) found there =
-        let bounded = found_bounded table id state held.bounded found in
-        by_answer state.machine.up
-        (λ t.
-        let fits : Fits need state.free = rw t at there in
-        (omega (arith, bounded.free.0, fits.0), omega (arith, bounded.free.1, fits.1)))
-        (λ f. absurd (rw f at there))

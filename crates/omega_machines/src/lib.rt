@@ -11,8 +11,6 @@
 mod attrs;
 mod load;
 mod table;
-#[cfg(test)]
-mod tests;
 
 use omega_model::{Machine, Need};
 pub use table::MachineTable;

@@ -14,63 +14,63 @@ use omega_model::{Extra, Need};
 /// They are what is missing to the target, which is `activities`, or under `Extra::Relative` at most
 /// four times `asked`. Under `Extra::Cap` they are the most of these with which the use of each
 /// component stays within the percentage of its capacity; 0 where it is beyond that already. `need`
-/// is what each asks for, `used` and `cap` are what is in use and the capacity of the whole cell.
+/// is what each asks for, `used` is what is in use in the whole cell, and `capacity` its capacity.
 /// Any amounts and any percentage are allowed. Three divisions at most; takes no memory.
 pub fn extras(
-    policy: Extra,
+    choice: Extra,
     activities: u32,
     asked: u32,
     running: u32,
     need: Need,
     used: Need,
-    cap: Need,
+    capacity: Need,
 ) -> u32
-    ensures { result ≡ extras policy activities asked running need used cap }
+    ensures { result ≡ extras choice activities asked running need used capacity }
 {
-    let missing = target(policy, activities, asked)
+    let missing = target(choice, activities, asked)
         .saturating_sub(asked)
         .saturating_sub(running);
-    allowed(policy, missing, need, used, cap)
+    allowed(choice, missing, need, used, capacity)
 }
 
 /// How many tasks a job should have, the wanted ones among them.
-fn target(policy: Extra, activities: u32, asked: u32) -> u32
-    ensures { result ≡ target policy activities asked }
+fn target(choice: Extra, activities: u32, asked: u32) -> u32
+    ensures { result ≡ target choice activities asked }
 {
-    match policy {
+    match choice {
         Extra::Max | Extra::Cap(_) => activities,
         Extra::Relative => activities.min(asked.saturating_mul(4)),
     }
 }
 
-/// As many of `count` extra tasks as the policy allows.
-fn allowed(policy: Extra, count: u32, need: Need, used: Need, cap: Need) -> u32
-    ensures { result ≡ allowed policy count need used cap }
+/// As many of `count` extra tasks as the choice allows.
+fn allowed(choice: Extra, count: u32, need: Need, used: Need, capacity: Need) -> u32
+    ensures { result ≡ allowed choice count need used capacity }
 {
-    match policy {
+    match choice {
         Extra::Max | Extra::Relative => count,
-        Extra::Cap(percent) => most_within(percent, count, need, used, cap),
+        Extra::Cap(percent) => most_within(percent, count, need, used, capacity),
     }
 }
 
 /// The most extra tasks, up to `count`, that keep the use of each component within a percentage of
 /// its capacity; 0 where there is no such number.
-fn most_within(percent: u32, count: u32, need: Need, used: Need, cap: Need) -> u32
-    ensures { result ≡ allowed (Cap percent) count need used cap }
+fn most_within(percent: u32, count: u32, need: Need, used: Need, capacity: Need) -> u32
+    ensures { result ≡ allowed (Cap percent) count need used capacity }
 {
-    let cpu = most_of(percent, count, need.cpu, used.cpu, cap.cpu);
-    let mem = most_of(percent, count, need.mem, used.mem, cap.mem);
-    let disk = most_of(percent, count, need.disk, used.disk, cap.disk);
+    let cpu = most_of(percent, count, need.cpu, used.cpu, capacity.cpu);
+    let mem = most_of(percent, count, need.mem, used.mem, capacity.mem);
+    let disk = most_of(percent, count, need.disk, used.disk, capacity.disk);
     cpu.min(mem).min(disk)
 }
 
 /// The most extra tasks, up to `count`, that keep the use of one component within a percentage of
 /// its capacity; 0 where there is no such number.
-fn most_of(percent: u32, count: u32, need: u64, used: u64, cap: u64) -> u32
+fn most_of(percent: u32, count: u32, need: u64, used: u64, capacity: u64) -> u32
     ensures bound { result ≤ count }
-    ensures most { FineUpTo (KeepsWithin percent need used cap) count result }
+    ensures most { FineUpTo (KeepsWithin percent need used capacity) count result }
 {
-    let bound = u128::from(cap) * u128::from(percent);
+    let bound = u128::from(capacity) * u128::from(percent);
     let Some(spare) = bound.checked_sub(u128::from(used) * 100) else {
         return 0;
     };

@@ -15,6 +15,3 @@ mod table;
 pub use orders::is_among;
 pub use standing::stands_in;
 pub use table::Running;
-
-#[cfg(test)]
-mod tests;

@@ -10,7 +10,7 @@ mod parsing;
 mod reading;
 mod refusal;
 
-pub use limits::{LONGEST_TABLE, MOST_MACHINES, MOST_ROWS, over_limit};
+pub use limits::over_limit;
 pub use parsing::parse_table;
 pub use reading::{read_bytes, read_tables};
 pub use refusal::ReadRefusal;

@@ -6,29 +6,20 @@ ghost use Rattle.omega_tables.specs.Checking.{Holds};
 ghost use Rattle.omega_tables.specs.Reading.{StopsRows};
 
 use crate::refusal::ReadRefusal;
-use omega_model::{AttrRow, Kind, MachineRow, NoMemory, TraceTables};
+use omega_model::{AttrRow, Kind, MOST_MACHINES, MOST_ROWS, MachineRow, NoMemory, TraceTables};
 use std::alloc::Global;
 use std::collections::BTreeSet;
 
-/// How many bytes a table may have: 256 MiB.
-pub const LONGEST_TABLE: usize = 268_435_456;
-
-/// How many rows the six tables may have together.
-pub const MOST_ROWS: u64 = 2_000_000;
-
-/// How many different machines the rows of machines and of attributes may name.
-pub const MOST_MACHINES: u64 = 65_536;
-
 // How many rows the six tables have.
-fn row_count(tables: &TraceTables) -> u64
+fn row_count(tables: &TraceTables) -> usize
     ensures { result ≡ row_count tables.now }
 {
-    tables.machines.as_slice().len() as u64
-        + tables.attrs.as_slice().len() as u64
-        + tables.tasks.as_slice().len() as u64
-        + tables.constraints.as_slice().len() as u64
-        + tables.activities.as_slice().len() as u64
-        + tables.disks.as_slice().len() as u64
+    tables.machines.as_slice().len()
+        + tables.attrs.as_slice().len()
+        + tables.tasks.as_slice().len()
+        + tables.constraints.as_slice().len()
+        + tables.activities.as_slice().len()
+        + tables.disks.as_slice().len()
 }
 
 // Adds the machines of some rows to those that were named before.
@@ -52,13 +43,13 @@ fn add_attr_machines(rows: &[AttrRow], named: &mut BTreeSet<u64>) -> Result<(), 
 }
 
 // How many different machines the rows of machines and of attributes name.
-fn machine_count(alloc: Global, tables: &TraceTables) -> Result<u64, NoMemory>
+fn machine_count(alloc: Global, tables: &TraceTables) -> Result<usize, NoMemory>
     ensures { IfOk result (λ number. number ≡ machine_count tables.now) }
 {
     let mut named = BTreeSet::new(alloc);
     add_machines(tables.machines.as_slice(), &mut named)?;
     add_attr_machines(tables.attrs.as_slice(), &mut named)?;
-    Ok(named.len() as u64)
+    Ok(named.len())
 }
 
 /// The first number that passes its limit: the rows of all six tables above `MOST_ROWS`, then the
@@ -71,11 +62,11 @@ pub fn over_limit(alloc: Global, tables: &TraceTables) -> Result<Option<(Kind, u
 {
     let rows = row_count(tables);
     if rows > MOST_ROWS {
-        return Ok(Some((Kind::Rows, rows)));
+        return Ok(Some((Kind::Rows, rows as u64)));
     }
     let machines = machine_count(alloc, tables)?;
     if machines > MOST_MACHINES {
-        return Ok(Some((Kind::Machines, machines)));
+        return Ok(Some((Kind::Machines, machines as u64)));
     }
     Ok(None)
 }

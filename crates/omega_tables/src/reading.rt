@@ -7,11 +7,11 @@ ghost use Rattle.omega_model.specs.Refusals.{first_refusal, longest_table, table
 ghost use Rattle.omega_model.specs.declared.rows.Table.{Table};
 ghost use Rattle.omega_tables.specs.Reading.{StopsReading, StopsAt, Names, StoppedIn, ComesFirst, HasCause};
 
-use crate::limits::{LONGEST_TABLE, check_rows};
+use crate::limits::check_rows;
 use crate::parsing::parse_table;
 use crate::refusal::ReadRefusal;
 use omega_io::Tables;
-use omega_model::{Bytes, Seq, Table, TraceTables};
+use omega_model::{Bytes, LONGEST_TABLE, Seq, Table, TraceTables};
 use std::alloc::Global;
 
 // The order in which the tables are read.
@@ -25,8 +25,9 @@ const IN_ORDER: [Table; 6] = [
 ];
 
 /// The whole rest of a table. `Fault` comes only where the count of that table rose, or can rise
-/// no further. `TooLong` comes exactly where no fault is answered and the rest has more bytes than
-/// `LONGEST_TABLE`. After any refusal the bytes taken are gone. The other tables stay as they are.
+/// no further. `TooLong` comes only where the rest has more bytes than `LONGEST_TABLE`; then only
+/// it, a fault or want of memory is answered. After any refusal the bytes taken are gone. The
+/// other tables stay as they are.
 pub fn read_bytes<T: Tables>(
     alloc: Global,
     tables: &mut T,

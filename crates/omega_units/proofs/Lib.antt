@@ -2,5 +2,4 @@ pub mod Reading
 pub mod Scaling
 pub mod Tens
 pub mod Parts
-pub mod Writing
 mod Examples

@@ -95,8 +95,8 @@ fn read_significand(text: &[u8]) -> Option<(u128, u128)>
     Some((mantissa, fraction.len() as u128))
 }
 
-/// Whether the exponent is negative, and its digits as a number. `None` exactly where there is no
-/// digit, or another byte behind a sign in front.
+/// Whether the exponent is negative, and its digits as a number. `None` exactly where behind the
+/// sign, if there is one, there is no byte, or a byte that isn't a digit.
 fn read_exponent(text: &[u8]) -> Option<(bool, u128)>
     requires { length text.now ≤ 32 }
     ensures value { result ≡ exponent_of text.now }

@@ -9,9 +9,6 @@ ghost use Rattle.omega_units.specs.Units.{units};
 
 mod decimal;
 mod digits;
-mod printing;
-
-pub use printing::push_u64;
 
 /// Which way a quantity becomes a whole number of units.
 #[derive(Clone, Copy, Debug, PartialEq, Eq)]

@@ -1,7 +1,7 @@
 -- What an answer by `where_it` tells.
 use Rattle.std.proofs.Common.{◌≡◌, Bool, true, false, Some, None, is_some, ap, refl, sym, true≢false}
 use Rattle.std.specs.Prelude.{unwrap_or}
-use Rattle.omega_words.specs.Entries.{where_it}
+use Rattle.omega_words.specs.Choices.{where_it}
 
 pub passed : {X : Type 0} (p : Bool) (v x : X) → Some x ≡ where_it p v → (p ≡ true) × (x ≡ v)
 passed true v x e = (refl, ap (λ o. unwrap_or o x) e)

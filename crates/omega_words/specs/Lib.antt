@@ -1,4 +1,4 @@
 pub mod Built
 pub mod Taken
-pub mod Entries
+pub mod Choices
 pub mod Refusals

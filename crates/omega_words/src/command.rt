@@ -2,11 +2,11 @@
 ghost use Rattle.std.specs.Prelude.{◌≡◌, [], IfErr, IfOk, true, map};
 ghost use Rattle.clap.specs.Faults.{fault_of};
 ghost use Rattle.clap.specs.Words.{app_of, found_of, matches_of, rows_of, takes, with_rule};
-ghost use Rattle.omega_words.specs.Entries.{choice_of};
+ghost use Rattle.omega_words.specs.Choices.{choice_of};
 ghost use Rattle.omega_words.specs.Taken.{app_of_choices, bare_app, command_rule, option_rule};
 
 use crate::WordsRefusal;
-use crate::entries::Entry;
+use crate::choices::Choice;
 use clap::error::ErrorKind;
 use clap::{Arg, ArgMatches, Command};
 use std::alloc::{AllocError, Global};
@@ -34,13 +34,13 @@ fn bare<'a>(alloc: Global) -> Result<Command<'a>, AllocError>
     bare.arg(word)
 }
 
-/// The command with the options of the entries.
-fn command<'a>(alloc: Global, entries: &[Entry<'a>]) -> Result<Command<'a>, AllocError>
-    ensures { IfOk result (λ whole. app_of whole ≡ app_of_choices (map choice_of entries.now)) }
+/// The command with these options.
+fn command<'a>(alloc: Global, choices: &[Choice<'a>]) -> Result<Command<'a>, AllocError>
+    ensures { IfOk result (λ whole. app_of whole ≡ app_of_choices (map choice_of choices.now)) }
 {
     let mut command = bare(alloc)?;
-    for entry in entries {
-        command = with_option(command, alloc, entry.name)?;
+    for choice in choices {
+        command = with_option(command, alloc, choice.name)?;
     }
     Ok(command)
 }
@@ -48,18 +48,18 @@ fn command<'a>(alloc: Global, entries: &[Entry<'a>]) -> Result<Command<'a>, Allo
 /// What `clap` finds in the words. It prints nothing. `Usage` only where it doesn't take them.
 pub fn matches_for<'a>(
     alloc: Global,
-    entries: &[Entry<'a>],
+    choices: &[Choice<'a>],
     words: &'a [&'a str],
 ) -> Result<ArgMatches<'a>, WordsRefusal>
     ensures rows { let given = map (λ word. word.now) words.entry.now in
-        IfOk result (λ m. rows_of (found_of m) ≡ matches_of (app_of_choices (map choice_of entries.now)) given) }
+        IfOk result (λ m. rows_of (found_of m) ≡ matches_of (app_of_choices (map choice_of choices.now)) given) }
     ensures accepted { let given = map (λ word. word.now) words.entry.now in
-        IfOk result (λ _. fault_of (app_of_choices (map choice_of entries.now)) given ≡ []) }
+        IfOk result (λ _. fault_of (app_of_choices (map choice_of choices.now)) given ≡ []) }
     ensures usage { let given = map (λ word. word.now) words.entry.now in
-        IfErr result (λ e. takes (app_of_choices (map choice_of entries.now)) given ≡ true
+        IfErr result (λ e. takes (app_of_choices (map choice_of choices.now)) given ≡ true
         → e ≡ WordsRefusal.NoMemory) }
 {
-    let Ok(command) = command(alloc, entries) else {
+    let Ok(command) = command(alloc, choices) else {
         return Err(WordsRefusal::NoMemory);
     };
     match command.try_get_matches_from(words) {

@@ -1,6 +1,6 @@
 //! The words of the command line, which `clap` reads as one command with options.
 //!
-//! Which words there are is data: the table of `omega_model`, and the part of it that is built.
+//! Which words there are is data: the table of `omega_model`.
 #![tactic(auto)]
 
 ghost use Rattle.std.specs.Prelude.{◌≡◌, IfErr, IfOk, true, map};
@@ -10,8 +10,8 @@ ghost use Rattle.omega_model.specs.WordSettings.{folder_of, settings_of};
 ghost use Rattle.omega_words.specs.Built.{built_words};
 ghost use Rattle.omega_words.specs.Taken.{AreAccepted, are_of_table, folder_in, is_taken, settings_in, text_in};
 
+mod choices;
 mod command;
-mod entries;
 mod matches;
 
 use omega_model::{Settings, Status, Text};
@@ -71,12 +71,12 @@ pub fn read_words(alloc: Global, words: &[&str]) -> Result<Parsed, WordsRefusal>
         IfOk result (λ r. is_plain built_words given ≡ true → r.folder ≡ folder_of given) }
     ensures in_range { IfOk result (λ r. IsInRange r.settings) }
 {
-    let entries = entries::table();
-    let matches = match command::matches_for(alloc, &entries, words) {
+    let choices = choices::table();
+    let matches = match command::matches_for(alloc, &choices, words) {
         Ok(matches) => matches,
         Err(refusal) => return Err(refusal),
     };
-    if !matches::entries_pass(&matches, &entries) {
+    if !matches::choices_pass(&matches, &choices) {
         return Err(WordsRefusal::Usage);
     }
     let Some(command) = matches::command_of(&matches) else {

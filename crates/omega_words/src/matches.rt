@@ -1,13 +1,12 @@
 //! Settings and folder of what `clap` found.
 ghost use Rattle.std.specs.Prelude.{◌≡◌, ◌<◌, ◌≤◌, ◌^◌, false, true, codes, map, option_map};
 ghost use Rattle.std.specs.Option.{option_map_or};
-ghost use Rattle.omega_model.specs.Options.{is_among, is_value};
+ghost use Rattle.omega_model.specs.Options.{is_among, is_value, whole_table};
 ghost use Rattle.omega_model.specs.WordSettings.{command_of, extra_of, folder_by, format_of, is_text, mode_of, preempt_of, rule_of, settings_by};
-ghost use Rattle.omega_words.specs.Built.{built_commands};
-ghost use Rattle.omega_words.specs.Entries.{choice_of, number_or, texts_in, where_it};
+ghost use Rattle.omega_words.specs.Choices.{choice_of, number_or, texts_in, where_it};
 ghost use Rattle.omega_words.specs.Taken.{are_values};
 
-use crate::entries::{self, Entry, Span};
+use crate::choices::{self, Choice, Span};
 use clap::ArgMatches;
 use omega_model::{Command, Extra, Format, Mode, Preempt, Rule, Settings};
 
@@ -19,22 +18,22 @@ fn text_of<'a>(matches: &ArgMatches<'a>, name: &str) -> Option<&'a str>
 }
 
 /// Whether the option isn't given, or its text is a value.
-fn entry_passes<'a>(matches: &ArgMatches<'a>, entry: Entry<'a>) -> bool
-    ensures { let option = choice_of entry.entry in let texts = texts_in matches.now in
+fn choice_passes<'a>(matches: &ArgMatches<'a>, choice: Choice<'a>) -> bool
+    ensures { let option = choice_of choice.entry in let texts = texts_in matches.now in
         result ≡ option_map_or (is_value option.values) (texts option.name) true }
 {
-    match text_of(matches, entry.name) {
+    match text_of(matches, choice.name) {
         None => true,
-        Some(text) => entries::is_value(entry.kind, text),
+        Some(text) => choices::is_value(choice.values, text),
     }
 }
 
 /// Whether each option isn't given, or its text is a value.
-pub fn entries_pass<'a>(matches: &ArgMatches<'a>, entries: &[Entry<'a>]) -> bool
-    ensures { result ≡ are_values (map choice_of entries.now) (texts_in matches.now) }
+pub fn choices_pass<'a>(matches: &ArgMatches<'a>, choices: &[Choice<'a>]) -> bool
+    ensures { result ≡ are_values (map choice_of choices.now) (texts_in matches.now) }
 {
-    for entry in entries {
-        if !entry_passes(matches, *entry) {
+    for choice in choices {
+        if !choice_passes(matches, *choice) {
             return false;
         }
     }
@@ -50,7 +49,7 @@ fn number_of<'a>(matches: &ArgMatches<'a>, name: &str, span: Span, default: u64)
     let Some(text) = text_of(matches, name) else {
         return default;
     };
-    match entries::number_from(text, span) {
+    match choices::number_from(text, span) {
         Some(number) => number,
         None => default,
     }
@@ -111,7 +110,7 @@ fn extra_of<'a>(matches: &ArgMatches<'a>) -> Extra
     ensures { let texts = texts_in matches.now in
         result ≡ extra_of (number_or 0 100 60 (texts (codes "cap"))) (texts (codes "extra")) }
 {
-    let percent = small_number_of(matches, "cap", entries::CAPS, 60);
+    let percent = small_number_of(matches, "cap", choices::CAPS, 60);
     if is_text(matches, "extra", "max") {
         Extra::Max
     } else if is_text(matches, "extra", "cap") {
@@ -131,10 +130,10 @@ fn format_of<'a>(matches: &ArgMatches<'a>) -> Format
     }
 }
 
-/// The command, where it is built.
+/// The command, where the table has it.
 pub fn command_of<'a>(matches: &ArgMatches<'a>) -> Option<Command>
     ensures { let text = texts_in matches.now (codes "command") in
-        result ≡ where_it (option_map_or (is_among built_commands) text false) (command_of text) }
+        result ≡ where_it (option_map_or (is_among whole_table.commands) text false) (command_of text) }
 {
     match text_of(matches, "command") {
         Some("replay") => Some(Command::Replay),
@@ -151,18 +150,18 @@ pub fn settings_of<'a>(matches: &ArgMatches<'a>, command: Command) -> Settings
     let default = Settings::default();
     Settings {
         command,
-        seed: number_of(matches, "seed", entries::SEEDS, default.seed),
-        batch: small_number_of(matches, "batch", entries::BATCHES, default.batch),
+        seed: number_of(matches, "seed", choices::SEEDS, default.seed),
+        batch: small_number_of(matches, "batch", choices::BATCHES, default.batch),
         rule: rule_of(matches),
         mode: mode_of(matches),
         preempt: preempt_of(matches),
         extra: extra_of(matches),
-        tries: small_number_of(matches, "tries", entries::TRIES, default.tries),
-        give_up: small_number_of(matches, "give-up", entries::GIVE_UPS, default.give_up),
-        window: number_of(matches, "window", entries::WINDOWS, default.window),
+        tries: small_number_of(matches, "tries", choices::TRIES, default.tries),
+        give_up: small_number_of(matches, "give-up", choices::GIVE_UPS, default.give_up),
+        window: number_of(matches, "window", choices::WINDOWS, default.window),
         format: format_of(matches),
-        machines: small_number_of(matches, "machines", entries::MACHINES, default.machines),
-        jobs: small_number_of(matches, "jobs", entries::JOBS, default.jobs),
+        machines: small_number_of(matches, "machines", choices::MACHINES, default.machines),
+        jobs: small_number_of(matches, "jobs", choices::JOBS, default.jobs),
     }
 }
 

@@ -4,7 +4,7 @@ use Rattle.omega_model.specs.Options.{Choice}
 use Rattle.omega_model.specs.WordSettings.{folder_by, settings_by}
 use Rattle.omega_words.specs.Taken.{app_of_choices, are_values}
 use Rattle.clap.specs.Words.{Row, Text, found_of, rows_of}
-use Rattle.omega_words.specs.Entries.{choice_of, texts_of}
+use Rattle.omega_words.specs.Choices.{choice_of, texts_of}
 use Rattle.omega_model.specs.declared.settings.Command.{Command}
 use Rattle.omega_words.proofs.Built.{and_false}
 use Rattle.omega_words.proofs.Tables.{not_taken, plain_is_taken, rows_are, takes_are, texts_are, values_hold}
@@ -16,23 +16,23 @@ use Rattle.omega_words.proofs.read_words.Goals as goal
 pub returns-in-Err-clause-never_on_plain : goal.returns-in-Err-clause-never_on_plain
 returns-in-Err-clause-never_on_plain c =
     let words : List Text = map (λ s. s.now) c.args.words.now in
-    λ plain. c.in-Err.ensures.usage (takes_are words (map choice_of c.table-entries.result) c.table-entries.ensures (plain_is_taken words plain))
+    λ plain. c.in-Err.ensures.usage (takes_are words (map choice_of c.table-choices.result) c.table-choices.ensures (plain_is_taken words plain))
 
-pub returns-then-not-entries_pass-clause-usage : goal.returns-then-not-entries_pass-clause-usage
-returns-then-not-entries_pass-clause-usage c =
+pub returns-then-not-choices_pass-clause-usage : goal.returns-then-not-choices_pass-clause-usage
+returns-then-not-choices_pass-clause-usage c =
     let words : List Text = map (λ s. s.now) c.args.words.now in
-    let fails : are_values (map choice_of c.table-entries.result) (texts_of (rows_of (found_of c.in-Ok.matches))) ≡ false = sym c.if-not-entries_pass.ensures in
-    λ taken. absurd (not_taken words (map choice_of c.table-entries.result) _ c.table-entries.ensures c.in-Ok.ensures.rows (and_false _ _ fails) taken)
+    let fails : are_values (map choice_of c.table-choices.result) (texts_of (rows_of (found_of c.in-Ok.matches))) ≡ false = sym c.if-not-choices_pass.ensures in
+    λ taken. absurd (not_taken words (map choice_of c.table-choices.result) _ c.table-choices.ensures c.in-Ok.ensures.rows (and_false _ _ fails) taken)
 
-pub returns-then-not-entries_pass-clause-never_on_plain : goal.returns-then-not-entries_pass-clause-never_on_plain
-returns-then-not-entries_pass-clause-never_on_plain c = λ plain. returns-then-not-entries_pass-clause-usage c (plain_is_taken (map (λ s. s.now) c.args.words.now) plain)
+pub returns-then-not-choices_pass-clause-never_on_plain : goal.returns-then-not-choices_pass-clause-never_on_plain
+returns-then-not-choices_pass-clause-never_on_plain c = λ plain. returns-then-not-choices_pass-clause-usage c (plain_is_taken (map (λ s. s.now) c.args.words.now) plain)
 
 pub returns-in_default-clause-usage : goal.returns-in_default-clause-usage
 returns-in_default-clause-usage c =
     let words : List Text = map (λ s. s.now) c.args.words.now in
     let unknown = failed _ _ c.in_default.ensures in
-    λ taken. absurd (not_taken words (map choice_of c.table-entries.result) _ c.table-entries.ensures c.in-Ok.ensures.rows
-    (ap (λ b. b && are_values (map choice_of c.table-entries.result) (texts_of (rows_of (found_of c.in-Ok.matches)))) unknown) taken)
+    λ taken. absurd (not_taken words (map choice_of c.table-choices.result) _ c.table-choices.ensures c.in-Ok.ensures.rows
+    (ap (λ b. b && are_values (map choice_of c.table-choices.result) (texts_of (rows_of (found_of c.in-Ok.matches)))) unknown) taken)
 
 pub returns-in_default-clause-never_on_plain : goal.returns-in_default-clause-never_on_plain
 returns-in_default-clause-never_on_plain c = λ plain. returns-in_default-clause-usage c (plain_is_taken (map (λ s. s.now) c.args.words.now) plain)
@@ -41,15 +41,15 @@ pub returns-in-Ok-from_str-clause-values : goal.returns-in-Ok-from_str-clause-va
 returns-in-Ok-from_str-clause-values c =
     let words : List Text = map (λ s. s.now) c.args.words.now in
     let known = passed _ _ _ c.in-Some.ensures in
-    let pass : are_values (map choice_of c.table-entries.result) (texts_of (rows_of (found_of c.in-Ok.matches))) ≡ true = sym c.if-not-entries_pass.ensures in
-    values_hold words (map choice_of c.table-entries.result) _ c.table-entries.ensures c.in-Ok.ensures.rows known.0 pass
+    let pass : are_values (map choice_of c.table-choices.result) (texts_of (rows_of (found_of c.in-Ok.matches))) ≡ true = sym c.if-not-choices_pass.ensures in
+    values_hold words (map choice_of c.table-choices.result) _ c.table-choices.ensures c.in-Ok.ensures.rows known.0 pass
 
 pub returns-in-Ok-from_str-clause-plain : goal.returns-in-Ok-from_str-clause-plain
 returns-in-Ok-from_str-clause-plain c =
     let words : List Text = map (λ s. s.now) c.args.words.now in
     let known = passed _ _ _ c.in-Some.ensures in
     let rows : List Row = rows_of (found_of c.in-Ok.matches) in
-    let are = rows_are words (map choice_of c.table-entries.result) rows c.table-entries.ensures c.in-Ok.ensures.rows in
+    let are = rows_are words (map choice_of c.table-choices.result) rows c.table-choices.ensures c.in-Ok.ensures.rows in
     λ plain. c.settings_of-settings.ensures ∙ ap (λ (k : Command). record (settings_by (texts_of rows)) { command = k }) known.1
     ∙ ap (λ (rs : List Row). settings_by (texts_of rs)) are ∙ ap settings_by (texts_are words plain)
 
@@ -57,13 +57,13 @@ pub returns-in-Ok-from_str-clause-plain_folder : goal.returns-in-Ok-from_str-cla
 returns-in-Ok-from_str-clause-plain_folder c =
     let words : List Text = map (λ s. s.now) c.args.words.now in
     let rows : List Row = rows_of (found_of c.in-Ok.matches) in
-    let are = rows_are words (map choice_of c.table-entries.result) rows c.table-entries.ensures c.in-Ok.ensures.rows in
+    let are = rows_are words (map choice_of c.table-choices.result) rows c.table-choices.ensures c.in-Ok.ensures.rows in
     λ plain. c.of.ensures ∙ c.in-Ok-from_str.ensures.ok ∙ c.folder_of.ensures ∙ ap (λ (rs : List Row). folder_by (texts_of rs)) are ∙ ap folder_by (texts_are words plain)
 
 pub returns-in-Ok-from_str-clause-accepted : goal.returns-in-Ok-from_str-clause-accepted
 returns-in-Ok-from_str-clause-accepted c =
     let words : List Text = map (λ s. s.now) c.args.words.now in
-    ap (λ (os : List Choice). fault_of (app_of_choices os) words) (sym c.table-entries.ensures) ∙ c.in-Ok.ensures.accepted
+    ap (λ (os : List Choice). fault_of (app_of_choices os) words) (sym c.table-choices.ensures) ∙ c.in-Ok.ensures.accepted
 
 pub returns-in-Ok-from_str-clause-in_range : goal.returns-in-Ok-from_str-clause-in_range
 returns-in-Ok-from_str-clause-in_range c =

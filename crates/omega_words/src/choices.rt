@@ -1,8 +1,8 @@
-//! The options that are built, and which texts are their values.
+//! The options, and which texts are their values.
 ghost use Rattle.std.specs.Prelude.{◌≡◌, ◌≤◌, IfSome, map};
 ghost use Rattle.omega_model.specs.Options.{is_among, is_value, number_from};
 ghost use Rattle.omega_words.specs.Built.{built_words};
-ghost use Rattle.omega_words.specs.Entries.{choice_of, values_of};
+ghost use Rattle.omega_words.specs.Choices.{choice_of, values_of};
 
 /// The numbers from `low` up to `high`.
 #[derive(Clone, Copy)]
@@ -13,7 +13,7 @@ pub struct Span {
 
 /// What an option's value may be.
 #[derive(Clone, Copy)]
-pub enum Kind<'a> {
+pub enum Values<'a> {
     Folder,
     Number(Span),
     OneOf(&'a [&'a str]),
@@ -21,9 +21,9 @@ pub enum Kind<'a> {
 
 /// An option.
 #[derive(Clone, Copy)]
-pub struct Entry<'a> {
+pub struct Choice<'a> {
     pub name: &'a str,
-    pub kind: Kind<'a>,
+    pub values: Values<'a>,
 }
 
 // The numbers of each option that has numbers.
@@ -59,32 +59,32 @@ pub const JOBS: Span = Span {
     high: 20_000,
 };
 
-/// An option of this name and kind.
-fn make_entry<'a>(name: &'a str, kind: Kind<'a>) -> Entry<'a>
-    ensures { choice_of result ≡ (record { name = name.entry.now; values = values_of kind.entry }) }
+/// An option with this name and these values.
+fn make_choice<'a>(name: &'a str, values: Values<'a>) -> Choice<'a>
+    ensures { choice_of result ≡ (record { name = name.entry.now; values = values_of values.entry }) }
 {
-    Entry { name, kind }
+    Choice { name, values }
 }
 
 /// The options of the table.
-pub fn table() -> [Entry<'static>; 14]
+pub fn table() -> [Choice<'static>; 14]
     ensures { map choice_of result ≡ built_words.choices }
 {
     [
-        make_entry("tables", Kind::Folder),
-        make_entry("seed", Kind::Number(SEEDS)),
-        make_entry("batch", Kind::Number(BATCHES)),
-        make_entry("rule", Kind::OneOf(&["fine", "coarse"])),
-        make_entry("mode", Kind::OneOf(&["incremental", "gang"])),
-        make_entry("preempt", Kind::OneOf(&["none", "service", "all"])),
-        make_entry("extra", Kind::OneOf(&["max", "cap", "relative"])),
-        make_entry("cap", Kind::Number(CAPS)),
-        make_entry("tries", Kind::Number(TRIES)),
-        make_entry("give-up", Kind::Number(GIVE_UPS)),
-        make_entry("window", Kind::Number(WINDOWS)),
-        make_entry("format", Kind::OneOf(&["text", "json"])),
-        make_entry("machines", Kind::Number(MACHINES)),
-        make_entry("jobs", Kind::Number(JOBS)),
+        make_choice("tables", Values::Folder),
+        make_choice("seed", Values::Number(SEEDS)),
+        make_choice("batch", Values::Number(BATCHES)),
+        make_choice("rule", Values::OneOf(&["fine", "coarse"])),
+        make_choice("mode", Values::OneOf(&["incremental", "gang"])),
+        make_choice("preempt", Values::OneOf(&["none", "service", "all"])),
+        make_choice("extra", Values::OneOf(&["max", "cap", "relative"])),
+        make_choice("cap", Values::Number(CAPS)),
+        make_choice("tries", Values::Number(TRIES)),
+        make_choice("give-up", Values::Number(GIVE_UPS)),
+        make_choice("window", Values::Number(WINDOWS)),
+        make_choice("format", Values::OneOf(&["text", "json"])),
+        make_choice("machines", Values::Number(MACHINES)),
+        make_choice("jobs", Values::Number(JOBS)),
     ]
 }
 
@@ -111,13 +111,13 @@ fn is_among(names: &[&str], text: &str) -> bool
     false
 }
 
-/// Whether the text is a value of the kind.
-pub fn is_value<'a>(kind: Kind<'a>, text: &str) -> bool
-    ensures { result ≡ is_value (values_of kind.entry) text.now }
+/// Whether the text is one of the values.
+pub fn is_value<'a>(values: Values<'a>, text: &str) -> bool
+    ensures { result ≡ is_value (values_of values.entry) text.now }
 {
-    match kind {
-        Kind::Folder => true,
-        Kind::Number(span) => number_from(text, span).is_some(),
-        Kind::OneOf(names) => is_among(names, text),
+    match values {
+        Values::Folder => true,
+        Values::Number(span) => number_from(text, span).is_some(),
+        Values::OneOf(names) => is_among(names, text),
     }
 }

@@ -4,19 +4,19 @@ use Rattle.std.specs.Option.{option_and_then}
 use Rattle.clap.specs.Words.{Row, first_of, found_of, rows_of}
 use Rattle.clap.specs.declared.parser.matches.ArgMatches.{ArgMatches}
 use Rattle.omega_model.specs.Options.{Choice, Values, a_folder, a_number, one_of, number_from}
-use Rattle.omega_words.specs.declared.entries.Entry.{Entry}
-use Rattle.omega_words.specs.declared.entries.Kind.{Kind}
-use Rattle.omega_words.specs.declared.entries.Kind.TheVariants.{Folder, Number, OneOf}
+use Rattle.omega_words.specs.declared.choices.Choice.{Choice as CodeChoice}
+use Rattle.omega_words.specs.declared.choices.Values.{Values as CodeValues}
+use Rattle.omega_words.specs.declared.choices.Values.TheVariants.{Folder, Number, OneOf}
 
--- the values of a kind
-abbrev pub values_of : Kind → Values
+-- the values that the code has, as those of the definition
+abbrev pub values_of : CodeValues → Values
 values_of Folder = a_folder
 values_of (Number span) = a_number span.low span.high
 values_of (OneOf names) = one_of (map (λ name. name.now) names.now)
 
--- the option of an entry
-abbrev pub choice_of : Entry → Choice
-choice_of entry = record { name = entry.name.now; values = values_of entry.kind }
+-- the option that the code has, as one of the definition
+abbrev pub choice_of : CodeChoice → Choice
+choice_of choice = record { name = choice.name.now; values = values_of choice.values }
 
 -- the text that rows of matches have for a name
 abbrev pub texts_of : List Row → List ℕ → Option (List ℕ)
