@@ -201,6 +201,7 @@ fn list(
         _ => Err(Fault::UnknownCall),
     }
 }
+
 /// Tasks come and go. Appends how many, and how many a machine has meanwhile.
 fn many(
     running: &mut Running,
