@@ -1,16 +1,14 @@
 -- The bytes of a line of each kind, as text and as JSON, by computing the definitions. Some refusals stand
 -- here alone, since no run comes to them: each scheduler plans on machines and tasks that its copy knows.
-use Rattle.std.proofs.Common.{◌≡◌, ℕ, List, [], ◌∷◌, ◌++◌, codes, map, refl}
+use Rattle.std.proofs.Common.{◌≡◌, ℕ, false, List, [], ◌∷◌, ◌++◌, codes, map, refl}
 use Rattle.std.specs.Fmt.{digits}
 use Rattle.std.specs.List.{flat_map}
 use Rattle.omega_model.specs.Report.{Line, claim_lines, entry_lines}
-use Rattle.omega_model.specs.ReportCounts.{Counts}
 use Rattle.omega_model.specs.ReportForms.{in_format}
 use Rattle.omega_model.specs.ReportLines.{counts_line, first_line}
 use Rattle.omega_model.specs.declared.cells.Need.{Need}
 use Rattle.omega_model.specs.declared.cells.TaskKey.{TaskKey}
 use Rattle.omega_model.specs.declared.claims.Claim.{Claim}
-use Rattle.omega_model.specs.declared.claims.Judgement.{Judgement}
 use Rattle.omega_model.specs.declared.claims.Mode.TheVariants.{Incremental}
 use Rattle.omega_model.specs.declared.claims.Rule.TheVariants.{Fine}
 use Rattle.omega_model.specs.declared.claims.Verdict.{Verdict}

@@ -1,38 +1,33 @@
 -- Each entry of a lawful history could be applied to the state of those before it.
-use Rattle.std.proofs.Common.{◌≡◌, ℕ, zero, suc, ◌+◌, ◌-◌, ◌^◌, ◌<◌, ◌≤◌, Bool, true, false, List, [], ◌∷◌, ◌++◌, map, take, drop, length, slice_get, nat_eq, Option, Some, None, refl, sym, ap, subst, ◌∙◌, arith, inl, inr, append_assoc, append-nil, unwrap_or, if◌then◌else◌, ◌==◌}
+use Rattle.std.proofs.Common.{◌≡◌, ℕ, zero, suc, ◌+◌, ◌^◌, ◌<◌, ◌≤◌, true, false, List, [], ◌∷◌, ◌++◌, map, take, drop, length, slice_get, nat_eq, Option, Some, None, refl, sym, ap, subst, ◌∙◌, arith, inl, inr, append_assoc, append-nil, unwrap_or, if◌then◌else◌, ◌==◌}
 use Rattle.std.specs.Prelude.{All, IfSome, IsSomeAnd, nat_lt}
 use Rattle.std.specs.List.{filter, fold, last_or, IsDistinct, AllByRecursion as Each}
-use Rattle.std.proofs.lemmas.Bool.{cases_lt}
 use Rattle.std.proofs.lemmas.List.{length-append, length-map, length-take-le, take-append-drop}
 use Rattle.std.proofs.lemmas.List.Elements.{All-head, All-tail}
 use Rattle.std.proofs.lemmas.List.Sums.{count_by-le-length}
 use Rattle.std.proofs.lemmas.Option.{none-some, slice_get_within}
 use Rattle.omega_board.proofs.Rules.{reply_may}
 use Rattle.omega_model.proofs.Growing.{by_place_push, state_push}
-use Rattle.omega_model.proofs.InOrder.{key_same}
 use Rattle.omega_model.proofs.Listed.{each_changed, each_ensured, numbers_changed, numbers_ensured}
-use Rattle.omega_model.proofs.Lists.{by_answer, each_append, each_both, each_filter, each_map, each_of, found_passes}
+use Rattle.omega_model.proofs.Lists.{by_answer, each_append, each_both, each_filter, each_map, each_of}
 use Rattle.omega_model.proofs.RowEnds.{EndInTurn, end_task, stop_in_turn, stopped_by, stops}
 use Rattle.omega_model.proofs.Remaining.{by_place_front}
-use Rattle.omega_model.specs.Applying.{CapacityIsInRange, EachMayApply, EndsRunning, ListsOrHasRoom, MayApply, PlacesInOrder, capacity_in, machine_in}
+use Rattle.omega_model.specs.Applying.{CapacityIsInRange, EachMayApply, EndsRunning, ListsOrHasRoom, PlacesInOrder, machine_in}
 use Rattle.omega_model.specs.Cell.{Cell, task_at}
 use Rattle.omega_model.specs.ExtraTasks.{first_extra}
 use Rattle.omega_model.specs.Feed.{by_time, event_rows, feed, is_of_round, put_by_time, round_at, rounds, time_of}
 use Rattle.omega_model.specs.Fields.{AttrFields, DiskFields, MachineFields, TaskFields, greatest, greatest_quantity}
-use Rattle.omega_model.specs.Keys.{same_key}
-use Rattle.omega_model.specs.Lawful.{Applied, IsCommitOfRound, Lawful, MayCommit, RoundOf, RoundSoFar, Rounds, opened, with_row}
-use Rattle.omega_model.specs.Limits.{IsWithinLimits, machine_count, most_machines, named_machines}
+use Rattle.omega_model.specs.Lawful.{Applied, IsCommitOfRound, Lawful, RoundSoFar, Rounds, opened, with_row}
+use Rattle.omega_model.specs.Limits.{IsWithinLimits, machine_count, named_machines}
 use Rattle.omega_model.specs.Machines.{added, attr_deleted, attr_set, change, ensured, is_listed, new_machine, numbers_of, removed, updated}
 use Rattle.omega_model.specs.Need.{Fits}
-use Rattle.omega_model.specs.State.{machines_after, reply_of, state}
+use Rattle.omega_model.specs.State.{machines_after, state}
 use Rattle.omega_model.specs.Touches.{seq, touches}
 use Rattle.omega_model.specs.RowEntries.{row_entries}
 use Rattle.omega_model.specs.Wanted.{WantedTask, attr_entry, capacity_from, disk_of, machine_entry, wanted}
 use Rattle.omega_model.specs.declared.cells.Machine.{Machine}
 use Rattle.omega_model.specs.declared.cells.Task.{Task}
-use Rattle.omega_model.specs.declared.cells.TaskKey.{TaskKey}
 use Rattle.omega_model.specs.declared.claims.Judgement.{Judgement}
-use Rattle.omega_model.specs.declared.claims.Txn.{Txn}
 use Rattle.omega_model.specs.declared.entries.Entry.{Entry}
 use Rattle.omega_model.specs.declared.entries.Entry.TheVariants.{Round as RoundEntry, MachineAdd, MachineUpdate, MachineRemove, AttrSet, AttrDelete, End, Commit}
 use Rattle.omega_model.specs.declared.rows.Round.{Round}

@@ -1,5 +1,5 @@
 -- A pass over one more entry.
-use Rattle.std.proofs.Common.{◌≡◌, ℕ, zero, suc, ◌+◌, ◌<◌, ◌≤◌, Bool, true, false, ◌&&◌, List, [], ◌∷◌, ◌++◌, map, take, length, get_or, slice_get, Option, Some, None, refl, sym, ap, ap₂, ◌∙◌, subst, arith, append-nil, append_assoc, if◌then◌else◌}
+use Rattle.std.proofs.Common.{◌≡◌, ℕ, zero, suc, ◌+◌, ◌<◌, ◌≤◌, Bool, true, false, ◌&&◌, List, [], ◌∷◌, ◌++◌, map, take, length, get_or, slice_get, Some, refl, sym, ap, ap₂, ◌∙◌, subst, arith, append-nil, append_assoc, if◌then◌else◌}
 use Rattle.std.specs.Prelude.{Result, Ok, Err, OnOk}
 use Rattle.std.specs.List.{enumerate_from, flat_map}
 use Rattle.std.proofs.lemmas.Grind.{flat_map-append}
@@ -12,7 +12,7 @@ use Rattle.omega_model.specs.Applying.{EachMayApply, MayApply}
 use Rattle.omega_model.specs.Cell.{Cell, keys_of}
 use Rattle.omega_model.specs.Report.{Line}
 use Rattle.omega_model.specs.ReportCounts.{Counts}
-use Rattle.omega_model.specs.ReportLines.{displace_line, displace_lines, is_round_end, lines_at, lines_on, middle_lines, round_lines, use_line, use_lines}
+use Rattle.omega_model.specs.ReportLines.{displace_lines, is_round_end, lines_at, lines_on, middle_lines, round_lines, use_lines}
 use Rattle.omega_model.specs.Requests.{failed, failed_after}
 use Rattle.omega_model.specs.State.{displaced, state, step}
 use Rattle.omega_model.specs.Touches.{seq, touches}

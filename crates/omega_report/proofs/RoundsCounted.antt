@@ -1,5 +1,5 @@
 -- A lawful history begins as many rounds as the trace has.
-use Rattle.std.proofs.Common.{◌≡◌, ℕ, zero, suc, ◌+◌, ◌≤◌, Bool, true, false, cond, List, [], ◌∷◌, ◌++◌, map, drop, length, slice_get, Option, Some, None, refl, sym, ap, subst, ◌∙◌, arith, append-nil, add-zero, if◌then◌else◌, ◌==◌}
+use Rattle.std.proofs.Common.{◌≡◌, ℕ, suc, ◌+◌, ◌≤◌, true, false, cond, List, [], ◌∷◌, ◌++◌, map, drop, length, slice_get, Some, refl, sym, ap, ◌∙◌, arith, add-zero, if◌then◌else◌, ◌==◌}
 use Rattle.std.specs.Prelude.{count_by}
 use Rattle.std.specs.List.{fold}
 use Rattle.std.proofs.lemmas.List.{take-append-drop}
@@ -8,7 +8,7 @@ use Rattle.omega_model.proofs.RowEnds.{end_task, stopped_by, stops}
 use Rattle.omega_model.specs.Cell.{Cell}
 use Rattle.omega_model.specs.Feed.{rounds}
 use Rattle.omega_model.specs.Fields.{AttrFields, DiskFields, MachineFields}
-use Rattle.omega_model.specs.Lawful.{Applied, IsCommitOfRound, Lawful, RoundOf, RoundSoFar, Rounds, opened, with_row}
+use Rattle.omega_model.specs.Lawful.{Applied, IsCommitOfRound, Lawful, RoundSoFar, Rounds, opened, with_row}
 use Rattle.omega_model.specs.State.{state}
 use Rattle.omega_model.specs.RowEntries.{row_entries}
 use Rattle.omega_model.specs.Wanted.{WantedTask, attr_entry, capacity_from, machine_entry, wanted}

@@ -1,7 +1,7 @@
 -- What a history comes to, on the page.
-use Rattle.std.proofs.Common.{◌≡◌, ℕ, zero, suc, ◌+◌, ◌<◌, ◌≤◌, Bool, true, false, List, [], ◌∷◌, ◌++◌, map, drop, length, get_or, refl, sym, ap, ap₂, ◌∙◌, subst, arith, append-nil, append_assoc, nat_le}
+use Rattle.std.proofs.Common.{◌≡◌, ℕ, zero, suc, ◌+◌, ◌<◌, ◌≤◌, Bool, List, [], ◌∷◌, ◌++◌, map, drop, length, get_or, refl, sym, ap, ap₂, ◌∙◌, append-nil, append_assoc, nat_le}
 use Rattle.std.specs.Prelude.{count_by, Result, Ok, Err, IfOk}
-use Rattle.std.specs.List.{enumerate_from, filter, range_with_len}
+use Rattle.std.specs.List.{filter, range_with_len}
 use Rattle.std.proofs.lemmas.List.{drop_all, drop_more}
 use Rattle.std.proofs.lemmas.List.FromFn.{length-map-range_with_len}
 use Rattle.std.proofs.lemmas.List.Sums.{length-filter}
@@ -21,7 +21,7 @@ use Rattle.omega_model.specs.declared.settings.Settings.{Settings}
 use Rattle.omega_report.specs.Counted.{counts_in}
 use Rattle.omega_report.specs.Lines.{sizes_line, unplaced_line, usage_line}
 use Rattle.omega_report.specs.Pages.{PageState}
-use Rattle.omega_report.specs.Passing.{line_of_one, lines_from, lines_of_all}
+use Rattle.omega_report.specs.Passing.{lines_from, lines_of_all}
 use Rattle.omega_report.specs.Tallies.{tallies}
 use Rattle.omega_report.specs.declared.counts.Counts.{Counts as HeldCounts}
 

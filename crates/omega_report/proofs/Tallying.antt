@@ -1,5 +1,5 @@
 -- What commits count for their schedulers.
-use Rattle.std.proofs.Common.{◌≡◌, ℕ, zero, suc, ◌+◌, ◌<◌, ◌≤◌, Bool, true, false, List, [], ◌∷◌, ◌++◌, ◌==◌, map, set, length, get_or, refl, sym, ap, ap₂, ◌∙◌, subst, arith, cond, append-nil, zero-add, add-zero, not, if◌then◌else◌}
+use Rattle.std.proofs.Common.{◌≡◌, ℕ, zero, suc, ◌+◌, ◌<◌, ◌≤◌, Bool, true, false, List, [], ◌∷◌, ◌++◌, ◌==◌, map, set, length, get_or, refl, sym, ap, ap₂, ◌∙◌, arith, cond, append-nil, zero-add, not, if◌then◌else◌}
 use Rattle.std.specs.Prelude.{count_by, replicate}
 use Rattle.std.specs.List.{filter, flat_map, list_any, range_with_len}
 use Rattle.std.proofs.lemmas.Bool.{eq-eqb, eqb-true, false_from_ne_true}

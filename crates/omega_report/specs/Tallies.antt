@@ -1,7 +1,7 @@
 -- The counts of all schedulers over a history.
 use Rattle.std.specs.Prelude.{ℕ, zero, suc, List, [], ◌∷◌, ◌+◌, length, map}
 use Rattle.std.specs.List.{count_by, flat_map, range_with_len}
-use Rattle.omega_model.specs.ReportCounts.{Counts, answers_in, claims_nothing, commits_by, counts_of, evicted_by, is_refused, is_withdrawn, leaves_some, places_some}
+use Rattle.omega_model.specs.ReportCounts.{Counts, answers_in, claims_nothing, counts_of, evicted_by, is_refused, is_withdrawn, leaves_some, places_some}
 use Rattle.omega_model.specs.Touches.{is_placed}
 use Rattle.omega_model.specs.declared.entries.Entry.{Entry}
 

@@ -1,4 +1,4 @@
-use Rattle.std.proofs.Common.{sym, ap, ◌∙◌, subst}
+use Rattle.std.proofs.Common.{subst}
 use Rattle.omega_model.specs.Policy.{schedulers}
 use Rattle.omega_report.proofs.PassGrows.{after_all, after_more, next_may, Uses}
 use Rattle.omega_report.proofs.pass.passed.Goals as goal

@@ -1,9 +1,7 @@
-use Rattle.std.proofs.Common.{◌≡◌, ◌∷◌, ◌++◌, [], length, refl, ap, ◌∙◌}
-use Rattle.omega_board.specs.Board.{cell_of}
+use Rattle.std.proofs.Common.{◌∷◌, ◌++◌, [], length, refl, ap, ◌∙◌}
 use Rattle.omega_model.specs.Cell.{Cell}
 use Rattle.omega_model.specs.ExtraTasks.{capacity_in_all, used_in}
 use Rattle.omega_model.specs.ReportCounts.{jobs_of, waiting}
-use Rattle.omega_model.specs.State.{state}
 use Rattle.omega_report.specs.Failing.{count_of}
 use Rattle.omega_report.specs.Lines.{sizes_line}
 use Rattle.omega_report.proofs.RoundsCounted.{rounds_counted}

@@ -1,4 +1,4 @@
-use Rattle.std.proofs.Common.{◌≡◌, ◌++◌, ◌∷◌, [], true, ap, ap₂, sym, ◌∙◌}
+use Rattle.std.proofs.Common.{◌++◌, ◌∷◌, [], ap, ap₂, sym, ◌∙◌}
 use Rattle.omega_board.specs.Board.{cell_of}
 use Rattle.omega_model.proofs.Lists.{by_answer}
 use Rattle.omega_model.specs.declared.cells.Need.{Need}

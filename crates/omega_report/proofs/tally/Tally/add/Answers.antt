@@ -1,6 +1,5 @@
-use Rattle.std.proofs.Common.{◌≡◌, ◌<◌, ◌≤◌, length, map, sym, ap, ◌∙◌, subst, arith}
+use Rattle.std.proofs.Common.{◌≡◌, ◌<◌, ◌≤◌, length, map, sym, ap, ◌∙◌, arith}
 use Rattle.std.proofs.lemmas.List.{length-map}
-use Rattle.omega_model.specs.ReportCounts.{Counts}
 use Rattle.omega_report.specs.Counted.{counts_in}
 use Rattle.omega_report.specs.Tallies.{added_at}
 use Rattle.omega_report.proofs.Tallying.{added_past, added_set}
