@@ -17,8 +17,8 @@ use omega_model::{Keys, Need, NoMemory, Task, TaskKey};
 use std::alloc::Global;
 use std::marker::Model;
 
-/// How many trees there are: a tree has two or three tasks where 150,000 run. A tree takes 16 bytes
-/// beside its nodes, so the two forests of a board take 2 MiB.
+/// How many trees there are: as many as there may be machines, so that few share one, and few jobs. A
+/// tree takes 16 bytes beside its nodes, so the two forests of a board take 2 MiB.
 const TREES: usize = 65_536;
 
 /// Tasks in one of the two orders. The tasks of a job, or those of a machine, stand in one tree,
