@@ -81,7 +81,7 @@ pub seat_begins : (asked : Asked) (history : List Entry) (cell : Cell) (place : 
     → ((settings : Settings) (trace : TraceTables) (rows : List Row) → asked ≡ asked_after settings trace rows → all ≡ all_requests settings trace rows cell place)
     → IsSameDesk old.desk new.desk → new.desk.attempts ≡ old.desk.attempts
     → left_at new.desk ≡ fresh (left_at old.desk).failing (still_tried old.desk.settings (left_at old.desk).failing all)
-    → new.copy ≡ old.copy → new.synced ≡ false
+    → new.copy ≡ old.copy → new.synced ≡ None
     → BeginsSeat asked history place old new
 seat_begins asked history cell place all old new now are desk attempts left copy synced = record {
   desk = desk;

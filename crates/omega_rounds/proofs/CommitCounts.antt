@@ -1,5 +1,5 @@
 -- What a commit adds to what is counted and copied.
-use Rattle.std.proofs.Common.{◌≡◌, ◌≢◌, ◌≤◌, ◌+◌, ℕ, Bool, true, false, cond, List, [], ◌∷◌, ◌++◌, length, take, refl, sym, ap, arith, ◌∙◌, inl, inr, ◌==◌, if◌then◌else◌, length-append, add-zero}
+use Rattle.std.proofs.Common.{◌≡◌, ◌≢◌, ◌≤◌, ◌+◌, ℕ, Bool, true, false, cond, List, Option, Some, None, [], ◌∷◌, ◌++◌, length, take, refl, sym, ap, subst, arith, ◌∙◌, inl, inr, ◌==◌, if◌then◌else◌, length-append, add-zero}
 use Rattle.std.specs.List.{list_any}
 use Rattle.std.proofs.lemmas.Bool.{eq-eqb, ne_eqb}
 use Rattle.std.proofs.lemmas.Bool.Decides.{eqb_tells}
@@ -19,6 +19,8 @@ use Rattle.omega_model.specs.declared.claims.Txn.{Txn}
 use Rattle.omega_model.specs.declared.entries.Entry.{Entry}
 use Rattle.omega_model.specs.declared.entries.Entry.TheVariants.{Commit}
 use Rattle.omega_copy.specs.Copies.{CopyOf, CopyState}
+use Rattle.omega_lock.specs.Lists.{StartsWith}
+use Rattle.omega_rounds.specs.Seats.{IsAtRest, SyncedWithin}
 
 commits_more : (scheduler : ℕ) (before : List Entry) (entry : Entry)
     → commits_of scheduler (before ++ entry ∷ []) ≡ commits_of scheduler before + cond (is_commit_of scheduler entry) 1 0
@@ -55,6 +57,19 @@ copy_grown copy before later stands =
       tasks = stands.tasks ∙ ap (λ (h : List Entry). (state h).tasks) (sym same);
       numbers = λ id. stands.numbers id ∙ ap (λ (h : List Entry). seq h id) (sym same);
     }
+
+-- a copy at rest beside a history is so beside a longer one
+pub rests_grown : (copy : CopyState) (before later : List Entry) → IsAtRest before copy → IsAtRest (before ++ later) copy
+rests_grown copy before later rests = record { stands = copy_grown copy before later rests.stands; no_trial = rests.no_trial }
+
+-- or beside one that goes on from it
+pub rests_on : (copy : CopyState) (before after : List Entry) → StartsWith after before → IsAtRest before copy → IsAtRest after copy
+rests_on copy before after on rests = subst (λ (h : List Entry). IsAtRest h copy) (sym on.1) (rests_grown copy before on.0 rests)
+
+-- what a scheduler has seen stays within a longer history
+pub synced_longer : (synced : Option ℕ) (copied count longer : ℕ) → count ≤ longer → SyncedWithin synced copied count → SyncedWithin synced copied longer
+synced_longer None copied count longer more within = tt
+synced_longer (Some seen) copied count longer more within = let few = within.0 in (omega (arith, few, more), within.1)
 
 length-by_mode : (mode : Mode) (reply : List Judgement) → length (by_mode mode reply) ≡ length reply
 length-by_mode Incremental reply = refl

@@ -47,3 +47,4 @@ pub mod ClosedRounds
 pub mod PlayersBack
 pub mod RunOn
 pub mod Reopened
+pub mod Overtaking

@@ -37,8 +37,9 @@ module _ (settings : Settings) where
   pub plays_on_without : (old new : Player) → IsSeat settings old.pass.seen old.pass.number old.seat
       → SpendsTurn old.pass new.pass → GoesOnWithout old.pass.number old.pass.seen new.pass.seen
       → new.seat.desk ≡ old.seat.desk → CopyOf new.seat.copy new.pass.seen → new.seat.copy.trial ≡ None
+      → SyncedWithin new.seat.synced new.seat.copy.seen (length new.pass.seen)
       → PlaysOn settings old new
-  plays_on_without old new seat turn on same copy no_trial =
+  plays_on_without old new seat turn on same copy no_trial seen =
       let here = seat_without old.pass.number old.pass.seen new.pass.seen on settings old.seat seat in
       record {
         of = turn.of;
@@ -52,6 +53,7 @@ module _ (settings : Settings) where
           tries = subst (λ (d : DeskState). d.taken < settings.tries) (sym same) seat.tries;
           copy = copy;
           no_trial = no_trial;
+          seen = seen;
         };
         desk = λ trace rows opened_at within is.
             subst (λ (d : DeskState). IsOwnDesk settings trace rows opened_at new.pass.seen new.pass.number d) (sym same)
@@ -61,14 +63,6 @@ module _ (settings : Settings) where
             subst (λ (n : ℕ). OwnMayStand settings opened_at n new.pass.seen) (sym turn.number)
             (stand_without old.pass.number old.pass.seen new.pass.seen on settings opened_at stand);
       }
-
--- a copy of a seat that has synced
-pub synced_seen : (seat : Seat) (count : ℕ) → synced_of seat ≡ Some count → (seat.synced ≡ true) × (seat.copy.seen ≡ count)
-synced_seen seat count is = by_synced seat.synced refl is where
-  by_synced : (synced : Bool) → seat.synced ≡ synced → (if synced then Some seat.copy.seen else None) ≡ Some count
-      → (seat.synced ≡ true) × (seat.copy.seen ≡ count)
-  by_synced true same is = (same, cc)
-  by_synced false same is = absurd (cc)
 
 -- what is planned on the copy for the first request at the desk
 pub plans_first : (settings : Settings) (player : Player) (number start : ℕ) (request : Request) (txn : Txn)
@@ -114,7 +108,7 @@ pub record PlayerCommits (old new : Player) (txn : Txn) (reply : Reply) : Type 0
   pub attempts : new.seat.desk.attempts ≡ old.seat.desk.attempts + 1
   pub moved : after_outcomes old.seat.desk.settings (left_at old.seat.desk) old.seat.desk.requests reply.outcomes ≡ Some (left_at new.seat.desk)
   pub copy : new.seat.copy ≡ old.seat.copy
-  pub spent : new.seat.synced ≡ false
+  pub spent : new.seat.synced ≡ None
 
 module _ (old new : Player) (txn : Txn) (reply : Reply) (did : PlayerCommits old new txn reply) where
   abbrev settings : Settings
@@ -127,10 +121,10 @@ module _ (old new : Player) (txn : Txn) (reply : Reply) (did : PlayerCommits old
   before = did.commits.before
 
   abbrev next : Seat
-  next = record { desk = new.seat.desk; copy = new.seat.copy; synced = false }
+  next = record { desk = new.seat.desk; copy = new.seat.copy; synced = None }
 
   next_is : next ≡ new.seat
-  next_is = ap (λ (b : Bool). record { desk = new.seat.desk; copy = new.seat.copy; synced = b }) (sym did.spent)
+  next_is = ap (λ (o : Option ℕ). record { desk = new.seat.desk; copy = new.seat.copy; synced = o }) (sym did.spent)
 
   -- the seat beside what was there before the commit
   seat_before : IsSeat settings before number old.seat
@@ -140,7 +134,8 @@ module _ (old new : Player) (txn : Txn) (reply : Reply) (did : PlayerCommits old
   committing = record {
     seat = seat_before;
     tries = did.synced.range.tries.0;
-    synced = (synced_seen old.seat (length old.pass.seen) did.synced.all).0;
+    seen = old.seat.copy.seen;
+    synced = did.synced.all ∙ ap (λ (n : ℕ). Some n) (sym did.synced.copied);
     first = sym (ap (λ (rs : List Request). slice_get rs 0) did.plans.work);
     is = did.plans.is ∙ attempt_without number old.pass.seen before did.commits.others settings old.seat.copy.seen did.plans.request did.synced.seat.copy.within;
     appended = did.commits.commit_seen;
@@ -151,7 +146,7 @@ module _ (old new : Player) (txn : Txn) (reply : Reply) (did : PlayerCommits old
   }
 
   seat_next : IsSeat settings new.pass.seen number next
-  seat_next = seat_after settings number before new.pass.seen old.seat new.seat.desk did.plans.request txn reply.outcomes committing new.seat.copy did.copy
+  seat_next = seat_after settings number before new.pass.seen old.seat new.seat.desk did.plans.request txn reply.outcomes committing new.seat.copy (subst (IsAtRest before) (sym did.copy) (record { stands = seat_before.copy; no_trial = seat_before.no_trial }))
 
   first_next : CommitsFirst settings number before old.seat new.pass.seen next reply.place
   first_next =
@@ -172,7 +167,7 @@ module _ (old new : Player) (txn : Txn) (reply : Reply) (did : PlayerCommits old
   commit_stands : (opened_at : ℕ) → opened_at ≤ length old.pass.seen → OwnMayStand settings opened_at number old.pass.seen
       → OwnMayStand settings opened_at number new.pass.seen
   commit_stands opened_at within stand =
-      let seen : old.seat.copy.seen ≡ length old.pass.seen = (synced_seen old.seat (length old.pass.seen) did.synced.all).1 in
+      let seen : old.seat.copy.seen ≡ length old.pass.seen = did.synced.copied in
       let last : after_last number before ≤ length old.pass.seen =
       subst (λ (n : ℕ). n ≤ length old.pass.seen) (sym (after_last-without number old.pass.seen before did.commits.others))
       (after_last-within number old.pass.seen) in

@@ -14,7 +14,7 @@ use Rattle.omega_desk.specs.Desks.{AnswersFirst, DeskState, IsSameDesk, left_at}
 use Rattle.omega_desk.specs.Walks.{are_wished}
 use Rattle.omega_rounds.specs.AttemptsLeft.{attempts_left}
 use Rattle.omega_rounds.specs.NextCommit.{attempt_txn}
-use Rattle.omega_rounds.specs.Seats.{IsSeat, to_do_of}
+use Rattle.omega_rounds.specs.Seats.{IsAtRest, IsSeat, to_do_of}
 use Rattle.omega_rounds.specs.SeatSteps.{CommitsFirst, attempt_outcomes}
 use Rattle.omega_rounds.specs.declared.seat.Seat.{Seat}
 use Rattle.omega_rounds.proofs.Answering.{planned_answers}
@@ -64,12 +64,13 @@ answers_first settings scheduler before held seen requests request txn outcomes 
 -- a seat before its commit, and what the cell and the desk say after it
 pub record IsCommitting (settings : Settings) (scheduler : ℕ) (before after : List Entry) (old : Seat) (desk : DeskState) (request : Request) (txn : Txn) (outcomes : List Outcome) : Type 0 where
   pub seat : IsSeat settings before scheduler old
+  pub seen : ℕ
+  pub synced : old.synced ≡ Some seen
   pub tries : 1 ≤ settings.tries
-  pub synced : old.synced ≡ true
   pub first : Some request ≡ slice_get old.desk.requests 0
-  pub is : txn ≡ attempt_txn settings before scheduler old.copy.seen request
-  pub appended : after ≡ before ++ Commit scheduler old.copy.seen txn (reply_of before old.copy.seen txn) ∷ []
-  pub outcome : outcomes ≡ outcomes_of txn.claims (reply_of before old.copy.seen txn)
+  pub is : txn ≡ attempt_txn settings before scheduler seen request
+  pub appended : after ≡ before ++ Commit scheduler seen txn (reply_of before seen txn) ∷ []
+  pub outcome : outcomes ≡ outcomes_of txn.claims (reply_of before seen txn)
   pub same : IsSameDesk old.desk desk
   pub attempts : desk.attempts ≡ old.desk.attempts + 1
   pub moved : after_outcomes old.desk.settings (left_at old.desk) old.desk.requests outcomes ≡ Some (left_at desk)
@@ -79,38 +80,39 @@ module _ (settings : Settings) (scheduler : ℕ) (before after : List Entry) (ol
   left_moved : after_outcomes settings (left_at old.desk) old.desk.requests outcomes ≡ Some (left_at desk)
   left_moved = subst (λ (s : Settings). after_outcomes s (left_at old.desk) old.desk.requests outcomes ≡ Some (left_at desk)) on.seat.settings on.moved
 
-  pub seat_after : (copy : CopyState) → copy ≡ old.copy → IsSeat settings after scheduler (record { desk = desk; copy = copy; synced = false })
-  seat_after copy same =
+  pub seat_after : (copy : CopyState) → IsAtRest before copy → IsSeat settings after scheduler (record { desk = desk; copy = copy; synced = None })
+  seat_after copy rests =
       let parts = first_some old.desk.requests request on.first in
       let next = moved_to settings (left_at old.desk) (left_at desk) old.desk.requests request parts.0 outcomes parts.1 left_moved in
       let less = attempt_less settings (left_at old.desk) request parts.0 outcomes on.tries parts.1 on.seat.tries in
-      let entry : Entry = Commit scheduler old.copy.seen txn (reply_of before old.copy.seen txn) in
-      subst (λ (k : CopyState). IsSeat settings after scheduler (record { desk = desk; copy = k; synced = false })) (sym same)
-      (subst (λ (h : List Entry). IsSeat settings h scheduler (record { desk = desk; copy = old.copy; synced = false })) (sym on.appended) (record {
+      let entry : Entry = Commit scheduler on.seen txn (reply_of before on.seen txn) in
+      subst (λ (h : List Entry). IsSeat settings h scheduler (record { desk = desk; copy = copy; synced = None })) (sym on.appended) (record {
         settings = on.same.settings ∙ on.seat.settings;
         scheduler = on.same.scheduler ∙ on.seat.scheduler;
         attempts = on.attempts ∙ ap (λ (n : ℕ). n + 1) on.seat.attempts
-            ∙ sym (commits_own scheduler old.copy.seen txn (reply_of before old.copy.seen txn) before);
+            ∙ sym (commits_own scheduler on.seen txn (reply_of before on.seen txn) before);
         tries = subst (λ (s : Standing). s.taken < settings.tries) (sym next) less.1;
-        copy = copy_grown old.copy before (entry ∷ []) on.seat.copy;
-        no_trial = on.seat.no_trial;
-      }))
+        copy = copy_grown copy before (entry ∷ []) rests.stands;
+        no_trial = rests.no_trial;
+        seen = tt;
+      })
 
   pub commits_first : (copy : CopyState) (place : ℕ) → place ≡ length before
-      → CommitsFirst settings scheduler before old after (record { desk = desk; copy = copy; synced = false }) place
+      → CommitsFirst settings scheduler before old after (record { desk = desk; copy = copy; synced = None }) place
   commits_first copy place at_end =
       let parts = first_some old.desk.requests request on.first in
       record {
         request = request;
         rest = parts.0;
         work = parts.1;
-        synced_before = rw on.synced refl;
+        seen = on.seen;
+        synced_before = on.synced;
         at_end = at_end;
         appended = on.appended
-            ∙ ap (λ (t : Txn). before ++ Commit scheduler old.copy.seen t (reply_of before old.copy.seen t) ∷ []) on.is;
+            ∙ ap (λ (t : Txn). before ++ Commit scheduler on.seen t (reply_of before on.seen t) ∷ []) on.is;
         spent = refl;
         moved = subst (λ (os : List Outcome). after_outcomes settings (left_at old.desk) old.desk.requests os ≡ Some (left_at desk))
-            (on.outcome ∙ ap (λ (t : Txn). outcomes_of t.claims (reply_of before old.copy.seen t)) on.is) left_moved;
+            (on.outcome ∙ ap (λ (t : Txn). outcomes_of t.claims (reply_of before on.seen t)) on.is) left_moved;
       }
 
 -- fewer attempts are left after a commit
@@ -118,7 +120,7 @@ pub fewer_left : (settings : Settings) (scheduler : ℕ) (before after : List En
     → IsSeat settings before scheduler old → IsSeat settings after scheduler new
     → CommitsFirst settings scheduler before old after new place → to_do_of new < to_do_of old
 fewer_left settings scheduler before after old new place tries was is did =
-    let outcomes : List Outcome = attempt_outcomes settings before scheduler old.copy.seen did.request in
+    let outcomes : List Outcome = attempt_outcomes settings before scheduler did.seen did.request in
     let next = moved_to settings (left_at old.desk) (left_at new.desk) old.desk.requests did.request did.rest outcomes did.work did.moved in
     let less = attempt_less settings (left_at old.desk) did.request did.rest outcomes tries did.work was.tries in
     let fewer : attempts_left settings (left_at new.desk) < attempts_left settings (left_at old.desk) =

@@ -19,7 +19,7 @@ use Rattle.omega_rounds.specs.NextCommit.{attempt_txn}
 use Rattle.omega_rounds.specs.Players.{IsOwnDesk, MayStand, OwnMayStand}
 use Rattle.omega_rounds.specs.Seats.{IsSeat}
 use Rattle.omega_rounds.specs.declared.seat.Seat.{Seat}
-use Rattle.omega_rounds.proofs.CommitCounts.{commits_other, copy_grown}
+use Rattle.omega_rounds.proofs.CommitCounts.{commits_other, copy_grown, synced_longer}
 use Rattle.omega_rounds.proofs.DeskCommits.{own_desk_other}
 use Rattle.omega_rounds.proofs.LastCommits.{after_last-none}
 
@@ -84,6 +84,7 @@ module _ (scheduler : ℕ) (old new : List Entry) (on : GoesOnWithout scheduler 
     tries = is.tries;
     copy = copy_without seat.copy is.copy;
     no_trial = is.no_trial;
+    seen = synced_longer seat.synced seat.copy.seen (length old) (length new) longer_without is.seen;
   }
 
   -- its attempt, on a copy that had seen some of the old history, is the same

@@ -181,11 +181,19 @@ module _ (settings : Settings) (all : List Round) (asked : Asked) (begun old_pla
           copy = subst (λ (k : CopyState). CopyOf k after) (sym begun_seat.copy)
               (subst (CopyOf was.copy) (sym same) (copy_opened trace (rows_begun stage) before round was.copy is.copy));
           no_trial = ap (λ (k : CopyState). k.trial) begun_seat.copy ∙ is.no_trial;
+          seen = subst (λ (synced : Option ℕ). SyncedWithin synced seat.copy.seen (length after)) (sym begun_seat.synced) tt;
         }
 
     -- nobody has synced
     nobody_later : (number : ℕ) → (world_at after new).synced number ≡ None
-    nobody_later = seen_none synced_of new (λ number seat here. rw ((begins.each number seat here).1.1.synced) refl)
+    nobody_later = seen_none synced_of new (λ number seat here. (begins.each number seat here).1.1.synced)
+
+    -- a copy at rest is so still
+    pub rests_later : (copy : CopyState) → IsAtRest before copy → IsAtRest after copy
+    rests_later copy rests = record {
+      stands = subst (CopyOf copy) (sym (after_is world.made.0 world.made.1)) (copy_opened world.made.0 (rows_begun stage) before round copy rests.stands);
+      no_trial = rests.no_trial;
+    }
 
     -- the round of the definition begins
     pub begins_round : (trace : TraceTables) → IsInRunOf stage trace → BeginsRound trace (rows_begun stage) round (world_at before old) (world_at after new)

@@ -32,7 +32,7 @@ use Rattle.omega_rounds.specs.Stages.{IsInRunOf, Source, Stage, WorldState, rows
 use Rattle.omega_rounds.specs.declared.seat.Seat.{Seat}
 use Rattle.omega_rounds.specs.declared.steps.Stepped.{Stepped}
 use Rattle.omega_rounds.specs.declared.steps.Stepped.TheVariants.{Synced, Committed, Idle}
-use Rattle.omega_rounds.proofs.CommitCounts.{commits_other, copy_grown}
+use Rattle.omega_rounds.proofs.CommitCounts.{commits_other, copy_grown, synced_longer}
 use Rattle.omega_rounds.proofs.DeskCommits.{desk_other, desk_own}
 use Rattle.omega_rounds.proofs.Places.{take_next}
 use Rattle.omega_rounds.proofs.Requested.{requests_none}
@@ -88,7 +88,7 @@ module _ (settings : Settings) (before after : List Entry) (scheduler : ℕ) (ol
   seat_other Idle did number seat apart is = subst (λ (h : List Entry). IsSeat settings h number seat) (sym did.history) is
   seat_other Synced did number seat apart is = subst (λ (h : List Entry). IsSeat settings h number seat) (sym did.history) is
   seat_other (Committed place) did number seat apart is =
-      let entry : Entry = attempt settings before scheduler old.copy.seen did.request in
+      let entry : Entry = attempt settings before scheduler did.seen did.request in
       subst (λ (h : List Entry). IsSeat settings h number seat) (sym did.appended) (record {
         settings = is.settings;
         scheduler = is.scheduler;
@@ -96,6 +96,8 @@ module _ (settings : Settings) (before after : List Entry) (scheduler : ℕ) (ol
         tries = is.tries;
         copy = copy_grown seat.copy before (entry ∷ []) is.copy;
         no_trial = is.no_trial;
+        seen = synced_longer seat.synced seat.copy.seen (length before) (length (before ++ entry ∷ []))
+            (let count = length-append before (entry ∷ []) in omega (arith, count)) is.seen;
       })
 
   -- each seat after it
@@ -147,9 +149,9 @@ module _ (settings : Settings) (before after : List Entry) (scheduler : ℕ) (ol
         request = did.request;
         rest = did.rest;
         has_work = did.work;
-        seen = old.copy.seen;
+        seen = did.seen;
         synced_before = seen_at synced_of seats scheduler old here ∙ did.synced_before;
-        txn = attempt_txn settings before scheduler old.copy.seen did.request;
+        txn = attempt_txn settings before scheduler did.seen did.request;
         agrees = record { job = refl; rule = refl; mode = refl; claims = refl };
         at_end = did.at_end;
         appended = did.appended;
@@ -182,11 +184,11 @@ module _ (settings : Settings) (before after : List Entry) (scheduler : ℕ) (ol
         subst (λ (h : List Entry). IsDeskOf settings trace rows opened_at h number seat.desk) (sym did.appended)
         (elim (set_cases seats scheduler new number seat there) [
           | inl same ↦
-              subst (λ (s : Seat). IsDeskOf settings trace rows opened_at (before ++ attempt settings before scheduler old.copy.seen did.request ∷ []) number s.desk) same.1
-              (subst (λ (n : ℕ). IsDeskOf settings trace rows opened_at (before ++ attempt settings before scheduler old.copy.seen did.request ∷ []) n new.desk) (sym same.0)
-              (desk_own settings trace rows opened_at before within scheduler old.copy.seen did.request old.desk new.desk did.rest own did.work did.moved))
+              subst (λ (s : Seat). IsDeskOf settings trace rows opened_at (before ++ attempt settings before scheduler did.seen did.request ∷ []) number s.desk) same.1
+              (subst (λ (n : ℕ). IsDeskOf settings trace rows opened_at (before ++ attempt settings before scheduler did.seen did.request ∷ []) n new.desk) (sym same.0)
+              (desk_own settings trace rows opened_at before within scheduler did.seen did.request old.desk new.desk did.rest own did.work did.moved))
           | inr other ↦
-              desk_other settings trace rows opened_at before within scheduler old.copy.seen did.request number seat.desk other.0
+              desk_other settings trace rows opened_at before within scheduler did.seen did.request number seat.desk other.0
               (All-head (IsRoutedTo settings trace scheduler) did.request did.rest routed) (each number seat other.1)
         ])
 

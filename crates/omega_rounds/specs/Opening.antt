@@ -49,7 +49,7 @@ pub record BeginsSeat (asked : Asked) (history : List Entry) (number : ℕ) (old
       → left_at new.desk ≡ fresh (left_at old.desk).failing
       (still_tried old.desk.settings (left_at old.desk).failing (all_requests settings trace rows (state history) number))
   pub copy : new.copy ≡ old.copy
-  pub synced : new.synced ≡ false
+  pub synced : new.synced ≡ None
 
 -- so does each seat
 pub record BeginAll (asked : Asked) (history : List Entry) (old new : List Seat) : Type 0 where

@@ -45,3 +45,4 @@ pub record IsSynced (shared : TableId) (player : Player) : Type 0 where
   pub known : player.pass.number < schedulers player.seat.desk.settings
   pub seat : IsSeat player.seat.desk.settings player.pass.seen player.pass.number player.seat
   pub all : synced_of player.seat ≡ Some (length player.pass.seen)
+  pub copied : player.seat.copy.seen ≡ length player.pass.seen

@@ -3,10 +3,11 @@ use Rattle.std.specs.Prelude.{◌≡◌, ◌≢◌, ℕ, List, [], ◌∷◌, �
 use Rattle.omega_model.specs.State.{reply_of}
 use Rattle.omega_model.specs.Work.{after_outcomes, outcomes_of}
 use Rattle.omega_model.specs.declared.claims.Outcome.{Outcome}
+use Rattle.omega_model.specs.declared.claims.Txn.{Txn}
 use Rattle.omega_model.specs.declared.entries.Entry.{Entry}
 use Rattle.omega_model.specs.declared.settings.Settings.{Settings}
 use Rattle.omega_model.specs.declared.wishes.Request.{Request}
-use Rattle.omega_desk.specs.Desks.{left_at}
+use Rattle.omega_desk.specs.Desks.{DeskState, left_at}
 use Rattle.omega_rounds.specs.NextCommit.{attempt, attempt_txn}
 use Rattle.omega_rounds.specs.Seats.{synced_of}
 use Rattle.omega_rounds.specs.declared.seat.Seat.{Seat}
@@ -32,17 +33,26 @@ pub record SyncsSeat (before : List Entry) (old : Seat) (after : List Entry) (ne
   pub seen_all : synced_of new ≡ Some (length before)
   pub desk : new.desk ≡ old.desk
 
+-- a transaction is a scheduler's attempt on the first request that is left at its desk, after so many entries that
+-- it has seen
+pub record IsFirstAttempt (settings : Settings) (before : List Entry) (scheduler seen : ℕ) (desk : DeskState) (txn : Txn) : Type 0 where
+  pub request : Request
+  pub rest : List Request
+  pub work : desk.requests ≡ request ∷ rest
+  pub is : txn ≡ attempt_txn settings before scheduler seen request
+
 -- the attempt on the first request that is left at the desk is committed, and the desk moves on by what
 -- came of it
 pub record CommitsFirst (settings : Settings) (scheduler : ℕ) (before : List Entry) (old : Seat) (after : List Entry) (new : Seat) (place : ℕ) : Type 0 where
   pub request : Request
   pub rest : List Request
   pub work : old.desk.requests ≡ request ∷ rest
-  pub synced_before : synced_of old ≡ Some old.copy.seen
+  pub seen : ℕ
+  pub synced_before : synced_of old ≡ Some seen
   pub at_end : place ≡ length before
-  pub appended : after ≡ before ++ attempt settings before scheduler old.copy.seen request ∷ []
+  pub appended : after ≡ before ++ attempt settings before scheduler seen request ∷ []
   pub spent : synced_of new ≡ None
-  pub moved : after_outcomes settings (left_at old.desk) old.desk.requests (attempt_outcomes settings before scheduler old.copy.seen request)
+  pub moved : after_outcomes settings (left_at old.desk) old.desk.requests (attempt_outcomes settings before scheduler seen request)
       ≡ Some (left_at new.desk)
 
 -- what a seat does in a step, by what it answers

@@ -1,5 +1,5 @@
 -- A scheduler's seat: its desk, and its copy of the cell.
-use Rattle.std.specs.Prelude.{◌≡◌, ◌<◌, ℕ, List, Option, Some, None, All, if◌then◌else◌}
+use Rattle.std.specs.Prelude.{◌≡◌, ◌<◌, ◌≤◌, ℕ, List, Option, Some, None, IfSome, All, length}
 use Rattle.omega_model.specs.Requests.{failed}
 use Rattle.omega_model.specs.Routing.{scheduler_of}
 use Rattle.omega_model.specs.Work.{HasLeft, Standing, commits_of, standing_of}
@@ -8,7 +8,7 @@ use Rattle.omega_model.specs.declared.rows.Row.{Row}
 use Rattle.omega_model.specs.declared.rows.TraceTables.{TraceTables}
 use Rattle.omega_model.specs.declared.settings.Settings.{Settings}
 use Rattle.omega_model.specs.declared.wishes.Request.{Request}
-use Rattle.omega_copy.specs.Copies.{CopyOf}
+use Rattle.omega_copy.specs.Copies.{CopyOf, CopyState}
 use Rattle.omega_desk.specs.Counts.{count_of}
 use Rattle.omega_desk.specs.Desks.{DeskState, left_at}
 use Rattle.omega_rounds.specs.AttemptsLeft.{attempts_left}
@@ -16,15 +16,25 @@ use Rattle.omega_rounds.specs.declared.seat.Seat.{Seat}
 
 -- how many entries its scheduler had seen, if it has synced since its last commit
 abbrev pub synced_of : Seat → Option ℕ
-synced_of seat = if seat.synced then Some seat.copy.seen else None
+synced_of seat = seat.synced
 
 -- how many attempts its scheduler can still make in this round
 abbrev pub to_do_of : Seat → ℕ
 to_do_of seat = attempts_left seat.desk.settings (left_at seat.desk)
 
+-- a copy is at rest beside a history: it stands for a front of the history, and no trial has begun on it
+pub record IsAtRest (history : List Entry) (copy : CopyState) : Type 0 where
+  pub stands : CopyOf copy history
+  pub no_trial : copy.trial ≡ None
+
+-- a scheduler that has synced has seen no more than so many entries, and its copy no more than it
+abbrev pub SyncedWithin : Option ℕ → ℕ → ℕ → Type 0
+SyncedWithin synced copied count = IfSome synced (λ seen. (seen ≤ count) × (copied ≤ seen))
+
 -- a seat is that of a scheduler beside a history: the desk is the scheduler's, has had as many attempts as
 -- the history has commits of it, and a try left for its first request; the copy stands for a front of the
--- history, and no trial has begun on it
+-- history, and no trial has begun on it; and where the scheduler has synced, it has seen a front of the
+-- history, and the copy no more
 pub record IsSeat (chosen : Settings) (history : List Entry) (number : ℕ) (seat : Seat) : Type 0 where
   pub settings : seat.desk.settings ≡ chosen
   pub scheduler : seat.desk.scheduler ≡ number
@@ -32,6 +42,7 @@ pub record IsSeat (chosen : Settings) (history : List Entry) (number : ℕ) (sea
   pub tries : seat.desk.taken < chosen.tries
   pub copy : CopyOf seat.copy history
   pub no_trial : seat.copy.trial ≡ None
+  pub seen : SyncedWithin seat.synced seat.copy.seen (length history)
 
 -- a scheduler works on the job of a request
 abbrev pub IsRoutedTo : Settings → TraceTables → ℕ → Request → Type 0

@@ -7,7 +7,7 @@ ghost use Rattle.omega_rounds.specs.PlayingOn.{IsSynced, PlansFirst, PlaysOn};
 ghost use Rattle.omega_rounds.specs.Seats.{IsSeat, synced_of, to_do_of};
 
 use crate::planned::planned;
-use crate::seat::Seat;
+use crate::seat::{Seat, start_on};
 use omega_io::{Gate, Point};
 use omega_model::{NoMemory, Settings, Txn};
 use omega_shared::{Pass, SharedCell};
@@ -74,7 +74,7 @@ impl Player {
         Ok(())
     }
 
-    // A turn in which the copy takes over the history. Where memory runs out the seat is as before.
+    // A turn in which the copy takes over the history. Where memory runs out the scheduler hasn't synced.
     fn sync<R: Wait>(&mut self, rt: &R, alloc: Global, shared: &SharedCell) -> Result<(), NoMemory>
         requires of { self.old.pass.of ≡ shared.now.of }
         requires left { 0 < self.old.pass.turns }
@@ -83,10 +83,12 @@ impl Player {
         ensures turn { self.new.pass.turns + 1 ≡ self.old.pass.turns }
         ensures desk { self.new.seat.desk ≡ self.old.seat.desk }
         ensures all { OnOk result (synced_of self.new.seat ≡ Some (length self.new.pass.seen)) }
+        ensures copied { OnOk result (self.new.seat.copy.seen ≡ length self.new.pass.seen) }
         ensures failed { self.new.failed ≡ self.old.failed }
     {
+        self.seat.synced = None;
         shared.sync(rt, alloc, &mut self.pass, &mut self.seat.copy)?;
-        self.seat.synced = true;
+        self.seat.synced = Some(self.seat.copy.seen());
         Ok(())
     }
 
@@ -103,7 +105,7 @@ impl Player {
         ensures short { OnOk result (self.old.seat.copy.seen + 1 < 2 ^ 64) }
     {
         let number = self.pass.number();
-        let start = self.seat.start();
+        let start = start_on(&self.seat.desk, &self.seat.copy);
         let Some(request) = self.seat.desk.present() else {
             unreachable!()
         };
@@ -139,7 +141,7 @@ impl Player {
             return Err(NoMemory);
         };
         self.seat.desk.take(&reply);
-        self.seat.synced = false;
+        self.seat.synced = None;
         Ok(())
     }
 }

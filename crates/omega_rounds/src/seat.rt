@@ -8,20 +8,21 @@ ghost use Rattle.omega_cell.specs.Claiming.{copied_seqs};
 ghost use Rattle.omega_copy.specs.Copies.{CopyOf};
 ghost use Rattle.omega_desk.specs.Desks.{IsSameDesk, left_at, still_tried};
 ghost use Rattle.omega_desk.specs.Walks.{HasDistinctWishes};
+ghost use Rattle.omega_model.specs.Applying.{EachMayApply};
 ghost use Rattle.omega_model.specs.Draws.{drawn_start};
 ghost use Rattle.omega_model.specs.Policy.{schedulers};
 ghost use Rattle.omega_model.specs.Ranges.{IsInRange};
 ghost use Rattle.omega_model.specs.Work.{commits_of, fresh};
 ghost use Rattle.omega_rounds.specs.NextCommit.{attempt_txn};
-ghost use Rattle.omega_rounds.specs.Seats.{IsSeat, synced_of};
-ghost use Rattle.omega_rounds.specs.SeatSteps.{CommitsFirst, SeatSteps};
+ghost use Rattle.omega_rounds.specs.Seats.{IsAtRest, IsSeat};
+ghost use Rattle.omega_rounds.specs.SeatSteps.{CommitsFirst, IsFirstAttempt, SeatSteps};
 
 use crate::planned::planned;
 use crate::steps::Stepped;
 use omega_cell::{Cell, Prepared};
 use omega_copy::PrivateCopy;
 use omega_desk::Desk;
-use omega_model::{NoMemory, Request, Requests, Settings, Txn};
+use omega_model::{Entry, NoMemory, Request, Requests, Settings, Txn};
 use std::alloc::Global;
 
 /// What belongs to one scheduler of a world.
@@ -29,8 +30,9 @@ use std::alloc::Global;
 pub(crate) struct Seat {
     pub desk: Desk,
     pub copy: PrivateCopy,
-    /// Whether the copy has taken over the history since the scheduler's last commit.
-    pub synced: bool,
+    /// How many entries the scheduler has seen, if it has synced since its last commit. Its plan is made on
+    /// a copy that has seen as many.
+    pub synced: Option<u64>,
 }
 
 impl Seat {
@@ -38,13 +40,13 @@ impl Seat {
     pub fn new(alloc: Global, settings: &Settings, scheduler: u32) -> Seat
         requires { IsInRange settings.now }
         ensures seat { IsSeat settings.now [] scheduler result }
-        ensures synced { synced_of result ≡ None }
+        ensures synced { result.synced ≡ None }
         ensures left { left_at result.desk ≡ fresh (λ job. 0) [] }
     {
         Seat {
             desk: Desk::new(alloc, settings, scheduler),
             copy: PrivateCopy::new(alloc),
-            synced: false,
+            synced: None,
         }
     }
 
@@ -58,99 +60,120 @@ impl Seat {
         ensures left { OnOk result (left_at self.new.desk ≡ fresh (left_at self.old.desk).failing
             (still_tried self.old.desk.settings (left_at self.old.desk).failing requests)) }
         ensures copy { self.new.copy ≡ self.old.copy }
-        ensures synced { OnOk result (self.new.synced ≡ false) }
+        ensures synced { OnOk result (self.new.synced ≡ None) }
     {
         self.desk.begin(requests)?;
-        self.synced = false;
+        self.synced = None;
         Ok(())
     }
 
-    /// One step of the seat's scheduler over a cell. Where memory runs out, the history, the desk and
-    /// whether the scheduler has synced are as before.
+    /// One step of the seat's scheduler over a cell, beside which a copy stands that all may use. Where
+    /// memory runs out, the history, the desk and whether the scheduler has synced are as before.
     pub fn step(
         &mut self,
         alloc: Global,
         settings: &Settings,
         scheduler: u32,
+        common: &mut PrivateCopy,
         cell: &mut Cell,
     ) -> Result<Stepped, NoMemory>
         requires range { IsInRange settings.now }
         requires known { scheduler < schedulers settings.now }
         requires seat { IsSeat settings.now cell.old.history scheduler self.old }
+        requires common { IsAtRest cell.old.history common.old }
         ensures seat { IsSeat settings.now cell.new.history scheduler self.new }
+        ensures common { IsAtRest cell.new.history common.new }
         ensures step { IfOk result (λ stepped. SeatSteps settings.now scheduler cell.old.history self.old cell.new.history self.new stepped) }
         ensures err { OnErr result (cell.new.history ≡ cell.old.history) }
         ensures desk { OnErr result (self.new.desk ≡ self.old.desk) }
-        ensures synced { OnErr result (synced_of self.new ≡ synced_of self.old) }
+        ensures synced { OnErr result (self.new.synced ≡ self.old.synced) }
     {
         if self.desk.present().is_none() {
             return Ok(Stepped::Idle);
         }
-        if !self.synced {
-            self.sync(alloc, cell)?;
+        let Some(seen) = self.synced else {
+            self.synced = Some(cell.history().len() as u64);
             return Ok(Stepped::Synced);
-        }
-        let place = self.commit(alloc, settings, scheduler, cell)?;
+        };
+        let place = self.commit(alloc, settings, scheduler, seen, common, cell)?;
         Ok(Stepped::Committed(place))
     }
 
-    // The copy takes over the rest of the history. Where memory runs out it may have taken over some
-    // of it.
-    fn sync(&mut self, alloc: Global, cell: &Cell) -> Result<(), NoMemory>
-        requires no_trial { self.old.copy.trial ≡ None }
-        requires stands { CopyOf self.old.copy cell.now.history }
-        ensures desk { self.new.desk ≡ self.old.desk }
-        ensures stands { CopyOf self.new.copy cell.now.history }
-        ensures no_trial { self.new.copy.trial ≡ None }
-        ensures ok { OnOk result (synced_of self.new ≡ Some (length cell.now.history)) }
-        ensures err { OnErr result (self.new.synced ≡ self.old.synced) }
-    {
-        let history = cell.history();
-        let seen = self.copy.seen() as usize;
-        self.copy.follow(alloc, &history[seen..])?;
-        self.synced = true;
-        Ok(())
-    }
-
-    /// The place in the copy's list of machines at which the present attempt begins. Takes no memory.
-    pub fn start(&self) -> usize
-        ensures drawn { result ≡ drawn_start self.now.desk.settings self.now.desk.scheduler self.now.desk.attempts (length self.now.copy.board.table) }
-        ensures within { result ≤ length self.now.copy.board.table }
-    {
-        self.desk.start(self.copy.board().machines().len())
-    }
-
-    // Commits the attempt on the first request that is left. Answers the place of the commit. Where
-    // memory runs out nothing has changed but the cell's room.
+    // Commits the attempt on the first request that is left, after so many entries that were seen. Answers
+    // the place of the commit. Where memory runs out nothing has changed but the cell's room and what the
+    // copies have taken over.
     fn commit(
         &mut self,
         alloc: Global,
         settings: &Settings,
         scheduler: u32,
+        seen: u64,
+        common: &mut PrivateCopy,
         cell: &mut Cell,
     ) -> Result<u64, NoMemory>
         requires range { IsInRange settings.now }
         requires known { scheduler < schedulers settings.now }
         requires seat { IsSeat settings.now cell.old.history scheduler self.old }
-        requires synced { self.old.synced ≡ true }
+        requires common { IsAtRest cell.old.history common.old }
+        requires synced { self.old.synced ≡ Some seen }
         requires work { self.old.desk.requests ≢ [] }
         ensures seat { IsSeat settings.now cell.new.history scheduler self.new }
+        ensures common { IsAtRest cell.new.history common.new }
         ensures commits { IfOk result (λ place. CommitsFirst settings.now scheduler cell.old.history self.old cell.new.history self.new place) }
         ensures err { OnErr result (cell.new.history ≡ cell.old.history) }
-        ensures desk { OnErr result (self.new ≡ self.old) }
+        ensures desk { OnErr result (self.new.desk ≡ self.old.desk) }
+        ensures spent { OnErr result (self.new.synced ≡ self.old.synced) }
     {
-        let start = self.start();
-        let Some(request) = self.desk.present() else {
-            unreachable!()
-        };
-        let copy = &mut self.copy;
-        let attempt = Attempt::of(alloc, settings, scheduler, copy, request, start, cell)?;
-        let Attempt { prepared, seqs } = attempt;
-        let reply = cell.commit(scheduler, self.copy.seen(), &seqs, prepared);
+        let made = self.attempt(alloc, settings, scheduler, seen, common, cell)?;
+        let Attempt { prepared, seqs } = made;
+        let reply = cell.commit(scheduler, seen, &seqs, prepared);
         self.desk.take(&reply);
-        self.synced = false;
+        self.synced = None;
         Ok(reply.place)
     }
+
+    // The attempt on the first request that is left, after so many entries that were seen: on the common
+    // copy, or where that has seen more, on the seat's own. Where memory runs out the copy may have taken
+    // over some of them.
+    fn attempt(
+        &mut self,
+        alloc: Global,
+        settings: &Settings,
+        scheduler: u32,
+        seen: u64,
+        common: &mut PrivateCopy,
+        cell: &mut Cell,
+    ) -> Result<Attempt, NoMemory>
+        requires range { IsInRange settings.now }
+        requires known { scheduler < schedulers settings.now }
+        requires seat { IsSeat settings.now cell.old.history scheduler self.old }
+        requires common { IsAtRest cell.old.history common.old }
+        requires synced { self.old.synced ≡ Some seen }
+        requires work { self.old.desk.requests ≢ [] }
+        ensures desk { self.new.desk ≡ self.old.desk }
+        ensures synced { self.new.synced ≡ self.old.synced }
+        ensures own { IsAtRest cell.old.history self.new.copy }
+        ensures behind { self.new.copy.seen ≤ seen }
+        ensures common { IsAtRest cell.old.history common.new }
+        ensures history { cell.new.history ≡ cell.old.history }
+        ensures txn { IfOk result (λ made. IsFirstAttempt settings.now cell.old.history scheduler seen self.old.desk made.prepared) }
+        ensures room { IfOk result (λ made. HasRoom cell.new made.prepared) }
+        ensures seqs { IfOk result (λ made. made.seqs.items ≡ copied_seqs cell.old.history seen made.prepared.claims) }
+    {
+        if common.seen() <= seen {
+            return Attempt::first(alloc, settings, scheduler, &self.desk, seen, common, cell);
+        }
+        let copy = &mut self.copy;
+        Attempt::first(alloc, settings, scheduler, &self.desk, seen, copy, cell)
+    }
+}
+
+/// The place in a copy's list of machines at which a desk's present attempt begins. Takes no memory.
+pub(crate) fn start_on(desk: &Desk, copy: &PrivateCopy) -> usize
+    ensures drawn { result ≡ drawn_start desk.now.settings desk.now.scheduler desk.now.attempts (length copy.now.board.table) }
+    ensures within { result ≤ length copy.now.board.table }
+{
+    desk.start(copy.board().machines().len())
 }
 
 // A transaction for which the cell has room, and the sequence numbers of its claims' machines in the
@@ -162,7 +185,44 @@ struct Attempt {
 }
 
 impl Attempt {
-    // The attempt of a scheduler on a request, planned on its copy.
+    // The attempt of a scheduler on the first request at its desk, after so many entries that it has seen.
+    // It is planned on a copy that has seen no more, and takes over the rest of these. Where memory runs
+    // out the copy may have taken over some of them.
+    fn first(
+        alloc: Global,
+        settings: &Settings,
+        scheduler: u32,
+        desk: &Desk,
+        seen: u64,
+        copy: &mut PrivateCopy,
+        cell: &mut Cell,
+    ) -> Result<Attempt, NoMemory>
+        requires batch { settings.now.batch ≤ 30 }
+        requires known { scheduler < schedulers settings.now }
+        requires settings { desk.now.settings ≡ settings.now }
+        requires scheduler { desk.now.scheduler ≡ scheduler }
+        requires attempts { desk.now.attempts ≡ commits_of scheduler cell.old.history }
+        requires work { desk.now.requests ≢ [] }
+        requires copy { IsAtRest cell.old.history copy.old }
+        requires behind { copy.old.seen ≤ seen }
+        requires within { seen ≤ length cell.old.history }
+        ensures copy { IsAtRest cell.old.history copy.new }
+        ensures behind { copy.new.seen ≤ seen }
+        ensures history { cell.new.history ≡ cell.old.history }
+        ensures txn { IfOk result (λ attempt. IsFirstAttempt settings.now cell.old.history scheduler seen desk.now attempt.prepared) }
+        ensures room { IfOk result (λ attempt. HasRoom cell.new attempt.prepared) }
+        ensures seqs { IfOk result (λ attempt. attempt.seqs.items
+            ≡ copied_seqs cell.old.history seen attempt.prepared.claims) }
+    {
+        follow_to(alloc, copy, cell.history(), seen)?;
+        let start = start_on(desk, copy);
+        let Some(request) = desk.present() else {
+            unreachable!()
+        };
+        Attempt::of(alloc, settings, scheduler, copy, request, start, cell)
+    }
+
+    // The attempt of a scheduler on a request, planned on a copy.
     fn of(
         alloc: Global,
         settings: &Settings,
@@ -191,6 +251,26 @@ impl Attempt {
         let prepared = reserved(alloc, cell, txn)?;
         Ok(Attempt { prepared, seqs })
     }
+}
+
+// Lets a copy take over a history up to so many entries. Where memory runs out it may have taken over
+// some of them. Costs what is new.
+fn follow_to(
+    alloc: Global,
+    copy: &mut PrivateCopy,
+    history: &[Entry],
+    seen: u64,
+) -> Result<(), NoMemory>
+    requires copy { IsAtRest history.now copy.old }
+    requires applied { EachMayApply history.now }
+    requires behind { copy.old.seen ≤ seen }
+    requires within { seen ≤ length history.now }
+    ensures copy { IsAtRest history.now copy.new }
+    ensures behind { copy.new.seen ≤ seen }
+    ensures all { OnOk result (copy.new.seen ≡ seen) }
+{
+    let later = &history[copy.seen() as usize..seen as usize];
+    copy.follow(alloc, later)
 }
 
 // The transaction, for which the cell has made room. A transaction of 2^32 claims or more is want of

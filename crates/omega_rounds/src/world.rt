@@ -22,6 +22,7 @@ use crate::seat::Seat;
 use crate::steps::{RoundStep, Stepped};
 use crate::threads::play_shared;
 use omega_cell::Cell;
+use omega_copy::PrivateCopy;
 use omega_feed::{OpenJobs, Wanted, feed, rounds};
 use omega_io::Gate;
 use omega_model::{Entries, Entry, NoMemory, Rounds, Settings, TraceTables};
@@ -50,13 +51,16 @@ pub struct World {
     open_jobs: OpenJobs,
     cell: Cell,
     seats: Vec<Seat>,
+    /// A copy for all plans but those after fewer entries than it has seen. Schedulers that take turns plan
+    /// on one state, and so on this copy; where one lags behind, it plans on the copy at its own seat.
+    common: PrivateCopy,
 }
 
 impl Model for World {
     ghost use Rattle.std.specs.Prelude.{map};
     ghost use Rattle.std.specs.List.{sum_by};
     ghost use Rattle.omega_rounds.specs.Keeping.{IsWorld, WereQuiet};
-    ghost use Rattle.omega_rounds.specs.Seats.{synced_of, to_do_of};
+    ghost use Rattle.omega_rounds.specs.Seats.{IsAtRest, synced_of, to_do_of};
     ghost use Rattle.omega_rounds.specs.Stages.{WorldState, stage_of};
 
     ghost Value = { WorldState };
@@ -64,7 +68,8 @@ impl Model for World {
     ghost view = { λ w. record { stage = stage_of w.settings w.rounds w.wanted w.begun w.opened_at; history = w.cell.history; synced = map synced_of w.seats.items; to_do = sum_by to_do_of w.seats.items } };
 
     ghost invariant = { λ w. IsWorld (stage_of w.settings w.rounds w.wanted w.begun w.opened_at) w.wanted.tasks w.cell.history w.seats.items
-        × WereQuiet w.open_jobs w.wanted w.opened_at w.cell.history };
+        × WereQuiet w.open_jobs w.wanted w.opened_at w.cell.history
+        × IsAtRest w.cell.history w.common };
 }
 
 impl World {
@@ -90,6 +95,7 @@ impl World {
             open_jobs: OpenJobs::new(alloc),
             cell: Cell::new(alloc),
             seats,
+            common: PrivateCopy::new(alloc),
         })
     }
 
@@ -161,6 +167,7 @@ impl World {
             mut open_jobs,
             mut cell,
             mut seats,
+            common,
         } = self;
         let Some(round) = rounds.get(begun) else {
             unreachable!()
@@ -181,14 +188,16 @@ impl World {
             open_jobs,
             cell,
             seats,
+            common,
         };
         Ok((world, number))
     }
 
-    /// Lets a scheduler do one step. Without work it does nothing, and that costs nothing. With work
-    /// it takes over the history, if it hasn't since its last commit or the round's rows; that costs
-    /// what is new. Else it commits its plan for the first request that it has left; that costs the
-    /// plan and the commit. Where memory runs out the world is as it was.
+    /// Lets a scheduler do one step. Without work it does nothing. With work it syncs, if it hasn't since
+    /// its last commit or the round's rows: from then on the history up to there is what it has seen.
+    /// Neither costs anything. Else it commits its plan for the first request that it has left; that costs
+    /// the plan, the commit, and the entries that a copy has to take over for the plan. Where memory runs
+    /// out the world is as it was.
     pub fn step(&mut self, scheduler: u32) -> Result<Stepped, NoMemory>
         requires { scheduler < schedulers self.old.stage.settings }
         ensures stage { self.new.stage ≡ self.old.stage }
@@ -200,7 +209,7 @@ impl World {
         let alloc = self.alloc;
         let settings = self.settings;
         let seat = &mut self.seats[scheduler as usize];
-        let stepped = seat.step(alloc, &settings, scheduler, &mut self.cell)?;
+        let stepped = seat.step(alloc, &settings, scheduler, &mut self.common, &mut self.cell)?;
         Ok(stepped)
     }
 
@@ -234,6 +243,7 @@ impl World {
             open_jobs,
             cell,
             seats,
+            common,
         } = self;
         let (cell, seats) = play_shared(rt, alloc, &settings, cell, seats, gate)?;
         Ok(World {
@@ -246,6 +256,7 @@ impl World {
             open_jobs,
             cell,
             seats,
+            common,
         })
     }
 

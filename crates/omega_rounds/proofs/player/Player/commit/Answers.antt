@@ -1,5 +1,7 @@
-use Rattle.std.proofs.Common.{refl, false}
+use Rattle.std.proofs.Common.{None, length, refl}
+use Rattle.omega_rounds.proofs.CommitCounts.{synced_longer}
 use Rattle.omega_rounds.proofs.PlayingOn.{plays_on_commit, plays_on_without, takes_answers}
+use Rattle.omega_rounds.proofs.Without.{longer_without}
 use Rattle.omega_rounds.specs.declared.player.Player.{Player}
 use Rattle.omega_rounds.proofs.player.Player.commit.Goals as goal
 
@@ -8,6 +10,8 @@ returns-in_default-clause-plays_on g c =
     plays_on_without c.args.self.now.seat.desk.settings c.args.self.now
     (record { seat = c.args.self.now.seat; pass = c.commit.new.pass; failed = c.args.self.now.failed })
     c.requires.synced.seat c.commit.ensures.turn c.in_default.ensures.seen refl c.commit.ensures.stands c.requires.synced.seat.no_trial
+    (synced_longer c.args.self.now.seat.synced c.args.self.now.seat.copy.seen (length c.args.self.now.pass.seen) (length c.commit.new.pass.seen)
+    (longer_without c.args.self.now.pass.number c.args.self.now.pass.seen c.commit.new.pass.seen c.in_default.ensures.seen) c.requires.synced.seat.seen)
 
 pub take-requires-clause-answers : goal.take-requires-clause-answers
 take-requires-clause-answers g c =
@@ -15,7 +19,7 @@ take-requires-clause-answers g c =
 
 pub returns-clause-plays_on : goal.returns-clause-plays_on
 returns-clause-plays_on g c =
-    let after : Player = record { seat = record { desk = c.take.new.self; copy = c.args.self.now.seat.copy; synced = false }; pass = c.commit.new.pass; failed = c.args.self.now.failed } in
+    let after : Player = record { seat = record { desk = c.take.new.self; copy = c.args.self.now.seat.copy; synced = None }; pass = c.commit.new.pass; failed = c.args.self.now.failed } in
     plays_on_commit c.args.self.now after c.args.txn c.in-Ok.reply
     (record {
       shared = c.args.shared.now.of;

@@ -45,6 +45,7 @@ invariant_of-self c =
       were_quiet stage c.self.inside.wanted.tasks c.self.inside.cell.history c.self.inside.seats.items c.self.invariant.0
           c.self.inside.open_jobs c.self.inside.wanted c.step.new.cell.history
           (goes_on_same c.self.inside.cell.history c.step.new.cell.history c.in_err-stepped.ensures.err) c.self.invariant.1,
+      c.step.ensures.common,
     )
 
 pub returns-in_err-stepped-clause-err : goal.returns-in_err-stepped-clause-err
@@ -69,6 +70,7 @@ invariant_of-self-2 c =
           c.self.inside.open_jobs c.self.inside.wanted c.step.new.cell.history
           (goes_on_step c.self.inside.settings c.args.scheduler c.self.inside.cell.history c.step.new.cell.history c.index_mut-seat.result.now c.step.new.self
           c.in_ok-stepped.stepped c.in_ok-stepped.ensures.step) c.self.invariant.1,
+      c.step.ensures.common,
     )
 
 pub returns-clause-step : goal.returns-clause-step
