@@ -1,5 +1,5 @@
 -- A player that plays on, by what its turns bring.
-use Rattle.std.proofs.Common.{◌≡◌, ◌≤◌, ◌<◌, ◌+◌, ℕ, Bool, true, false, List, [], ◌∷◌, length, length-append, Some, None, refl, sym, ap, subst, arith, ◌∙◌}
+use Rattle.std.proofs.Common.{◌≡◌, ◌≤◌, ◌<◌, ◌+◌, ℕ, Bool, true, false, List, [], ◌∷◌, length, length-append, Some, None, refl, sym, ap, subst, arith, ◌∙◌, Option}
 use Rattle.std.specs.Prelude.{slice_get, if◌then◌else◌}
 use Rattle.atomic_table.specs.Seated.{TableId}
 use Rattle.omega_model.proofs.Growing.{by_place_push_where}
@@ -21,7 +21,7 @@ use Rattle.omega_shared.specs.Turns.{Commits, SpendsTurn}
 use Rattle.omega_rounds.specs.NextCommit.{attempt, attempt_txn}
 use Rattle.omega_rounds.specs.Players.{HasPlayed, IsOwnDesk, MayPlay, MayStand, OwnMayStand}
 use Rattle.omega_rounds.specs.PlayingOn.{IsSynced, PlansFirst, PlaysOn}
-use Rattle.omega_rounds.specs.Seats.{IsSeat, synced_of, to_do_of}
+use Rattle.omega_rounds.specs.Seats.{IsSeat, synced_of, to_do_of, IsAtRest, SyncedWithin}
 use Rattle.omega_rounds.specs.SeatSteps.{CommitsFirst}
 use Rattle.omega_rounds.specs.declared.player.Player.{Player}
 use Rattle.omega_rounds.specs.declared.seat.Seat.{Seat}
@@ -153,6 +153,10 @@ module _ (old new : Player) (txn : Txn) (reply : Reply) (did : PlayerCommits old
       commits_first settings number before new.pass.seen old.seat new.seat.desk did.plans.request txn reply.outcomes committing
       new.seat.copy reply.place did.commits.answers.place
 
+  -- it had seen all that its pass had
+  seen_all : first_next.seen ≡ length old.pass.seen
+  seen_all = let both : Some first_next.seen ≡ Some (length old.pass.seen) = sym first_next.synced_before ∙ did.synced.all in cc
+
   -- fewer attempts are left
   pub fewer_after : to_do_of new.seat < to_do_of old.seat
   fewer_after =
@@ -167,14 +171,14 @@ module _ (old new : Player) (txn : Txn) (reply : Reply) (did : PlayerCommits old
   commit_stands : (opened_at : ℕ) → opened_at ≤ length old.pass.seen → OwnMayStand settings opened_at number old.pass.seen
       → OwnMayStand settings opened_at number new.pass.seen
   commit_stands opened_at within stand =
-      let seen : old.seat.copy.seen ≡ length old.pass.seen = did.synced.copied in
+      let seen = seen_all in
       let last : after_last number before ≤ length old.pass.seen =
       subst (λ (n : ℕ). n ≤ length old.pass.seen) (sym (after_last-without number old.pass.seen before did.commits.others))
       (after_last-within number old.pass.seen) in
       let more = longer in
       subst (OwnMayStand settings opened_at number) (sym first_next.appended)
       (by_place_push_where (λ place. opened_at ≤ place) (MayStand settings opened_at number) before
-      (attempt settings before number old.seat.copy.seen first_next.request)
+      (attempt settings before number first_next.seen first_next.request)
       (stand_without number old.pass.seen before did.commits.others settings opened_at stand)
       (λ same. record {
         known = did.synced.known;
@@ -191,7 +195,7 @@ module _ (old new : Player) (txn : Txn) (reply : Reply) (did : PlayerCommits old
   desk_after trace rows opened_at within is =
       let more = longer in
       subst (λ (h : List Entry). IsOwnDesk settings trace rows opened_at h number new.seat.desk) (sym first_next.appended)
-      (own_desk_own settings trace rows opened_at before (omega (arith, more, within)) number old.seat.copy.seen first_next.request
+      (own_desk_own settings trace rows opened_at before (omega (arith, more, within)) number first_next.seen first_next.request
       old.seat.desk new.seat.desk first_next.rest
       (desk_without number old.pass.seen before did.commits.others settings trace rows opened_at old.seat.desk within is)
       first_next.work first_next.moved)

@@ -1,5 +1,5 @@
 -- A world in which a round begins.
-use Rattle.std.proofs.Common.{◌≡◌, ◌≤◌, ◌<◌, ◌+◌, ◌*◌, ◌-◌, ℕ, suc, not, List, [], ◌∷◌, ◌++◌, length, take, Some, None, refl, sym, ap, ap₂, subst, arith, ◌∙◌, inl, inr, add-one}
+use Rattle.std.proofs.Common.{◌≡◌, ◌≤◌, ◌<◌, ◌+◌, ◌*◌, ◌-◌, ℕ, suc, not, List, [], ◌∷◌, ◌++◌, length, take, Some, None, refl, sym, ap, ap₂, subst, arith, ◌∙◌, inl, inr, add-one, Option}
 use Rattle.std.specs.Prelude.{nat_le, slice_get}
 use Rattle.std.specs.List.{All, fold, sum_by}
 use Rattle.std.proofs.lemmas.List.Sums.{fold-append}
@@ -36,7 +36,7 @@ use Rattle.omega_rounds.specs.Keeping.{HasBegun, HasNotBegun, IsLawful, IsWorld,
 use Rattle.omega_rounds.specs.NextCommit.{NobodyHasWork}
 use Rattle.omega_rounds.specs.Opening.{BeginAll, BeginsSeat, HaveNoWork, IsAsked}
 use Rattle.omega_rounds.specs.Playing.{IsAtStart}
-use Rattle.omega_rounds.specs.Seats.{IsDeskOf, IsRoutedTo, IsSeat, synced_of, to_do_of}
+use Rattle.omega_rounds.specs.Seats.{IsDeskOf, IsRoutedTo, IsSeat, synced_of, to_do_of, IsAtRest, SyncedWithin}
 use Rattle.omega_rounds.specs.Stages.{IsInRunOf, Source, Stage, next_stage, rows_begun, stage_of}
 use Rattle.omega_rounds.specs.declared.seat.Seat.{Seat}
 use Rattle.omega_rounds.proofs.OpenedEntries.{commits_opened, copy_opened, failed_opened}

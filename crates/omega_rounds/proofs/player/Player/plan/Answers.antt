@@ -12,5 +12,5 @@ unreachable-requires c =
 
 pub returns-clause-plans : goal.returns-clause-plans
 returns-clause-plans c =
-    plans_first c.args.settings.now c.args.self.now c.number-number.result c.start-start.result c.in-Some.request.now c.in_ok-txn.txn c.requires.seat c.number-number.ensures.number
-    (sym (ap (option_map (λ (r : Bor Request). r.now)) c.in-Some.is) ∙ c.present.ensures) c.start-start.ensures.drawn c.in_ok-txn.ensures.txn
+    plans_first c.args.settings.now c.args.self.now c.number-number.result c.start_on-start.result c.in-Some.request.now c.in_ok-txn.txn c.requires.seat c.number-number.ensures.number
+    (sym (ap (option_map (λ (r : Bor Request). r.now)) c.in-Some.is) ∙ c.present.ensures) c.start_on-start.ensures.drawn c.in_ok-txn.ensures.txn
