@@ -11,7 +11,7 @@ use crate::rows::push_row;
 use crate::telling::{part, tell_entries, tell_requests, tell_rounds};
 use crate::values::{is_colon, number, small, text};
 use omega_board::Board;
-use omega_feed::{OpenJobs, Wanted, feed, rounds, waiting};
+use omega_feed::{OpenJobs, Wanted, feed, rounds};
 use omega_model::{
     Bytes, Entries, Extra, Requests, Round, Rounds, Row, Rows, Settings, TraceTables,
 };
@@ -373,7 +373,10 @@ fn tell_waiting(
     alloc: Global,
     answers: &mut String,
 ) -> Result<(), Fault> {
-    let found = waiting(alloc, &trace.tables, board)?;
+    let mut wanted = at_first(trace, alloc)?;
+    let rows = feed(alloc, &trace.tables)?;
+    take_rows(&mut wanted, &mut OpenJobs::new(alloc), &rows)?;
+    let found = wanted.left(alloc, board)?;
     write!(answers, "{}", found.tasks)?;
     for job in found.jobs.as_slice() {
         write!(answers, " {job}")?;

@@ -1,12 +1,14 @@
 -- To cut rows in order where the round changes is to gather the rows of each round.
-use Rattle.std.proofs.Common.{◌≡◌, ℕ, ◌+◌, ◌/◌, ◌<◌, ◌≤◌, ◌==◌, Bool, true, false, cond, not, List, [], ◌∷◌, ◌++◌, map, refl, ap, sym, ◌∙◌, inl, inr, arith, append_assoc}
+use Rattle.std.proofs.Common.{◌≡◌, ℕ, ◌+◌, ◌/◌, ◌<◌, ◌≤◌, ◌==◌, Bool, true, false, cond, not, List, [], ◌∷◌, ◌++◌, map, refl, ap, ap₂, sym, ◌∙◌, inl, inr, arith, append-nil, append_assoc}
 use Rattle.std.specs.List.{filter}
 use Rattle.std.proofs.Math.Nat.{mul-le-mul_left}
+use Rattle.std.proofs.lemmas.Grind.{flat_map-append}
 use Rattle.std.proofs.lemmas.Bool.{eq-eqb, ne_eqb, eqb-true, eqb-false, cases_lt}
 use Rattle.omega_running.specs.Order.{Each}
 use Rattle.omega_running.proofs.Kept.{each_filter}
 use Rattle.omega_running.proofs.Lists.{each_map, each_append, filter_every, filter_left, filter_right}
 use Rattle.omega_model.specs.Feed.{time_of, event_rows, feed, round_number, is_of_round, each_once, round_at, rounds}
+use Rattle.omega_model.specs.Lawful.{rows_of}
 use Rattle.omega_model.specs.declared.rows.Row.{Row}
 use Rattle.omega_model.specs.declared.rows.Round.{Round}
 use Rattle.omega_model.specs.declared.rows.TraceTables.{TraceTables}
@@ -124,3 +126,25 @@ cut_all w (row ∷ rows) r = by_cases (round_number w row == 0) refl (cut_from w
 -- rows in order of time, cut where the round changes, are the rounds of the trace
 pub cut_feed : (trace : TraceTables) (w : ℕ) → 0 < w → cut w 0 [] (feed trace) ≡ rounds trace w
 cut_feed trace w h = cut_all w (feed trace) (rise_quotients w h (feed trace) (rise_feed (event_rows trace)))
+
+-- a round that has closed has its rows
+closed_has : (n : ℕ) (rows : List Row) → rows_of (closed n rows) ≡ rows
+closed_has n [] = refl
+closed_has n (row ∷ rows) = append-nil (row ∷ rows)
+
+-- rows that are cut stand in the rounds as they stood
+cut_has : (w n : ℕ) (rows rest : List Row) → rows_of (cut w n rows rest) ≡ rows ++ rest
+cut_has w n rows [] = closed_has n rows ∙ sym (append-nil rows)
+cut_has w n rows (row ∷ rest) =
+    by_cases (round_number w row == n) (cut_has w n (rows ++ row ∷ []) rest) (cut_has w (round_number w row) (row ∷ []) rest) where
+      by_cases : (b : Bool) → rows_of (cut w n (rows ++ row ∷ []) rest) ≡ (rows ++ row ∷ []) ++ rest
+          → rows_of (cut w (round_number w row) (row ∷ []) rest) ≡ row ∷ rest
+          → rows_of (cond b (cut w n (rows ++ row ∷ []) rest) (closed n rows ++ cut w (round_number w row) (row ∷ []) rest)) ≡ rows ++ row ∷ rest
+      by_cases true same new = same ∙ append_assoc rows (row ∷ []) rest
+      by_cases false same new =
+          flat_map-append (λ (r : Round). r.rows) (closed n rows) (cut w (round_number w row) (row ∷ []) rest)
+          ∙ ap₂ (λ (some others : List Row). some ++ others) (closed_has n rows) new
+
+-- the rounds of a trace have all its rows in order
+pub rounds_have : (trace : TraceTables) (w : ℕ) → 0 < w → rows_of (rounds trace w) ≡ feed trace
+rounds_have trace w h = ap rows_of (sym (cut_feed trace w h)) ∙ cut_has w 0 [] (feed trace)

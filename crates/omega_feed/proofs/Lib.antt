@@ -9,6 +9,5 @@ pub mod Listing
 pub mod Lasting
 pub mod Picked
 pub mod AtEnd
-pub mod TaskRows
 pub mod Active
 pub mod ExtraIndexes

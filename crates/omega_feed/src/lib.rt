@@ -2,8 +2,9 @@
 //!
 //! `feed` puts the rows of the events in order, and `rounds` cuts them into windows of time. `Wanted`
 //! takes them one by one, knows which tasks are to run, and says what each row does to the cell and
-//! what a scheduler is asked to place, the extra tasks of MapReduce jobs among it. `OpenJobs` are the
-//! jobs of which something may have to be placed; only those are looked at.
+//! what a scheduler is asked to place, the extra tasks of MapReduce jobs among it, and in the end what
+//! is wanted and doesn't run. `OpenJobs` are the jobs of which something may have to be placed; only
+//! those are looked at.
 #![tactic(auto)]
 
 mod activities;
@@ -22,5 +23,5 @@ pub use extras::FIRST_EXTRA;
 pub use jobs::RoutedJob;
 pub use open_jobs::OpenJobs;
 pub use ordered::{feed, rounds};
-pub use unplaced::{WaitingTasks, waiting};
+pub use unplaced::WaitingTasks;
 pub use wanted::Wanted;

@@ -51,15 +51,6 @@ pub fn feed(alloc: Global, tables: &TraceTables) -> Result<Vec<Row>, NoMemory>
     in_order(rows)
 }
 
-/// The rows of the tasks in order of time, then of row. Copies each once.
-pub fn task_feed(alloc: Global, tables: &TraceTables) -> Result<Vec<Row>, NoMemory>
-    ensures { IfOk result (λ rows. rows.items ≡ by_time (map (λ row. Task row) tables.now.tasks)) }
-{
-    let mut rows = Vec::new(alloc);
-    push_tasks(&mut rows, tables.tasks.as_slice())?;
-    in_order(rows)
-}
-
 /// These rows in order of time; those of one time stay in the order in which they stand.
 fn in_order(mut rows: Vec<Row>) -> Result<Vec<Row>, NoMemory>
     ensures { IfOk result (λ sorted. sorted.items ≡ by_time rows.items) }

@@ -3,13 +3,13 @@ ghost use Rattle.std.specs.Prelude.{◌≡◌, ◌↔◌, [], All, List, not, ma
 ghost use Rattle.std.specs.List.{filter, list_any};
 ghost use Rattle.omega_model.specs.ExtraTasks.{HasLowIndex, first_extra, is_wanted, wanted_of};
 ghost use Rattle.omega_model.specs.ReportCounts.{waits};
-ghost use Rattle.omega_model.specs.Wanted.{wanted_after, wanted_after_task, with_wanted, is_named};
+ghost use Rattle.omega_model.specs.Wanted.{wanted_after_task, with_wanted, is_named};
 ghost use Rattle.omega_model.specs.declared.cells.Machine.{Machine};
 ghost use Rattle.omega_feed.specs.Asked.{is_task_of};
 ghost use Rattle.omega_feed.specs.Index.{changed_by, wanted_task};
 ghost use Rattle.omega_feed.specs.Open.{RunsIfOf};
 
-use omega_model::{NoMemory, Row, Spec, TaskKey, TaskRow};
+use omega_model::{NoMemory, Spec, TaskKey, TaskRow};
 use omega_running::Running;
 use std::alloc::Global;
 use std::collections::BTreeMap;
@@ -90,32 +90,6 @@ impl WantedTasks {
     {
         let (first, last) = keys_of(job);
         self.specs.range(first..=last).next().is_some()
-    }
-
-    /// Applies a row: what it submits, schedules or updates is wanted as it says, and what ends in it
-    /// is not. A refused call leaves the tasks. Costs the logarithm of their number.
-    pub fn take(&mut self, row: &Row) -> Result<(), NoMemory>
-        ensures ok { OnOk result (self.new ≡ wanted_after self.old row.now) }
-        ensures err { OnErr result (self.new ≡ self.old) }
-    {
-        match row {
-            Row::Task(row) => self.take_task(row),
-            _ => Ok(()),
-        }
-    }
-
-    fn take_task(&mut self, row: &TaskRow) -> Result<(), NoMemory>
-        ensures ok { OnOk result (self.new ≡ wanted_after_task self.old row.now) }
-        ensures err { OnErr result (self.new ≡ self.old) }
-    {
-        match self.change_of(row) {
-            Change::Want => self.insert(row.key, row.spec),
-            Change::End => {
-                self.remove(row.key);
-                Ok(())
-            }
-            Change::Keep => Ok(()),
-        }
     }
 
     /// What a row does to the tasks. Costs the logarithm of their number.

@@ -16,6 +16,7 @@ ghost use Rattle.omega_model.specs.declared.settings.Settings.{Settings};
 ghost use Rattle.omega_board.specs.Board.{cell_of};
 ghost use Rattle.omega_feed.specs.Asked.{activities_in, asked_after, asked_extra, asked_wish, asked_wishes, extras_after, is_task_of};
 ghost use Rattle.omega_feed.specs.Index.{HasLowTask, job_at, routed_request, wanted_task};
+ghost use Rattle.omega_feed.specs.Left.{AreLeft};
 ghost use Rattle.omega_feed.specs.Open.{IsQuietAt, OpensAtMost, OthersAreQuiet, RowOpens, StayOpen};
 
 use crate::activities::JobActivities;
@@ -26,6 +27,7 @@ use crate::extras::{extra_count, free_indexes, running_extras};
 use crate::jobs::{Jobs, RoutedJob};
 use crate::open_jobs::OpenJobs;
 use crate::tasks::{Change, WantedTasks};
+use crate::unplaced::{WaitingTasks, each_once};
 use omega_board::Board;
 use omega_model::{
     Entries, Extra, NoMemory, Request, Requests, Row, Settings, Spec, TaskKey, TaskRow,
@@ -204,6 +206,18 @@ impl Wanted {
             }
         }
         Ok(requests)
+    }
+
+    /// Those of the wanted tasks that don't run on a board, counted, and their jobs, each once. Costs
+    /// the wanted tasks, each times the logarithm of the number of those that run or wait.
+    pub fn left(&self, alloc: Global, board: &Board) -> Result<WaitingTasks, NoMemory>
+        ensures { IfOk result (AreLeft self.now.tasks (cell_of board.now)) }
+    {
+        let jobs = self.tasks.waiting_jobs(alloc, board.running())?;
+        Ok(WaitingTasks {
+            tasks: jobs.len() as u64,
+            jobs: each_once(alloc, &jobs)?,
+        })
     }
 
     /// The request of a job, if there is one, it is this scheduler's and it wishes for anything.

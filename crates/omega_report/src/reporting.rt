@@ -1,12 +1,15 @@
 //! The report of a history.
 ghost use Rattle.std.specs.Prelude.{◌≡◌, ◌++◌, ◌<◌, ◌≤◌, ◌^◌, List, IfOk, OnOk, count_by, length, nat_le};
+ghost use Rattle.omega_feed.specs.Left.{IsLeft};
 ghost use Rattle.omega_model.specs.Applying.{EachMayApply};
 ghost use Rattle.omega_model.specs.Lawful.{Lawful};
 ghost use Rattle.omega_model.specs.Policy.{schedulers};
 ghost use Rattle.omega_model.specs.Report.{Line};
 ghost use Rattle.omega_model.specs.ReportForms.{printed_report};
 ghost use Rattle.omega_model.specs.ReportLines.{final_lines};
+ghost use Rattle.omega_model.specs.State.{state};
 ghost use Rattle.omega_model.specs.declared.entries.Entry.{Entry};
+ghost use Rattle.omega_model.specs.declared.rows.TraceTables.{TraceTables};
 ghost use Rattle.omega_model.specs.declared.settings.Format.{Format};
 ghost use Rattle.omega_report.specs.Failing.{count_of};
 ghost use Rattle.omega_report.specs.Passing.{begins_round, lines_of_all, IsAfter};
@@ -15,51 +18,51 @@ use crate::counts::Counts;
 use crate::failures::Failures;
 use crate::page::Page;
 use crate::pass::{Pass, passed};
-use omega_feed::waiting;
-use omega_model::{Bytes, Entry, NoMemory, Settings, TraceTables};
+use omega_feed::WaitingTasks;
+use omega_model::{Bytes, Entry, NoMemory, Settings};
 use std::alloc::Global;
 
 /// The bytes of the report of a history in the settings' format: the lines of its entries, each on the
 /// state of those before it, what is used at the end of each round, and what the history comes to. For
 /// `generate` there is only the first line and what the history comes to.
 ///
-/// The history is a whole run of the tables under these settings, each of its entries can be applied to
-/// the state of those before it, and there are at most 30 batch schedulers.
+/// Each entry of the history can be applied to the state of those before it, and there are at most 30
+/// batch schedulers. It is the report for each trace of which the history is a whole run under these
+/// settings, and of which what is handed in is what waits at the history's end.
 ///
-/// Costs what the entries change, the lines, and a sort of the task rows by time. No line costs the
-/// machines or the tasks that run.
+/// Costs what the entries change, and the lines. No line costs the machines or the tasks that run.
 pub fn report(
     alloc: Global,
     settings: &Settings,
-    tables: &TraceTables,
     history: &[Entry],
+    left: &WaitingTasks,
 ) -> Result<Bytes, NoMemory>
     requires batch { settings.now.batch ≤ 30 }
-    requires lawful { Lawful settings.now tables.now history.now }
     requires applied { EachMayApply history.now }
-    ensures { IfOk result (λ bytes. bytes ≡ printed_report settings.now tables.now history.now) }
+    ensures { IfOk result (λ bytes. (trace : TraceTables)
+        → Lawful settings.now trace history.now → IsLeft trace (state history.now) left.now
+        → bytes ≡ printed_report settings.now trace history.now) }
 {
     let mut page = Page::new(alloc, settings.format);
     page.first()?;
     let pass = passed(alloc, settings, page, history)?;
-    summed_up(alloc, settings, tables, history, pass)?.finish()
+    summed_up(settings, history, left, pass)?.finish()
 }
 
 // The page of a pass over a history, with what it comes to.
 fn summed_up(
-    alloc: Global,
     settings: &Settings,
-    tables: &TraceTables,
     history: &[Entry],
+    left: &WaitingTasks,
     pass: Pass,
 ) -> Result<Page, NoMemory>
     requires batch { settings.now.batch ≤ 30 }
     requires counted { length pass.tally ≡ schedulers settings.now }
-    ensures { IfOk result (λ page. (format : Format) (lines : List Line)
-        → Lawful settings.now tables.now history.now → IsAfter (schedulers settings.now) format lines history.now pass
-        → (page.format ≡ format) × (page.lines ≡ lines ++ final_lines settings.now tables.now history.now)) }
+    ensures { IfOk result (λ page. (trace : TraceTables) (format : Format) (lines : List Line)
+        → Lawful settings.now trace history.now → IsLeft trace (state history.now) left.now
+        → IsAfter (schedulers settings.now) format lines history.now pass
+        → (page.format ≡ format) × (page.lines ≡ lines ++ final_lines settings.now trace history.now)) }
 {
-    let left = waiting(alloc, tables, pass.cell.board())?;
     let abandoned = count_given_up(left.jobs.as_slice(), settings.give_up, &pass.failures);
     let Pass {
         mut page,

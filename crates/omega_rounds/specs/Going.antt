@@ -1,5 +1,5 @@
 -- What the calls of a world do.
-use Rattle.std.specs.Prelude.{◌≡◌, ◌<◌, ℕ, Some, length, slice_get}
+use Rattle.std.specs.Prelude.{◌≡◌, ◌<◌, ℕ, Some, length, slice_get, ⊤}
 use Rattle.omega_model.specs.Lawful.{Lawful}
 use Rattle.omega_model.specs.Policy.{schedulers}
 use Rattle.omega_model.specs.Stepping.{BeginsRound, Step}
@@ -9,7 +9,7 @@ use Rattle.omega_model.specs.declared.rows.Round.{Round}
 use Rattle.omega_model.specs.declared.rows.TraceTables.{TraceTables}
 use Rattle.omega_model.specs.declared.wishes.Request.{Request}
 use Rattle.omega_rounds.specs.NextCommit.{HasNoWork, NobodyHasWork, WorksOn}
-use Rattle.omega_rounds.specs.Stages.{WorldState, next_stage, rows_begun, world_of}
+use Rattle.omega_rounds.specs.Stages.{AllHaveBegun, Stage, WorldState, next_stage, rows_begun, world_of}
 use Rattle.omega_rounds.specs.declared.steps.RoundStep.{RoundStep}
 use Rattle.omega_rounds.specs.declared.steps.RoundStep.TheVariants.{Begun, Unfinished, Over}
 use Rattle.omega_rounds.specs.declared.steps.Stepped.{Stepped}
@@ -70,3 +70,9 @@ abbrev pub GoesOn : TraceTables → WorldState → WorldState → RoundStep → 
 GoesOn trace old new (Begun number) = OpensRound trace old new
 GoesOn trace old new (Unfinished scheduler) = IsFirstAtWork trace old scheduler
 GoesOn trace old new Over = Lawful old.stage.settings trace old.history
+
+-- where no round is left all have begun
+abbrev pub IsOverAtLast : Stage → RoundStep → Type 0
+IsOverAtLast stage (Begun number) = ⊤
+IsOverAtLast stage (Unfinished scheduler) = ⊤
+IsOverAtLast stage Over = AllHaveBegun stage

@@ -1,5 +1,5 @@
 -- Where a world stands in the run of its trace.
-use Rattle.std.specs.Prelude.{◌≡◌, ◌+◌, ℕ, List, [], Option, take, slice_get, option_and_then}
+use Rattle.std.specs.Prelude.{◌≡◌, ◌+◌, ℕ, List, [], Option, length, take, slice_get, option_and_then}
 use Rattle.omega_model.specs.Feed.{rounds}
 use Rattle.omega_model.specs.Lawful.{rows_of}
 use Rattle.omega_model.specs.World.{World}
@@ -47,6 +47,10 @@ IsInRunOf stage trace = stage.source ≡ source_of stage.settings trace
 -- the rows of the rounds that have begun
 abbrev pub rows_begun : Stage → List Row
 rows_begun stage = rows_of (take stage.begun stage.source.rounds)
+
+-- all rounds of the trace have begun
+abbrev pub AllHaveBegun : Stage → Type 0
+AllHaveBegun stage = stage.begun ≡ length stage.source.rounds
 
 -- the stage once one more round has begun, whose rows end here
 abbrev pub next_stage : Stage → ℕ → Stage

@@ -9,7 +9,7 @@ ghost use Rattle.omega_model.specs.declared.rows.TraceTables.{TraceTables};
 ghost use Rattle.omega_shared.specs.Passes.{new_pass};
 ghost use Rattle.omega_rounds.specs.Closed.{AreBack, Suffice};
 ghost use Rattle.omega_rounds.specs.Seats.{IsSeat};
-ghost use Rattle.omega_rounds.specs.Stages.{IsInRunOf};
+ghost use Rattle.omega_rounds.specs.Stages.{AllHaveBegun, IsInRunOf};
 ghost use Rattle.omega_rounds.specs.declared.seat.Seat.{Seat};
 
 use crate::player::Player;
@@ -44,6 +44,7 @@ pub fn on_threads<R: Threads + Wait + Sync, G: Gate + Sync>(
     requires sync { IsSync R.row × IsSync G.row }
     ensures source { IfOk result (λ after. after.stage.source ≡ world.stage.source) }
     ensures settings { IfOk result (λ after. after.stage.settings ≡ world.stage.settings) }
+    ensures last { IfOk result (λ after. AllHaveBegun after.stage) }
     ensures lawful { IfOk result (λ after. (trace : TraceTables) → IsInRunOf world.stage trace
         → Lawful world.stage.settings trace after.history) }
 {

@@ -5,7 +5,7 @@ ghost use Rattle.omega_model.specs.Turns.{InTurns};
 ghost use Rattle.omega_model.specs.declared.entries.Entry.{Entry};
 ghost use Rattle.omega_model.specs.declared.rows.TraceTables.{TraceTables};
 ghost use Rattle.omega_rounds.specs.Playing.{CommitsTurn, PlaysRound, SyncsTurn, TakesTurnFrom};
-ghost use Rattle.omega_rounds.specs.Stages.{IsInRunOf};
+ghost use Rattle.omega_rounds.specs.Stages.{AllHaveBegun, IsInRunOf};
 
 use crate::steps::RoundStep;
 use crate::world::World;
@@ -20,6 +20,7 @@ pub fn in_turns(world: World) -> Result<World, NoMemory>
     requires { world.stage.begun ≡ 0 }
     ensures source { IfOk result (λ after. after.stage.source ≡ world.stage.source) }
     ensures settings { IfOk result (λ after. after.stage.settings ≡ world.stage.settings) }
+    ensures last { IfOk result (λ after. AllHaveBegun after.stage) }
     ensures lawful { IfOk result (λ after. (trace : TraceTables) → IsInRunOf world.stage trace
         → Lawful world.stage.settings trace after.history) }
     ensures turns { IfOk result (λ after. InTurns after.history) }

@@ -1,6 +1,7 @@
 //! Schedulers over one cell, round by round.
 ghost use Rattle.std.specs.Prelude.{◌≡◌, ◌<◌, ℕ, None, length, take, IfOk, IfSome, OnErr, OnOk};
 ghost use Rattle.std.specs.Thread.{IsSync};
+ghost use Rattle.omega_feed.specs.Left.{AreLeft, IsLeft};
 ghost use Rattle.omega_model.specs.Applying.{EachMayApply};
 ghost use Rattle.omega_model.specs.Lawful.{LawfulSoFar};
 ghost use Rattle.omega_model.specs.Legal.{Legal, Sound};
@@ -8,13 +9,14 @@ ghost use Rattle.omega_model.specs.Policy.{schedulers};
 ghost use Rattle.omega_model.specs.Ranges.{IsInRange};
 ghost use Rattle.omega_model.specs.State.{state};
 ghost use Rattle.omega_model.specs.Stepping.{IsNew, LawfulWorld};
+ghost use Rattle.omega_model.specs.Wanted.{wanted};
 ghost use Rattle.omega_model.specs.World.{NobodySynced};
 ghost use Rattle.omega_model.specs.declared.rows.TraceTables.{TraceTables};
 ghost use Rattle.omega_rounds.specs.Closed.{IsDone};
-ghost use Rattle.omega_rounds.specs.Going.{GoesOn, LeavesToDo, MovesOn, OpensRound, ReachesRound, StepsOn};
+ghost use Rattle.omega_rounds.specs.Going.{GoesOn, IsOverAtLast, LeavesToDo, MovesOn, OpensRound, ReachesRound, StepsOn};
 ghost use Rattle.omega_rounds.specs.Opening.{AreNewSeats};
 ghost use Rattle.omega_rounds.specs.Playing.{IsAtStart, IsInSomeRun};
-ghost use Rattle.omega_rounds.specs.Stages.{IsInRunOf, first_stage, world_of};
+ghost use Rattle.omega_rounds.specs.Stages.{AllHaveBegun, IsInRunOf, first_stage, rows_begun, world_of};
 
 use crate::opening::{begin_all, first_at_work, open};
 use crate::reopening::reopen_since;
@@ -23,7 +25,7 @@ use crate::steps::{RoundStep, Stepped};
 use crate::threads::play_shared;
 use omega_cell::Cell;
 use omega_copy::PrivateCopy;
-use omega_feed::{OpenJobs, Wanted, feed, rounds};
+use omega_feed::{OpenJobs, WaitingTasks, Wanted, feed, rounds};
 use omega_io::Gate;
 use omega_model::{Entries, Entry, NoMemory, Rounds, Settings, TraceTables};
 use std::alloc::Global;
@@ -112,6 +114,17 @@ impl World {
         self.cell.history()
     }
 
+    /// What is wanted of the rounds that have begun and doesn't run. Where all have begun that is what
+    /// waits at the end of each trace in whose run the world is. Costs the wanted tasks, each times the
+    /// logarithm of the number of those that run or wait.
+    pub fn left(&self) -> Result<WaitingTasks, NoMemory>
+        ensures tasks { IfOk result (AreLeft (wanted (rows_begun self.now.stage)) (state self.now.history)) }
+        ensures end { (trace : TraceTables) → IsInRunOf self.now.stage trace → AllHaveBegun self.now.stage
+            → IfOk result (IsLeft trace (state self.now.history)) }
+    {
+        self.wanted.left(self.alloc, self.cell.board())
+    }
+
     /// The history itself. Takes no memory.
     pub fn into_history(self) -> Entries
         ensures history { result ≡ self.history }
@@ -136,6 +149,7 @@ impl World {
         ensures stage { IfOk result (λ next. MovesOn self next.0 next.1) }
         ensures run { IfOk result (λ next. (trace : TraceTables) → IsInRunOf self.stage trace
             → GoesOn trace self next.0 next.1) }
+        ensures last { IfOk result (λ next. IsOverAtLast next.0.stage next.1) }
         ensures made { IsInSomeRun self.stage }
         ensures start { self.stage.begun ≡ 0 → IsAtStart self }
     {

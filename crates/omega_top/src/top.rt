@@ -18,7 +18,7 @@ ghost use Rattle.omega_top.specs.Reads.{Reads, StayUnread, left_by};
 ghost use Rattle.omega_words.specs.Built.{built_words};
 ghost use Rattle.omega_words.specs.Taken.{settings_in};
 
-use crate::replay::replayed;
+use crate::replay::{WholeRun, replayed};
 use crate::trace::trace_of_run;
 use omega_io::{Gate, Sink, Tables, write_all};
 use omega_model::{Done, Seq, Settings, Status, TraceTables};
@@ -183,10 +183,10 @@ fn replay_and_write<R: Threads + Wait + Sync, K: Sink, G: Gate + Sync>(
     ensures history { HasHistory result.history result.status }
     ensures written { Writes (printed_report settings.now trace.now result.history) (K.written out.old) (K.written out.new) result.status }
 {
-    let Ok(history) = replayed(rt, alloc, settings, trace, gate) else {
+    let Ok(WholeRun { history, left }) = replayed(rt, alloc, settings, trace, gate) else {
         return refused(alloc, Status::NoMemory, Some(*settings));
     };
-    let Ok(bytes) = report(alloc, settings, trace, history.as_slice()) else {
+    let Ok(bytes) = report(alloc, settings, history.as_slice(), &left) else {
         return refused(alloc, Status::NoMemory, Some(*settings));
     };
     let status = match write_all(out, bytes.as_slice()) {

@@ -1,7 +1,5 @@
 use Rattle.std.proofs.Common.{◌∷◌, ◌++◌, [], length, refl, ap, ◌∙◌}
-use Rattle.omega_model.specs.Cell.{Cell}
 use Rattle.omega_model.specs.ExtraTasks.{capacity_in_all, used_in}
-use Rattle.omega_model.specs.ReportCounts.{jobs_of, waiting}
 use Rattle.omega_report.specs.Failing.{count_of}
 use Rattle.omega_report.specs.Lines.{sizes_line}
 use Rattle.omega_report.proofs.RoundsCounted.{rounds_counted}
@@ -9,25 +7,23 @@ use Rattle.omega_report.proofs.Summed.{abandoned_is, summed_is, Sums}
 use Rattle.omega_report.proofs.reporting.summed_up.Goals as goal
 
 pub returns : goal.returns
-returns c = λ format lines lawful after.
+returns c = λ trace format lines lawful waits after.
     let settings = c.args.settings.now in
-    let trace = c.args.tables.now in
     let history = c.args.history.now in
+    let left = c.args.left.now in
     let counts = c.counts.result.now in
-    let cell = c.board.ensures ∙ after.current in
-    let sums : Sums settings trace history (length history) c.count_rounds.result counts c.used.result c.capacity.result c.in_ok-left.left.tasks c.count_given_up-abandoned.result = record {
+    let sums : Sums settings trace history (length history) c.count_rounds.result counts c.used.result c.capacity.result left.tasks c.count_given_up-abandoned.result = record {
       all_entries = refl;
       all_rounds = c.count_rounds.ensures ∙ rounds_counted settings trace history lawful;
       all_counts = c.counts.ensures ∙ after.counted;
       all_used = c.used.ensures ∙ ap used_in after.current;
       all_capacity = c.capacity.ensures ∙ ap capacity_in_all after.current;
-      all_tasks = c.in_ok-left.ensures.tasks ∙ ap (λ (now : Cell). length (waiting trace now)) cell;
+      all_tasks = waits.count;
       all_jobs = c.count_given_up-abandoned.ensures
-          ∙ abandoned_is settings trace history (count_of c.args.pass.failures) c.as_slice.result.now after.failing
-          (c.as_slice.ensures ∙ c.in_ok-left.ensures.jobs ∙ ap (λ (now : Cell). jobs_of (waiting trace now)) cell);
+          ∙ abandoned_is settings trace history (count_of c.args.pass.failures) c.as_slice.result.now after.failing (c.as_slice.ensures ∙ waits.jobs);
     } in (
       c.in_ok-unplaced.ensures.format ∙ c.in_ok-usage.ensures.format ∙ c.in_ok-push_counts.ensures.format ∙ c.in_ok-sizes.ensures.format ∙ after.form,
-      summed_is settings trace history (length history) c.count_rounds.result counts c.used.result c.capacity.result c.in_ok-left.left.tasks c.count_given_up-abandoned.result
+      summed_is settings trace history (length history) c.count_rounds.result counts c.used.result c.capacity.result left.tasks c.count_given_up-abandoned.result
           lines c.sizes.new.self.lines c.push_counts.new.page.lines c.usage.new.self.lines c.unplaced.new.self.lines sums
           (c.in_ok-sizes.ensures.lines ∙ ap (λ ls. ls ++ sizes_line (length history) c.count_rounds.result ∷ []) after.printed)
           c.in_ok-push_counts.ensures.lines c.in_ok-usage.ensures.lines c.in_ok-unplaced.ensures.lines,
