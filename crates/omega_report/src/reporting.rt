@@ -27,8 +27,8 @@ use std::alloc::Global;
 /// `generate` there is only the first line and what the history comes to.
 ///
 /// Each entry of the history can be applied to the state of those before it, and there are at most 30
-/// batch schedulers. It is the report for each trace of which the history is a whole run under these
-/// settings, and of which what is handed in is what waits at the history's end.
+/// batch schedulers. The bytes are the report for each trace of which the history is a whole run under
+/// these settings, and of which `left` is what waits at the history's end.
 ///
 /// Costs what the entries change, and the lines. No line costs the machines or the tasks that run.
 pub fn report(
