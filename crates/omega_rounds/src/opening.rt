@@ -1,7 +1,8 @@
 //! The rows of a round, applied to the cell, and the requests that follow from them.
-ghost use Rattle.std.specs.Prelude.{◌≡◌, ◌<◌, ◌^◌, ◌++◌, ◌∷◌, [], List, length, position, IfSome, IsTrue, OnOk};
+ghost use Rattle.std.specs.Prelude.{◌≡◌, ◌≤◌, ◌<◌, ◌^◌, ◌++◌, ◌∷◌, [], true, All, List, drop, length, position, IfSome, IsTrue, OnOk};
 ghost use Rattle.std.specs.List.{fold};
 ghost use Rattle.omega_board.specs.Board.{cell_of};
+ghost use Rattle.omega_cell.specs.Cells.{is_commit};
 ghost use Rattle.omega_feed.specs.Open.{OthersAreQuiet};
 ghost use Rattle.omega_model.specs.Applying.{ListsOrHasRoom, machine_in};
 ghost use Rattle.omega_model.specs.Lawful.{opened};
@@ -10,9 +11,10 @@ ghost use Rattle.omega_model.specs.RowEntries.{row_entries};
 ghost use Rattle.omega_model.specs.Wanted.{wanted as wanted_tasks, wanted_after};
 ghost use Rattle.omega_model.specs.declared.rows.Row.{Row};
 ghost use Rattle.omega_model.specs.declared.rows.TraceTables.{TraceTables};
+ghost use Rattle.omega_rounds.specs.Keeping.{WereQuiet};
 ghost use Rattle.omega_rounds.specs.Opening.{BeginAll, HaveNoWork, IsAsked, MayFeed, MayFeedAll, has_work};
 
-use crate::reopening::reopen_stopped;
+use crate::reopening::{reopen_since, reopen_stopped};
 use crate::seat::Seat;
 use omega_board::Board;
 use omega_cell::Cell;
@@ -20,10 +22,45 @@ use omega_feed::{OpenJobs, Wanted};
 use omega_model::{Entries, Entry, MOST_MACHINES, NoMemory, Round, Row};
 use std::alloc::Global;
 
-/// Appends a round's entry and those of its rows in order. Of the jobs that aren't open, those of which
-/// something may have to be placed then are opened. More machines than a table holds are answered as
-/// want of memory. Costs the rows, and what their entries change.
-pub(crate) fn open(
+/// Opens a round: appends its entry and those of its rows to the cell, after a place behind which all
+/// entries are commits, and hands each scheduler, which has no work, what it is asked to place then. Only
+/// the jobs of which something may have to be placed are open afterwards. Costs the entries since that
+/// place, the rows, what their entries change, the wanted tasks of the open jobs, and for each scheduler
+/// a look at the open jobs.
+pub(crate) fn open_round(
+    alloc: Global,
+    opened_at: usize,
+    round: &Round,
+    wanted: &mut Wanted,
+    open_jobs: &mut OpenJobs,
+    cell: &mut Cell,
+    seats: &mut Vec<Seat>,
+) -> Result<(), NoMemory>
+    requires within { opened_at ≤ length cell.old.history }
+    requires commits { All (λ entry. is_commit entry ≡ true) (drop opened_at cell.old.history) }
+    requires quiet { WereQuiet open_jobs.old wanted.old opened_at cell.old.history }
+    requires asked { IsAsked (record wanted.old { tasks = fold wanted_after wanted.old.tasks round.now.rows }) }
+    requires few { length seats.old.items < 2 ^ 32 }
+    requires no_work { HaveNoWork seats.old.items }
+    ensures history { (trace : TraceTables) (rows : List Row) → wanted.old.disks ≡ trace.disks
+        → wanted.old.tasks ≡ wanted_tasks rows
+        → OnOk result (cell.new.history ≡ (opened trace rows cell.old.history round.now).history) }
+    ensures wanted { OnOk result (wanted.new
+        ≡ record wanted.old { tasks = fold wanted_after wanted.old.tasks round.now.rows }) }
+    ensures quiet { OnOk result (OthersAreQuiet open_jobs.new wanted.new (state cell.new.history).tasks) }
+    ensures seats { OnOk result (BeginAll wanted.new cell.new.history seats.old.items seats.new.items) }
+{
+    reopen_since(open_jobs, wanted, cell, opened_at)?;
+    open(alloc, cell, wanted, open_jobs, round)?;
+    open_jobs.settle(alloc, wanted, cell.board())?;
+    begin_all(alloc, seats, wanted, open_jobs, cell)?;
+    Ok(())
+}
+
+// Appends a round's entry and those of its rows in order. Of the jobs that aren't open, those of which
+// something may have to be placed then are opened. More machines than a table holds are answered as
+// want of memory. Costs the rows, and what their entries change.
+fn open(
     alloc: Global,
     cell: &mut Cell,
     wanted: &mut Wanted,
@@ -142,9 +179,9 @@ fn has_room_for(board: &Board, machine: u64) -> bool
     machines.len() < MOST_MACHINES || machines.position(machine).is_some()
 }
 
-/// Hands each scheduler what it is asked to place on the cell. Costs the wanted tasks of the open jobs,
-/// also those that run, the extra tasks, and for each scheduler a look at the open jobs.
-pub(crate) fn begin_all(
+// Hands each scheduler what it is asked to place on the cell. Costs the wanted tasks of the open jobs,
+// also those that run, the extra tasks, and for each scheduler a look at the open jobs.
+fn begin_all(
     alloc: Global,
     seats: &mut Vec<Seat>,
     wanted: &Wanted,

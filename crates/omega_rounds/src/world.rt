@@ -18,8 +18,7 @@ ghost use Rattle.omega_rounds.specs.Opening.{AreNewSeats};
 ghost use Rattle.omega_rounds.specs.Playing.{IsAtStart, IsInSomeRun};
 ghost use Rattle.omega_rounds.specs.Stages.{AllHaveBegun, IsInRunOf, first_stage, rows_begun, world_of};
 
-use crate::opening::{begin_all, first_at_work, open};
-use crate::reopening::reopen_since;
+use crate::opening::{first_at_work, open_round};
 use crate::seat::Seat;
 use crate::steps::{RoundStep, Stepped};
 use crate::threads::play_shared;
@@ -187,11 +186,9 @@ impl World {
             unreachable!()
         };
         let number = round.number;
-        reopen_since(&mut open_jobs, &wanted, &cell, opened_at)?;
-        open(alloc, &mut cell, &mut wanted, &mut open_jobs, round)?;
-        open_jobs.settle(alloc, &wanted, cell.board())?;
+        let (what, jobs) = (&mut wanted, &mut open_jobs);
+        open_round(alloc, opened_at, round, what, jobs, &mut cell, &mut seats)?;
         let opened_at = cell.history().len();
-        begin_all(alloc, &mut seats, &wanted, &open_jobs, &cell)?;
         let world = World {
             alloc,
             settings,

@@ -18,34 +18,30 @@ use Rattle.omega_rounds.proofs.WorldBegins.{begins_round, idle_all, is_asked, no
 use Rattle.omega_rounds.proofs.WorldSteps.{state_at}
 use Rattle.omega_rounds.proofs.world.World.begin_round.Goals as goal
 
-pub begin_all-requires-clause-asked : goal.begin_all-requires-clause-asked
-begin_all-requires-clause-asked c =
+pub open_round-requires-clause-asked : goal.open_round-requires-clause-asked
+open_round-requires-clause-asked c =
     let round = c.in-Some.round.now in
     let next : slice_get c.self.inside.rounds c.self.inside.begun ≡ Some round = sym c.get.ensures ∙ ap (option_map (λ (r : Bor Round). r.now)) c.in-Some.is in
-    subst IsAsked (sym c.in_ok-open.ensures.wanted)
-    (is_asked c.self.inside.settings c.self.inside.rounds c.self.inside.wanted c.self.inside.begun c.self.inside.opened_at c.self.inside.cell.history c.self.inside.seats.items round
-    c.self.invariant.0 next)
+    is_asked c.self.inside.settings c.self.inside.rounds c.self.inside.wanted c.self.inside.begun c.self.inside.opened_at c.self.inside.cell.history c.self.inside.seats.items round
+    c.self.invariant.0 next
 
-pub begin_all-requires-clause-no_work : goal.begin_all-requires-clause-no_work
-begin_all-requires-clause-no_work c =
+pub open_round-requires-clause-no_work : goal.open_round-requires-clause-no_work
+open_round-requires-clause-no_work c =
     idle_all (stage_of c.self.inside.settings c.self.inside.rounds c.self.inside.wanted c.self.inside.begun c.self.inside.opened_at) c.self.inside.wanted.tasks c.self.inside.cell.history
     c.self.inside.seats.items c.self.invariant.0 (ap (λ (w : WorldState). w.to_do) c.self.view_is ∙ c.requires.no_work)
 
-pub reopen_since-requires-clause-within : goal.reopen_since-requires-clause-within
-reopen_since-requires-clause-within c =
+pub open_round-requires-clause-within : goal.open_round-requires-clause-within
+open_round-requires-clause-within c =
     opened_within (stage_of c.self.inside.settings c.self.inside.rounds c.self.inside.wanted c.self.inside.begun c.self.inside.opened_at) c.self.inside.wanted.tasks
     c.self.inside.cell.history c.self.inside.seats.items c.self.invariant.0
 
-pub reopen_since-requires-clause-commits : goal.reopen_since-requires-clause-commits
-reopen_since-requires-clause-commits c =
+pub open_round-requires-clause-commits : goal.open_round-requires-clause-commits
+open_round-requires-clause-commits c =
     commits_since (stage_of c.self.inside.settings c.self.inside.rounds c.self.inside.wanted c.self.inside.begun c.self.inside.opened_at) c.self.inside.wanted.tasks
     c.self.inside.cell.history c.self.inside.seats.items c.self.invariant.0
 
-pub settle-requires : goal.settle-requires
-settle-requires c = quiet_on c.open.new.open_jobs c.open.new.wanted _ _ (sym c.board.ensures.current) c.in_ok-open.ensures.quiet
-
-pub begin_all-requires-clause-quiet : goal.begin_all-requires-clause-quiet
-begin_all-requires-clause-quiet c = quiet_on c.settle.new.self c.open.new.wanted _ _ c.board.ensures.current c.in_ok-settle.ensures.ok
+pub open_round-requires-clause-quiet : goal.open_round-requires-clause-quiet
+open_round-requires-clause-quiet c = c.self.invariant.1
 
 pub invariant_of-world : goal.invariant_of-world
 invariant_of-world c =
@@ -54,19 +50,19 @@ invariant_of-world c =
     let idle : HaveNoWork c.self.inside.seats.items =
     idle_all (stage_of c.self.inside.settings c.self.inside.rounds c.self.inside.wanted c.self.inside.begun c.self.inside.opened_at) c.self.inside.wanted.tasks c.self.inside.cell.history
     c.self.inside.seats.items c.self.invariant.0 (ap (λ (w : WorldState). w.to_do) c.self.view_is ∙ c.requires.no_work) in
-    let begins : BeginAll (record c.self.inside.wanted { tasks = fold wanted_after c.self.inside.wanted.tasks round.rows }) c.open.new.cell.history c.self.inside.seats.items c.begin_all.new.seats.items =
-    subst (λ (a : Asked). BeginAll a c.open.new.cell.history c.self.inside.seats.items c.begin_all.new.seats.items) c.in_ok-open.ensures.wanted c.in_ok-begin_all.ensures in
-    let quiet : OthersAreQuiet c.settle.new.self c.open.new.wanted (state c.open.new.cell.history).tasks =
-    quiet_on c.settle.new.self c.open.new.wanted _ _ c.board.ensures.current c.in_ok-settle.ensures.ok in (
-      subst (λ (h : List Entry). IsWorld (stage_of c.self.inside.settings c.self.inside.rounds c.open.new.wanted (c.self.inside.begun + 1) (length h)) c.open.new.wanted.tasks c.open.new.cell.history c.begin_all.new.seats.items)
+    let begins : BeginAll (record c.self.inside.wanted { tasks = fold wanted_after c.self.inside.wanted.tasks round.rows }) c.open_round.new.cell.history c.self.inside.seats.items c.open_round.new.seats.items =
+    subst (λ (a : Asked). BeginAll a c.open_round.new.cell.history c.self.inside.seats.items c.open_round.new.seats.items) c.in_ok-open_round.ensures.wanted c.in_ok-open_round.ensures.seats in
+    let quiet : OthersAreQuiet c.open_round.new.open_jobs c.open_round.new.wanted (state c.open_round.new.cell.history).tasks =
+    c.in_ok-open_round.ensures.quiet in (
+      subst (λ (h : List Entry). IsWorld (stage_of c.self.inside.settings c.self.inside.rounds c.open_round.new.wanted (c.self.inside.begun + 1) (length h)) c.open_round.new.wanted.tasks c.open_round.new.cell.history c.open_round.new.seats.items)
           (sym c.history-opened_at.ensures.history)
-          (subst (λ (a : Asked). IsWorld (stage_of c.self.inside.settings c.self.inside.rounds a (c.self.inside.begun + 1) (length c.open.new.cell.history)) a.tasks c.open.new.cell.history c.begin_all.new.seats.items)
-          (sym c.in_ok-open.ensures.wanted)
+          (subst (λ (a : Asked). IsWorld (stage_of c.self.inside.settings c.self.inside.rounds a (c.self.inside.begun + 1) (length c.open_round.new.cell.history)) a.tasks c.open_round.new.cell.history c.open_round.new.seats.items)
+          (sym c.in_ok-open_round.ensures.wanted)
           (world_later c.self.inside.settings c.self.inside.rounds c.self.inside.wanted c.self.inside.begun c.self.inside.opened_at c.self.inside.cell.history c.self.inside.seats.items round
-          c.self.invariant.0 next c.open.new.cell.history c.begin_all.new.seats.items idle c.in_ok-open.ensures.history begins)),
-      quiet_at_end c.settle.new.self c.open.new.wanted c.open.new.cell.history _ c.history-opened_at.ensures.history quiet,
+          c.self.invariant.0 next c.open_round.new.cell.history c.open_round.new.seats.items idle c.in_ok-open_round.ensures.history begins)),
+      quiet_at_end c.open_round.new.open_jobs c.open_round.new.wanted c.open_round.new.cell.history _ c.history-opened_at.ensures.history quiet,
       rests_later c.self.inside.settings c.self.inside.rounds c.self.inside.wanted c.self.inside.begun c.self.inside.opened_at c.self.inside.cell.history c.self.inside.seats.items round
-          c.self.invariant.0 next c.open.new.cell.history c.begin_all.new.seats.items idle c.in_ok-open.ensures.history begins c.self.inside.common c.self.invariant.2,
+          c.self.invariant.0 next c.open_round.new.cell.history c.open_round.new.seats.items idle c.in_ok-open_round.ensures.history begins c.self.inside.common c.self.invariant.2,
     )
 
 pub returns-clause-run : goal.returns-clause-run
@@ -77,17 +73,17 @@ returns-clause-run c =
     let idle : HaveNoWork c.self.inside.seats.items =
     idle_all stage c.self.inside.wanted.tasks c.self.inside.cell.history
     c.self.inside.seats.items c.self.invariant.0 (ap (λ (w : WorldState). w.to_do) c.self.view_is ∙ c.requires.no_work) in
-    let begins : BeginAll (record c.self.inside.wanted { tasks = fold wanted_after c.self.inside.wanted.tasks round.rows }) c.open.new.cell.history c.self.inside.seats.items c.begin_all.new.seats.items =
-    subst (λ (a : Asked). BeginAll a c.open.new.cell.history c.self.inside.seats.items c.begin_all.new.seats.items) c.in_ok-open.ensures.wanted c.in_ok-begin_all.ensures in
+    let begins : BeginAll (record c.self.inside.wanted { tasks = fold wanted_after c.self.inside.wanted.tasks round.rows }) c.open_round.new.cell.history c.self.inside.seats.items c.open_round.new.seats.items =
+    subst (λ (a : Asked). BeginAll a c.open_round.new.cell.history c.self.inside.seats.items c.open_round.new.seats.items) c.in_ok-open_round.ensures.wanted c.in_ok-open_round.ensures.seats in
     let after : WorldState =
-    state_at (stage_of c.self.inside.settings c.self.inside.rounds c.open.new.wanted (c.self.inside.begun + 1) (length c.history-opened_at.result.now)) c.open.new.cell.history c.begin_all.new.seats.items in
+    state_at (stage_of c.self.inside.settings c.self.inside.rounds c.open_round.new.wanted (c.self.inside.begun + 1) (length c.history-opened_at.result.now)) c.open_round.new.cell.history c.open_round.new.seats.items in
     subst (λ (w : WorldState). (trace : TraceTables) → IsInRunOf w.stage trace → OpensRound trace w after) c.self.view_is
     (λ trace made. record {
       over = nobody_works trace stage c.self.inside.wanted.tasks c.self.inside.cell.history c.self.inside.seats.items c.self.invariant.0 idle made;
       begins = λ other is.
           let both : Some round ≡ Some other = sym next ∙ is in
           let same : round ≡ other = cc in
-          subst (λ (r : Round). BeginsRound trace (rows_begun stage) r (world_at c.self.inside.cell.history c.self.inside.seats.items) (world_at c.open.new.cell.history c.begin_all.new.seats.items)) same
+          subst (λ (r : Round). BeginsRound trace (rows_begun stage) r (world_at c.self.inside.cell.history c.self.inside.seats.items) (world_at c.open_round.new.cell.history c.open_round.new.seats.items)) same
           (begins_round c.self.inside.settings c.self.inside.rounds c.self.inside.wanted c.self.inside.begun c.self.inside.opened_at c.self.inside.cell.history c.self.inside.seats.items round
-          c.self.invariant.0 next c.open.new.cell.history c.begin_all.new.seats.items idle c.in_ok-open.ensures.history begins trace made);
+          c.self.invariant.0 next c.open_round.new.cell.history c.open_round.new.seats.items idle c.in_ok-open_round.ensures.history begins trace made);
     })
