@@ -60,8 +60,7 @@ module _ (copy : CopyState) (history : List Entry) (seen : ℕ) (within : seen �
   rests_after new later behind rests is stays no_trial =
       let stands : CopyOf new (take seen history) = stays (take seen history) (stands_front behind rests.stands) is in
       let few : new.seen ≤ length (take seen history) = stands.within in
-      let long : length (take seen history) ≡ seen = length-take-le seen history within in
-      (
+      let long : length (take seen history) ≡ seen = length-take-le seen history within in (
         record {
           stands = subst (CopyOf new) (take-append-drop seen history) (copy_grown new (take seen history) (drop seen history) stands);
           no_trial = no_trial;

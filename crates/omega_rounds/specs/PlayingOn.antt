@@ -7,9 +7,8 @@ use Rattle.omega_model.specs.declared.claims.Txn.{Txn}
 use Rattle.omega_model.specs.declared.rows.Row.{Row}
 use Rattle.omega_model.specs.declared.rows.TraceTables.{TraceTables}
 use Rattle.omega_model.specs.declared.settings.Settings.{Settings}
-use Rattle.omega_model.specs.declared.wishes.Request.{Request}
-use Rattle.omega_rounds.specs.NextCommit.{attempt_txn}
 use Rattle.omega_rounds.specs.Players.{IsOwnDesk, OwnMayStand}
+use Rattle.omega_rounds.specs.SeatSteps.{IsFirstAttempt}
 use Rattle.omega_rounds.specs.Seats.{IsSeat, synced_of}
 use Rattle.omega_rounds.specs.declared.player.Player.{Player}
 
@@ -30,11 +29,9 @@ pub record PlaysOn (settings : Settings) (old new : Player) : Type 0 where
       → OwnMayStand settings opened_at new.pass.number new.pass.seen
 
 -- a transaction is a player's attempt on the first request that is left at its desk, planned on its copy
-pub record PlansFirst (player : Player) (txn : Txn) : Type 0 where
-  pub request : Request
-  pub rest : List Request
-  pub work : player.seat.desk.requests ≡ request ∷ rest
-  pub is : txn ≡ attempt_txn player.seat.desk.settings player.pass.seen player.pass.number player.seat.copy.seen request
+abbrev pub PlansFirst : Player → Txn → Type 0
+PlansFirst player txn =
+    IsFirstAttempt player.seat.desk.settings player.pass.seen player.pass.number player.seat.copy.seen player.seat.desk txn
 
 -- a player may commit on this shared cell: it has a turn left and is one of the schedulers of its settings, and
 -- its copy has taken over all that its pass has seen

@@ -220,7 +220,13 @@ impl World {
         let alloc = self.alloc;
         let settings = self.settings;
         let seat = &mut self.seats[scheduler as usize];
-        let stepped = seat.step(alloc, &settings, scheduler, &mut self.common, &mut self.cell)?;
+        let stepped = seat.step(
+            alloc,
+            &settings,
+            scheduler,
+            &mut self.common,
+            &mut self.cell,
+        )?;
         Ok(stepped)
     }
 

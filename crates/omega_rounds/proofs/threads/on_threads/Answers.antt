@@ -3,7 +3,7 @@ use Rattle.omega_model.specs.declared.rows.TraceTables.{TraceTables}
 use Rattle.omega_rounds.specs.Going.{GoesOn, MovesOn}
 use Rattle.omega_rounds.specs.Stages.{IsInRunOf}
 use Rattle.omega_rounds.specs.declared.steps.RoundStep.{RoundStep}
-use Rattle.omega_rounds.proofs.EndedRounds.{begun_some, ended_more, ended_none, nobody_begun}
+use Rattle.omega_rounds.proofs.EndedRounds.{begun_some, ended_idle, ended_more, ended_none, nobody_begun}
 use Rattle.omega_rounds.proofs.threads.on_threads.Goals as goal
 
 pub loop-next-init : goal.loop-next-init
@@ -28,3 +28,9 @@ loop-next-preserved g c =
     ended_more c.args.world now next c.in_ok-world-in-Begun.world c.in-Begun.field-0 c.loop-next.invariant
     (subst (MovesOn now next) c.in-Begun.is c.in_ok-next.ensures.stage)
     c.in_ok-world-in-Begun.ensures.stage c.in_ok-world-in-Begun.ensures.done
+
+pub unreachable-requires : goal.unreachable-requires
+unreachable-requires g c =
+    let now = c.loop-next.world in
+    ended_idle c.args.world now c.in-Unfinished.field-0 c.loop-next.invariant c.next_round.ensures.start c.next_round.ensures.made
+    (subst (λ (step : RoundStep). (trace : TraceTables) → IsInRunOf now.stage trace → GoesOn trace now c.in_ok-next.next step) c.in-Unfinished.is c.in_ok-next.ensures.run)

@@ -11,9 +11,9 @@ use Rattle.omega_model.specs.declared.rows.Round.{Round}
 use Rattle.omega_model.specs.declared.rows.TraceTables.{TraceTables}
 use Rattle.omega_rounds.specs.Going.{OpensRound}
 use Rattle.omega_rounds.specs.Keeping.{IsWorld, world_at}
-use Rattle.omega_rounds.specs.Opening.{BeginAll, HaveNoWork, IsAsked}
+use Rattle.omega_rounds.specs.Opening.{BeginAll, HaveNoWork}
 use Rattle.omega_rounds.specs.Stages.{IsInRunOf, WorldState, rows_begun, stage_of}
-use Rattle.omega_rounds.proofs.Reopened.{commits_since, opened_within, quiet_at_end, quiet_on}
+use Rattle.omega_rounds.proofs.Reopened.{commits_since, opened_within, quiet_at_end}
 use Rattle.omega_rounds.proofs.WorldBegins.{begins_round, idle_all, is_asked, nobody_works, rests_later, world_later}
 use Rattle.omega_rounds.proofs.WorldSteps.{state_at}
 use Rattle.omega_rounds.proofs.world.World.begin_round.Goals as goal
