@@ -82,6 +82,15 @@ pub none_from : {X : Type 0} (o : Option X) → is_some o ≡ false → o ≡ No
 none_from None e = refl
 none_from (Some x) e = absurd (cc)
 
+-- whether a job has a place is whether it is among the jobs
+pub has_known : (places : BTreeMap ℕ ℕ) (jobs : List RoutedJob) → AreFound places jobs → (job : ℕ)
+    → is_some (tree.get nat_cmp places job) ≡ list_any (is_job job) jobs
+has_known places jobs found job =
+    elim (cases_Bool (is_some (tree.get nat_cmp places job))) [
+      | inl there ↦ there ∙ sym (known places jobs found job there)
+      | inr gone ↦ gone ∙ sym (unknown places jobs found job (none_from _ gone))
+    ]
+
 -- one more job is found at the end
 pub found_more : (places more : BTreeMap ℕ ℕ) (jobs : List RoutedJob) (new : RoutedJob) (n : ℕ) → AreFound places jobs
     → tree.get nat_cmp places new.job ≡ None

@@ -1,15 +1,16 @@
 //! The jobs of a trace in order of their first task row.
 ghost use Rattle.std.specs.Prelude.{◌≡◌, ◌↔◌, [], ℕ, Some, map, slice_get, OnOk, OnErr, IfOk};
+ghost use Rattle.std.specs.List.{list_any};
 ghost use Rattle.omega_model.specs.Feed.{feed};
 ghost use Rattle.omega_model.specs.Ranges.{IsInRange};
 ghost use Rattle.omega_model.specs.Requests.{jobs_in_order};
 ghost use Rattle.omega_model.specs.Routing.{scheduler_for};
 ghost use Rattle.omega_model.specs.declared.rows.TraceTables.{TraceTables};
-ghost use Rattle.omega_feed.specs.Asked.{home, routed, with_job};
+ghost use Rattle.omega_feed.specs.Asked.{home, is_job, routed, with_job};
 ghost use Rattle.omega_feed.specs.Index.{job_at};
 
 use crate::activities::JobActivities;
-use omega_model::{NoMemory, Row, Settings};
+use omega_model::{NoMemory, Row, Settings, TaskRow};
 use std::alloc::Global;
 use std::collections::BTreeMap;
 use std::marker::Model;
@@ -53,7 +54,7 @@ impl Jobs {
     }
 
     /// The jobs of a trace in order of their first task row, each with its scheduler, where these are
-    /// its feed and its activities. Costs two look-ups for each task row.
+    /// its feed and its activities. Costs a look-up for each task row, and two more for each job.
     pub fn of(
         alloc: Global,
         rows: &[Row],
@@ -67,12 +68,35 @@ impl Jobs {
         let mut jobs = Jobs::new(alloc);
         for row in rows {
             if let Row::Task(row) = row {
-                let job = row.key.job;
-                let scheduler = home(settings, activities, row.class, job);
-                jobs.add(RoutedJob { job, scheduler })?;
+                jobs.note(settings, activities, row)?;
             }
         }
         Ok(jobs)
+    }
+
+    /// Appends the job of a task row with its scheduler, unless it is there.
+    fn note(
+        &mut self,
+        settings: &Settings,
+        activities: &JobActivities,
+        row: &TaskRow,
+    ) -> Result<(), NoMemory>
+        requires { IsInRange settings.now }
+        ensures { OnOk result (self.new ≡ with_job self.old (record { job = row.now.key.job; scheduler = home settings.now activities.now (Some row.now.class) row.now.key.job })) }
+    {
+        let job = row.key.job;
+        if self.has(job) {
+            return Ok(());
+        }
+        let scheduler = home(settings, activities, row.class, job);
+        self.add(RoutedJob { job, scheduler })
+    }
+
+    /// Whether a job is there.
+    fn has(&self, job: u64) -> bool
+        ensures { result ≡ list_any (is_job job) self.now }
+    {
+        self.places.contains_key(&job)
     }
 
     /// Appends a job, unless it is there. A refused call leaves the jobs.

@@ -70,11 +70,15 @@ fn time_of(row: &Row) -> u64
     }
 }
 
-/// The rows of the events table by table.
+/// The rows of the events table by table. Takes their memory at once.
 fn event_rows(alloc: Global, tables: &TraceTables) -> Result<Vec<Row>, NoMemory>
     ensures { IfOk result (λ rows. rows.items ≡ event_rows tables.now) }
 {
-    let mut rows = Vec::new(alloc);
+    let (machines, attrs) = (tables.machines.len(), tables.attrs.len());
+    let count = machines
+        .saturating_add(attrs)
+        .saturating_add(tables.tasks.len());
+    let mut rows = Vec::with_capacity(alloc, count)?;
     push_machines(&mut rows, tables.machines.as_slice())?;
     push_attrs(alloc, &mut rows, tables.attrs.as_slice())?;
     push_tasks(&mut rows, tables.tasks.as_slice())?;

@@ -8,7 +8,7 @@ ghost use Rattle.omega_model.specs.Ranges.{IsInRange};
 ghost use Rattle.omega_model.specs.Cell.{task_at};
 ghost use Rattle.omega_model.specs.ExtraTasks.{HasLowIndex, first_extra};
 ghost use Rattle.omega_model.specs.RowEntries.{row_entries};
-ghost use Rattle.omega_model.specs.Wanted.{wanted_after, wanted_after_task, with_wanted};
+ghost use Rattle.omega_model.specs.Wanted.{is_named, wanted_after, wanted_after_task, with_wanted};
 ghost use Rattle.omega_model.specs.declared.cells.Task.{Task};
 ghost use Rattle.omega_model.specs.declared.rows.Row.{Row};
 ghost use Rattle.omega_model.specs.declared.rows.TraceTables.{TraceTables};
@@ -136,6 +136,13 @@ impl Wanted {
         open_jobs.reopen(self, key.job)?;
         self.tasks.insert(key, spec)?;
         Ok(())
+    }
+
+    /// Whether a task is wanted. Costs the logarithm of their number.
+    pub fn wants(&self, key: TaskKey) -> bool
+        ensures { result ≡ list_any (is_named key) self.now.tasks }
+    {
+        self.tasks.contains(key)
     }
 
     /// The place of a job among all jobs of the trace: the only one at which it stands, `None` exactly

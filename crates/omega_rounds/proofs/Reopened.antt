@@ -3,9 +3,9 @@ use Rattle.std.proofs.Common.{◌≡◌, ◌≤◌, ◌<◌, ◌+◌, ℕ, zero,
 use Rattle.std.specs.Prelude.{slice_get}
 use Rattle.std.specs.BTreeSet as set
 use Rattle.std.specs.BTreeSet.{BTreeSet}
-use Rattle.std.specs.List.{All, flat_map, fold, AllByRecursion as Each}
+use Rattle.std.specs.List.{All, flat_map, fold, list_any, AllByRecursion as Each}
 use Rattle.std.specs.Ordering.{nat_cmp}
-use Rattle.std.proofs.lemmas.Bool.{both_ways, eqb-true, or_from}
+use Rattle.std.proofs.lemmas.Bool.{both_ways, eqb-true, or_from, or_left, or_right}
 use Rattle.std.proofs.lemmas.Grind.{flat_map-append}
 use Rattle.std.proofs.lemmas.List.{append-nil, take-append-drop, take-append-le, take_all, take_more}
 use Rattle.std.proofs.lemmas.List.Elements.{All-append, All-cons, All-from_recursion, All-head, All-nil, All-tail, All-weaker}
@@ -17,13 +17,13 @@ use Rattle.omega_feed.specs.Open.{IsOpen, IsQuiet, OthersAreQuiet, RunsIfOf, Sta
 use Rattle.omega_feed.proofs.Quiet.{still_quiet}
 use Rattle.omega_lock.specs.Lists.{StartsWith}
 use Rattle.omega_model.proofs.Growing.{state_push}
-use Rattle.omega_model.proofs.InOrder.{key_same}
+use Rattle.omega_model.proofs.InOrder.{key_itself, key_same}
 use Rattle.omega_model.proofs.Lists.{by_answer}
 use Rattle.omega_model.specs.Cell.{Cell, empty_cell}
 use Rattle.omega_model.specs.Keys.{is_among, same_key}
 use Rattle.omega_model.specs.Lawful.{IsCommitOfRound}
 use Rattle.omega_model.specs.State.{state, step, tasks_after}
-use Rattle.omega_model.specs.Wanted.{WantedTask}
+use Rattle.omega_model.specs.Wanted.{WantedTask, is_named}
 use Rattle.omega_model.specs.declared.cells.Task.{Task}
 use Rattle.omega_model.specs.declared.cells.TaskKey.{TaskKey}
 use Rattle.omega_model.specs.declared.claims.Judgement.{Judgement}
@@ -31,7 +31,7 @@ use Rattle.omega_model.specs.declared.entries.Entry.{Entry}
 use Rattle.omega_model.specs.declared.entries.Entry.TheVariants.{Round as RoundEntry, MachineAdd, MachineUpdate, MachineRemove, AttrSet, AttrDelete, End, Commit}
 use Rattle.omega_model.specs.declared.settings.Settings.{Settings}
 use Rattle.omega_rounds.specs.Keeping.{IsWorld, WereQuiet}
-use Rattle.omega_rounds.specs.Reopening.{OpensJobs, may_stop}
+use Rattle.omega_rounds.specs.Reopening.{IsOpenIfWanted, OpensJobs, may_stop}
 use Rattle.omega_rounds.specs.SeatSteps.{SeatSteps}
 use Rattle.omega_rounds.specs.Stages.{Stage}
 use Rattle.omega_rounds.specs.declared.seat.Seat.{Seat}
@@ -44,19 +44,24 @@ use Rattle.omega_rounds.proofs.Worlds.{rows_within}
 pub opens_none : (places : BTreeSet ℕ) (asked : Asked) → OpensJobs places places asked []
 opens_none places asked = record { stay = λ place there. there; opened = All-nil _ }
 
--- one is
-opens_one : (before after : BTreeSet ℕ) (asked : Asked) (key : TaskKey) → StayOpen before after → IsOpen after asked key.job
+-- one is, if it is wanted
+pub opens_one : (before after : BTreeSet ℕ) (asked : Asked) (key : TaskKey) → StayOpen before after → IsOpenIfWanted after asked key
     → OpensJobs before after asked (key ∷ [])
-opens_one before after asked key stay opened = record { stay = stay; opened = All-cons (λ other. IsOpen after asked other.job) key [] opened (All-nil _) }
+opens_one before after asked key stay opened = record { stay = stay; opened = All-cons (IsOpenIfWanted after asked) key [] opened (All-nil _) }
+
+-- one need not be that isn't wanted
+pub opens_unwanted : (places : BTreeSet ℕ) (asked : Asked) (key : TaskKey) → list_any (is_named key) asked.tasks ≡ false
+    → OpensJobs places places asked (key ∷ [])
+opens_unwanted places asked key not_wanted = opens_one places places asked key (λ place there. there) (λ wanted. absurd (both_ways _ not_wanted wanted))
 
 -- some are, and then others
 opens_more : (before middle after : BTreeSet ℕ) (asked : Asked) (keys more : List TaskKey) → OpensJobs before middle asked keys
     → OpensJobs middle after asked more → OpensJobs before after asked (keys ++ more)
 opens_more before middle after asked keys more some others = record {
   stay = λ place there. others.stay place (some.stay place there);
-  opened = All-append (λ key. IsOpen after asked key.job) keys more
-      (All-weaker (λ key. IsOpen middle asked key.job) (λ key. IsOpen after asked key.job)
-      (λ key opened place here. others.stay place (opened place here)) keys some.opened)
+  opened = All-append (IsOpenIfWanted after asked) keys more
+      (All-weaker (IsOpenIfWanted middle asked) (IsOpenIfWanted after asked)
+      (λ key opened wanted place here. others.stay place (opened wanted place here)) keys some.opened)
       others.opened;
 }
 
@@ -66,7 +71,7 @@ pub opens_next : (before middle after : BTreeSet ℕ) (asked : Asked) (keys : Li
     → OpensJobs before after asked (take (i + 1) keys)
 opens_next before middle after asked keys i key within some stay opened =
     subst (OpensJobs before after asked) (sym (take_more keys i key within))
-    (opens_more before middle after asked (take i keys) (get_or keys i key ∷ []) some (opens_one middle after asked (get_or keys i key) stay opened))
+    (opens_more before middle after asked (take i keys) (get_or keys i key ∷ []) some (opens_one middle after asked (get_or keys i key) stay (λ wanted. opened)))
 
 -- so are those that one more of some judgements evicted
 pub opens_evicted : (before middle after : BTreeSet ℕ) (asked : Asked) (reply : List Judgement) (i : ℕ) (one : Judgement) → one ≡ get_or reply i one → i < length reply
@@ -82,18 +87,30 @@ opens_evicted before middle after asked reply i one is within some others =
     subst (OpensJobs before after asked) (sym all)
     (opens_more before middle after asked (evicted (take i reply)) one.evicted some others)
 
--- a task of a job that isn't open is none of those whose jobs are
+-- a wanted task of a job that isn't open is none of those whose jobs are open if they are wanted
 not_among : (places : BTreeSet ℕ) (asked : Asked) (keys : List TaskKey) (key : TaskKey) (place : ℕ) → job_at asked.jobs place ≡ Some key.job
-    → set.contains nat_cmp places place ≡ false → All (λ other. IsOpen places asked other.job) keys
+    → list_any (is_named key) asked.tasks ≡ true → set.contains nat_cmp places place ≡ false → All (IsOpenIfWanted places asked) keys
     → is_among key keys ≡ false
-not_among places asked [] key place here closed opened = refl
-not_among places asked (first ∷ keys) key place here closed opened =
-    let P : TaskKey → Type 0 = λ other. IsOpen places asked other.job in
+not_among places asked [] key place here wanted closed opened = refl
+not_among places asked (first ∷ keys) key place here wanted closed opened =
+    let P : TaskKey → Type 0 = IsOpenIfWanted places asked in
     or_from (same_key key first) (is_among key keys)
     (by_answer (same_key key first)
-    (λ t. absurd (both_ways _ closed (All-head P first keys opened place (subst (λ (k : TaskKey). job_at asked.jobs place ≡ Some k.job) (key_same key first t) here))))
+    (λ t. absurd (both_ways _ closed
+    (subst P (sym (key_same key first t)) (All-head P first keys opened) wanted place here)))
     (λ f. f))
-    (not_among places asked keys key place here closed (All-tail P first keys opened))
+    (not_among places asked keys key place here wanted closed (All-tail P first keys opened))
+
+-- what follows for a wanted task follows for each of them
+for_each_wanted : (P Q : WantedTask → Type 0) (all tasks : List WantedTask)
+    → ((task : WantedTask) → list_any (is_named task.key) all ≡ true → P task → Q task)
+    → ((key : TaskKey) → list_any (is_named key) tasks ≡ true → list_any (is_named key) all ≡ true)
+    → All P tasks → All Q tasks
+for_each_wanted P Q all [] follows within each = All-nil _
+for_each_wanted P Q all (task ∷ tasks) follows within each =
+    All-cons Q task tasks
+    (follows task (within task.key (or_left _ _ (key_itself task.key))) (All-head P task tasks each))
+    (for_each_wanted P Q all tasks follows (λ key named. within key (or_right (is_named key task) _ named)) (All-tail P task tasks each))
 
 module _ (before after : BTreeSet ℕ) (asked : Asked) where
   -- after an entry the jobs that aren't open are quiet, where those are open whose tasks it may stop
@@ -102,11 +119,11 @@ module _ (before after : BTreeSet ℕ) (asked : Asked) where
   quiet_next tasks entry quiet opens place job here closed =
       let is : IsQuiet asked tasks job = still_quiet before after asked tasks opens.stay quiet place job here closed in
       record {
-        running = All-weaker (RunsIfOf job tasks) (RunsIfOf job (tasks_after tasks entry))
-            (λ task runs own.
+        running = for_each_wanted (RunsIfOf job tasks) (RunsIfOf job (tasks_after tasks entry)) asked.tasks asked.tasks
+            (λ task wanted runs own.
             let named : job_at asked.jobs place ≡ Some task.key.job = here ∙ ap Some (sym (eqb-true task.key.job job own)) in
-            runs_after tasks entry task.key (not_among after asked (may_stop tasks entry) task.key place named closed opens.opened) (runs own))
-            asked.tasks is.running;
+            runs_after tasks entry task.key (not_among after asked (may_stop tasks entry) task.key place named wanted closed opens.opened) (runs own))
+            (λ key wanted. wanted) is.running;
         no_extras = is.no_extras;
       }
 

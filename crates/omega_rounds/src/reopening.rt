@@ -1,5 +1,5 @@
 //! Which jobs are looked at again, because tasks of theirs may have stopped.
-ghost use Rattle.std.specs.Prelude.{◌≡◌, ◌≤◌, false, true, All, List, OnOk, drop, length};
+ghost use Rattle.std.specs.Prelude.{◌≡◌, ◌≤◌, ◌∷◌, [], false, true, All, List, OnOk, drop, length};
 ghost use Rattle.std.specs.List.{flat_map, fold};
 ghost use Rattle.omega_cell.specs.Cells.{is_commit};
 ghost use Rattle.omega_feed.specs.Open.{OthersAreQuiet};
@@ -79,9 +79,10 @@ fn reopen_jobs(open_jobs: &mut OpenJobs, wanted: &Wanted, keys: &[TaskKey]) -> R
     Ok(())
 }
 
-/// Opens the jobs of the tasks that an entry may stop when it is fed to the cell of a board: of all
-/// tasks on a machine that changes, and of one that ends. Costs what the machine has, and the logarithm
-/// of the number of jobs for each.
+/// Opens the jobs of the wanted tasks that an entry may stop when it is fed to the cell of a board: of all
+/// tasks on a machine that changes, and of one that ends. Most that end are wanted no more, so that their
+/// jobs aren't looked at again. Costs what the machine has, and the logarithm of the number of jobs and of
+/// wanted tasks for each.
 pub(crate) fn reopen_stopped(
     alloc: Global,
     open_jobs: &mut OpenJobs,
@@ -98,12 +99,27 @@ pub(crate) fn reopen_stopped(
         | Entry::MachineRemove { machine } => {
             reopen_on(alloc, open_jobs, wanted, board, *machine)
         }
-        Entry::End { key, .. } => open_jobs.reopen(wanted, key.job),
+        Entry::End { key, .. } => reopen_wanted(open_jobs, wanted, *key),
         Entry::Round { .. }
         | Entry::AttrSet { .. }
         | Entry::AttrDelete { .. }
         | Entry::Commit { .. } => Ok(()),
     }
+}
+
+// Opens the job of a task, if the task is wanted.
+fn reopen_wanted(
+    open_jobs: &mut OpenJobs,
+    wanted: &Wanted,
+    key: TaskKey,
+) -> Result<(), NoMemory>
+    ensures { OnOk result (OpensJobs open_jobs.old open_jobs.new wanted.now (key ∷ [])) }
+{
+    if !wanted.wants(key) {
+        return Ok(());
+    }
+    open_jobs.reopen(wanted, key.job)?;
+    Ok(())
 }
 
 // Opens the jobs of all tasks on a machine.
