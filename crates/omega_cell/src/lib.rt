@@ -7,11 +7,13 @@
 
 mod cell;
 mod deciding;
+mod effects;
 mod laws;
 mod prepared;
 mod room;
 mod touched;
 
 pub use cell::Cell;
+pub use effects::{Effects, Usage};
 pub use laws::commits_of_legal_histories;
 pub use prepared::Prepared;
