@@ -5,6 +5,7 @@
 //! history comes to.
 #![tactic(auto)]
 
+mod ahead;
 mod as_json;
 mod as_text;
 mod claims;
@@ -17,7 +18,6 @@ mod lines;
 mod page;
 mod pass;
 mod reporting;
-mod so_far;
 mod tally;
 mod words;
 
