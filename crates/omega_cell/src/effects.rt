@@ -57,10 +57,10 @@ impl Model for Notes {
     ghost Value = { NotesState };
 
     ghost view = { λ n. record {
-        usages = n.usages.items;
-        displaced = n.displaced.items;
-        usage_room = vec_capacity n.usages - vec_len n.usages;
-        displaced_room = vec_capacity n.displaced - vec_len n.displaced;
+      usages = n.usages.items;
+      displaced = n.displaced.items;
+      usage_room = vec_capacity n.usages - vec_len n.usages;
+      displaced_room = vec_capacity n.displaced - vec_len n.displaced;
     } };
 }
 
@@ -96,9 +96,9 @@ impl Notes {
     {
         match entry {
             Entry::Round { .. } => self.usages.push_reserved(usage),
-            Entry::MachineAdd { .. } | Entry::MachineUpdate { .. } | Entry::MachineRemove { .. } => {
-                self.displaced.push_reserved(stopped)
-            }
+            Entry::MachineAdd { .. } => self.displaced.push_reserved(stopped),
+            Entry::MachineUpdate { .. } => self.displaced.push_reserved(stopped),
+            Entry::MachineRemove { .. } => self.displaced.push_reserved(stopped),
             Entry::AttrSet { .. }
             | Entry::AttrDelete { .. }
             | Entry::End { .. }

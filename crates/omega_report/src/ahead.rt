@@ -51,9 +51,9 @@ impl<'a> Ahead<'a> {
     {
         match entry {
             Entry::Round { .. } => (&[], self.past_round()),
-            Entry::MachineAdd { .. } | Entry::MachineUpdate { .. } | Entry::MachineRemove { .. } => {
-                self.past_machine()
-            }
+            Entry::MachineAdd { .. } => self.past_machine(),
+            Entry::MachineUpdate { .. } => self.past_machine(),
+            Entry::MachineRemove { .. } => self.past_machine(),
             Entry::AttrSet { .. }
             | Entry::AttrDelete { .. }
             | Entry::End { .. }

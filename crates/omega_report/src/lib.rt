@@ -1,8 +1,8 @@
 //! The whole report of a history, as text or as JSON.
 //!
 //! A page takes the report's lines one after the other, each as its words, and holds only their bytes
-//! in the report's format. One pass over the history puts the lines of each entry on it, and what the
-//! history comes to.
+//! in the report's format. One pass over the history, beside what was noted of its effects, puts the
+//! lines of each entry on it, and what the history comes to.
 #![tactic(auto)]
 
 mod ahead;

@@ -62,12 +62,7 @@ pub fn passed(
 impl Pass {
     // Takes in the next entry, which displaces the tasks of these names, and whose lines go on the page
     // if they are printed.
-    fn take_in(
-        &mut self,
-        entry: &Entry,
-        stopped: &[TaskKey],
-        prints: bool,
-    ) -> Result<(), NoMemory>
+    fn take_in(&mut self, entry: &Entry, stopped: &[TaskKey], prints: bool) -> Result<(), NoMemory>
         ensures format { OnOk result (self.new.page.format ≡ self.old.page.format) }
         ensures lines { OnOk result ((cell : Cell) → stopped.now ≡ keys_of (displaced cell.tasks entry.now) → self.new.page.lines ≡ self.old.page.lines ++ if_printed prints (lines_on cell entry.now)) }
         ensures tally { OnOk result ((schedulers : ℕ) (history : List Entry) → self.old.tally ≡ tallies schedulers history → self.new.tally ≡ tallies schedulers (history ++ entry.now ∷ [])) }

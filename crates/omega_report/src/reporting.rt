@@ -69,7 +69,9 @@ fn summed_up(
 {
     let abandoned = count_given_up(left.jobs.as_slice(), settings.give_up, &pass.failures);
     let Pass {
-        mut page, tally, ..
+        mut page,
+        tally,
+        ..
     } = pass;
     page.sizes(history.len() as u64, count_rounds(history))?;
     push_counts(&mut page, tally.counts())?;

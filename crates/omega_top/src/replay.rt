@@ -35,9 +35,9 @@ pub struct WholeRun {
     pub left: WaitingTasks,
 }
 
-/// The history of a trace under these settings, what its entries did, and what waits at its end: on `run` with each scheduler
-/// on a thread of its own, which passes the gate, else with the schedulers taking turns. On `run` it
-/// may wait.
+/// The history of a trace under these settings, what its entries did, and what waits at its end: on
+/// `run` with each scheduler on a thread of its own, which passes the gate, else with the schedulers
+/// taking turns. On `run` it may wait.
 pub fn replayed<R: Threads + Wait + Sync, G: Gate + Sync>(
     rt: &R,
     alloc: Global,
