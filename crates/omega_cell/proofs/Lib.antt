@@ -1,4 +1,5 @@
 pub mod Touching
+pub mod Noted
 pub mod Delivered
 pub mod Cells
 pub mod Shortest

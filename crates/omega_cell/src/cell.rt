@@ -12,8 +12,10 @@ ghost use Rattle.omega_model.specs.Touches.{seq};
 ghost use Rattle.omega_model.specs.Work.{outcomes_of};
 ghost use Rattle.omega_cell.specs.Cells.{HasRoom, KeepsRoom, is_commit};
 ghost use Rattle.omega_cell.specs.Claiming.{copied_seqs};
+ghost use Rattle.omega_cell.specs.Effects.{AreEffects};
 
 use crate::deciding::{decide, outcomes_of};
+use crate::effects::{Effects, Notes, Usage};
 use crate::prepared::Prepared;
 use crate::room::AnswerRoom;
 use crate::touched::{parts_at, touched_positions};
@@ -22,24 +24,26 @@ use omega_model::{Delta, Entries, Entry, NoMemory, Reply, Seq, Txn};
 use std::alloc::Global;
 use std::marker::Model;
 
-/// A legal history and the board after it.
+/// A legal history, what its entries did, and the board after it.
 ///
 /// A contract sees the history, and for how many more tasks and entries there is room.
 #[derive(Drop)]
 pub struct Cell {
     board: Board,
     entries: Vec<Entry>,
+    notes: Notes,
 }
 
 impl Model for Cell {
     ghost use Rattle.std.specs.Prelude.{◌-◌, vec_len, vec_capacity};
     ghost use Rattle.omega_cell.specs.Cells.{CellState, IsCell};
+    ghost use Rattle.omega_cell.specs.Effects.{AreNotes};
 
     ghost Value = { CellState };
 
     ghost view = { λ c. record { history = c.entries.items; task_room = c.board.spare; entry_room = vec_capacity c.entries - vec_len c.entries } };
 
-    ghost invariant = { λ c. IsCell c.board c.entries.items };
+    ghost invariant = { λ c. IsCell c.board c.entries.items × AreNotes c.entries.items c.notes };
 }
 
 impl Cell {
@@ -50,6 +54,7 @@ impl Cell {
         Cell {
             board: Board::new(alloc),
             entries: Vec::new(alloc),
+            notes: Notes::new(alloc),
         }
     }
 
@@ -97,6 +102,23 @@ impl Cell {
         Seq::of(entries)
     }
 
+    /// The history itself, and what its entries did. Takes no memory.
+    pub fn into_run(self) -> (Entries, Effects)
+        ensures history { result.0 ≡ self.history }
+        ensures effects { AreEffects self.history result.1 }
+        ensures legal { Legal self.history }
+        ensures applied { EachMayApply self.history }
+        ensures sound { (n : ℕ) → Sound (state (take n self.history)) }
+    {
+        let Cell {
+            board,
+            entries,
+            notes,
+        } = self;
+        let last = Usage::of(&board);
+        (Seq::of(entries), notes.into_effects(last))
+    }
+
     /// Appends an entry that is no commit, and applies it to the board. Where memory runs out the
     /// entry is handed back, the history and the board stay, and no room is lost.
     ///
@@ -115,11 +137,13 @@ impl Cell {
         ensures back { IfErr result (λ refused. refused.0 ≡ entry) }
         ensures kept { OnErr result (KeepsRoom self.old self.new) }
     {
-        if self.entries.reserve(1).is_err() {
+        if self.entries.reserve(1).is_err() || self.notes.reserve().is_err() {
             return Err((entry, NoMemory));
         }
+        let usage = Usage::of(&self.board);
         match self.board.apply_entry(alloc, &entry) {
-            Ok(_) => {
+            Ok(stopped) => {
+                self.notes.take_in(&entry, usage, stopped);
                 self.entries.push_reserved(entry);
                 Ok(())
             }

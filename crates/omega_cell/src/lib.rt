@@ -3,15 +3,20 @@
 //! The board is the state of the history at every moment, and the history is legal. What is fed to
 //! the cell is appended, and a commit is judged and appended in one step that takes no memory: all
 //! that it needs was made room for before. No call looks through the history.
+//!
+//! The cell also notes what its entries do that doesn't stand in them: what is in use where a round
+//! begins, and which tasks an entry of a machine displaces.
 #![tactic(auto)]
 
 mod cell;
 mod deciding;
+mod effects;
 mod laws;
 mod prepared;
 mod room;
 mod touched;
 
 pub use cell::Cell;
+pub use effects::{Effects, Usage};
 pub use laws::commits_of_legal_histories;
 pub use prepared::Prepared;

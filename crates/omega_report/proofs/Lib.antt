@@ -1,3 +1,4 @@
+pub mod RoundUsage
 pub mod Closing
 mod Examples
 pub mod Empty

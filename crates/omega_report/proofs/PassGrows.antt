@@ -1,21 +1,18 @@
 -- A pass over one more entry.
-use Rattle.std.proofs.Common.{◌≡◌, ℕ, zero, suc, ◌+◌, ◌<◌, ◌≤◌, Bool, true, false, ◌&&◌, List, [], ◌∷◌, ◌++◌, map, take, length, get_or, slice_get, Some, refl, sym, ap, ap₂, ◌∙◌, subst, arith, append-nil, append_assoc, if◌then◌else◌}
-use Rattle.std.specs.Prelude.{Result, Ok, Err, OnOk}
+use Rattle.std.proofs.Common.{◌≡◌, ℕ, zero, suc, ◌+◌, ◌<◌, ◌≤◌, Bool, true, false, ◌&&◌, List, [], ◌∷◌, ◌++◌, map, take, drop, length, get_or, slice_get, refl, sym, ap, ap₂, ◌∙◌, subst, arith, append-nil, append_assoc}
+use Rattle.std.specs.Prelude.{Result, Ok, Err, OnOk, IsTrue}
 use Rattle.std.specs.List.{enumerate_from, flat_map}
 use Rattle.std.proofs.lemmas.Grind.{flat_map-append}
-use Rattle.std.proofs.lemmas.List.{take_all, take_more}
+use Rattle.std.proofs.lemmas.List.{drop_more, take_all, take_more}
 use Rattle.std.proofs.lemmas.List.FromFn.{get_or-enumerate_from, length-enumerate_from}
-use Rattle.omega_board.specs.Board.{BoardState, cell_of}
-use Rattle.omega_board.proofs.Histories.{may_apply, seq_push}
-use Rattle.omega_machines.specs.Table.{seq_at}
-use Rattle.omega_model.specs.Applying.{EachMayApply, MayApply}
+use Rattle.omega_cell.specs.Effects.{usage_in}
+use Rattle.omega_cell.specs.declared.effects.Usage.{Usage}
 use Rattle.omega_model.specs.Cell.{Cell, keys_of}
 use Rattle.omega_model.specs.Report.{Line}
 use Rattle.omega_model.specs.ReportCounts.{Counts}
 use Rattle.omega_model.specs.ReportLines.{displace_lines, is_round_end, lines_at, lines_on, middle_lines, round_lines, use_lines}
 use Rattle.omega_model.specs.Requests.{failed, failed_after}
 use Rattle.omega_model.specs.State.{displaced, state, step}
-use Rattle.omega_model.specs.Touches.{seq, touches}
 use Rattle.omega_model.specs.declared.cells.Task.{Task}
 use Rattle.omega_model.specs.declared.cells.TaskKey.{TaskKey}
 use Rattle.omega_model.specs.declared.entries.Entry.{Entry}
@@ -25,7 +22,9 @@ use Rattle.omega_model.specs.declared.settings.Format.{Format}
 use Rattle.omega_model.proofs.Growing.{state_push}
 use Rattle.omega_model.proofs.Standing.{failed_push}
 use Rattle.omega_report.specs.Failing.{count_of}
-use Rattle.omega_report.specs.Lines.{stop_line}
+use Rattle.omega_report.specs.Lines.{stop_line, usage_line}
+use Rattle.omega_report.specs.Noted.{IsAhead, usage_if}
+use Rattle.omega_report.specs.declared.ahead.Ahead.{Ahead}
 use Rattle.omega_report.specs.Pages.{PageState}
 use Rattle.omega_report.specs.Passing.{if_printed, lines_to, prints_rounds, use_if, IsAfter}
 use Rattle.omega_report.specs.Tallies.{tallies}
@@ -42,12 +41,11 @@ pub displaced_lines : (cell : Cell) (machine : ℕ) (entry : Entry) (keys : List
 displaced_lines cell machine entry keys is = ap (map (stop_line machine)) is ∙ map_twice (stop_line machine) (λ (t : Task). t.key) (displaced cell.tasks entry)
 
 -- they are the lines of an entry of a machine
-pub stops_said : (cell : Cell) (entry is : Entry) (machine : ℕ) (keys shown : List TaskKey) (before after : List Line) → entry ≡ is → displace_lines cell machine is ≡ lines_on cell is
-    → shown ≡ keys → after ≡ before ++ map (stop_line machine) shown → keys ≡ keys_of (displaced cell.tasks entry) → after ≡ before ++ lines_on cell entry
-stops_said cell entry is machine keys shown before after same said seen printed stopped =
+pub stops_said : (cell : Cell) (entry is : Entry) (machine : ℕ) (keys : List TaskKey) (before after : List Line) → entry ≡ is → displace_lines cell machine is ≡ lines_on cell is
+    → after ≡ before ++ map (stop_line machine) keys → keys ≡ keys_of (displaced cell.tasks entry) → after ≡ before ++ lines_on cell entry
+stops_said cell entry is machine keys before after same said printed stopped =
     printed ∙ ap (λ ls. before ++ ls)
-    (ap (map (stop_line machine)) seen
-    ∙ displaced_lines cell machine is keys (stopped ∙ ap (λ (e : Entry). keys_of (displaced cell.tasks e)) same)
+    (displaced_lines cell machine is keys (stopped ∙ ap (λ (e : Entry). keys_of (displaced cell.tasks e)) same)
     ∙ said ∙ ap (lines_on cell) (sym same))
 
 -- what follows from what holds of an `Ok` holds of it too
@@ -61,13 +59,11 @@ none_printed true = refl
 none_printed false = refl
 
 -- a pass before the first entry
-pub after_none : (schedulers : ℕ) (page : PageState) (prints : Bool) (history : List Entry) (cell : BoardState) (tally : List Counts) (failures : Failures)
-    → cell ≡ record { table = []; tasks = []; spare = 0 } → tally ≡ tallies schedulers [] → ((job : ℕ) → count_of failures job ≡ 0)
+pub after_none : (schedulers : ℕ) (page : PageState) (prints : Bool) (history : List Entry) (tally : List Counts) (failures : Failures)
+    → tally ≡ tallies schedulers [] → ((job : ℕ) → count_of failures job ≡ 0)
     → IsAfter schedulers page.format (page.lines ++ if_printed prints (lines_to history 0)) (take 0 history)
-    (record { page = page; cell = cell; tally = tally; failures = failures })
-after_none schedulers page prints history cell tally failures empty none failing = record {
-  current = ap (λ (b : BoardState). cell_of b) empty;
-  numbered = λ id. ap (λ (b : BoardState). seq_at b.table id) empty;
+    (record { page = page; tally = tally; failures = failures })
+after_none schedulers page prints history tally failures none failing = record {
   form = refl;
   printed = sym (ap (λ ls. page.lines ++ ls) (none_printed prints) ∙ append-nil page.lines);
   counted = none;
@@ -103,54 +99,74 @@ printed_more true history n entry start below is =
 printed_more false history n entry start below is =
     append-nil _ ∙ append-nil (start ++ [])
 
--- what a pass knows of the next entry
-pub record Takes (prints : Bool) (history : List Entry) (n : ℕ) (entry : Entry) (pass next : Pass) : Type 0 where
-  pub cell : cell_of next.cell ≡ step (cell_of pass.cell) entry
-  pub seqs : (id : ℕ) → seq_at next.cell.table id ≡ seq_at pass.cell.table id + (if touches id entry then 1 else 0)
+-- the first item behind some others is the one at their number
+first_behind : {X : Type 0} (xs : List X) (n : ℕ) → slice_get (drop n xs) 0 ≡ slice_get xs n
+first_behind [] zero = refl
+first_behind [] (suc n) = refl
+first_behind (x ∷ xs) zero = refl
+first_behind (x ∷ xs) (suc n) = first_behind xs n
+
+-- the line of a cell's usage where it is printed and a round ends
+usage_said : (prints ends : Bool) (usage : Usage) (cell : Cell) → (IsTrue ends → usage ≡ usage_in cell)
+    → usage_if (prints && ends) usage ≡ use_if (prints && ends) cell
+usage_said false ends usage cell is = refl
+usage_said true false usage cell is = refl
+usage_said true true usage cell is = ap (λ (u : Usage). usage_line u.used u.capacity ∷ []) (is refl)
+
+-- what a pass knows of the next entry, on the cell before it
+pub record Takes (prints : Bool) (cell : Cell) (entry : Entry) (pass next : Pass) : Type 0 where
   pub format : next.page.format ≡ pass.page.format
-  pub lines : next.page.lines ≡ pass.page.lines ++ if_printed prints (lines_on (cell_of pass.cell) entry)
+  pub lines : next.page.lines ≡ pass.page.lines ++ if_printed prints (lines_on cell entry)
   pub tally : (schedulers : ℕ) (before : List Entry) → pass.tally ≡ tallies schedulers before → next.tally ≡ tallies schedulers (before ++ entry ∷ [])
   pub failures : (job : ℕ) → count_of next.failures job ≡ failed_after job (count_of pass.failures job) entry
 
 -- and of the line after it
-pub record Uses (due : Bool) (pass next : Pass) : Type 0 where
+pub record Uses (due : Bool) (usage : Usage) (pass next : Pass) : Type 0 where
   pub format : next.page.format ≡ pass.page.format
-  pub lines : next.page.lines ≡ pass.page.lines ++ use_if due (cell_of pass.cell)
-  pub cell : next.cell ≡ pass.cell
+  pub lines : next.page.lines ≡ pass.page.lines ++ usage_if due usage
   pub tally : next.tally ≡ pass.tally
   pub failures : next.failures ≡ pass.failures
+
+module _ (history : List Entry) (n : ℕ) (entry : Entry) (below : n < length history) (is : entry ≡ get_or history n entry) where
+  -- what is ahead of the next entry begins with it
+  pub ahead_now : (ahead : Ahead) → IsAhead (state (take n history)) (drop n history) ahead
+      → IsAhead (state (take n history)) (entry ∷ drop (n + 1) history) ahead
+  ahead_now ahead known =
+      subst (λ (later : List Entry). IsAhead (state (take n history)) later ahead)
+      (drop_more history n entry below ∙ ap (λ (e : Entry). e ∷ drop (n + 1) history) (sym is)) known
+
+  -- the state behind it is one step on
+  stepped : step (state (take n history)) entry ≡ state (take (n + 1) history)
+  stepped = sym (ap state (taken_more history n entry below is) ∙ state_push (take n history) entry)
+
+  pub ahead_next : (behind : Ahead) → IsAhead (step (state (take n history)) entry) (drop (n + 1) history) behind
+      → IsAhead (state (take (n + 1) history)) (drop (n + 1) history) behind
+  ahead_next behind known = subst (λ (cell : Cell). IsAhead cell (drop (n + 1) history) behind) stepped known
+
+-- the usage of what is ahead, on the cell there, where a round ends
+pub usage_due : (history : List Entry) (n : ℕ) (cell : Cell) (usage : Usage)
+    → (IsTrue (is_round_end (slice_get (drop n history) 0)) → usage ≡ usage_in cell)
+    → IsTrue (is_round_end (slice_get history n)) → usage ≡ usage_in cell
+usage_due history n cell usage is ends = is (ap is_round_end (first_behind history n) ∙ ends)
 
 module _ (schedulers : ℕ) (format : Format) (start : List Line) (prints : Bool) (history : List Entry) (n : ℕ) (entry : Entry) (pass : Pass)
     (so : IsAfter schedulers format (start ++ if_printed prints (lines_to history n)) (take n history) pass)
     (below : n < length history) (is : entry ≡ get_or history n entry) where
-  here : slice_get history n ≡ Some entry
-  here = got history n entry below ∙ ap Some (sym is)
-    where
-      got : {X : Type 0} (xs : List X) (i : ℕ) (d : X) → i < length xs → slice_get xs i ≡ Some (get_or xs i d)
-      got [] i d in_it = absurd (omega (arith, in_it))
-      got (x ∷ xs) zero d in_it = refl
-      got (x ∷ xs) (suc i) d in_it = got xs i d (omega (arith, in_it))
-
-  -- the next entry may be applied
-  pub next_may : EachMayApply history → MayApply (cell_of pass.cell) (seq_at pass.cell.table) entry
-  next_may applied = may_apply (cell_of pass.cell) (seq_at pass.cell.table) (take n history) entry so.current so.numbered (applied n entry here)
-
-  -- once it was, the pass is one entry on
-  pub after_more : (next last : Pass) → Takes prints history n entry pass next → Uses (prints && is_round_end (slice_get history (n + 1))) next last
+  -- a pass that has taken the next entry in, and the usage behind it, is one entry on
+  pub after_more : (next last : Pass) (usage : Usage) → Takes prints (state (take n history)) entry pass next
+      → (IsTrue (is_round_end (slice_get history (n + 1))) → usage ≡ usage_in (state (take (n + 1) history)))
+      → Uses (prints && is_round_end (slice_get history (n + 1))) usage next last
       → IsAfter schedulers format (start ++ if_printed prints (lines_to history (n + 1))) (take (n + 1) history) last
-  after_more next last takes uses =
+  after_more next last usage takes used uses =
       let more : take n history ++ entry ∷ [] ≡ take (n + 1) history = sym (taken_more history n entry below is) in
-      let now : cell_of next.cell ≡ state (take (n + 1) history) =
-      takes.cell ∙ ap (λ (c : Cell). step c entry) so.current ∙ sym (state_push (take n history) entry) ∙ ap state more in
+      let ends = is_round_end (slice_get history (n + 1)) in
+      let said : usage_if (prints && ends) usage ≡ use_if (prints && ends) (state (take (n + 1) history)) =
+      usage_said prints ends usage (state (take (n + 1) history)) used in
       record {
-        current = ap (λ (b : BoardState). cell_of b) uses.cell ∙ now;
-        numbered = λ id. ap (λ (b : BoardState). seq_at b.table id) uses.cell ∙ takes.seqs id
-            ∙ ap (λ (k : ℕ). k + (if touches id entry then 1 else 0)) (so.numbered id)
-            ∙ sym (seq_push (take n history) entry id) ∙ ap (λ (h : List Entry). seq h id) more;
         form = uses.format ∙ takes.format ∙ so.form;
         printed = uses.lines
-            ∙ ap₂ (λ (ls : List Line) (c : Cell). ls ++ use_if (prints && is_round_end (slice_get history (n + 1))) c) takes.lines now
-            ∙ ap₂ (λ (ls : List Line) (c : Cell). ls ++ if_printed prints (lines_on c entry) ++ use_if (prints && is_round_end (slice_get history (n + 1))) (state (take (n + 1) history))) so.printed so.current
+            ∙ ap₂ (λ (ls us : List Line). ls ++ us) takes.lines said
+            ∙ ap (λ (ls : List Line). (ls ++ if_printed prints (lines_on (state (take n history)) entry)) ++ use_if (prints && ends) (state (take (n + 1) history))) so.printed
             ∙ printed_more prints history n entry start below is;
         counted = uses.tally ∙ takes.tally schedulers (take n history) so.counted ∙ ap (tallies schedulers) more;
         failing = λ job. ap (λ (f : Failures). count_of f job) uses.failures ∙ takes.failures job

@@ -1,6 +1,7 @@
 pub mod Counted
 pub mod Items
 pub mod Lines
+pub mod Noted
 pub mod Pages
 pub mod Readings
 pub mod Spelling

@@ -1,14 +1,10 @@
 -- What one pass over a history has gathered.
 use Rattle.std.specs.Prelude.{◌≡◌, ℕ, Bool, true, false, List, [], ◌∷◌, map, take, if◌then◌else◌}
 use Rattle.std.specs.List.{enumerate_from, flat_map}
-use Rattle.omega_board.specs.Board.{cell_of}
-use Rattle.omega_machines.specs.Table.{seq_at}
 use Rattle.omega_model.specs.Cell.{Cell}
 use Rattle.omega_model.specs.Report.{Line}
 use Rattle.omega_model.specs.ReportLines.{counts_line, lines_at, use_line}
 use Rattle.omega_model.specs.Requests.{failed}
-use Rattle.omega_model.specs.State.{state}
-use Rattle.omega_model.specs.Touches.{seq}
 use Rattle.omega_model.specs.declared.entries.Entry.{Entry}
 use Rattle.omega_model.specs.declared.entries.Entry.TheVariants.{Round}
 use Rattle.omega_model.specs.declared.settings.Command.{Command}
@@ -55,11 +51,9 @@ lines_from scheduler counts = map line_of_one (enumerate_from scheduler counts)
 abbrev pub lines_of_all : List HeldCounts → List Line
 lines_of_all counts = lines_from 0 counts
 
--- a pass after these entries, with these lines on its page: its cell is their state, and it has counted
--- what they count for each scheduler and each job
+-- a pass after these entries, with these lines on its page: it has counted what they count for each
+-- scheduler and each job
 pub record IsAfter (schedulers : ℕ) (format : Format) (lines : List Line) (entries : List Entry) (pass : Pass) : Type 0 where
-  pub current : cell_of pass.cell ≡ state entries
-  pub numbered : (id : ℕ) → seq_at pass.cell.table id ≡ seq entries id
   pub form : pass.page.format ≡ format
   pub printed : pass.page.lines ≡ lines
   pub counted : pass.tally ≡ tallies schedulers entries

@@ -6,14 +6,14 @@ ghost use Rattle.omega_model.specs.State.{displaced};
 ghost use Rattle.omega_report.specs.Passing.{if_printed};
 
 use crate::page::Page;
-use omega_model::{Entry, Keys, NoMemory};
+use omega_model::{Entry, NoMemory, TaskKey};
 
 /// Appends the lines of an entry that displaces the tasks of these names, if they are printed.
 pub fn push_entry(
     page: &mut Page,
     prints: bool,
     entry: &Entry,
-    stopped: &Keys,
+    stopped: &[TaskKey],
 ) -> Result<(), NoMemory>
     ensures format { OnOk result (page.new.format ≡ page.old.format) }
     ensures lines { OnOk result ((cell : Cell) → stopped.now ≡ keys_of (displaced cell.tasks entry.now) → page.new.lines ≡ page.old.lines ++ if_printed prints (lines_on cell entry.now)) }
@@ -25,15 +25,15 @@ pub fn push_entry(
 }
 
 // The same where they are printed.
-fn push_lines(page: &mut Page, entry: &Entry, stopped: &Keys) -> Result<(), NoMemory>
+fn push_lines(page: &mut Page, entry: &Entry, stopped: &[TaskKey]) -> Result<(), NoMemory>
     ensures format { OnOk result (page.new.format ≡ page.old.format) }
     ensures lines { OnOk result ((cell : Cell) → stopped.now ≡ keys_of (displaced cell.tasks entry.now) → page.new.lines ≡ page.old.lines ++ lines_on cell entry.now) }
 {
     match entry {
         Entry::Round { number } => page.round(*number),
-        Entry::MachineAdd { machine, .. } => page.displaced(*machine, stopped.as_slice()),
-        Entry::MachineUpdate { machine, .. } => page.displaced(*machine, stopped.as_slice()),
-        Entry::MachineRemove { machine } => page.displaced(*machine, stopped.as_slice()),
+        Entry::MachineAdd { machine, .. } => page.displaced(*machine, stopped),
+        Entry::MachineUpdate { machine, .. } => page.displaced(*machine, stopped),
+        Entry::MachineRemove { machine } => page.displaced(*machine, stopped),
         Entry::AttrSet { .. } | Entry::AttrDelete { .. } => Ok(()),
         Entry::End { key, machine } => page.end(*key, *machine),
         Entry::Commit {

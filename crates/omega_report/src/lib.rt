@@ -1,10 +1,11 @@
 //! The whole report of a history, as text or as JSON.
 //!
 //! A page takes the report's lines one after the other, each as its words, and holds only their bytes
-//! in the report's format. One pass over the history puts the lines of each entry on it, and what the
-//! history comes to.
+//! in the report's format. One pass over the history, beside what was noted of its effects, puts the
+//! lines of each entry on it, and what the history comes to.
 #![tactic(auto)]
 
+mod ahead;
 mod as_json;
 mod as_text;
 mod claims;
@@ -17,7 +18,6 @@ mod lines;
 mod page;
 mod pass;
 mod reporting;
-mod so_far;
 mod tally;
 mod words;
 

@@ -1,7 +1,7 @@
 //! The report of a history.
 ghost use Rattle.std.specs.Prelude.{◌≡◌, ◌++◌, ◌<◌, ◌≤◌, ◌^◌, List, IfOk, OnOk, count_by, length, nat_le};
+ghost use Rattle.omega_cell.specs.Effects.{AreEffects, usage_in};
 ghost use Rattle.omega_feed.specs.Left.{IsLeft};
-ghost use Rattle.omega_model.specs.Applying.{EachMayApply};
 ghost use Rattle.omega_model.specs.Lawful.{Lawful};
 ghost use Rattle.omega_model.specs.Policy.{schedulers};
 ghost use Rattle.omega_model.specs.Report.{Line};
@@ -18,6 +18,7 @@ use crate::counts::Counts;
 use crate::failures::Failures;
 use crate::page::Page;
 use crate::pass::{Pass, passed};
+use omega_cell::{Effects, Usage};
 use omega_feed::WaitingTasks;
 use omega_model::{Bytes, Entry, NoMemory, Settings};
 use std::alloc::Global;
@@ -26,37 +27,40 @@ use std::alloc::Global;
 /// state of those before it, what is used at the end of each round, and what the history comes to. For
 /// `generate` there is only the first line and what the history comes to.
 ///
-/// Each entry of the history can be applied to the state of those before it, and there are at most 30
-/// batch schedulers. The bytes are the report for each trace of which the history is a whole run under
-/// these settings, and of which `left` is what waits at the history's end.
+/// `effects` are those of the history, and there are at most 30 batch schedulers. The bytes are the
+/// report for each trace of which the history is a whole run under these settings, and of which `left`
+/// is what waits at the history's end.
 ///
-/// Costs what the entries change, and the lines. No line costs the machines or the tasks that run.
+/// Costs the entries and the lines. No line costs the machines or the tasks that run.
 pub fn report(
     alloc: Global,
     settings: &Settings,
     history: &[Entry],
+    effects: &Effects,
     left: &WaitingTasks,
 ) -> Result<Bytes, NoMemory>
     requires batch { settings.now.batch ≤ 30 }
-    requires applied { EachMayApply history.now }
+    requires effects { AreEffects history.now effects.now }
     ensures { IfOk result (λ bytes. (trace : TraceTables)
         → Lawful settings.now trace history.now → IsLeft trace (state history.now) left.now
         → bytes ≡ printed_report settings.now trace history.now) }
 {
     let mut page = Page::new(alloc, settings.format);
     page.first()?;
-    let pass = passed(alloc, settings, page, history)?;
-    summed_up(settings, history, left, pass)?.finish()
+    let pass = passed(alloc, settings, page, history, effects)?;
+    summed_up(settings, history, effects.last, left, pass)?.finish()
 }
 
-// The page of a pass over a history, with what it comes to.
+// The page of a pass over a history, with what it comes to, where `last` is the usage at its end.
 fn summed_up(
     settings: &Settings,
     history: &[Entry],
+    last: Usage,
     left: &WaitingTasks,
     pass: Pass,
 ) -> Result<Page, NoMemory>
     requires batch { settings.now.batch ≤ 30 }
+    requires last { last ≡ usage_in (state history.now) }
     requires counted { length pass.tally ≡ schedulers settings.now }
     ensures { IfOk result (λ page. (trace : TraceTables) (format : Format) (lines : List Line)
         → Lawful settings.now trace history.now → IsLeft trace (state history.now) left.now
@@ -66,13 +70,12 @@ fn summed_up(
     let abandoned = count_given_up(left.jobs.as_slice(), settings.give_up, &pass.failures);
     let Pass {
         mut page,
-        cell,
         tally,
         ..
     } = pass;
     page.sizes(history.len() as u64, count_rounds(history))?;
     push_counts(&mut page, tally.counts())?;
-    page.usage(cell.used(), cell.capacity())?;
+    page.usage(last.used, last.capacity)?;
     page.unplaced(left.tasks, abandoned)?;
     Ok(page)
 }

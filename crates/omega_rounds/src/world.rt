@@ -1,6 +1,7 @@
 //! Schedulers over one cell, round by round.
 ghost use Rattle.std.specs.Prelude.{◌≡◌, ◌<◌, ℕ, None, length, take, IfOk, IfSome, OnErr, OnOk};
 ghost use Rattle.std.specs.Thread.{IsSync};
+ghost use Rattle.omega_cell.specs.Effects.{AreEffects};
 ghost use Rattle.omega_feed.specs.Left.{AreLeft, IsLeft};
 ghost use Rattle.omega_model.specs.Applying.{EachMayApply};
 ghost use Rattle.omega_model.specs.Lawful.{LawfulSoFar};
@@ -22,7 +23,7 @@ use crate::opening::{first_at_work, open_round};
 use crate::seat::Seat;
 use crate::steps::{RoundStep, Stepped};
 use crate::threads::play_shared;
-use omega_cell::Cell;
+use omega_cell::{Cell, Effects};
 use omega_copy::PrivateCopy;
 use omega_feed::{OpenJobs, WaitingTasks, Wanted, feed, rounds};
 use omega_io::Gate;
@@ -135,6 +136,20 @@ impl World {
     {
         let World { cell, .. } = self;
         cell.into_history()
+    }
+
+    /// The history itself, and what its entries did. Takes no memory.
+    pub fn into_run(self) -> (Entries, Effects)
+        ensures history { result.0 ≡ self.history }
+        ensures effects { AreEffects self.history result.1 }
+        ensures lawful { (trace : TraceTables) → IsInRunOf self.stage trace
+            → LawfulSoFar self.stage.settings trace self.history }
+        ensures legal { Legal self.history }
+        ensures applied { EachMayApply self.history }
+        ensures sound { (n : ℕ) → Sound (state (take n self.history)) }
+    {
+        let World { cell, .. } = self;
+        cell.into_run()
     }
 
     /// Goes on to the next round, if nobody has work: appends the entries of its rows, and hands each

@@ -11,6 +11,7 @@ use Rattle.std.specs.contracts.option.Option as Maybe
 use Rattle.std.specs.contracts.vec.Vec as Vec
 use Rattle.omega_board.specs.contracts.board.Board as Board
 use Rattle.omega_cell.specs.contracts.cell.Cell as Cell
+use Rattle.omega_cell.proofs.effects.Notes.TheSendSync as notes
 use Rattle.omega_lock.proofs.lock.Lock.TheSendSync as lock
 use Rattle.omega_lock.proofs.seat.Seat.TheSendSync as seat
 use Rattle.omega_lock.specs.contracts.lock.Lock as Lock
@@ -68,7 +69,7 @@ board_send = search (machines.the_send, running_send, sendable) depth 20
 
 -- a cell
 cell_send : IsSend Cell.the_row
-cell_send = search (board_send, entry.the_send, Vec-send, sendable) depth 20
+cell_send = search (board_send, entry.the_send, notes.the_send, Vec-send, sendable) depth 20
 
 -- what the lock holds
 held_send : IsSend Held.the_row

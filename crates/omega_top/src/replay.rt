@@ -1,9 +1,9 @@
 //! The run of a trace.
 ghost use Rattle.std.specs.Prelude.{◌≡◌, ◌≢◌, List, IfOk};
 ghost use Rattle.std.specs.Thread.{IsSync};
+ghost use Rattle.omega_cell.specs.Effects.{AreEffects};
 ghost use Rattle.omega_cell.specs.Laws.{EvictionsGoDown, NoGangIsSplit};
 ghost use Rattle.omega_feed.specs.Left.{IsLeft};
-ghost use Rattle.omega_model.specs.Applying.{EachMayApply};
 ghost use Rattle.omega_model.specs.Lawful.{Lawful};
 ghost use Rattle.omega_model.specs.Legal.{Legal};
 ghost use Rattle.omega_model.specs.Ranges.{IsInRange};
@@ -15,6 +15,7 @@ ghost use Rattle.omega_model.specs.declared.settings.Command.TheVariants.{Run};
 ghost use Rattle.omega_rounds.specs.Stages.{AllHaveBegun, IsInRunOf};
 ghost use Rattle.omega_top.specs.Answers.{IsTheOnly, NeverOvercommits};
 
+use omega_cell::Effects;
 use omega_feed::WaitingTasks;
 use omega_io::Gate;
 use omega_model::{Command, Entries, NoMemory, Settings, TraceTables};
@@ -23,18 +24,20 @@ use std::alloc::Global;
 use std::sync::Wait;
 use std::thread::Threads;
 
-/// The history of a whole run, and what waits at its end.
+/// The history of a whole run, what its entries did, and what waits at its end.
 #[derive(Drop)]
 pub struct WholeRun {
     /// The history.
     pub history: Entries,
+    /// What its entries did to the cell.
+    pub effects: Effects,
     /// The tasks that wait at its end, and their jobs.
     pub left: WaitingTasks,
 }
 
-/// The history of a trace under these settings, and what waits at its end: on `run` with each scheduler
-/// on a thread of its own, which passes the gate, else with the schedulers taking turns. On `run` it
-/// may wait.
+/// The history of a trace under these settings, what its entries did, and what waits at its end: on
+/// `run` with each scheduler on a thread of its own, which passes the gate, else with the schedulers
+/// taking turns. On `run` it may wait.
 pub fn replayed<R: Threads + Wait + Sync, G: Gate + Sync>(
     rt: &R,
     alloc: Global,
@@ -48,7 +51,7 @@ pub fn replayed<R: Threads + Wait + Sync, G: Gate + Sync>(
     ensures turns { settings.now.command ≢ Run → IfOk result (λ run. InTurns run.history) }
     ensures only { settings.now.command ≢ Run → IfOk result (λ run. IsTheOnly settings.now trace.now run.history) }
     ensures legal { IfOk result (λ run. Legal run.history) }
-    ensures applied { IfOk result (λ run. EachMayApply run.history) }
+    ensures effects { IfOk result (λ run. AreEffects run.history run.effects) }
     ensures sound { IfOk result (λ run. NeverOvercommits run.history) }
     ensures gangs { IfOk result (λ run. NoGangIsSplit run.history) }
     ensures evictions { IfOk result (λ run. EvictionsGoDown run.history) }
@@ -57,8 +60,10 @@ pub fn replayed<R: Threads + Wait + Sync, G: Gate + Sync>(
     let world = World::new(alloc, settings, trace)?;
     let world = run_to_end(rt, settings.command, world, gate)?;
     let left = world.left()?;
+    let (history, effects) = world.into_run();
     Ok(WholeRun {
-        history: world.into_history(),
+        history,
+        effects,
         left,
     })
 }

@@ -1,5 +1,5 @@
 use Rattle.std.proofs.Common.{◌∷◌, ◌++◌, [], length, refl, ap, ◌∙◌}
-use Rattle.omega_model.specs.ExtraTasks.{capacity_in_all, used_in}
+use Rattle.omega_cell.specs.declared.effects.Usage.{Usage}
 use Rattle.omega_report.specs.Failing.{count_of}
 use Rattle.omega_report.specs.Lines.{sizes_line}
 use Rattle.omega_report.proofs.RoundsCounted.{rounds_counted}
@@ -12,18 +12,18 @@ returns c = λ trace format lines lawful waits after.
     let history = c.args.history.now in
     let left = c.args.left.now in
     let counts = c.counts.result.now in
-    let sums : Sums settings trace history (length history) c.count_rounds.result counts c.used.result c.capacity.result left.tasks c.count_given_up-abandoned.result = record {
+    let sums : Sums settings trace history (length history) c.count_rounds.result counts c.args.last.used c.args.last.capacity left.tasks c.count_given_up-abandoned.result = record {
       all_entries = refl;
       all_rounds = c.count_rounds.ensures ∙ rounds_counted settings trace history lawful;
       all_counts = c.counts.ensures ∙ after.counted;
-      all_used = c.used.ensures ∙ ap used_in after.current;
-      all_capacity = c.capacity.ensures ∙ ap capacity_in_all after.current;
+      all_used = ap (λ (u : Usage). u.used) c.requires.last;
+      all_capacity = ap (λ (u : Usage). u.capacity) c.requires.last;
       all_tasks = waits.count;
       all_jobs = c.count_given_up-abandoned.ensures
           ∙ abandoned_is settings trace history (count_of c.args.pass.failures) c.as_slice.result.now after.failing (c.as_slice.ensures ∙ waits.jobs);
     } in (
       c.in_ok-unplaced.ensures.format ∙ c.in_ok-usage.ensures.format ∙ c.in_ok-push_counts.ensures.format ∙ c.in_ok-sizes.ensures.format ∙ after.form,
-      summed_is settings trace history (length history) c.count_rounds.result counts c.used.result c.capacity.result left.tasks c.count_given_up-abandoned.result
+      summed_is settings trace history (length history) c.count_rounds.result counts c.args.last.used c.args.last.capacity left.tasks c.count_given_up-abandoned.result
           lines c.sizes.new.self.lines c.push_counts.new.page.lines c.usage.new.self.lines c.unplaced.new.self.lines sums
           (c.in_ok-sizes.ensures.lines ∙ ap (λ ls. ls ++ sizes_line (length history) c.count_rounds.result ∷ []) after.printed)
           c.in_ok-push_counts.ensures.lines c.in_ok-usage.ensures.lines c.in_ok-unplaced.ensures.lines,

@@ -8,8 +8,8 @@ use Rattle.omega_top.specs.Answers.{Writes}
 use Rattle.omega_top.proofs.top.replay_and_write.Goals.{in-Ok-write_all, in-Err}
 use Rattle.omega_top.proofs.top.replay_and_write.Goals as goal
 
-pub report-requires-clause-applied : goal.report-requires-clause-applied
-report-requires-clause-applied g c = rw c.as_slice.ensures c.in-Ok.ensures.applied
+pub report-requires-clause-effects : goal.report-requires-clause-effects
+report-requires-clause-effects g c = rw c.as_slice.ensures c.in-Ok.ensures.effects
 
 pub returns-clause-written : goal.returns-clause-written
 returns-clause-written g c =

@@ -34,16 +34,16 @@ returns-clause-carries c =
     let rest : later ≡ drop c.args.n history = take_rest entries c.args.n ∙ ap (drop c.args.n) c.as_slice.ensures.value in
     let within : c.args.n ≤ length history = subst (λ (h : List Entry). c.args.n ≤ length h) (sym now) c.requires in
     subst (λ (h : List Entry). Carries c.of.result h c.args.n (length h)) now
-    (delivered c.self.inside.board history c.args.n later c.in_ok-positions.positions.items c.in_ok-parts.parts c.of.result c.self.invariant.board_is within rest
+    (delivered c.self.inside.board history c.args.n later c.in_ok-positions.positions.items c.in_ok-parts.parts c.of.result c.self.invariant.0.board_is within rest
     (c.in_ok-positions.ensures.places ∙ ap (λ (table : List MachineState). touched_places (machines_of table) later) c.machines.ensures.table)
     (c.in_ok-parts.ensures ∙ ap (map (part_at c.self.inside.board)) c.deref.ensures.value)
     (c.of.ensures ∙ (let until : c.len.result ≡ length history = search rules in ap (λ (n : ℕ). record { from = c.args.n; to = n; parts = c.in_ok-parts.parts }) until)))
 
 pub returns-clause-applied : goal.returns-clause-applied
-returns-clause-applied c = subst (λ (cell : CellState). EachMayApply cell.history) c.self.view_is c.self.invariant.applied
+returns-clause-applied c = subst (λ (cell : CellState). EachMayApply cell.history) c.self.view_is c.self.invariant.0.applied
 
 pub returns-in_err-positions-clause-applied : goal.returns-in_err-positions-clause-applied
-returns-in_err-positions-clause-applied c = subst (λ (cell : CellState). EachMayApply cell.history) c.self.view_is c.self.invariant.applied
+returns-in_err-positions-clause-applied c = subst (λ (cell : CellState). EachMayApply cell.history) c.self.view_is c.self.invariant.0.applied
 
 pub returns-in_err-parts-clause-applied : goal.returns-in_err-parts-clause-applied
-returns-in_err-parts-clause-applied c = subst (λ (cell : CellState). EachMayApply cell.history) c.self.view_is c.self.invariant.applied
+returns-in_err-parts-clause-applied c = subst (λ (cell : CellState). EachMayApply cell.history) c.self.view_is c.self.invariant.0.applied
