@@ -27,8 +27,8 @@ use std::marker::Model;
 /// A contract sees the history, and for how many more tasks and entries there is room.
 #[derive(Drop)]
 pub struct Cell {
-    board: Board,
-    entries: Vec<Entry>,
+    pub(crate) board: Board,
+    pub(crate) entries: Vec<Entry>,
 }
 
 impl Model for Cell {

@@ -5,6 +5,7 @@
 //! that it needs was made room for before. No call looks through the history.
 #![tactic(auto)]
 
+mod apart;
 mod cell;
 mod deciding;
 mod laws;
@@ -12,6 +13,7 @@ mod prepared;
 mod room;
 mod touched;
 
+pub use apart::Log;
 pub use cell::Cell;
 pub use laws::commits_of_legal_histories;
 pub use prepared::Prepared;

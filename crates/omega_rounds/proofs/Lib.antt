@@ -33,7 +33,7 @@ pub mod CommitCounts
 pub mod SeatCommits
 pub mod DeskCommits
 pub mod WorldSteps
-pub mod WorldLeft
+pub mod WorldWaiting
 pub mod Beginning
 pub mod OpenedEntries
 pub mod WorldBegins

@@ -56,7 +56,7 @@ pub fn replayed<R: Threads + Wait + Sync, G: Gate + Sync>(
 {
     let world = World::new(alloc, settings, trace)?;
     let world = run_to_end(rt, settings.command, world, gate)?;
-    let left = world.left()?;
+    let left = world.waiting()?;
     Ok(WholeRun {
         history: world.into_history(),
         left,
