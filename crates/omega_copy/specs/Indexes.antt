@@ -11,7 +11,6 @@ use Rattle.omega_cell.specs.Touched.{is_touched}
 use Rattle.omega_copy.specs.Levels.{Tells}
 use Rattle.omega_copy.specs.Telling.{freed_of}
 use Rattle.omega_copy.specs.declared.indexes.Indexes.{Indexes}
-use Rattle.omega_copy.specs.declared.levels.Level.{Level}
 
 -- the later numbers are the earlier ones and those that pass
 abbrev pub Names : (ℕ → Bool) → List ℕ → List ℕ → Type 0

@@ -24,7 +24,7 @@ pub struct Indexes {
 impl Indexes {
     /// The indexes of the empty board, before any entry. Takes no memory.
     pub fn new(alloc: Global) -> Indexes
-        ensures history { (history : List Entry) → AreIndexesOf history result }
+        ensures { (history : List Entry) → AreIndexesOf history result }
     {
         Indexes {
             index: FitIndex::new(alloc),

@@ -48,4 +48,5 @@ pub mod ClosedRounds
 pub mod PlayersBack
 pub mod RunOn
 pub mod Reopened
-pub mod Overtaking
+pub mod PlansKept
+pub mod Planning
