@@ -1,7 +1,8 @@
 -- What is planned on the board of a cell.
 use Rattle.std.proofs.Common.{◌≡◌, ◌≤◌, ◌∙◌, ℕ, List, length, map, take, refl, sym, ap, subst, arith}
 use Rattle.std.specs.Prelude.{Result, Ok, Err, IfOk}
-use Rattle.std.proofs.lemmas.List.{length-map, take-length}
+use Rattle.std.proofs.Math.Seq.{take-length}
+use Rattle.std.proofs.lemmas.List.{length-map}
 use Rattle.omega_model.specs.Applying.{EachMayApply}
 use Rattle.omega_model.specs.Cell.{Cell}
 use Rattle.omega_model.specs.Draws.{drawn_start}

@@ -40,15 +40,14 @@ pub(crate) fn plan_first(
     requires desk { IsAtDesk settings.now cell.old.history scheduler desk.now }
     requires indexes { AreIndexesOf cell.old.history indexes.old }
     ensures history { cell.new.history ≡ cell.old.history }
-    ensures indexes { AreIndexesOf cell.old.history indexes.new }
+    ensures indexes { AreIndexesOf cell.new.history indexes.new }
     ensures plan { IfOk result (IsPlan settings.now cell.old.history scheduler (length cell.old.history) desk.now) }
 {
     let machines = touched(alloc, &cell.history()[indexes.seen() as usize..])?;
     indexes.make_room(cell.board())?;
     let own = mem::replace(indexes, Indexes::new(alloc));
     let whole = mem::replace(cell, Cell::new(alloc));
-    let (plan, told, same) =
-        plan_apart(alloc, settings, scheduler, desk, own, whole, &machines);
+    let (plan, told, same) = plan_apart(alloc, settings, scheduler, desk, own, whole, &machines);
     *indexes = told;
     *cell = same;
     plan

@@ -36,7 +36,7 @@ pub returns-clause-indexes : goal.returns-clause-indexes
 returns-clause-indexes c =
     let kept = subst (IsCell c.apart-board.result.0) c.apart-board.ensures.history c.apart-board.ensures.cell in
     let seen : c.over-copy.result.seen ≡ length c.args.cell.history =
-    c.over-copy.ensures.seen ∙ c.len.ensures ∙ ap (λ (h : List Entry). length h) (c.history.ensures ∙ c.apart-board.ensures.history) in
+    c.over-copy.ensures.seen ∙ ap (λ (h : List Entry). length h) (c.history.ensures ∙ c.apart-board.ensures.history) in
     let stands = copy_over c.over-copy.result c.apart-board.result.0 c.args.cell.history c.over-copy.ensures.board seen kept.board_is in
     c.into_parts-board.ensures.history c.args.cell.history (subst (λ (k : CopyState). CopyOf k c.args.cell.history) (sym c.plan_on-plan.ensures.copy) stands)
 
@@ -44,7 +44,7 @@ pub returns-clause-plan : goal.returns-clause-plan
 returns-clause-plan c =
     let kept = subst (IsCell c.apart-board.result.0) c.apart-board.ensures.history c.apart-board.ensures.cell in
     let seen : c.over-copy.result.seen ≡ length c.args.cell.history =
-    c.over-copy.ensures.seen ∙ c.len.ensures ∙ ap (λ (h : List Entry). length h) (c.history.ensures ∙ c.apart-board.ensures.history) in
+    c.over-copy.ensures.seen ∙ ap (λ (h : List Entry). length h) (c.history.ensures ∙ c.apart-board.ensures.history) in
     let stands = copy_over c.over-copy.result c.apart-board.result.0 c.args.cell.history c.over-copy.ensures.board seen kept.board_is in
     ok_maps _ _ (λ plan is.
     subst (λ (n : ℕ). IsPlan c.args.settings.now c.args.cell.history c.args.scheduler n c.args.desk.now plan) seen
