@@ -29,9 +29,9 @@ use std::marker::Model;
 /// A contract sees the history, and for how many more tasks and entries there is room.
 #[derive(Drop)]
 pub struct Cell {
-    board: Board,
-    entries: Vec<Entry>,
-    notes: Notes,
+    pub(crate) board: Board,
+    pub(crate) entries: Vec<Entry>,
+    pub(crate) notes: Notes,
 }
 
 impl Model for Cell {

@@ -86,7 +86,7 @@ stands_at board history from to within at = record {
 }
 
 -- an index with a place for each machine tells of those that didn't change
-tells_rows : (changed stale : ℕ → Bool) (prec : ℕ) → ((id : ℕ) → stale id ≡ false → changed id ≡ false) → (old new : List Task) → ((id : ℕ) → changed id ≡ false → filter (is_on id) new ≡ filter (is_on id) old)
+pub tells_rows : (changed stale : ℕ → Bool) (prec : ℕ) → ((id : ℕ) → stale id ≡ false → changed id ≡ false) → (old new : List Task) → ((id : ℕ) → changed id ≡ false → filter (is_on id) new ≡ filter (is_on id) old)
     → (before after : List Machine) → ChangedAlone changed before after
     → TellsBut stale prec new (placed after (map (freed_on prec old) before)) after
 tells_rows changed stale prec fewer old new same [] [] alone = tt

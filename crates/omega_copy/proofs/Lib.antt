@@ -5,3 +5,4 @@ pub mod Follows
 pub mod Applied
 pub mod Changing
 pub mod Leading
+pub mod GoingOn

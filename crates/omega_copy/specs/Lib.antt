@@ -1,3 +1,4 @@
 pub mod Copies
 pub mod Levels
 pub mod Telling
+pub mod Indexes

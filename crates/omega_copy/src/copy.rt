@@ -11,10 +11,12 @@ ghost use Rattle.omega_model.specs.declared.entries.Entry.{Entry};
 ghost use Rattle.omega_running.specs.Kept.{KeysRise};
 ghost use Rattle.omega_board.specs.Board.{cell_of};
 ghost use Rattle.omega_cell.specs.Claiming.{copied_seqs};
-ghost use Rattle.omega_copy.specs.Copies.{CopyOf, MayFollow, MayCatchUp, after_trial, one_less};
+ghost use Rattle.omega_copy.specs.Copies.{CopyOf, MayFollow, MayCatchUp, after_trial, one_less, without_room};
+ghost use Rattle.omega_copy.specs.Indexes.{AreIndexesOf, HavePlaces, MayGoOn};
 ghost use Rattle.omega_copy.specs.Levels.{Tells};
 ghost use Rattle.omega_copy.specs.Telling.{frees_of};
 
+use crate::indexes::Indexes;
 use crate::levels::{
     Level, level_of, reserve_each, take_out, tell_all_each, tell_entry_each, tell_parts_each,
 };
@@ -77,6 +79,54 @@ impl PrivateCopy {
         ensures { result ≡ self.now.seen }
     {
         self.seen
+    }
+
+    /// The copy of a history that has seen it to its end, after so many entries: over the board after it,
+    /// with indexes of the history, which are told of these machines, the ones that the entries touch that
+    /// they haven't seen. Costs these machines, and for each level the tasks on them. Takes no memory.
+    pub fn over(board: Board, indexes: Indexes, seen: u64, machines: &[u64]) -> PrivateCopy
+        requires places { HavePlaces (length board.table) indexes }
+        requires history { MayGoOn indexes board machines.now }
+        ensures board { result.board ≡ without_room board }
+        ensures seen { result.seen ≡ seen }
+        ensures no_trial { result.trial ≡ None }
+    {
+        let Indexes {
+            mut index,
+            mut levels,
+            ..
+        } = indexes;
+        tell_parts(&mut index, 0, &board, machines);
+        tell_parts_each(&mut levels, &board, machines);
+        PrivateCopy {
+            board,
+            index,
+            levels,
+            seen,
+            trial: None,
+        }
+    }
+
+    /// The board, and what the copy keeps beside it. Takes no memory.
+    pub fn into_parts(self) -> (Board, Indexes)
+        requires no_trial { self.trial ≡ None }
+        ensures table { result.0.table ≡ self.board.table }
+        ensures tasks { result.0.tasks ≡ self.board.tasks }
+        ensures history { (history : List Entry) → CopyOf self history → AreIndexesOf history result.1 }
+    {
+        let PrivateCopy {
+            board,
+            index,
+            levels,
+            seen,
+            ..
+        } = self;
+        let indexes = Indexes {
+            index,
+            levels,
+            seen,
+        };
+        (board, indexes)
     }
 
     // How many of the entries that it has seen touched a machine.

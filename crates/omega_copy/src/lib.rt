@@ -7,9 +7,11 @@
 #![tactic(auto)]
 
 mod copy;
+mod indexes;
 mod levels;
 mod telling;
 mod trial;
 
 pub use copy::PrivateCopy;
+pub use indexes::{Indexes, touched};
 pub use levels::Level;

@@ -23,6 +23,7 @@ use Rattle.omega_rounds.specs.Players.{IsOwnDesk, MayStand, OwnMayStand}
 use Rattle.omega_rounds.specs.Seats.{IsDeskOf, synced_of}
 use Rattle.omega_rounds.specs.Stages.{IsInRunOf, Stage, rows_begun}
 use Rattle.omega_rounds.specs.declared.seat.Seat.{Seat}
+use Rattle.omega_rounds.proofs.PlansKept.{plan_none}
 use Rattle.omega_rounds.proofs.DeskCommits.{desk_with_failures, own_desk}
 use Rattle.omega_rounds.proofs.RoundFailures.{counted_so_far}
 use Rattle.omega_rounds.proofs.SeatLists.{seen_at, seen_none}
@@ -198,6 +199,7 @@ module _ (stage : Stage) (tasks : List WantedTask) (first history : List Entry) 
     asked = world.asked;
     count = back.count ∙ world.count;
     each_seat = λ number seat here. (back.each number seat here).1.1.seat;
+    each_plan = λ number seat here. plan_none stage.settings history number seat (sym (seen_at synced_of new number seat here) ∙ nobody_closed number);
     made = world.made;
     lawful = λ trace made. elim (world.lawful trace made).run [
       | inl none ↦ let start : stage.begun ≡ 0 = none.none in absurd (omega (arith, begun, start))

@@ -19,8 +19,7 @@ use Rattle.omega_model.specs.declared.claims.Txn.{Txn}
 use Rattle.omega_model.specs.declared.entries.Entry.{Entry}
 use Rattle.omega_model.specs.declared.entries.Entry.TheVariants.{Commit}
 use Rattle.omega_copy.specs.Copies.{CopyOf, CopyState}
-use Rattle.omega_lock.specs.Lists.{StartsWith}
-use Rattle.omega_rounds.specs.Seats.{IsAtRest, SyncedWithin}
+use Rattle.omega_rounds.specs.Seats.{SyncedWithin}
 
 commits_more : (scheduler : ℕ) (before : List Entry) (entry : Entry)
     → commits_of scheduler (before ++ entry ∷ []) ≡ commits_of scheduler before + cond (is_commit_of scheduler entry) 1 0
@@ -57,14 +56,6 @@ copy_grown copy before later stands =
       tasks = stands.tasks ∙ ap (λ (h : List Entry). (state h).tasks) (sym same);
       numbers = λ id. stands.numbers id ∙ ap (λ (h : List Entry). seq h id) (sym same);
     }
-
--- a copy at rest beside a history is so beside a longer one
-pub rests_grown : (copy : CopyState) (before later : List Entry) → IsAtRest before copy → IsAtRest (before ++ later) copy
-rests_grown copy before later rests = record { stands = copy_grown copy before later rests.stands; no_trial = rests.no_trial }
-
--- or beside one that goes on from it
-pub rests_on : (copy : CopyState) (before after : List Entry) → StartsWith after before → IsAtRest before copy → IsAtRest after copy
-rests_on copy before after on rests = subst (λ (h : List Entry). IsAtRest h copy) (sym on.1) (rests_grown copy before on.0 rests)
 
 -- what a scheduler has seen stays within a longer history
 pub synced_longer : (synced : Option ℕ) (copied count longer : ℕ) → count ≤ longer → SyncedWithin synced copied count → SyncedWithin synced copied longer

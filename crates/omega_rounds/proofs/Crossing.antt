@@ -12,6 +12,7 @@ use Rattle.omega_copy.specs.contracts.levels.Level as Level
 use Rattle.omega_desk.proofs.desk.Desk.TheSendSync as desk
 use Rattle.omega_fit.proofs.index.FitIndex.TheSendSync as index
 use Rattle.omega_shared.proofs.Crossing.{board_send, pass_send}
+use Rattle.omega_rounds.proofs.plans.Planned.TheSendSync as planned
 use Rattle.omega_rounds.specs.contracts.player.Player as Player
 
 -- the levels of a copy
@@ -27,4 +28,4 @@ copy_send = view_send _ _ _ _ _ inside_send
 
 -- a player, with its seat
 pub player_send : IsSend Player.the_row
-player_send = search (copy_send, desk.the_send, pass_send, sendable) depth 40
+player_send = search (copy_send, planned.the_send, desk.the_send, pass_send, sendable) depth 40

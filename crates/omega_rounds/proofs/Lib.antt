@@ -33,7 +33,7 @@ pub mod CommitCounts
 pub mod SeatCommits
 pub mod DeskCommits
 pub mod WorldSteps
-pub mod WorldLeft
+pub mod WorldWaiting
 pub mod Beginning
 pub mod OpenedEntries
 pub mod WorldBegins
@@ -48,4 +48,5 @@ pub mod ClosedRounds
 pub mod PlayersBack
 pub mod RunOn
 pub mod Reopened
-pub mod Overtaking
+pub mod PlansKept
+pub mod Planning

@@ -22,6 +22,7 @@ use Rattle.omega_rounds.specs.Opening.{AreNewSeats}
 use Rattle.omega_rounds.specs.Seats.{IsDeskOf, IsRoutedTo, IsSeat, synced_of, to_do_of}
 use Rattle.omega_rounds.specs.Stages.{IsInRunOf, Source, stage_of}
 use Rattle.omega_rounds.specs.declared.seat.Seat.{Seat}
+use Rattle.omega_rounds.proofs.PlansKept.{plan_none}
 use Rattle.omega_rounds.proofs.Requested.{requests_none}
 use Rattle.omega_rounds.proofs.SeatLists.{push_cases, seen_none}
 use Rattle.omega_rounds.proofs.WorldBegins.{none_to_do}
@@ -84,6 +85,7 @@ world_new settings trace all asked history seats range rounds_are asks none are 
       asked = ap (λ (a : Asked). a.tasks) asks;
       count = are.count;
       each_seat = λ number seat here. (are.each number seat here).0;
+      each_plan = λ number seat here. plan_none settings [] number seat (are.each number seat here).1.0;
       made = (trace, made_of settings trace all asked [] rounds_are asks 0 0);
       lawful = λ other made. record {
         run = inl (record {

@@ -121,10 +121,10 @@ module _ (old new : Player) (txn : Txn) (reply : Reply) (did : PlayerCommits old
   before = did.commits.before
 
   abbrev next : Seat
-  next = record { desk = new.seat.desk; copy = new.seat.copy; synced = None }
+  next = record { desk = new.seat.desk; copy = new.seat.copy; synced = None; planned = new.seat.planned }
 
   next_is : next ≡ new.seat
-  next_is = ap (λ (o : Option ℕ). record { desk = new.seat.desk; copy = new.seat.copy; synced = o }) (sym did.spent)
+  next_is = ap (λ (o : Option ℕ). record { desk = new.seat.desk; copy = new.seat.copy; synced = o; planned = new.seat.planned }) (sym did.spent)
 
   -- the seat beside what was there before the commit
   seat_before : IsSeat settings before number old.seat
@@ -146,12 +146,12 @@ module _ (old new : Player) (txn : Txn) (reply : Reply) (did : PlayerCommits old
   }
 
   seat_next : IsSeat settings new.pass.seen number next
-  seat_next = seat_after settings number before new.pass.seen old.seat new.seat.desk did.plans.request txn reply.outcomes committing new.seat.copy (subst (IsAtRest before) (sym did.copy) (record { stands = seat_before.copy; no_trial = seat_before.no_trial }))
+  seat_next = seat_after settings number before new.pass.seen old.seat new.seat.desk did.plans.request txn reply.outcomes committing new.seat.copy new.seat.planned (subst (IsAtRest before) (sym did.copy) (record { stands = seat_before.copy; no_trial = seat_before.no_trial }))
 
   first_next : CommitsFirst settings number before old.seat new.pass.seen next reply.place
   first_next =
       commits_first settings number before new.pass.seen old.seat new.seat.desk did.plans.request txn reply.outcomes committing
-      new.seat.copy reply.place did.commits.answers.place
+      new.seat.copy new.seat.planned reply.place did.commits.answers.place
 
   -- it had seen all that its pass had
   seen_all : first_next.seen ≡ length old.pass.seen

@@ -16,6 +16,7 @@ use Rattle.omega_rounds.specs.AttemptsLeft.{attempts_left}
 use Rattle.omega_rounds.specs.NextCommit.{attempt_txn}
 use Rattle.omega_rounds.specs.Seats.{IsAtRest, IsSeat, to_do_of}
 use Rattle.omega_rounds.specs.SeatSteps.{CommitsFirst, attempt_outcomes}
+use Rattle.omega_rounds.specs.declared.plans.Planned.{Planned}
 use Rattle.omega_rounds.specs.declared.seat.Seat.{Seat}
 use Rattle.omega_rounds.proofs.Answering.{planned_answers}
 use Rattle.omega_rounds.proofs.AttemptsLeft.{attempt_less}
@@ -80,13 +81,13 @@ module _ (settings : Settings) (scheduler : ℕ) (before after : List Entry) (ol
   left_moved : after_outcomes settings (left_at old.desk) old.desk.requests outcomes ≡ Some (left_at desk)
   left_moved = subst (λ (s : Settings). after_outcomes s (left_at old.desk) old.desk.requests outcomes ≡ Some (left_at desk)) on.seat.settings on.moved
 
-  pub seat_after : (copy : CopyState) → IsAtRest before copy → IsSeat settings after scheduler (record { desk = desk; copy = copy; synced = None })
-  seat_after copy rests =
+  pub seat_after : (copy : CopyState) (planned : Option Planned) → IsAtRest before copy → IsSeat settings after scheduler (record { desk = desk; copy = copy; synced = None; planned = planned })
+  seat_after copy planned rests =
       let parts = first_some old.desk.requests request on.first in
       let next = moved_to settings (left_at old.desk) (left_at desk) old.desk.requests request parts.0 outcomes parts.1 left_moved in
       let less = attempt_less settings (left_at old.desk) request parts.0 outcomes on.tries parts.1 on.seat.tries in
       let entry : Entry = Commit scheduler on.seen txn (reply_of before on.seen txn) in
-      subst (λ (h : List Entry). IsSeat settings h scheduler (record { desk = desk; copy = copy; synced = None })) (sym on.appended) (record {
+      subst (λ (h : List Entry). IsSeat settings h scheduler (record { desk = desk; copy = copy; synced = None; planned = planned })) (sym on.appended) (record {
         settings = on.same.settings ∙ on.seat.settings;
         scheduler = on.same.scheduler ∙ on.seat.scheduler;
         attempts = on.attempts ∙ ap (λ (n : ℕ). n + 1) on.seat.attempts
@@ -97,9 +98,9 @@ module _ (settings : Settings) (scheduler : ℕ) (before after : List Entry) (ol
         seen = tt;
       })
 
-  pub commits_first : (copy : CopyState) (place : ℕ) → place ≡ length before
-      → CommitsFirst settings scheduler before old after (record { desk = desk; copy = copy; synced = None }) place
-  commits_first copy place at_end =
+  pub commits_first : (copy : CopyState) (planned : Option Planned) (place : ℕ) → place ≡ length before
+      → CommitsFirst settings scheduler before old after (record { desk = desk; copy = copy; synced = None; planned = planned }) place
+  commits_first copy planned place at_end =
       let parts = first_some old.desk.requests request on.first in
       record {
         request = request;

@@ -27,6 +27,8 @@ use Rattle.omega_model.specs.declared.rows.Round.{Round}
 use Rattle.omega_model.specs.declared.rows.TraceTables.{TraceTables}
 use Rattle.omega_model.specs.declared.settings.Settings.{Settings}
 use Rattle.omega_model.specs.declared.wishes.Request.{Request}
+use Rattle.omega_copy.specs.Indexes.{AreIndexesOf}
+use Rattle.omega_copy.specs.declared.indexes.Indexes.{Indexes}
 use Rattle.omega_copy.specs.Copies.{CopyOf, CopyState}
 use Rattle.omega_desk.specs.Counts.{count_of}
 use Rattle.omega_desk.specs.Desks.{DeskState, left_at, still_tried}
@@ -39,6 +41,7 @@ use Rattle.omega_rounds.specs.Playing.{IsAtStart}
 use Rattle.omega_rounds.specs.Seats.{IsDeskOf, IsRoutedTo, IsSeat, synced_of, to_do_of, IsAtRest, SyncedWithin}
 use Rattle.omega_rounds.specs.Stages.{IsInRunOf, Source, Stage, next_stage, rows_begun, stage_of}
 use Rattle.omega_rounds.specs.declared.seat.Seat.{Seat}
+use Rattle.omega_rounds.proofs.PlansKept.{indexes_opened, plan_none}
 use Rattle.omega_rounds.proofs.OpenedEntries.{commits_opened, copy_opened, failed_opened}
 use Rattle.omega_rounds.proofs.Places.{take_next}
 use Rattle.omega_rounds.proofs.Requested.{open_own, requests_own}
@@ -188,12 +191,11 @@ module _ (settings : Settings) (all : List Round) (asked : Asked) (begun old_pla
     nobody_later : (number : ℕ) → (world_at after new).synced number ≡ None
     nobody_later = seen_none synced_of new (λ number seat here. (begins.each number seat here).1.1.synced)
 
-    -- a copy at rest is so still
-    pub rests_later : (copy : CopyState) → IsAtRest before copy → IsAtRest after copy
-    rests_later copy rests = record {
-      stands = subst (CopyOf copy) (sym (after_is world.made.0 world.made.1)) (copy_opened world.made.0 (rows_begun stage) before round copy rests.stands);
-      no_trial = rests.no_trial;
-    }
+    -- indexes of the history are so still
+    pub indexes_later : (indexes : Indexes) → AreIndexesOf before indexes → AreIndexesOf after indexes
+    indexes_later indexes are =
+        subst (λ (h : List Entry). AreIndexesOf h indexes) (sym (after_is world.made.0 world.made.1))
+        (indexes_opened world.made.0 (rows_begun stage) before round indexes are)
 
     -- the round of the definition begins
     pub begins_round : (trace : TraceTables) → IsInRunOf stage trace → BeginsRound trace (rows_begun stage) round (world_at before old) (world_at after new)
@@ -269,6 +271,7 @@ module _ (settings : Settings) (all : List Round) (asked : Asked) (begun old_pla
       each_seat = λ number seat here.
           let found = begins.each number seat here in
           seat_later number found.0 seat (world.each_seat number found.0 found.1.0) found.1.1;
+      each_plan = λ number seat here. plan_none settings after number seat (begins.each number seat here).1.1.synced;
       made = world.made;
       lawful = λ trace made. lawful_later trace made;
     }

@@ -26,6 +26,7 @@ use Rattle.omega_rounds.specs.Going.{answer_of}
 use Rattle.omega_rounds.specs.InRound.{StepsInRound, rows_now}
 use Rattle.omega_rounds.specs.Keeping.{HasBegun, HasNotBegun, IsLawful, IsWorld, world_at}
 use Rattle.omega_rounds.specs.NextCommit.{attempt, attempt_txn}
+use Rattle.omega_rounds.specs.Plans.{HasPlan}
 use Rattle.omega_rounds.specs.Seats.{IsDeskOf, IsRoutedTo, IsSeat, synced_of, to_do_of}
 use Rattle.omega_rounds.specs.SeatSteps.{SeatSteps}
 use Rattle.omega_rounds.specs.Stages.{IsInRunOf, Source, Stage, WorldState, rows_begun, synced_at}
@@ -35,6 +36,7 @@ use Rattle.omega_rounds.specs.declared.steps.Stepped.TheVariants.{Synced, Commit
 use Rattle.omega_rounds.proofs.CommitCounts.{commits_other, copy_grown, synced_longer}
 use Rattle.omega_rounds.proofs.DeskCommits.{desk_other, desk_own}
 use Rattle.omega_rounds.proofs.Places.{take_next}
+use Rattle.omega_rounds.proofs.PlansKept.{plans_after}
 use Rattle.omega_rounds.proofs.Requested.{requests_none}
 use Rattle.omega_rounds.proofs.SeatCommits.{fewer_left}
 use Rattle.omega_rounds.proofs.SeatLists.{map_set_same, seen-other, seen_at, set-same, set_cases, set_itself, sum_set}
@@ -280,22 +282,24 @@ module _ (stage : Stage) (tasks : List WantedTask) (before after : List Entry) (
     (world : IsWorld stage tasks before seats) (here : slice_get seats scheduler ≡ Some old) where
   -- a world after a step
   pub world_after : (stepped : Stepped) → scheduler < schedulers stage.settings
-      → IsSeat stage.settings after scheduler new → SeatSteps stage.settings scheduler before old after new stepped
+      → IsSeat stage.settings after scheduler new → HasPlan stage.settings after scheduler new
+      → SeatSteps stage.settings scheduler before old after new stepped
       → IsWorld stage tasks after (set seats scheduler new)
-  world_after stepped known now did = record {
+  world_after stepped known now plan did = record {
     range = world.range;
     within = world.within;
     asked = world.asked;
     count = length-set seats scheduler new ∙ world.count;
     each_seat = each_after stage.settings before after scheduler old new stepped seats did now world.each_seat;
+    each_plan = plans_after stage.settings before after scheduler old new stepped seats did plan world.each_plan;
     made = world.made;
     lawful = λ trace made. lawful_after trace stage before after seats scheduler old new here made (world.lawful trace made) stepped did known;
   }
 
   -- a world in which a step failed
   pub world_kept : after ≡ before → new.desk ≡ old.desk → synced_of new ≡ synced_of old → IsSeat stage.settings after scheduler new
-      → IsWorld stage tasks after (set seats scheduler new)
-  world_kept history desk synced now = subst (λ (h : List Entry). IsWorld stage tasks h (set seats scheduler new)) (sym history) (record {
+      → HasPlan stage.settings after scheduler new → IsWorld stage tasks after (set seats scheduler new)
+  world_kept history desk synced now plan = subst (λ (h : List Entry). IsWorld stage tasks h (set seats scheduler new)) (sym history) (record {
     range = world.range;
     within = world.within;
     asked = world.asked;
@@ -305,6 +309,12 @@ module _ (stage : Stage) (tasks : List WantedTask) (before after : List Entry) (
           subst (λ (s : Seat). IsSeat stage.settings before number s) same.1
           (subst (λ (n : ℕ). IsSeat stage.settings before n new) (sym same.0) (subst (λ (h : List Entry). IsSeat stage.settings h scheduler new) history now))
       | inr other ↦ world.each_seat number seat other.1
+    ];
+    each_plan = λ number seat there. elim (set_cases seats scheduler new number seat there) [
+      | inl same ↦
+          subst (λ (s : Seat). HasPlan stage.settings before number s) same.1
+          (subst (λ (n : ℕ). HasPlan stage.settings before n new) (sym same.0) (subst (λ (h : List Entry). HasPlan stage.settings h scheduler new) history plan))
+      | inr other ↦ world.each_plan number seat other.1
     ];
     made = world.made;
     lawful = λ trace made. lawful_kept trace stage before after seats scheduler old new here made (world.lawful trace made) desk synced;

@@ -11,6 +11,7 @@ use Rattle.omega_model.specs.Wanted.{WantedTask, wanted}
 use Rattle.omega_model.specs.World.{World}
 use Rattle.omega_model.specs.declared.entries.Entry.{Entry}
 use Rattle.omega_model.specs.declared.rows.TraceTables.{TraceTables}
+use Rattle.omega_rounds.specs.Plans.{HasPlan}
 use Rattle.omega_rounds.specs.Seats.{IsDeskOf, IsSeat, synced_of}
 use Rattle.omega_rounds.specs.Stages.{IsInRunOf, Stage, rows_begun, synced_at}
 use Rattle.omega_rounds.specs.declared.seat.Seat.{Seat}
@@ -39,7 +40,7 @@ pub record IsLawful (trace : TraceTables) (stage : Stage) (history : List Entry)
       → IsDeskOf stage.settings trace (rows_begun stage) stage.opened_at history scheduler seat.desk
 
 -- what every world keeps: the settings are in their ranges; the wanted tasks are those after the rows of
--- the rounds that have begun; there is a seat for each scheduler; the world is in the run of some trace, and
+-- the rounds that have begun; there is a seat for each scheduler, with its plan where it has synced; the world is in the run of some trace, and
 -- all is lawful for each one in whose run it is
 pub record IsWorld (stage : Stage) (tasks : List WantedTask) (history : List Entry) (seats : List Seat) : Type 0 where
   pub range : IsInRange stage.settings
@@ -47,6 +48,7 @@ pub record IsWorld (stage : Stage) (tasks : List WantedTask) (history : List Ent
   pub asked : tasks ≡ wanted (rows_begun stage)
   pub count : length seats ≡ schedulers stage.settings
   pub each_seat : (scheduler : ℕ) (seat : Seat) → slice_get seats scheduler ≡ Some seat → IsSeat stage.settings history scheduler seat
+  pub each_plan : (scheduler : ℕ) (seat : Seat) → slice_get seats scheduler ≡ Some seat → HasPlan stage.settings history scheduler seat
   pub made : (trace : TraceTables) × IsInRunOf stage trace
   pub lawful : (trace : TraceTables) → IsInRunOf stage trace → IsLawful trace stage history seats
 

@@ -12,6 +12,7 @@ pub mod Seats
 pub mod Keeping
 pub mod Going
 pub mod SeatSteps
+pub mod Plans
 pub mod Opening
 pub mod Playing
 pub mod Players

@@ -25,7 +25,7 @@ pub record RestsSeat (before : List Entry) (old : Seat) (after : List Entry) (ne
   pub history : after ≡ before
   pub seat : new ≡ old
 
--- a request is left at the desk, and the copy takes over the history for it
+-- a request is left at the desk, the scheduler has seen the history to its end, and its plan is made
 pub record SyncsSeat (before : List Entry) (old : Seat) (after : List Entry) (new : Seat) : Type 0 where
   pub work : old.desk.requests ≢ []
   pub first : synced_of old ≡ None

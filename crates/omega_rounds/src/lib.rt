@@ -1,7 +1,8 @@
 //! Rounds in which schedulers commit in an order.
 //!
-//! A world is a cell that schedulers share, with a desk and a private copy of the cell for each of
-//! them. Whatever steps they do in whatever order, its history is lawful so far; `in_turns` runs it
+//! A world is a cell that schedulers share, with a desk for each of them. Where they take steps of the
+//! world, each plans on the cell's own board when it syncs; on a thread of its own it has a private copy of
+//! the cell. Whatever steps they do in whatever order, its history is lawful so far; `in_turns` runs it
 //! to the end with the schedulers in turns, `on_threads` with a thread for each. The laws say, over
 //! the definitions alone, what comes next in a round, that nothing else could, that what is placed is
 //! on machines that meet its constraints, and that a gang claims all of its request or nothing.
@@ -10,6 +11,7 @@
 mod laws;
 mod opening;
 mod planned;
+mod plans;
 mod player;
 mod reopening;
 mod seat;

@@ -15,7 +15,7 @@ pub enum RoundStep {
 /// What a scheduler did in its step.
 #[derive(Clone, Copy, Debug, PartialEq, Eq)]
 pub enum Stepped {
-    /// It took over the whole history.
+    /// It has seen the whole history, and its plan is made.
     Synced,
     /// It committed its plan, and the commit stands at this place of the history, counted from 0.
     Committed(u64),

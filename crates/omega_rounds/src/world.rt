@@ -24,7 +24,7 @@ use crate::seat::Seat;
 use crate::steps::{RoundStep, Stepped};
 use crate::threads::play_shared;
 use omega_cell::{Cell, Effects};
-use omega_copy::PrivateCopy;
+use omega_copy::Indexes;
 use omega_feed::{OpenJobs, WaitingTasks, Wanted, feed, rounds};
 use omega_io::Gate;
 use omega_model::{Entries, Entry, NoMemory, Rounds, Settings, TraceTables};
@@ -53,16 +53,16 @@ pub struct World {
     open_jobs: OpenJobs,
     cell: Cell,
     seats: Vec<Seat>,
-    /// A copy for all plans but those after fewer entries than it has seen. Schedulers that take turns plan
-    /// on one state, and so on this copy; where one lags behind, it plans on the copy at its own seat.
-    common: PrivateCopy,
+    /// What a plan needs beside the cell's board.
+    indexes: Indexes,
 }
 
 impl Model for World {
     ghost use Rattle.std.specs.Prelude.{map};
     ghost use Rattle.std.specs.List.{sum_by};
+    ghost use Rattle.omega_copy.specs.Indexes.{AreIndexesOf};
     ghost use Rattle.omega_rounds.specs.Keeping.{IsWorld, WereQuiet};
-    ghost use Rattle.omega_rounds.specs.Seats.{IsAtRest, synced_of, to_do_of};
+    ghost use Rattle.omega_rounds.specs.Seats.{synced_of, to_do_of};
     ghost use Rattle.omega_rounds.specs.Stages.{WorldState, stage_of};
 
     ghost Value = { WorldState };
@@ -71,7 +71,7 @@ impl Model for World {
 
     ghost invariant = { λ w. IsWorld (stage_of w.settings w.rounds w.wanted w.begun w.opened_at) w.wanted.tasks w.cell.history w.seats.items
         × WereQuiet w.open_jobs w.wanted w.opened_at w.cell.history
-        × IsAtRest w.cell.history w.common };
+        × AreIndexesOf w.cell.history w.indexes };
 }
 
 impl World {
@@ -97,7 +97,7 @@ impl World {
             open_jobs: OpenJobs::new(alloc),
             cell: Cell::new(alloc),
             seats,
-            common: PrivateCopy::new(alloc),
+            indexes: Indexes::new(alloc),
         })
     }
 
@@ -117,7 +117,7 @@ impl World {
     /// What is wanted of the rounds that have begun and doesn't run. Where all have begun that is what
     /// waits at the end of each trace in whose run the world is. Costs the wanted tasks, each times the
     /// logarithm of the number of those that run or wait.
-    pub fn left(&self) -> Result<WaitingTasks, NoMemory>
+    pub fn waiting(&self) -> Result<WaitingTasks, NoMemory>
         ensures tasks { IfOk result (AreLeft (wanted (rows_begun self.now.stage)) (state self.now.history)) }
         ensures end { (trace : TraceTables) → IsInRunOf self.now.stage trace → AllHaveBegun self.now.stage
             → IfOk result (IsLeft trace (state self.now.history)) }
@@ -195,14 +195,21 @@ impl World {
             mut open_jobs,
             mut cell,
             mut seats,
-            common,
+            indexes,
         } = self;
         let Some(round) = rounds.get(begun) else {
             unreachable!()
         };
         let number = round.number;
-        let (what, jobs) = (&mut wanted, &mut open_jobs);
-        open_round(alloc, opened_at, round, what, jobs, &mut cell, &mut seats)?;
+        open_round(
+            alloc,
+            opened_at,
+            round,
+            &mut wanted,
+            &mut open_jobs,
+            &mut cell,
+            &mut seats,
+        )?;
         let opened_at = cell.history().len();
         let world = World {
             alloc,
@@ -214,16 +221,16 @@ impl World {
             open_jobs,
             cell,
             seats,
-            common,
+            indexes,
         };
         Ok((world, number))
     }
 
     /// Lets a scheduler do one step. Without work it does nothing. With work it syncs, if it hasn't since
-    /// its last commit or the round's rows: from then on the history up to there is what it has seen.
-    /// Neither costs anything. Else it commits its plan for the first request that it has left; that costs
-    /// the plan, the commit, and the entries that a copy has to take over for the plan. Where memory runs
-    /// out the world is as it was.
+    /// its last commit or the round's rows: from then on the history up to there is what it has seen, and
+    /// its plan for the first request that it has left is made. Else it commits this plan. A sync costs the
+    /// plan, and what the entries since the last sync of any scheduler touch; a commit costs the commit.
+    /// Where memory runs out the world is as it was.
     pub fn step(&mut self, scheduler: u32) -> Result<Stepped, NoMemory>
         requires { scheduler < schedulers self.old.stage.settings }
         ensures stage { self.new.stage ≡ self.old.stage }
@@ -239,7 +246,7 @@ impl World {
             alloc,
             &settings,
             scheduler,
-            &mut self.common,
+            &mut self.indexes,
             &mut self.cell,
         )?;
         Ok(stepped)
@@ -275,7 +282,7 @@ impl World {
             open_jobs,
             cell,
             seats,
-            common,
+            indexes,
         } = self;
         let (cell, seats) = play_shared(rt, alloc, &settings, cell, seats, gate)?;
         Ok(World {
@@ -288,7 +295,7 @@ impl World {
             open_jobs,
             cell,
             seats,
-            common,
+            indexes,
         })
     }
 

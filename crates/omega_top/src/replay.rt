@@ -59,7 +59,7 @@ pub fn replayed<R: Threads + Wait + Sync, G: Gate + Sync>(
 {
     let world = World::new(alloc, settings, trace)?;
     let world = run_to_end(rt, settings.command, world, gate)?;
-    let left = world.left()?;
+    let left = world.waiting()?;
     let (history, effects) = world.into_run();
     Ok(WholeRun {
         history,

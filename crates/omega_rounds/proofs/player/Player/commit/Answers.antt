@@ -19,7 +19,7 @@ take-requires-clause-answers g c =
 
 pub returns-clause-plays_on : goal.returns-clause-plays_on
 returns-clause-plays_on g c =
-    let after : Player = record { seat = record { desk = c.take.new.self; copy = c.args.self.now.seat.copy; synced = None }; pass = c.commit.new.pass; failed = c.args.self.now.failed } in
+    let after : Player = record { seat = record { desk = c.take.new.self; copy = c.args.self.now.seat.copy; synced = None; planned = c.args.self.now.seat.planned }; pass = c.commit.new.pass; failed = c.args.self.now.failed } in
     plays_on_commit c.args.self.now after c.args.txn c.in-Ok.reply
     (record {
       shared = c.args.shared.now.of;

@@ -14,7 +14,7 @@ use Rattle.omega_rounds.specs.Keeping.{IsWorld, world_at}
 use Rattle.omega_rounds.specs.Opening.{BeginAll, HaveNoWork}
 use Rattle.omega_rounds.specs.Stages.{IsInRunOf, WorldState, rows_begun, stage_of}
 use Rattle.omega_rounds.proofs.Reopened.{commits_since, opened_within, quiet_at_end}
-use Rattle.omega_rounds.proofs.WorldBegins.{begins_round, idle_all, is_asked, nobody_works, rests_later, world_later}
+use Rattle.omega_rounds.proofs.WorldBegins.{begins_round, idle_all, indexes_later, is_asked, nobody_works, world_later}
 use Rattle.omega_rounds.proofs.WorldSteps.{state_at}
 use Rattle.omega_rounds.proofs.world.World.begin_round.Goals as goal
 
@@ -61,8 +61,8 @@ invariant_of-world c =
           (world_later c.self.inside.settings c.self.inside.rounds c.self.inside.wanted c.self.inside.begun c.self.inside.opened_at c.self.inside.cell.history c.self.inside.seats.items round
           c.self.invariant.0 next c.open_round.new.cell.history c.open_round.new.seats.items idle c.in_ok-open_round.ensures.history begins)),
       quiet_at_end c.open_round.new.open_jobs c.open_round.new.wanted c.open_round.new.cell.history _ c.history-opened_at.ensures.history quiet,
-      rests_later c.self.inside.settings c.self.inside.rounds c.self.inside.wanted c.self.inside.begun c.self.inside.opened_at c.self.inside.cell.history c.self.inside.seats.items round
-          c.self.invariant.0 next c.open_round.new.cell.history c.open_round.new.seats.items idle c.in_ok-open_round.ensures.history begins c.self.inside.common c.self.invariant.2,
+      indexes_later c.self.inside.settings c.self.inside.rounds c.self.inside.wanted c.self.inside.begun c.self.inside.opened_at c.self.inside.cell.history c.self.inside.seats.items round
+          c.self.invariant.0 next c.open_round.new.cell.history c.open_round.new.seats.items idle c.in_ok-open_round.ensures.history begins c.self.inside.indexes c.self.invariant.2,
     )
 
 pub returns-clause-run : goal.returns-clause-run

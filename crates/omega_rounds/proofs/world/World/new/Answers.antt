@@ -1,5 +1,4 @@
 use Rattle.std.proofs.Common.{ap, take}
-use Rattle.omega_copy.proofs.Follows.{stands_new}
 use Rattle.omega_feed.proofs.Quiet.{all_quiet}
 use Rattle.omega_feed.specs.Asked.{Asked}
 use Rattle.omega_model.specs.Policy.{schedulers}
@@ -12,7 +11,7 @@ invariant_of-result c = (
   world_new c.args.settings.now c.args.tables.now c.in_ok-rounds.rounds c.in_ok-wanted.wanted c.new-3.result.history c.in_ok-seats.seats.items c.requires
       (c.in_ok-rounds.ensures c.args.tables.now c.in_ok-rows.ensures) c.in_ok-wanted.ensures c.new-3.ensures c.in_ok-seats.ensures,
   all_quiet c.new-2.result c.in_ok-wanted.wanted (state (take 0 c.new-3.result.history)).tasks (ap (λ (asked : Asked). asked.tasks) c.in_ok-wanted.ensures),
-  record { stands = stands_new c.new-4.result c.new-3.result.history c.new-4.ensures.board c.new-4.ensures.seen; no_trial = c.new-4.ensures.trial },
+  c.new-4.ensures c.new-3.result.history,
 )
 
 pub returns-clause-is_new : goal.returns-clause-is_new

@@ -34,6 +34,12 @@ step-requires-clause-seat c =
     c.self.invariant.0.each_seat c.args.scheduler c.index_mut-seat.result.now
     (stands c.self.inside.seats.items (schedulers c.self.inside.settings) c.args.scheduler c.index_mut-seat.result.now c.self.invariant.0.count known c.index_mut-seat.ensures.value)
 
+pub step-requires-clause-plan : goal.step-requires-clause-plan
+step-requires-clause-plan c =
+    let known = knows c.args.scheduler _ _ c.self.view_is c.requires in
+    c.self.invariant.0.each_plan c.args.scheduler c.index_mut-seat.result.now
+    (stands c.self.inside.seats.items (schedulers c.self.inside.settings) c.args.scheduler c.index_mut-seat.result.now c.self.invariant.0.count known c.index_mut-seat.ensures.value)
+
 pub invariant_of-self : goal.invariant_of-self
 invariant_of-self c =
     let known = knows c.args.scheduler _ _ c.self.view_is c.requires in
@@ -41,11 +47,11 @@ invariant_of-self c =
       world_kept stage c.self.inside.wanted.tasks
           c.self.inside.cell.history c.step.new.cell.history c.self.inside.seats.items c.args.scheduler c.index_mut-seat.result.now c.step.new.self c.self.invariant.0
           (stands c.self.inside.seats.items (schedulers c.self.inside.settings) c.args.scheduler c.index_mut-seat.result.now c.self.invariant.0.count known c.index_mut-seat.ensures.value)
-          c.in_err-stepped.ensures.err c.in_err-stepped.ensures.desk c.in_err-stepped.ensures.synced c.step.ensures.seat,
+          c.in_err-stepped.ensures.err c.in_err-stepped.ensures.desk c.in_err-stepped.ensures.synced c.step.ensures.seat c.step.ensures.plan,
       were_quiet stage c.self.inside.wanted.tasks c.self.inside.cell.history c.self.inside.seats.items c.self.invariant.0
           c.self.inside.open_jobs c.self.inside.wanted c.step.new.cell.history
           (goes_on_same c.self.inside.cell.history c.step.new.cell.history c.in_err-stepped.ensures.err) c.self.invariant.1,
-      c.step.ensures.common,
+      c.step.ensures.indexes,
     )
 
 pub returns-in_err-stepped-clause-err : goal.returns-in_err-stepped-clause-err
@@ -65,12 +71,12 @@ invariant_of-self-2 c =
       world_after stage c.self.inside.wanted.tasks
           c.self.inside.cell.history c.step.new.cell.history c.self.inside.seats.items c.args.scheduler c.index_mut-seat.result.now c.step.new.self c.self.invariant.0
           (stands c.self.inside.seats.items (schedulers c.self.inside.settings) c.args.scheduler c.index_mut-seat.result.now c.self.invariant.0.count known c.index_mut-seat.ensures.value)
-          c.in_ok-stepped.stepped known c.step.ensures.seat c.in_ok-stepped.ensures.step,
+          c.in_ok-stepped.stepped known c.step.ensures.seat c.step.ensures.plan c.in_ok-stepped.ensures.step,
       were_quiet stage c.self.inside.wanted.tasks c.self.inside.cell.history c.self.inside.seats.items c.self.invariant.0
           c.self.inside.open_jobs c.self.inside.wanted c.step.new.cell.history
           (goes_on_step c.self.inside.settings c.args.scheduler c.self.inside.cell.history c.step.new.cell.history c.index_mut-seat.result.now c.step.new.self
           c.in_ok-stepped.stepped c.in_ok-stepped.ensures.step) c.self.invariant.1,
-      c.step.ensures.common,
+      c.step.ensures.indexes,
     )
 
 pub returns-clause-step : goal.returns-clause-step

@@ -1,0 +1,137 @@
+-- What a scheduler has planned, and what plans need, while the history goes on.
+use Rattle.std.proofs.Common.{◌≡◌, ◌≢◌, ◌≤◌, ◌+◌, ℕ, List, [], ◌∷◌, ◌++◌, length, map, take, Option, Some, None, refl, sym, ap, subst, ◌∙◌, arith, length-append, inl, inr, set}
+use Rattle.std.specs.Prelude.{IfSome, slice_get}
+use Rattle.std.proofs.lemmas.Bool.{ne_eqb}
+use Rattle.std.proofs.lemmas.List.{take-append-le}
+use Rattle.omega_model.specs.State.{state}
+use Rattle.omega_model.specs.Touches.{seq}
+use Rattle.omega_model.specs.declared.claims.Claim.{Claim}
+use Rattle.omega_model.specs.declared.entries.Entry.{Entry}
+use Rattle.omega_model.specs.declared.rows.Round.{Round}
+use Rattle.omega_model.specs.declared.rows.Row.{Row}
+use Rattle.omega_model.specs.declared.rows.TraceTables.{TraceTables}
+use Rattle.omega_model.specs.declared.settings.Settings.{Settings}
+use Rattle.omega_model.specs.Cell.{Cell}
+use Rattle.omega_model.specs.Lawful.{opened}
+use Rattle.omega_running.specs.Order.{Each}
+use Rattle.omega_copy.specs.Indexes.{AreIndexesOf}
+use Rattle.omega_copy.specs.Levels.{Tells}
+use Rattle.omega_copy.specs.Telling.{freed_of}
+use Rattle.omega_copy.specs.declared.indexes.Indexes.{Indexes}
+use Rattle.omega_desk.specs.Desks.{DeskState}
+use Rattle.omega_lock.specs.Lists.{StartsWith}
+use Rattle.omega_shared.specs.Commits.{GoesOnWithout}
+use Rattle.omega_rounds.specs.NextCommit.{attempt}
+use Rattle.omega_rounds.specs.Plans.{HasPlan, HasPlanAfter, IsPlan}
+use Rattle.omega_rounds.specs.SeatSteps.{SeatSteps}
+use Rattle.omega_rounds.specs.declared.plans.Planned.{Planned}
+use Rattle.omega_rounds.specs.declared.seat.Seat.{Seat}
+use Rattle.omega_rounds.specs.declared.steps.Stepped.{Stepped}
+use Rattle.omega_rounds.specs.declared.steps.Stepped.TheVariants.{Synced, Committed, Idle}
+use Rattle.omega_rounds.proofs.CommitCounts.{commits_other}
+use Rattle.omega_rounds.proofs.OpenedEntries.{stays_opened}
+use Rattle.omega_rounds.proofs.SeatLists.{set_cases}
+use Rattle.omega_rounds.proofs.Without.{attempt_without, front_without, longer_without}
+
+-- indexes of a history are those of a longer one
+pub indexes_on : (indexes : Indexes) (before after : List Entry) → StartsWith after before → AreIndexesOf before indexes → AreIndexesOf after indexes
+indexes_on indexes before after on are =
+    let within : indexes.seen ≤ length before = are.within in
+    let longer : length after ≡ length before + length on.0 = ap length on.1 ∙ length-append before on.0 in
+    let front : state (take indexes.seen before) ≡ state (take indexes.seen after) =
+    ap state (sym (take-append-le indexes.seen before on.0 within) ∙ ap (take indexes.seen) (sym on.1)) in
+    record {
+      within = omega (arith, within, longer);
+      free = are.free ∙ ap (freed_of 0) front;
+      levels = subst (λ (cell : Cell). Each (Tells cell) indexes.levels.items) front are.levels;
+    }
+
+-- and of one in which a round opens
+pub indexes_opened : (trace : TraceTables) (rows : List Row) (start : List Entry) (round : Round) (indexes : Indexes) → AreIndexesOf start indexes
+    → AreIndexesOf (opened trace rows start round).history indexes
+indexes_opened trace rows start round indexes are =
+    stays_opened (λ history. AreIndexesOf history indexes)
+    (λ history entry none here. indexes_on indexes history (history ++ entry ∷ []) (entry ∷ [], refl) here) trace rows start round are
+
+-- who hasn't synced needs no plan
+pub plan_none : (settings : Settings) (history : List Entry) (scheduler : ℕ) (seat : Seat) → seat.synced ≡ None → HasPlan settings history scheduler seat
+plan_none settings history scheduler seat none = subst (λ (synced : Option ℕ). IfSome synced (HasPlanAfter settings history scheduler seat)) (sym none) tt
+
+module _ (settings : Settings) (history : List Entry) (scheduler : ℕ) (seat : Seat) (seen : ℕ) where
+  -- who has synced has this plan
+  pub has_plan : (plan : Planned) → seat.synced ≡ Some seen → seat.planned ≡ Some plan → seen ≤ length history → IsPlan settings history scheduler seen seat.desk plan
+      → HasPlan settings history scheduler seat
+  has_plan plan synced there within is =
+      subst (λ (o : Option ℕ). IfSome o (HasPlanAfter settings history scheduler seat)) (sym synced)
+      (record { within = within; plan = plan; there = there; is_plan = is })
+
+  has_after : seat.synced ≡ Some seen → HasPlan settings history scheduler seat → HasPlanAfter settings history scheduler seat seen
+  has_after synced has = subst (λ (o : Option ℕ). IfSome o (HasPlanAfter settings history scheduler seat)) synced has
+
+  -- which isn't missing
+  pub plan_missing : seat.synced ≡ Some seen → HasPlan settings history scheduler seat → None ≡ seat.planned → ⊥
+  plan_missing synced has none = let clash : None ≡ Some (has_after synced has).plan = none ∙ (has_after synced has).there in absurd (cc)
+
+  -- and is the one that it has
+  pub plan_there : (plan : Planned) → seat.synced ≡ Some seen → HasPlan settings history scheduler seat → Some plan ≡ seat.planned
+      → (seen ≤ length history) × IsPlan settings history scheduler seen seat.desk plan
+  plan_there plan synced has there =
+      let after = has_after synced has in
+      let both : Some after.plan ≡ Some plan = sym after.there ∙ sym there in
+      let same : after.plan ≡ plan = cc in
+      (after.within, subst (IsPlan settings history scheduler seen seat.desk) same after.is_plan)
+
+if_some : (P Q : ℕ → Type 0) → ((n : ℕ) → P n → Q n) → (o : Option ℕ) → IfSome o P → IfSome o Q
+if_some P Q f None holds = tt
+if_some P Q f (Some n) holds = f n holds
+
+module _ (settings : Settings) (scheduler : ℕ) (old new : List Entry) (on : GoesOnWithout scheduler old new) where
+  plan_without : (seen : ℕ) (desk : DeskState) (plan : Planned) → seen ≤ length old → IsPlan settings old scheduler seen desk plan → IsPlan settings new scheduler seen desk plan
+  plan_without seen desk plan within is = record {
+    txn = record {
+      request = is.txn.request;
+      rest = is.txn.rest;
+      work = is.txn.work;
+      is = is.txn.is ∙ attempt_without scheduler old new on settings seen is.txn.request within;
+    };
+    few = is.few;
+    seqs = is.seqs ∙ ap (λ (h : List Entry). map (λ (claim : Claim). seq h claim.machine) plan.txn.claims) (sym (front_without scheduler old new on seen within));
+  }
+
+  -- in a history that goes on without a commit of its scheduler, a seat has its plan still
+  pub has_plan_without : (seat : Seat) → HasPlan settings old scheduler seat → HasPlan settings new scheduler seat
+  has_plan_without seat =
+      if_some (HasPlanAfter settings old scheduler seat) (HasPlanAfter settings new scheduler seat)
+      (λ seen has.
+      let longer = longer_without scheduler old new on in
+      let within : seen ≤ length old = has.within in
+      record {
+        within = omega (arith, longer, within);
+        plan = has.plan;
+        there = has.there;
+        is_plan = plan_without seen seat.desk has.plan within has.is_plan;
+      }) seat.synced
+
+module _ (settings : Settings) (before after : List Entry) (scheduler : ℕ) (old new : Seat) where
+  -- another seat has its plan after a step
+  plan_other : (stepped : Stepped) → SeatSteps settings scheduler before old after new stepped
+      → (number : ℕ) (seat : Seat) → number ≢ scheduler → HasPlan settings before number seat → HasPlan settings after number seat
+  plan_other Idle did number seat apart has = subst (λ (h : List Entry). HasPlan settings h number seat) (sym did.history) has
+  plan_other Synced did number seat apart has = subst (λ (h : List Entry). HasPlan settings h number seat) (sym did.history) has
+  plan_other (Committed place) did number seat apart has =
+      let entry : Entry = attempt settings before scheduler did.seen did.request in
+      has_plan_without settings number before after (record {
+        later = entry ∷ [];
+        goes_on = did.appended;
+        others = commits_other number [] entry (ne_eqb scheduler number (λ same. apart (sym same)));
+      }) seat has
+
+  -- each seat has its plan after it
+  pub plans_after : (stepped : Stepped) (seats : List Seat) → SeatSteps settings scheduler before old after new stepped
+      → HasPlan settings after scheduler new
+      → ((number : ℕ) (seat : Seat) → slice_get seats number ≡ Some seat → HasPlan settings before number seat)
+      → (number : ℕ) (seat : Seat) → slice_get (set seats scheduler new) number ≡ Some seat → HasPlan settings after number seat
+  plans_after stepped seats did now each number seat here = elim (set_cases seats scheduler new number seat here) [
+    | inl same ↦ subst (λ (s : Seat). HasPlan settings after number s) same.1 (subst (λ (n : ℕ). HasPlan settings after n new) (sym same.0) now)
+    | inr other ↦ plan_other stepped did number seat other.0 (each number seat other.1)
+  ]
