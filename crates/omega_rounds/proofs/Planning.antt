@@ -1,9 +1,8 @@
 -- What is planned on the board of a cell.
-use Rattle.std.proofs.Common.{◌≡◌, ◌≤◌, ◌∙◌, ℕ, List, length, map, take, refl, sym, ap, subst, arith}
+use Rattle.std.proofs.Common.{◌≡◌, ◌∙◌, ℕ, List, length, take, refl, sym, ap, arith}
 use Rattle.std.specs.Prelude.{Result, Ok, Err, IfOk}
 use Rattle.std.proofs.Math.Seq.{take-length}
 use Rattle.std.proofs.lemmas.List.{length-map}
-use Rattle.omega_model.specs.Applying.{EachMayApply}
 use Rattle.omega_model.specs.Cell.{Cell}
 use Rattle.omega_model.specs.Draws.{drawn_start}
 use Rattle.omega_model.specs.State.{state}
@@ -16,8 +15,6 @@ use Rattle.omega_machines.specs.Table.{machines_of, seq_at}
 use Rattle.omega_board.specs.Board.{BoardState, cell_of}
 use Rattle.omega_cell.specs.Cells.{IsBoardOf}
 use Rattle.omega_copy.specs.Copies.{CopyOf, CopyState, without_room}
-use Rattle.omega_copy.specs.Indexes.{HavePlaces}
-use Rattle.omega_copy.specs.declared.indexes.Indexes.{Indexes}
 use Rattle.omega_desk.specs.Desks.{DeskState}
 use Rattle.omega_rounds.specs.Plans.{IsAtDesk}
 

@@ -1,6 +1,6 @@
 -- A player that plays on, by what its turns bring.
-use Rattle.std.proofs.Common.{◌≡◌, ◌≤◌, ◌<◌, ◌+◌, ℕ, Bool, true, false, List, [], ◌∷◌, length, length-append, Some, None, refl, sym, ap, subst, arith, ◌∙◌, Option}
-use Rattle.std.specs.Prelude.{slice_get, if◌then◌else◌}
+use Rattle.std.proofs.Common.{◌≡◌, ◌≤◌, ◌<◌, ◌+◌, ℕ, Bool, List, [], ◌∷◌, length, length-append, Some, None, refl, sym, ap, subst, arith, ◌∙◌, Option}
+use Rattle.std.specs.Prelude.{slice_get}
 use Rattle.atomic_table.specs.Seated.{TableId}
 use Rattle.omega_model.proofs.Growing.{by_place_push_where}
 use Rattle.omega_model.specs.Draws.{drawn_start}

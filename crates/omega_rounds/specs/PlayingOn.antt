@@ -1,5 +1,5 @@
 -- What a scheduler on a thread of its own has done so far in a round, and what its attempt is.
-use Rattle.std.specs.Prelude.{◌≡◌, ◌≤◌, ◌<◌, ℕ, List, ◌∷◌, Some, length}
+use Rattle.std.specs.Prelude.{◌≡◌, ◌≤◌, ◌<◌, ℕ, List, Some, length}
 use Rattle.atomic_table.specs.Seated.{TableId}
 use Rattle.omega_model.specs.Policy.{schedulers}
 use Rattle.omega_model.specs.Ranges.{IsInRange}

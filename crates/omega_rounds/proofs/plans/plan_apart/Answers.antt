@@ -3,7 +3,6 @@ use Rattle.omega_cell.proofs.Cells.{cell_same}
 use Rattle.omega_cell.specs.Cells.{IsCell}
 use Rattle.omega_copy.specs.Copies.{CopyOf, CopyState}
 use Rattle.omega_copy.specs.Indexes.{HavePlaces}
-use Rattle.omega_machines.specs.declared.MachineState.{MachineState}
 use Rattle.omega_model.specs.State.{state}
 use Rattle.omega_model.specs.declared.entries.Entry.{Entry}
 use Rattle.omega_rounds.proofs.Planning.{as_many, copy_over, ok_maps}

@@ -1,4 +1,4 @@
-use Rattle.std.proofs.Common.{Bor, ◌≡◌, ◌∙◌, ℕ, List, length, rules, sym, ap, subst}
+use Rattle.std.proofs.Common.{Bor, ◌∙◌, List, length, rules, sym, ap, subst}
 use Rattle.std.specs.Prelude.{option_map}
 use Rattle.omega_cell.specs.Claiming.{copied_seqs}
 use Rattle.omega_copy.specs.Copies.{CopyOf, CopyState}

@@ -1,4 +1,4 @@
-use Rattle.std.proofs.Common.{◌≡◌, ◌≤◌, ℕ, List, Some, None, length, refl, sym, ap, subst, arith, ◌∙◌}
+use Rattle.std.proofs.Common.{◌≡◌, ℕ, List, Some, length, refl, sym, ap, subst, arith, ◌∙◌}
 use Rattle.omega_model.specs.declared.entries.Entry.{Entry}
 use Rattle.omega_rounds.specs.Plans.{HasPlan, IsPlan}
 use Rattle.omega_rounds.specs.Seats.{IsSeat}
