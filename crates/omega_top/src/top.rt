@@ -183,14 +183,14 @@ fn replay_and_write<R: Threads + Wait + Sync, K: Sink, G: Gate + Sync>(
     ensures history { HasHistory result.history result.status }
     ensures written { Writes (printed_report settings.now trace.now result.history) (K.written out.old) (K.written out.new) result.status }
 {
-    let Ok(run) = replayed(rt, alloc, settings, trace, gate) else {
+    let Ok(whole) = replayed(rt, alloc, settings, trace, gate) else {
         return refused(alloc, Status::NoMemory, Some(*settings));
     };
     let WholeRun {
         history,
         effects,
         left,
-    } = run;
+    } = whole;
     let Ok(bytes) = report(alloc, settings, history.as_slice(), &effects, &left) else {
         return refused(alloc, Status::NoMemory, Some(*settings));
     };

@@ -17,7 +17,7 @@ returns-clause-written g c =
     let now = g.K.Sink.written c.write_all.new.out in
     let settings = c.args.settings.now in
     let trace = c.args.trace.now in
-    let run = c.in-Ok.field-0 in
+    let run = c.in-Ok.whole in
     let said : c.in-Ok-report.bytes ≡ printed_report settings trace run.history =
     subst (λ (history : List Entry). Lawful settings trace history → IsLeft trace (state history) run.left → c.in-Ok-report.bytes ≡ printed_report settings trace history)
     c.as_slice.ensures (c.in-Ok-report.ensures trace) c.in-Ok.ensures.lawful c.in-Ok.ensures.left in
