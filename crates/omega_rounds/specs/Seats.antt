@@ -1,4 +1,4 @@
--- A scheduler's seat: its desk, and its copy of the cell.
+-- A scheduler's seat: its desk, and its copy of the cell; what it has planned is in `Plans`.
 use Rattle.std.specs.Prelude.{◌≡◌, ◌<◌, ◌≤◌, ℕ, List, Option, Some, None, IfSome, All, length}
 use Rattle.omega_model.specs.Requests.{failed}
 use Rattle.omega_model.specs.Routing.{scheduler_of}

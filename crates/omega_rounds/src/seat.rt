@@ -1,4 +1,4 @@
-//! A scheduler's seat: its desk, and its copy of the cell.
+//! A scheduler's seat: its desk, its copy of the cell, and its plan.
 ghost use Rattle.std.specs.Prelude.{◌≡◌, ◌≢◌, ◌≤◌, ◌<◌, [], None, Some, length, IfOk, OnOk, OnErr};
 ghost use Rattle.std.specs.List.{All};
 ghost use Rattle.omega_copy.specs.Indexes.{AreIndexesOf};
