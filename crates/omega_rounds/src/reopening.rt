@@ -108,11 +108,7 @@ pub(crate) fn reopen_stopped(
 }
 
 // Opens the job of a task, if the task is wanted.
-fn reopen_wanted(
-    open_jobs: &mut OpenJobs,
-    wanted: &Wanted,
-    key: TaskKey,
-) -> Result<(), NoMemory>
+fn reopen_wanted(open_jobs: &mut OpenJobs, wanted: &Wanted, key: TaskKey) -> Result<(), NoMemory>
     ensures { OnOk result (OpensJobs open_jobs.old open_jobs.new wanted.now (key ∷ [])) }
 {
     if !wanted.wants(key) {
