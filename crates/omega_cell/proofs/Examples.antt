@@ -2,6 +2,7 @@
 use Rattle.std.proofs.Common.{◌≡◌, ℕ, inl, inr, false, List, [], ◌∷◌, ◌++◌, refl, arith}
 use Rattle.std.proofs.lemmas.Bool.{both_ways}
 use Rattle.omega_model.specs.Applying.{MayApply}
+use Rattle.omega_model.specs.Cell.{empty_cell}
 use Rattle.omega_model.specs.State.{state}
 use Rattle.omega_model.specs.Touches.{seq}
 use Rattle.omega_model.specs.declared.cells.Need.{Need}
@@ -13,8 +14,10 @@ use Rattle.omega_model.specs.declared.claims.Rule.TheVariants.{Fine}
 use Rattle.omega_model.specs.declared.claims.Verdict.{Verdict}
 use Rattle.omega_model.specs.declared.claims.Verdict.TheVariants.{Placed, NoMachine}
 use Rattle.omega_model.specs.declared.entries.Entry.{Entry}
-use Rattle.omega_model.specs.declared.entries.Entry.TheVariants.{MachineAdd, MachineRemove, End, Commit}
+use Rattle.omega_model.specs.declared.entries.Entry.TheVariants.{Round, MachineAdd, MachineUpdate, MachineRemove, End, Commit}
 use Rattle.omega_cell.specs.Claiming.{copied_seqs}
+use Rattle.omega_cell.specs.Effects.{along, displaced_at, usage_at, usage_in}
+use Rattle.omega_cell.specs.declared.effects.Usage.{Usage}
 use Rattle.omega_cell.specs.Laws.{IsWhole, RunsBelow, HasToGo}
 use Rattle.omega_cell.specs.Rooms.{EvictWithin}
 
@@ -103,3 +106,26 @@ none_within within = omega (arith, within.0)
 ends_not : MayApply (state busy) (seq busy) (End (key 1 0) 2) → ⊥
 unfolding amount key claim plain busy
 ends_not may = omega (arith, may.ends)
+
+-- a round in which the machine comes and the task is placed, and one in which the machine becomes too small
+-- for the task and then goes
+unfoldable two_rounds : List Entry
+two_rounds = Round 0 ∷ busy ++ Round 1 ∷ MachineUpdate 1 (amount 5) ∷ MachineRemove 1 ∷ []
+
+unfoldable usage : ℕ → ℕ → Usage
+usage used capacity = record { used = amount used; capacity = amount capacity }
+
+-- nothing is there where the first round begins, and the second one finds the task; at the end nothing is
+-- there again
+used_where_rounds_begin : along usage_at empty_cell two_rounds ≡ usage 0 0 ∷ usage 8 10 ∷ []
+unfolding amount key claim plain busy two_rounds usage
+used_where_rounds_begin = refl
+
+used_at_the_end : usage_in (state two_rounds) ≡ usage 0 0
+unfolding amount key claim plain busy two_rounds usage
+used_at_the_end = refl
+
+-- of the three entries of the machine the second displaces the task
+displaced_by_the_machine : along displaced_at empty_cell two_rounds ≡ [] ∷ (key 1 0 ∷ []) ∷ [] ∷ []
+unfolding amount key claim plain busy two_rounds
+displaced_by_the_machine = refl
