@@ -1,5 +1,5 @@
 -- Jobs of which nothing waits, and how they stay so.
-use Rattle.std.proofs.Common.{◌≡◌, ℕ, Bool, true, false, cond, not, ◌||◌, ◌==◌, List, [], ◌∷◌, Option, Some, None, map, refl, ap, sym, subst, ◌∙◌, inl, inr}
+use Rattle.std.proofs.Common.{eq-eqb, ◌≡◌, ℕ, Bool, true, false, cond, not, ◌||◌, ◌==◌, List, [], ◌∷◌, Option, Some, None, map, refl, ap, sym, subst, ◌∙◌, inl, inr}
 use Rattle.std.specs.Prelude.{is_some, option_map}
 use Rattle.std.specs.BTreeSet as set
 use Rattle.std.specs.BTreeSet.{BTreeSet}
@@ -17,6 +17,7 @@ use Rattle.omega_model.specs.declared.cells.TaskKey.{TaskKey}
 use Rattle.omega_feed.specs.Asked.{Asked, is_task_of}
 use Rattle.omega_feed.specs.Index.{wanted_task}
 use Rattle.omega_feed.specs.Open.{IsOpen, IsQuiet, OthersAreQuiet, RunsIfOf, StayOpen}
+use Rattle.omega_model.proofs.InOrder.{key_same}
 use Rattle.omega_model.proofs.Lists.{by_answer}
 use Rattle.omega_feed.proofs.TaskMap.{idle}
 
@@ -107,6 +108,56 @@ others_with before after asked tasks key spec stay opened quiet place job at clo
       | inl e ↦ absurd (both_ways _ closed (opened place (at ∙ ap Some (sym e))))
       | inr ne ↦ quiet_with asked tasks job key spec ne (still_quiet before after asked tasks stay quiet place job at closed)
     ]
+
+-- a wanted task that is named runs, if it is of a job each of whose wanted tasks runs
+named_runs : (tasks : List Task) (job : ℕ) (key : TaskKey) (wanted : List WantedTask) → list_any (is_named key) wanted ≡ true
+    → All (RunsIfOf job tasks) wanted → (key.job == job) ≡ true → is_some (task_at tasks key) ≡ true
+named_runs tasks job key [] named all own = absurd (cc)
+named_runs tasks job key (task ∷ wanted) named all own = elim (or_cases (is_named key task) (list_any (is_named key) wanted) named) [
+  | inl here ↦
+      subst (λ (k : TaskKey). (k.job == job) ≡ true → is_some (task_at tasks k) ≡ true) (key_same task.key key here)
+      (All-head (RunsIfOf job tasks) task wanted all) own
+  | inr later ↦ named_runs tasks job key wanted later (All-tail (RunsIfOf job tasks) task wanted all) own
+]
+
+-- its job has a wanted task
+named_of_job : (job : ℕ) (key : TaskKey) (wanted : List WantedTask) → list_any (is_named key) wanted ≡ true → (key.job == job) ≡ true
+    → list_any (is_task_of job) wanted ≡ true
+named_of_job job key [] named own = absurd (cc)
+named_of_job job key (task ∷ wanted) named own = elim (or_cases (is_named key task) (list_any (is_named key) wanted) named) [
+  | inl here ↦
+      or_left (is_task_of job task) (list_any (is_task_of job) wanted)
+      (subst (λ (k : TaskKey). (k.job == job) ≡ true) (sym (key_same task.key key here)) own)
+  | inr later ↦ or_right (is_task_of job task) (list_any (is_task_of job) wanted) (named_of_job job key wanted later own)
+]
+
+-- a job stays quiet where a task that is wanted is wanted otherwise
+quiet_again : (asked : Asked) (tasks : List Task) (job : ℕ) (key : TaskKey) (spec : Spec) → list_any (is_named key) asked.tasks ≡ true
+    → IsQuiet asked tasks job → IsQuiet (record asked { tasks = with_wanted key spec asked.tasks }) tasks job
+quiet_again asked tasks job key spec named q =
+    elim (cases_Bool (key.job == job)) [
+      | inr ne ↦ quiet_with asked tasks job key spec (λ e. absurd (both_ways _ ne (eq-eqb key.job job e))) q
+      | inl own ↦
+          let P : WantedTask → Type 0 = RunsIfOf job tasks in
+          let new : WantedTask = record { key = key; spec = spec } in
+          let front = filter (λ other. key_lt other.key key) asked.tasks in
+          let back = filter (λ other. key_lt key other.key) asked.tasks in
+          record {
+            running =
+                All-append P front (new ∷ back)
+                (All-filter (λ other. key_lt other.key key) P asked.tasks q.running)
+                (All-cons P new back (named_runs tasks job key asked.tasks named q.running) (All-filter (λ other. key_lt key other.key) P asked.tasks q.running));
+            no_extras = elim q.no_extras [
+              | inl none ↦ inl none
+              | inr none ↦ absurd (both_ways _ none (named_of_job job key asked.tasks named own))
+            ];
+          }
+    ]
+
+-- so do all that were
+pub others_again : (places : BTreeSet ℕ) (asked : Asked) (tasks : List Task) (key : TaskKey) (spec : Spec) → list_any (is_named key) asked.tasks ≡ true
+    → OthersAreQuiet places asked tasks → OthersAreQuiet places (record asked { tasks = with_wanted key spec asked.tasks }) tasks
+others_again places asked tasks key spec named quiet place job at closed = quiet_again asked tasks job key spec named (quiet place job at closed)
 
 -- where no entry of a job is idle, each of its tasks runs
 pub all_run_from : (job : ℕ) (tasks : List Task) (es : List (TaskKey × Spec)) → filter (idle tasks) (filter (λ e. e.0.job == job) es) ≡ []

@@ -24,13 +24,35 @@ pub fn running_extras(alloc: Global, running: &Running, job: u64) -> Result<Task
     extras_among(alloc, tasks.as_slice())
 }
 
+/// How many extras of a job run. Costs the job's running tasks, and the logarithm of the number of all.
+pub fn running_extra_count(alloc: Global, running: &Running, job: u64) -> Result<usize, NoMemory>
+    ensures { IfOk result (λ count. count ≡ length (filter (is_extra_of job) running.now.tasks)) }
+{
+    let tasks = running.tasks_of_job(alloc, job)?;
+    Ok(count_extras(tasks.as_slice()))
+}
+
+/// How many of some tasks have the index of an extra.
+fn count_extras(tasks: &[Task]) -> usize
+    ensures { result ≡ length (filter (λ task. nat_le first_extra task.key.index) tasks.now) }
+{
+    tasks.iter().filter(|task| is_extra(task)).count()
+}
+
+/// Whether a task has the index of an extra.
+fn is_extra(task: &Task) -> bool
+    ensures { result ≡ nat_le first_extra task.now.key.index }
+{
+    task.key.index >= FIRST_EXTRA
+}
+
 /// Those of some tasks that have the index of an extra.
 fn extras_among(alloc: Global, tasks: &[Task]) -> Result<Tasks, NoMemory>
     ensures { IfOk result (λ found. found ≡ filter (λ task. nat_le first_extra task.key.index) tasks.now) }
 {
     let mut found = Tasks::new(alloc);
     for task in tasks {
-        if task.key.index >= FIRST_EXTRA {
+        if is_extra(task) {
             found.push(*task)?;
         }
     }

@@ -23,7 +23,7 @@ use crate::activities::JobActivities;
 use crate::constraints::TaskConstraints;
 use crate::disks::MachineDisks;
 use crate::entries::entries_of;
-use crate::extras::{extra_count, free_indexes, running_extras};
+use crate::extras::{extra_count, free_indexes, running_extra_count};
 use crate::jobs::{Jobs, RoutedJob};
 use crate::open_jobs::OpenJobs;
 use crate::tasks::{Change, WantedTasks};
@@ -85,8 +85,8 @@ impl Wanted {
         })
     }
 
-    /// Applies a row: what it submits, schedules or updates is wanted as it says, and its job is opened,
-    /// and no other; what ends in it is not wanted any more. A refused call leaves what is wanted, and may
+    /// Applies a row: what it submits, schedules or updates is wanted as it says, and its job is opened if
+    /// the task is a new one, and no other; what ends in it is not wanted any more. A refused call leaves what is wanted, and may
     /// have opened the job. Costs the logarithm of the number of tasks and of jobs.
     pub fn take(&mut self, row: &Row, open_jobs: &mut OpenJobs) -> Result<(), NoMemory>
         ensures ok { OnOk result (self.new ≡ record self.old { tasks = wanted_after self.old.tasks row.now }) }
@@ -123,7 +123,8 @@ impl Wanted {
         }
     }
 
-    /// A task is wanted, or wanted otherwise, and its job is opened.
+    /// A task is wanted, or wanted otherwise. Its job is opened where the task wasn't wanted before; where
+    /// it was, it waits as before or runs.
     fn want(&mut self, key: TaskKey, spec: Spec, open_jobs: &mut OpenJobs) -> Result<(), NoMemory>
         requires { key.index < first_extra }
         ensures ok { OnOk result (self.new ≡ record self.old { tasks = with_wanted key spec self.old.tasks }) }
@@ -133,6 +134,10 @@ impl Wanted {
         ensures stay { StayOpen open_jobs.old open_jobs.new }
         ensures alone { OpensAtMost open_jobs.old open_jobs.new self.old key.job }
     {
+        if self.tasks.contains(key) {
+            self.tasks.insert(key, spec)?;
+            return Ok(());
+        }
         open_jobs.reopen(self, key.job)?;
         self.tasks.insert(key, spec)?;
         Ok(())
@@ -304,7 +309,7 @@ impl Wanted {
         let Some(model) = wanted.first() else {
             return Ok(wishes);
         };
-        let held = running_extras(alloc, board.running(), job)?.len();
+        let held = running_extra_count(alloc, board.running(), job)?;
         let need = model.1.need;
         let count = extra_count(self.extra, activities, wanted.len(), held, need, board);
         if count == 0 {
