@@ -1,0 +1,108 @@
+"""A history that is kept outside the program, a line for each entry: where the lines are, `resume` and `audit`."""
+import os
+import sqlite3
+
+from .entries import Entry, RoundBegins
+from .kept_lines import entry_line, read_entry
+from .legal import is_possible
+from .refusals import bad_kept, keep_fault
+from .report import FIRST_LINE, Line
+from .report_lines import use_line
+from .state import History
+
+CREATE = 'CREATE TABLE IF NOT EXISTS kept (place INTEGER PRIMARY KEY, line BLOB NOT NULL) STRICT'
+LOAD = 'SELECT line FROM kept ORDER BY place'
+APPEND = 'INSERT INTO kept (place, line) VALUES ((SELECT coalesce(max(place) + 1, 0) FROM kept), ?)'
+
+
+class MemoryKeeper:
+    """Lines in memory."""
+
+    def __init__(self, lines: list[bytes]) -> None:
+        self.lines = list(lines)
+
+    def load(self) -> list[bytes]:
+        return list(self.lines)
+
+    def append(self, lines: list[bytes]) -> None:
+        self.lines += lines
+
+
+class DatabaseKeeper:
+    """Lines in a table of an SQLite database, in the order of their places. One that isn't there has none."""
+
+    def __init__(self, path: str) -> None:
+        self.path = path
+
+    def load(self) -> list[bytes]:
+        if not os.path.exists(self.path):
+            return []
+        lines = [line for line, in self.run(LOAD)]
+        if not all(isinstance(line, bytes) for line in lines):
+            raise keep_fault()
+        return lines
+
+    def append(self, lines: list[bytes]) -> None:
+        self.run(APPEND, [(line,) for line in lines])
+
+    def run(self, command: str, rows: list[tuple] | None = None) -> list[tuple]:
+        """Runs one command, for each of some rows if there are such, as one transaction; the table is made first."""
+        try:
+            base = sqlite3.connect(self.path)
+            try:
+                with base:
+                    base.execute(CREATE)
+                    return (base.execute(command) if rows is None else base.executemany(command, rows)).fetchall()
+            finally:
+                base.close()
+        except sqlite3.Error:
+            raise keep_fault() from None
+
+
+Keeper = MemoryKeeper | DatabaseKeeper
+
+
+def round_ends(entries: list[Entry]) -> list[int]:
+    """How many entries there are at the end of each round, in order."""
+    starts = [place for place, entry in enumerate(entries) if isinstance(entry, RoundBegins)]
+    return starts[1:] + [len(entries)] if entries else []
+
+
+def check_kept(kept: list[bytes], lines: list[bytes], ends: list[int]) -> None:
+    """Kept lines must be the first lines of the run, up to the end of a round. The first that isn't its line is
+    refused; where all are, but end within a round, the place behind the last one is named."""
+    for place, line in enumerate(kept):
+        if place >= len(lines) or line != lines[place]:
+            raise bad_kept(place)
+    if kept and len(kept) not in ends:
+        raise bad_kept(len(kept))
+
+
+def resume(keeper: Keeper, entries: list[Entry]) -> None:
+    """Checks the kept lines against the run, and then appends the lines of the rounds that aren't kept, a round at a
+    time."""
+    lines, ends, kept = [entry_line(entry) for entry in entries], round_ends(entries), keeper.load()
+    check_kept(kept, lines, ends)
+    begin = len(kept)
+    for end in ends:
+        if end > begin:
+            keeper.append(lines[begin:end])
+            begin = end
+
+
+def audited(lines: list[bytes]) -> History:
+    """The history of these lines. The first that is no entry's line, or whose entry isn't possible after those before
+    it, is refused."""
+    history = History()
+    for place, line in enumerate(lines):
+        entry = read_entry(line)
+        if entry is None or not is_possible(history, entry):
+            raise bad_kept(place)
+        history.add(entry)
+    return history
+
+
+def audit_lines(keeper: Keeper) -> list[Line]:
+    """What `audit` prints of kept lines: how many entries the legal history has, and what is used after it."""
+    history = audited(keeper.load())
+    return [FIRST_LINE, ('legal', len(history)), use_line(history.cell)]

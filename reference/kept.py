@@ -1,0 +1,30 @@
+#!/usr/bin/env python3
+"""Puts kept lines into a database, or writes those that it has.
+
+    kept.py put DATABASE <LINES     the lines go to the end of the database, which is made where it isn't there
+    kept.py get DATABASE            writes its lines; none where it isn't there
+"""
+import sys
+
+from definitions.keep import DatabaseKeeper
+from definitions.refusals import Refusal
+
+
+def main(words: list[str]) -> int:
+    if len(words) != 2 or words[0] not in ('put', 'get'):
+        print(__doc__, file=sys.stderr)
+        return 2
+    keeper = DatabaseKeeper(words[1])
+    try:
+        if words[0] == 'put':
+            keeper.append(sys.stdin.buffer.read().splitlines())
+        else:
+            sys.stdout.buffer.write(b''.join(line + b'\n' for line in keeper.load()))
+        return 0
+    except Refusal as refusal:
+        print(refusal.line, file=sys.stderr)
+        return refusal.exit_status
+
+
+if __name__ == '__main__':
+    sys.exit(main(sys.argv[1:]))
