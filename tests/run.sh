@@ -1,66 +1,141 @@
 #!/usr/bin/env bash
-# Has a built program answer each folder beside this script and each one of examples/ that has words,
-# and tells how many answers are right.
+# Has a built program, or the reference, answer the cases of this folder and of examples/, and tells how many
+# answers are right.
 #
-#     tests/run.sh PROGRAM
+#     tests/run.sh PROGRAM [FOLDER..]         a program
+#     tests/run.sh --reference [FOLDER..]     the plain program of reference/, which computed what is expected
 #
-# A folder holds tables, and in `words` the words that the program is given, one a line. The program
-# runs in the folder. It must write `report.txt` to standard output and `fault.txt` to standard error,
-# and nothing where there is no such file, and it must end with the number in `status`, or with 0.
-# `README` says what the folder shows. The last line is 'N passed, M failed'; the status is 0 where
-# none failed.
+# With FOLDERs, such as tests/gangs, only the cases below these. README.md says what a case is and how one is added.
+# The last line is 'N passed, M failed'; the status is 0 where none failed.
 set -u
 
-if [ $# -ne 1 ]; then
-    echo "usage: tests/run.sh PROGRAM" >&2
+usage() {
+    echo "usage: tests/run.sh PROGRAM|--reference [FOLDER..]" >&2
     exit 2
+}
+
+tests=$(dirname "$(readlink -f "${BASH_SOURCE[0]}")") || exit 2
+root=$(dirname "$tests")
+[ $# -gt 0 ] || usage
+built=true
+if [ "$1" = --reference ]; then
+    built=false
+    program=(python3 "$root/reference/omega.py")
+else
+    program=("$(readlink -f "$1")")
+    if ! [ -f "${program[0]}" ] || ! [ -x "${program[0]}" ]; then
+        echo "tests/run.sh: there is no program $1" >&2
+        exit 2
+    fi
 fi
-program=$(readlink -f "$1")
-if ! [ -f "$program" ] || ! [ -x "$program" ]; then
-    echo "tests/run.sh: there is no program $1" >&2
-    exit 2
-fi
-cd "$(dirname "$(readlink -f "${BASH_SOURCE[0]}")")" || exit 2
+shift
 scratch=$(mktemp -d) || exit 2
 trap 'rm -rf "$scratch"' EXIT
+mkdir "$scratch/empty"
+echo "omega: the words are refused" >"$scratch/refusal"
+passed=0
+failed=0
+waiting=0
 
-# Prints how what was written differs from what a folder's file wants, and nothing where it doesn't.
+# Runs the program in a folder with these words; what it writes goes to files. Answers its status.
+answer_in() {
+    local folder=$1
+    shift
+    (cd "$folder" && exec timeout 60 "${program[@]}" "$@") </dev/null >"$scratch/out" 2>"$scratch/err"
+}
+
+# Prints how what was written differs from what a file wants, and nothing where it doesn't; without such a file
+# nothing is wanted.
 differences() {
     local wanted=$1 written=$2
     [ -f "$wanted" ] || wanted=/dev/null
     cmp -s "$wanted" "$written" || diff "$wanted" "$written" | head -n 20
 }
 
-# Runs the program in a folder, and prints what is wrong with its answer.
-faults_in() {
-    local words status wanted=0
-    if ! [ -f "$1/words" ]; then
-        echo "there is no file words"
-        return
+# Counts a case, and prints what is wrong with it.
+count() {
+    if [ -z "$2" ]; then
+        passed=$((passed + 1))
+    else
+        failed=$((failed + 1))
+        printf '== %s\n%s\n' "$1" "$2"
     fi
+}
+
+# Prints what is wrong with the answer to a folder's words. Where the folder has kept lines the run is in a copy of it.
+faults_in() {
+    local words status wanted=0 where=$1 base=$scratch/copy/omega.db at
     mapfile -t words <"$1/words"
-    (cd "$1" && exec timeout 60 "$program" "${words[@]}") \
-        </dev/null >"$scratch/out" 2>"$scratch/err"
+    if [ -f "$1/kept" ]; then
+        where=$scratch/copy
+        for at in "${!words[@]}"; do
+            [ "${words[at]}" != --kept ] || base=$where/${words[at + 1]}
+        done
+        copy_with_kept "$1" "$base"
+    fi
+    answer_in "$where" "${words[@]}"
     status=$?
     differences "$1/report.txt" "$scratch/out"
     differences "$1/fault.txt" "$scratch/err"
     [ -f "$1/status" ] && wanted=$(<"$1/status")
     [ "$status" = "$wanted" ] || echo "the status is $status, and $wanted is wanted"
+    [ "$where" = "$1" ] || kept_differences "$1" "$base"
 }
 
-passed=0
-failed=0
-shopt -s nullglob
-for folder in */ ../examples/*/words ../examples/*/*/words; do
-    name=${folder%/words}
-    name=${name%/}
-    faults=$(faults_in "$name")
-    if [ -z "$faults" ]; then
-        passed=$((passed + 1))
+# Makes a copy of a folder, and in it a database of its kept lines, if it has any.
+copy_with_kept() {
+    rm -rf "$scratch/copy"
+    cp -r "$1" "$scratch/copy"
+    [ ! -s "$1/kept" ] || python3 "$root/reference/kept.py" put "$2" <"$1/kept"
+}
+
+# Prints how the lines that a database has differ from those that a folder wants kept: the same as before, where it
+# doesn't say otherwise.
+kept_differences() {
+    local wanted=$1/kept
+    [ ! -f "$1/kept-after" ] || wanted=$1/kept-after
+    python3 "$root/reference/kept.py" get "$2" >"$scratch/after"
+    differences "$wanted" "$scratch/after"
+}
+
+# Prints what is wrong with the answer to words that must be refused, in a folder without tables.
+faults_of_refused() {
+    answer_in "$scratch/empty" "$@"
+    [ $? = 2 ] || echo "the status isn't 2"
+    differences /dev/null "$scratch/out"
+    differences "$scratch/refusal" "$scratch/err"
+}
+
+# The cases of a file of refused words: on each line what is shown, a colon, and the words as a shell has them.
+try_refused() {
+    local line words
+    while IFS= read -r line; do
+        eval "words=(${line#*:})"
+        count "refused, ${line%%:*}" "$(faults_of_refused "${words[@]}")"
+    done <"$1"
+}
+
+# Whether a case is of a subject that the program can't answer yet, as its file `not-yet` says.
+is_early() {
+    $built && [ -f "${1%/*}/not-yet" ]
+}
+
+# Counts a folder's case, unless it is early.
+try_folder() {
+    if is_early "$1"; then
+        waiting=$((waiting + 1))
     else
-        failed=$((failed + 1))
-        printf '== %s\n%s\n' "$name" "$faults"
+        count "$(realpath --relative-to="$root" "$1")" "$(faults_in "$1")"
     fi
-done
+}
+
+[ $# -gt 0 ] || set -- "$tests" "$root/examples"
+while IFS= read -r -d '' file; do
+    case ${file##*/} in
+    words) try_folder "${file%/words}" ;;
+    refused) try_refused "$file" ;;
+    esac
+done < <(find "$@" -type f \( -name words -o -name refused \) -print0 | sort -z)
+[ "$waiting" = 0 ] || echo "$waiting cases are of commands that are still to come, and were passed over"
 echo "$passed passed, $failed failed"
 [ "$failed" -eq 0 ] && [ "$passed" -gt 0 ]

@@ -1,0 +1,36 @@
+#!/usr/bin/env bash
+# Has the reference answer the words of a folder, and writes what it answers as what is expected of the program.
+#
+#     tests/expect.sh FOLDER..
+#
+# The files are report.txt, fault.txt, status and kept-after, as run.sh has them. Look at what was written before it is
+# committed.
+set -u
+reference=$(dirname "$(readlink -f "${BASH_SOURCE[0]}")")/../reference
+[ $# -gt 0 ] || { echo "usage: tests/expect.sh FOLDER.." >&2; exit 2; }
+
+# Writes what the reference answers to the words in the folder where this is called.
+answer() {
+    local words base=omega.db at
+    mapfile -t words <words
+    for at in "${!words[@]}"; do
+        [ "${words[at]}" != --kept ] || base=${words[at + 1]}
+    done
+    [ ! -s kept ] || python3 "$reference/kept.py" put "$base" <kept
+    python3 "$reference/omega.py" "${words[@]}" >report.txt 2>fault.txt
+    echo $? >status
+    [ ! -f kept ] || python3 "$reference/kept.py" get "$base" >kept-after
+    rm -f "$base"
+}
+
+# Takes off the files that say no more than that they might be missing.
+thin_out() {
+    [ -s report.txt ] || rm report.txt
+    [ -s fault.txt ] || rm fault.txt
+    [ "$(<status)" != 0 ] || rm status
+    [ ! -f kept ] || ! cmp -s kept kept-after || rm kept-after
+}
+
+for folder in "$@"; do
+    (cd "$folder" && answer && thin_out) || exit 2
+done

@@ -1,0 +1,39 @@
+#!/usr/bin/env bash
+# Tests the tools, in seconds: with the Python that `python3` is, and with the system's where that is another.
+#
+#     tests/tools.sh [PROGRAM]
+#
+# Where no built program is named the plain one of reference/ stands for it. What needs a Python package is
+# passed over where that is missing, and says so. The status is 0 where none failed.
+set -u
+root=$(cd "$(dirname "$(readlink -f "${BASH_SOURCE[0]}")")/.." && pwd) || exit 1
+if [ $# -ge 1 ]; then
+    OMEGA_PROGRAM=$(readlink -f "$1")
+    if ! [ -x "$OMEGA_PROGRAM" ]; then
+        echo "tests/tools.sh: there is no program $1" >&2
+        exit 2
+    fi
+    export OMEGA_PROGRAM
+fi
+# Nothing is left beside the sources.
+export PYTHONDONTWRITEBYTECODE=1
+
+# Runs the tests with one Python, and prints what failed or was passed over.
+tested() {
+    echo "tools, with $("$1" --version) at $1:"
+    "$1" -m unittest discover -b -v -s "$root/tools/tests" 2>&1 | grep -v ' \.\.\. ok$'
+    return "${PIPESTATUS[0]}"
+}
+
+failed=0
+pythons=$(for python in "$(command -v python3)" /usr/bin/python3; do
+    [ -x "$python" ] && "$python" -c 'import sys; print(sys.executable)'
+done | awk '!seen[$0]++')
+if [ -z "$pythons" ]; then
+    echo "tests/tools.sh: there is no python3, so the tools aren't tested"
+    exit 0
+fi
+while read -r python; do
+    tested "$python" || failed=1
+done <<<"$pythons"
+exit $failed
