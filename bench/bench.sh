@@ -6,7 +6,8 @@
 #     bench/bench.sh PROGRAM page                             all of them, written into docs/SPEED.md
 #
 # Sections: scales parts rows machines schedulers words threads shapes plans. ROWS are rows of task_events, LOAD
-# is as in tables.py. Each line is the quickest of three runs, or of one that took more than ten seconds.
+# is as in tables.py. Each line is the median of five runs with their range, or one run that took more than ten
+# seconds.
 #
 # Elapsed is the time on the clock and Processor the time of all threads. Multiple is Processor as a
 # multiple of what `reading` takes for the same tables, so that machines can be compared. On a machine
@@ -18,21 +19,43 @@ set -u
 here=$(cd "$(dirname "$(readlink -f "${BASH_SOURCE[0]}")")" && pwd)
 data=${BENCH_DATA:-${TMPDIR:-/tmp}/omega-bench}
 scale=${BENCH_SCALE:-1} # divides machines, rows and sizes, for a quick try of this script
+runs=${BENCH_RUNS:-5}   # of each line
 
-# Prints the elapsed and the processor seconds and the peak in KiB of a command in a folder, and leaves its
-# exit status in the file `status`.
+# Runs a command in a folder, and prints of its elapsed and of its processor seconds the median, the least and
+# the greatest, and the greatest peak in KiB. Leaves its exit status in the file `status`.
 timed() { # FOLDER OUTPUT COMMAND..
-    local folder=$1 output=$2 best="999999 0 0" elapsed user system peak
+    local folder=$1 output=$2 elapsed user system peak
     shift 2
-    for _ in 1 2 3; do
+    : >"$data/times"
+    for _ in $(seq "$runs"); do
         (cd "$folder" && exec /usr/bin/time -o "$data/time" -f '%e %U %S %M' timeout 900 "$@" >"$output" 2>"$data/fault")
         echo $? >"$data/status"
         read -r elapsed user system peak < <(tail -n 1 "$data/time")
-        best=$(awk -v best="$best" -v e="$elapsed" -v p="$user" -v s="$system" -v k="$peak" \
-            'BEGIN { split(best, old); print (e < old[1] ? e " " p + s " " k : best) }')
+        awk -v e="$elapsed" -v u="$user" -v s="$system" -v k="$peak" 'BEGIN { print e, u + s, k }' >>"$data/times"
         awk -v e="$elapsed" 'BEGIN { exit !(e > 10) }' && break
     done
-    echo "$best"
+    echo "$(spread 1) $(spread 2) $(cut -d' ' -f3 "$data/times" | sort -n | tail -n 1)"
+}
+
+# The median, the least and the greatest of a column of the times.
+spread() { # COLUMN
+    cut -d' ' -f"$1" "$data/times" | sort -n | awk '
+        { at[NR] = $1 }
+        END { print (NR % 2 ? at[(NR + 1) / 2] : (at[NR / 2] + at[NR / 2 + 1]) / 2), at[1], at[NR] }'
+}
+
+# Of seven numbers as `timed` prints them the cells of a table: seconds with their range, where there is one that
+# is worth a word, and the peak.
+cells() { # NUMBERS
+    awk -v t="$1" '
+        function told(median, least, greatest) {
+            if (greatest - least < 0.02) return sprintf("%.2f s", median)
+            return sprintf("%.2f s (%.2f to %.2f)", median, least, greatest)
+        }
+        BEGIN {
+            split(t, at)
+            printf "%s | %s | %d MiB", told(at[1], at[2], at[3]), told(at[4], at[5], at[6]), at[7] / 1024
+        }'
 }
 
 # The folder of a trace, made where it is missing.
@@ -59,17 +82,16 @@ header() { # FIRST COLUMNS
 measure() { # FIRST COLUMNS, FOLDER, WORDS..
     local first=$1 folder=$2 base seconds counted
     shift 2
-    base=$(timed "$folder" /dev/null "$data/reading" . | cut -d' ' -f2)
+    base=$(timed "$folder" /dev/null "$data/reading" . | cut -d' ' -f4)
     seconds=$(timed "$folder" "$data/report" "$program" "$@")
     if [ "$(<"$data/status")" != 0 ]; then
         echo "$first | status $(<"$data/status") | | | | | |"
         return
     fi
     counted=$(counts "$data/report")
-    awk -v first="$first" -v t="$seconds" -v base="$base" -v counted="$counted" 'BEGIN {
+    awk -v first="$first" -v cells="$(cells "$seconds")" -v t="$seconds" -v base="$base" -v counted="$counted" 'BEGIN {
         split(t, at)
-        printf "%s | %.2f s | %.2f s | %d MiB | %.1f | %s |\n", first, at[1], at[2], at[3] / 1024,
-            at[2] / (base > 0.01 ? base : 0.01), counted }'
+        printf "%s | %s | %.1f | %s |\n", first, cells, at[4] / (base > 0.01 ? base : 0.01), counted }'
 }
 
 one() { # MACHINES ROWS LOAD WORDS..
@@ -109,8 +131,7 @@ part() { # WHAT FOLDER WORDS..
     local what=$1 folder=$2 seconds
     shift 2
     seconds=$(timed "$folder" "$data/report" "$program" "$@")
-    awk -v what="$what" -v t="$seconds" 'BEGIN {
-        split(t, at); printf "| %s | %.2f s | %.2f s | %d MiB |\n", what, at[1], at[2], at[3] / 1024 }'
+    echo "| $what | $(cells "$seconds") |"
 }
 
 rows() {
@@ -132,7 +153,7 @@ words() {
     header '| Machines | Rows of tasks | Load | Words'
     for choice in '' '--rule coarse' '--mode gang' '--preempt service' '--preempt all' '--extra max' '--extra cap' '--format json'; do
         # shellcheck disable=SC2086
-        one 4000 400000 120 replay $choice
+        one 4000 400000 300 replay --batch 8 $choice
     done
 }
 
@@ -206,8 +227,16 @@ about() {
     echo "Measured on $(date -u +%Y-%m-%d), $(nproc) processors: $(sed -n 's/^model name[[:space:]]*: //p' /proc/cpuinfo | head -n 1)."
 }
 
+print_help() {
+    sed -n '2,/^set -u/s/^# \{0,1\}//p' "${BASH_SOURCE[0]}"
+}
+
+if [ "${1-}" = --help ]; then
+    print_help
+    exit
+fi
 if [ $# -lt 2 ]; then
-    sed -n '2,/^set -u/s/^# \{0,1\}//p' "${BASH_SOURCE[0]}" >&2
+    print_help >&2
     exit 2
 fi
 program=$(readlink -f "$1")

@@ -2,12 +2,14 @@
 """Makes tables of real size, the same at each call with the same words.
 
     tables.py trace FOLDER MACHINES ROWS LOAD [SEED]    a cluster's trace with so many rows of tasks
+    tables.py steady FOLDER MACHINES HOURS LOAD [SEED]  a cell that is as full at the beginning as at the end
     tables.py SHAPE FOLDER SIZE                         tables of one extreme shape; no word lists them
 
 LOAD is what all tasks that would run at a time ask for of the CPU, on an average, in per cent of what the
 machines have. The figures that the trace is made by are rough ones for a cluster of a few machine types in
 which most jobs have one task, a few have many, and services run long.
 """
+import math
 import os
 import random
 import sys
@@ -32,6 +34,10 @@ class Dice:
 
     def in_hundred(self, percent):
         return self.random() * 100 < percent
+
+    def life(self, mean):
+        """What is left is as long as the whole, on an average, whenever one looks."""
+        return -mean * math.log(1 - self.random())
 
     def between(self, low, high):
         """Evenly in the logarithm, so that small values are common and large ones come."""
@@ -110,15 +116,20 @@ def events_of(dice, jobs, rows):
     return events[:rows]
 
 
+def type_of(draw):
+    """The CPU and the memory of a machine that drew a number below 100."""
+    for percent, cpu, mem in TYPES:
+        if draw < percent:
+            break
+        draw -= percent
+    return cpu, mem
+
+
 def machines_of(dice, files, count, span):
     """The machines and their attributes; one in a hundred goes and comes back. Answers the whole CPU."""
     whole, later = 0.0, []
     for number in range(1, count + 1):
-        draw = dice.below(100)
-        for percent, cpu, mem in TYPES:
-            if draw < percent:
-                break
-            draw -= percent
+        cpu, mem = type_of(dice.below(100))
         whole += cpu
         files.machine(number, cpu, mem)
         files.put('machine_attributes', 0, number, 'kernel', 15 + dice.below(8), 0)
@@ -157,6 +168,59 @@ def trace(folder, machines, rows, load, seed=3):
         if job.activities:
             files.put('mapreduce_jobs', job.number, min(10_000, job.activities))
     files.close()
+
+
+# A cell in a steady state: as many jobs of a kind come as end, and where the trace begins as many are there
+# as at any time after. So what a scheduler does doesn't depend on when one looks.
+
+class Kind:
+    """Services or batch jobs: their part of the load, how many tasks they have at most, how long these live
+    on an average, in seconds, their class and their priority."""
+
+    def __init__(self, part, most_tasks, life, klass, prio):
+        self.part, self.most_tasks, self.life, self.klass, self.prio = part, most_tasks, life, klass, prio
+
+    def tasks(self, dice):
+        """What each task of a job asks for, of CPU and of memory."""
+        cpu = dice.between(0.006, 0.15)
+        mem = min(0.2, cpu * dice.between(0.3, 1.6))
+        return [(cpu, mem)] * int(dice.between(1, self.most_tasks + 1))
+
+
+SERVICES = Kind(0.6, 30, 86_400, 2, 9)
+BATCH = Kind(0.4, 60, 600, 0, 1)
+
+
+def steady(folder, machines, hours, load, seed=3):
+    dice, files = Dice(seed), Files(folder)
+    whole, rows, number = 0.0, [], 1000
+    for machine in range(1, machines + 1):
+        cpu, mem = type_of(machine * 61 % 100)
+        whole += cpu
+        files.machine(machine, cpu, mem)
+    for kind in (SERVICES, BATCH):
+        there, count = [], 0
+        while sum(cpu for cpu, _ in there) < kind.part * whole * load / 100:
+            there += kind.tasks(dice)
+            count += 1
+        # What is there at the beginning is one job, so that it is decided at once.
+        rows += job_rows(dice, kind, number, 0 if kind is SERVICES else BEGIN // 2, there)
+        for _ in range(round(count * hours * 3600 / kind.life)):
+            number += 1 + dice.below(1000)
+            rows += job_rows(dice, kind, number, BEGIN + int(dice.random() * hours * 3600 * SECOND), kind.tasks(dice))
+        number += 1000
+    last = BEGIN + int(hours * 3600 * SECOND)
+    out = files.files['task_events']
+    for row in sorted(row for row in rows if row[0] <= last):
+        out.write('%d,,%d,%d,,%d,u,%d,%d,%.4f,%.5f,,0\n' % row)
+    files.close()
+
+
+def job_rows(dice, kind, number, submit, tasks):
+    """A job's rows: each task is submitted and ends."""
+    for index, (cpu, mem) in enumerate(tasks):
+        yield submit, number, index, 0, kind.klass, kind.prio, cpu, mem
+        yield submit + 1 + int(dice.life(kind.life) * SECOND), number, index, 4, kind.klass, kind.prio, cpu, mem
 
 
 # Extreme shapes, each a function of the files and a size to which the rows are in proportion.
@@ -280,12 +344,14 @@ SHAPES = {shape.__name__: shape for shape in (
 
 
 def main(words):
-    if len(words) in (5, 6) and words[0] == 'trace':
-        trace(words[1], *map(int, words[2:]))
+    if len(words) in (5, 6) and words[0] in ('trace', 'steady'):
+        (trace if words[0] == 'trace' else steady)(words[1], *map(int, words[2:]))
     elif len(words) == 3 and words[0] in SHAPES:
         files = Files(words[1])
         SHAPES[words[0]](files, int(words[2]))
         files.close()
+    elif words in (['--help'], ['-h']):
+        print(__doc__, end='')
     elif not words:
         for name, shape in SHAPES.items():
             print('%s: %s' % (name, shape.__doc__))

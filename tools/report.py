@@ -1,188 +1,169 @@
 #!/usr/bin/env python3
-"""Reads a report of omega, as text or as JSON, and shows what it comes to.
+"""Reads reports of omega, as text or as JSON, and shows what they come to.
 
-    tools/report.py rounds REPORT           what is used at the end of each round, as a table
-    tools/report.py schedulers REPORT       commits and conflicts of each scheduler, as a table
-    tools/report.py compare REPORT..        a row for each report
-    tools/report.py plot REPORT FOLDER      utilisation.svg and conflicts.svg, written to the folder
+A report is a file or, where its name is `-`, standard input; it may be packed by gzip, bzip2 or xz. One that
+doesn't begin, go on and end as a report does is refused in one line. Tables are CSV with a line of names.
+Fractions are of 1, times of the trace in hours or microseconds as the column's name or the help says.
 
-Tables have a tab between two columns, and a first line with their names. It needs Python 3.8 or later
-and nothing else. A text report is read line by line, a JSON report as a whole.
+How long a round is comes from the file `words` beside the report, as tools/sweep.py leaves it, or from
+--window; else it is five minutes.
 """
-import json
+import argparse
 import os
+import shutil
 import sys
+import tempfile
+from pathlib import Path
+from typing import Callable, List, Optional
 
-FIRST_EXTRA = 2 ** 31
-AMOUNTS = ('cpu', 'mem', 'disk')
-COUNTS = ('commits', 'empty', 'placing', 'conflicted', 'placed', 'refused', 'withdrawn', 'evicted')
-COLOURS = {'cpu': '#1f6fb2', 'mem': '#c8570c', 'disk': '#5b8c2a'}
-
-
-class Report:
-    """What the lines of a report say: rounds with their use, counts of schedulers, and what waits."""
-
-    def __init__(self, lines):
-        self.rounds = []        # a number and the used and whole amounts, for each round
-        self.schedulers = {}    # a scheduler's number, and its counts by name
-        self.extras = 0         # how many extra tasks were placed
-        self.waiting = self.abandoned = 0
-        number = None
-        for line in lines:
-            if line[0] == 'round':
-                number = line[1]
-            elif line[0] == 'use' and number is not None:
-                self.rounds.append((number, dict(zip(line[1::3], zip(line[2::3], line[3::3])))))
-                number = None
-            elif line[0] == 'place' and line[2] >= FIRST_EXTRA:
-                self.extras += 1
-            elif line[0] == 'scheduler':
-                self.schedulers[line[1]] = dict(zip(line[2::2], line[3::2]))
-            elif line[0] == 'waiting':
-                self.waiting, self.abandoned = line[1], line[3]
-
-    def total(self, count):
-        return sum(counts[count] for counts in self.schedulers.values())
+from omegatools.common import Refusal, duration, ends
+from omegatools.events import json_lines_of
+from omegatools.figures import conflicts_over_time, picture, use_over_time, waits_by_kind
+from omegatools.reports import Report, report_lines
+from omegatools.tables import compare_table, conflicts_table, rounds_table, schedulers_table, show
+from omegatools.waits import COLUMNS, QUANTILE_COLUMNS, Tables, Waits, quantile_rows, row_of
+from omegatools.words import DEFAULT_WINDOW, Words, words_beside
 
 
-def lines_of(path):
-    """The lines of a report, each as a list of words and numbers."""
-    with open(path, encoding='ascii') as file:
-        if file.read(1) == '[':
-            file.seek(0)
-            yield from json.load(file)
-            return
-        file.seek(0)
-        for line in file:
-            yield [int(word) if word.isdigit() else word for word in line.split()]
+def words_of_report(path: str) -> Optional[Words]:
+    return None if path == '-' else words_beside(Path(path))
 
 
-def percent(used, whole):
-    """The share in per cent, and 0 of nothing."""
-    return 100.0 * used / whole if whole else 0.0
+def window_of(path: str, chosen: Optional[str]) -> int:
+    """How long a round of the report is, in microseconds."""
+    words = words_of_report(path)
+    window = duration(chosen) if chosen is not None else words.window() if words else DEFAULT_WINDOW
+    if window < 1:
+        raise Refusal('a window is at least a microsecond')
+    return window
 
 
-def show(rows):
-    for row in rows:
-        print('\t'.join('%.1f' % cell if isinstance(cell, float) else str(cell) for cell in row))
+def tables_of(path: str, chosen: Optional[Path]) -> Optional[Path]:
+    """The folder of the tables that the report is of, if it is known."""
+    words = words_of_report(path)
+    if chosen is not None or words is None or words.command == 'generate':
+        return chosen
+    return Path(path).parent / words.value('tables')
 
 
-def rounds_table(report):
-    yield ('round',) + AMOUNTS
-    for number, use in report.rounds:
-        yield (number,) + tuple(percent(*use[amount]) for amount in AMOUNTS)
+def rounds(words: argparse.Namespace) -> None:
+    show(rounds_table(Report(words.report), window_of(words.report, words.window)))
 
 
-def schedulers_table(report):
-    """Beside the counts stands how many commits were in conflict for each that placed something,
-    if one did."""
-    yield ('scheduler',) + COUNTS + ('conflicts_per_placing',)
-    for number, counts in sorted(report.schedulers.items()):
-        placing = counts['placing']
-        ratio = '%.2f' % (counts['conflicted'] / placing) if placing else '-'
-        yield (number,) + tuple(counts[count] for count in COUNTS) + (ratio,)
+def schedulers(words: argparse.Namespace) -> None:
+    show(schedulers_table(Report(words.report)))
 
 
-def compare_table(paths):
-    yield ('report', 'commits', 'conflicted', 'refused', 'evicted', 'extras', 'waiting', 'cpu_by_round')
-    for path in paths:
-        report = Report(lines_of(path))
-        shares = ' '.join('%g' % round(percent(*use['cpu']), 1) for _, use in report.rounds)
-        yield (path, report.total('commits'), report.total('conflicted'),
-               report.total('refused') + report.total('withdrawn'), report.total('evicted'),
-               report.extras, report.waiting, shares)
+def conflicts(words: argparse.Namespace) -> None:
+    per = duration(words.per)
+    if per < 1:
+        raise Refusal('--per is at least a microsecond')
+    show(conflicts_table(Report(words.report), window_of(words.report, words.window), per))
 
 
-# Plots. A picture is a list of elements in a frame of WIDTH by HEIGHT, with the axes at the left and below.
-
-WIDTH, HEIGHT, LEFT, RIGHT, TOP, BELOW = 720, 320, 60, 20, 40, 50
-INNER_WIDTH, INNER_HEIGHT = WIDTH - LEFT - RIGHT, HEIGHT - TOP - BELOW
-
-
-def text(x, y, words, anchor='middle', colour='#333333'):
-    return '<text x="%.1f" y="%.1f" text-anchor="%s" fill="%s">%s</text>' % (x, y, anchor, colour, words)
+def events(words: argparse.Namespace) -> None:
+    """They are printed once the whole report is read, so that nothing comes of one that is cut."""
+    with tempfile.TemporaryFile('w+', encoding='ascii') as kept:
+        kept.writelines(json_lines_of(report_lines(words.report), window_of(words.report, words.window)))
+        kept.seek(0)
+        shutil.copyfileobj(kept, sys.stdout)
 
 
-def line(x1, y1, x2, y2, colour='#cccccc'):
-    return '<line x1="%.1f" y1="%.1f" x2="%.1f" y2="%.1f" stroke="%s"/>' % (x1, y1, x2, y2, colour)
+def waits(words: argparse.Namespace) -> None:
+    """For each task a row, and the quantiles on standard error; or these alone on standard output."""
+    found = Waits(Tables(words.tables, window_of(words.report, words.window)), words.report).wishes
+    if not words.quantiles:
+        show([COLUMNS, *map(row_of, found)])
+    show([QUANTILE_COLUMNS, *quantile_rows(found)], sys.stdout if words.quantiles else sys.stderr)
 
 
-def picture(title, elements):
-    return '\n'.join([
-        '<svg xmlns="http://www.w3.org/2000/svg" width="%d" height="%d" font-family="sans-serif" font-size="12">'
-        % (WIDTH, HEIGHT),
-        '<rect width="100%" height="100%" fill="#ffffff"/>',
-        text(WIDTH / 2, 20, title), *elements, '</svg>', ''])
+def compare(words: argparse.Namespace) -> None:
+    show(compare_table(words.reports))
 
 
-def heights(greatest, unit):
-    """Five lines across, with their values at the left, from 0 to the greatest."""
-    for step in range(5):
-        y = TOP + INNER_HEIGHT * (1 - step / 4)
-        yield line(LEFT, y, LEFT + INNER_WIDTH, y)
-        yield text(LEFT - 6, y + 4, '%g%s' % (greatest * step / 4, unit), 'end')
+def plot(words: argparse.Namespace) -> None:
+    report, window = Report(words.report), window_of(words.report, words.window)
+    drawn = {'use': use_over_time(report, window),
+             'conflicts': conflicts_over_time(report, window, duration(words.per) if words.per else None)}
+    tables = tables_of(words.report, words.tables)
+    if tables is not None:
+        drawn['waits'] = waits_by_kind(Waits(Tables(tables, window), words.report).wishes)
+    words.folder.mkdir(parents=True, exist_ok=True)
+    for name, draw in drawn.items():
+        print(put(words.folder / ('%s.%s' % (name, words.format)), picture(draw, words.format)))
 
 
-def legend(names_and_colours):
-    for place, (name, colour) in enumerate(names_and_colours):
-        yield text(LEFT + 10 + 90 * place, TOP - 6, name, 'start', colour)
+def put(path: Path, data: bytes) -> Path:
+    """Writes a file at once, so that none is left half."""
+    part = path.with_name(path.name + '.part')
+    part.write_bytes(data)
+    os.replace(part, path)
+    return path
 
 
-def utilisation(report):
-    """The share that is used at the end of each round; a window without a row has no point."""
-    last = report.rounds[-1][0] if report.rounds else 0
-    first = report.rounds[0][0] if report.rounds else 0
-    shown = [amount for amount in AMOUNTS if any(use[amount][0] for _, use in report.rounds)]
-    elements = [*heights(100, '%'), *legend((amount, COLOURS[amount]) for amount in shown)]
-    for amount in shown:
-        points = ['%.1f,%.1f' % (LEFT + INNER_WIDTH * (number - first) / max(1, last - first),
-                                 TOP + INNER_HEIGHT * (1 - percent(*use[amount]) / 100))
-                  for number, use in report.rounds]
-        elements.append('<polyline fill="none" stroke="%s" stroke-width="1.5" points="%s"/>'
-                        % (COLOURS[amount], ' '.join(points)))
-    elements += [text(LEFT, HEIGHT - 28, first), text(LEFT + INNER_WIDTH, HEIGHT - 28, last),
-                 text(LEFT + INNER_WIDTH / 2, HEIGHT - 12, 'round')]
-    return picture('What is used at the end of each round', elements)
+def make_page(words: argparse.Namespace) -> None:
+    from omegatools.page import Run, page, waits_of
+    runs = []
+    for path in words.reports:
+        window = window_of(path, words.window)
+        report = Report(path)
+        found, why = waits_of(path, tables_of(path, words.tables), window) if path != '-' else (
+            None, 'The report came from standard input.')
+        runs.append(Run(name_of(path), report, words_of_report(path), window, found, why))
+    print(put(words.file, page(words.title, runs).encode()))
 
 
-def conflicts(report):
-    """Two bars for each scheduler: its commits, and those of them with a claim that wasn't placed."""
-    counted = sorted(report.schedulers.items())
-    greatest = 4 * max([-(-counts['commits'] // 4) for _, counts in counted] + [1])
-    kinds = (('commits', '#9db7cf'), ('conflicted', '#b3261e'))
-    elements = [*heights(greatest, ''), *legend(kinds)]
-    room = INNER_WIDTH / max(1, len(counted))
-    for place, (number, counts) in enumerate(counted):
-        for side, (count, colour) in enumerate(kinds):
-            high = INNER_HEIGHT * counts[count] / greatest
-            elements.append('<rect x="%.1f" y="%.1f" width="%.1f" height="%.1f" fill="%s"/>' % (
-                LEFT + room * (place + 0.15 + 0.35 * side), TOP + INNER_HEIGHT - high, room * 0.35, high, colour))
-        elements.append(text(LEFT + room * (place + 0.5), HEIGHT - 28, number))
-    elements.append(text(LEFT + INNER_WIDTH / 2, HEIGHT - 12, 'scheduler'))
-    return picture('Commits of each scheduler, and those in conflict', elements)
+def name_of(path: str) -> str:
+    """What a run is called: its folder where the file is `report.txt`, else its file."""
+    file = Path(path)
+    return file.resolve().parent.name if file.name == 'report.txt' else 'standard input' if path == '-' else file.name
 
 
-def plot(report, folder):
-    os.makedirs(folder, exist_ok=True)
-    for name, svg in (('utilisation.svg', utilisation(report)), ('conflicts.svg', conflicts(report))):
-        with open(os.path.join(folder, name), 'w', encoding='ascii') as file:
-            file.write(svg)
-        print(os.path.join(folder, name))
+def parser() -> argparse.ArgumentParser:
+    whole = argparse.ArgumentParser(prog='report.py', description=__doc__,
+                                    formatter_class=argparse.RawDescriptionHelpFormatter)
+    commands = whole.add_subparsers(dest='command', metavar='COMMAND', required=True)
+
+    def command(name: str, does: Callable[[argparse.Namespace], None], says: str) -> argparse.ArgumentParser:
+        added = commands.add_parser(name, help=says, description=says[0].upper() + says[1:] + '.')
+        added.set_defaults(does=does)
+        added.add_argument('--window', metavar='TIME', help='how long a round is')
+        return added
+
+    command('rounds', rounds, 'what is used where each round ends').add_argument('report', metavar='REPORT')
+    command('schedulers', schedulers, 'commits and conflicts of each scheduler').add_argument('report', metavar='REPORT')
+    added = command('conflicts', conflicts, 'commits and conflicts by scheduler and time')
+    added.add_argument('--per', metavar='TIME', default='1h', help='how long a span of time is; an hour by default')
+    added.add_argument('report', metavar='REPORT')
+    command('events', events, 'each line of the report as a JSON object with names, a line each, with its round, '
+            'the time at which that begins (microseconds) and its commit').add_argument('report', metavar='REPORT')
+    added = command('waits', waits, 'for each task when it was submitted, first placed, evicted, displaced and ended '
+                    '(microseconds), or that it never ran; and on standard error the quantiles of the wait by kind '
+                    'of job (seconds)')
+    added.add_argument('--quantiles', action='store_true', help='print these alone, on standard output')
+    added.add_argument('tables', metavar='TABLES', type=Path, help='the folder of the tables')
+    added.add_argument('report', metavar='REPORT')
+    command('compare', compare, 'a row for each report, with the words of its run where they stand in the file '
+            '`words` beside it').add_argument('reports', metavar='REPORT', nargs='+')
+    added = command('plot', plot, 'use and conflicts over time, and waits by kind of job, as figures in a folder')
+    added.add_argument('--format', choices=('svg', 'png', 'pdf'), default='svg')
+    added.add_argument('--per', metavar='TIME', help='how long a span of time is in the figure of conflicts')
+    added.add_argument('--tables', metavar='TABLES', type=Path, help='the folder of the tables, for the waits')
+    added.add_argument('report', metavar='REPORT')
+    added.add_argument('folder', metavar='FOLDER', type=Path)
+    added = command('page', make_page, 'one page of HTML on some runs, which needs nothing else')
+    added.add_argument('--tables', metavar='TABLES', type=Path, help='the folder of the tables, for the waits')
+    added.add_argument('--title', default='Runs of omega')
+    added.add_argument('reports', metavar='REPORT', nargs='+')
+    added.add_argument('file', metavar='FILE', type=Path)
+    return whole
 
 
-def main(words):
-    if len(words) == 2 and words[0] in ('rounds', 'schedulers'):
-        table = {'rounds': rounds_table, 'schedulers': schedulers_table}[words[0]]
-        show(table(Report(lines_of(words[1]))))
-    elif len(words) >= 2 and words[0] == 'compare':
-        show(compare_table(words[1:]))
-    elif len(words) == 3 and words[0] == 'plot':
-        plot(Report(lines_of(words[1])), words[2])
-    else:
-        print(__doc__, file=sys.stderr)
-        return 2
+def main(arguments: Optional[List[str]]) -> int:
+    words = parser().parse_args(arguments)
+    words.does(words)
     return 0
 
 
 if __name__ == '__main__':
-    sys.exit(main(sys.argv[1:]))
+    sys.exit(ends('report.py', main))

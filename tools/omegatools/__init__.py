@@ -1,0 +1,1 @@
+"""Parts of the tools for those who run omega."""

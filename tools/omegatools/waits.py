@@ -1,0 +1,181 @@
+"""How long tasks waited: the tables tell when a task was submitted and ended, and the report when it was
+placed and stopped."""
+import csv
+from pathlib import Path
+from typing import Dict, Iterable, Iterator, List, NamedTuple, Optional, Set, Tuple
+
+from .common import Refusal
+from .reports import FIRST_EXTRA, KINDS, report_lines
+
+Key = Tuple[int, int]   # job and index
+
+
+class Wish:
+    """A task from when it is submitted until it ends in the trace. One that is submitted again is another.
+    Times are in microseconds; what the schedulers do in a round happens at the time of the round's last row."""
+    __slots__ = ('job', 'index', 'kind', 'submitted', 'placed', 'evicted', 'displaced', 'ended', 'runs')
+
+    def __init__(self, key: Key, kind: str, submitted: int) -> None:
+        self.job, self.index = key
+        self.kind, self.submitted = kind, submitted
+        self.placed: Optional[int] = None       # for the first time
+        self.evicted: List[int] = []
+        self.displaced: List[int] = []
+        self.ended: Optional[int] = None
+        self.runs = False
+
+    def wait(self) -> Optional[int]:
+        return None if self.placed is None else self.placed - self.submitted
+
+    def fate(self) -> str:
+        """What became of it by the end of the report."""
+        if self.placed is None:
+            return 'waits' if self.ended is None else 'never ran'
+        if self.ended is None:
+            return 'runs' if self.runs else 'waits again'
+        return 'ended' if self.runs else 'ended while it waited again'
+
+
+COLUMNS = ('job', 'index', 'kind', 'submitted', 'placed', 'wait', 'evicted', 'displaced', 'ended', 'fate')
+
+
+def row_of(wish: Wish) -> Tuple[object, ...]:
+    """A wish as a row; several times in a column have blanks between them."""
+    return (wish.job, wish.index, wish.kind, wish.submitted, wish.placed, wish.wait(),
+            ' '.join(map(str, wish.evicted)), ' '.join(map(str, wish.displaced)), wish.ended, wish.fate())
+
+
+# The tables. A fault in them is told, but it is omega that checks them.
+
+class Event(NamedTuple):
+    time: int
+    key: Key
+    code: int
+    is_service: bool
+
+
+def fields_of(tables: Path, table: str, needed: bool) -> Iterator[List[str]]:
+    path = tables / (table + '.csv')
+    if not needed and not path.exists():
+        return
+    with open(path, encoding='latin-1', newline='') as file:
+        yield from (row for row in csv.reader(file) if row)
+
+
+def numbers_of(tables: Path, table: str, columns: Iterable[int], needed: bool = True) -> Iterator[List[int]]:
+    """Some columns of a table as numbers, an empty one as 0."""
+    for number, fields in enumerate(fields_of(tables, table, needed), 1):
+        try:
+            yield [int(fields[column - 1] or 0) for column in columns]
+        except (ValueError, IndexError) as fault:
+            raise Refusal('%s row %d: it is no row of this table' % (tables / (table + '.csv'), number)) from fault
+
+
+class Tables:
+    """What the tables of a folder say of tasks, by the number of the window: the rows in order of time, and
+    the time of the last row of any table."""
+
+    def __init__(self, folder: Path, window: int) -> None:
+        self.folder = folder
+        self.events: Dict[int, List[Event]] = {}
+        self.last: Dict[int, int] = {}
+        self.services: Set[int] = set()
+        self.map_reduce = {job for job, _ in numbers_of(folder, 'mapreduce_jobs', (1, 2), needed=False)}
+        rows = [Event(time, (job, index), code, of_class >= 2)
+                for time, job, index, code, of_class in numbers_of(folder, 'task_events', (1, 3, 4, 6, 8))]
+        rows.sort(key=lambda event: event.time)
+        jobs: Set[int] = set()
+        for event in rows:
+            self.events.setdefault(event.time // window, []).append(event)
+            if event.key[0] not in jobs:
+                jobs.add(event.key[0])
+                if event.is_service:
+                    self.services.add(event.key[0])
+        others = (time for table in ('machine_events', 'machine_attributes')
+                  for time, in numbers_of(folder, table, (1,), table == 'machine_events'))
+        for time in (*others, *(event.time for event in rows)):
+            number = time // window
+            self.last[number] = max(time, self.last.get(number, 0))
+
+    def kind(self, job: int) -> str:
+        if job in self.map_reduce:
+            return KINDS[2]
+        return KINDS[0] if job in self.services else KINDS[1]
+
+
+class Waits:
+    """The wishes of a report, in order of their submission."""
+
+    def __init__(self, tables: Tables, report: str) -> None:
+        self.tables, self.report = tables, report
+        self.wishes: List[Wish] = []
+        self.open: Dict[Key, Wish] = {}
+        now, seen = 0, 0
+        for line in report_lines(report):
+            if line[0] == 'round':
+                seen += 1
+                now = self.begin_round(int(line[1]))
+            elif line[0] in ('place', 'evict', 'displace') and int(line[2]) < FIRST_EXTRA:
+                self.change(str(line[0]), (int(line[1]), int(line[2])), now)
+            elif line[0] == 'entries' and seen != len(tables.last):
+                raise self.strange('the tables have %d windows with rows, and the report has %d rounds' % (
+                    len(tables.last), seen))
+
+    def strange(self, what: str) -> Refusal:
+        return Refusal('%s is no report of %s: %s (perhaps another --window was chosen)' % (
+            self.report, self.tables.folder, what))
+
+    def begin_round(self, number: int) -> int:
+        """Applies the round's rows of tasks, and answers the time of its last row."""
+        if number not in self.tables.last:
+            raise self.strange('the tables have no row in round %d' % number)
+        for event in self.tables.events.get(number, ()):
+            if event.code in (0, 1) and event.key not in self.open:
+                wish = Wish(event.key, self.tables.kind(event.key[0]), event.time)
+                self.open[event.key] = wish
+                self.wishes.append(wish)
+            elif 3 <= event.code <= 6 and event.key in self.open:
+                self.open.pop(event.key).ended = event.time
+        return self.tables.last[number]
+
+    def change(self, what: str, key: Key, now: int) -> None:
+        """A task is placed or stops. One that was displaced and ends in the same round isn't open any more."""
+        wish = self.open.get(key)
+        if what == 'displace' and (wish is None or not wish.runs):
+            return
+        if wish is None:
+            raise self.strange('task %d of job %d isn\'t wanted where the report has it' % (key[1], key[0]))
+        wish.runs = what == 'place'
+        if what == 'evict':
+            wish.evicted.append(now)
+        elif what == 'displace':
+            wish.displaced.append(now)
+        elif wish.placed is None:
+            wish.placed = now
+
+
+# Quantiles.
+
+SHARES = (50, 90, 99)
+QUANTILE_COLUMNS = ('kind', 'tasks', 'ran', 'never_ran', 'waits', 'mean') + tuple(
+    'p%d' % part for part in SHARES) + ('max',)
+
+
+def quantile(ordered: List[int], percent: int) -> int:
+    """The least value that so many per cent of the values don't pass."""
+    return ordered[max(0, -(-len(ordered) * percent // 100) - 1)]
+
+
+def quantile_rows(wishes: Iterable[Wish]) -> Iterator[Tuple[object, ...]]:
+    """For each kind of job and for all how many tasks ran, never ran and still wait to run, and how long
+    those that ran waited for it, in seconds."""
+    kept = list(wishes)
+    for kind in (*KINDS, 'all'):
+        of_kind = [wish for wish in kept if kind in (wish.kind, 'all')]
+        waits = sorted(wait for wait in (wish.wait() for wish in of_kind) if wait is not None)
+        fates = [wish.fate() for wish in of_kind]
+        seconds: List[Optional[float]] = [None] * (len(SHARES) + 2)
+        if waits:
+            mean = sum(waits) / len(waits)
+            seconds = [value / 1e6 for value in (mean, *(quantile(waits, part) for part in SHARES), waits[-1])]
+        yield (kind, len(of_kind), len(waits), fates.count('never ran'), fates.count('waits'), *seconds)

@@ -1,0 +1,80 @@
+"""The words of a run: a command and options, each with its value."""
+import re
+from pathlib import Path
+from typing import Dict, List, NamedTuple, Optional, Sequence, Tuple
+
+from .common import Refusal, shown
+
+# Those that end in a report of a run.
+COMMANDS = ('replay', 'run', 'simulate', 'resume', 'generate')
+
+# Each option with its default. One without a default has that of another option.
+OPTIONS: Dict[str, Optional[str]] = {
+    'tables': '.', 'seed': '0', 'batch': '1', 'rule': 'fine', 'mode': 'incremental', 'preempt': 'none',
+    'extra': 'relative', 'cap': '60', 'tries': '5', 'give-up': '1000', 'window': '300000000', 'format': 'text',
+    'machines': '64', 'jobs': '500', 't-job': '100000', 't-task': '5000', 'service-t-job': None,
+    'service-t-task': None, 'kept': 'omega.db',
+}
+DEFAULT_WINDOW = 300_000_000
+
+
+class Words(NamedTuple):
+    command: str
+    options: Dict[str, str]     # those that are given, without hyphens
+
+    def value(self, option: str) -> str:
+        """What an option says, be it given or not."""
+        if option in self.options:
+            return self.options[option]
+        default = OPTIONS[option]
+        return self.value(option.replace('service-', '')) if default is None else default
+
+    def window(self) -> int:
+        """How long a round is, in microseconds."""
+        value = self.value('window')
+        return int(value) if re.fullmatch('[0-9]{1,32}', value) and int(value) > 0 else DEFAULT_WINDOW
+
+    def plain(self) -> List[str]:
+        """The words one by one, the command first, in the order of the pages."""
+        return [self.command] + [part for option in OPTIONS if option in self.options
+                                 for part in ('--' + option, self.options[option])]
+
+    def shown(self) -> str:
+        """The words in one line, with the folder of tables last, since it tells least."""
+        options = sorted(self.options.items(), key=lambda pair: pair[0] == 'tables')
+        return ' '.join([self.command] + ['--%s %s' % pair for pair in options])
+
+
+def split_words(words: Sequence[str]) -> Tuple[List[str], Dict[str, str]]:
+    """The words that are no options, and the options, each without its hyphens. Options may stand before the
+    command or be joined by `=`. Values aren't looked at."""
+    commands: List[str] = []
+    options: Dict[str, str] = {}
+    rest = list(words)
+    while rest:
+        word = rest.pop(0)
+        if not word.startswith('--'):
+            commands.append(word)
+            continue
+        name, joined, value = word[2:].partition('=')
+        if name not in OPTIONS or name in options:
+            raise Refusal('%s %s' % (shown(word), 'is there twice' if name in options else 'is no option of omega'))
+        if not joined and not rest:
+            raise Refusal('%s has no value' % shown(word))
+        options[name] = value if joined else rest.pop(0)
+    return commands, options
+
+
+def words_of(words: Sequence[str]) -> Words:
+    commands, options = split_words(words)
+    if len(commands) != 1 or commands[0] not in COMMANDS:
+        raise Refusal('there has to be one command: %s or %s' % (', '.join(COMMANDS[:-1]), COMMANDS[-1]))
+    return Words(commands[0], options)
+
+
+def words_beside(report: Path) -> Optional[Words]:
+    """The words of a run from the file `words` beside its report, a word a line, if there is one."""
+    try:
+        return words_of((report.parent / 'words').read_text().splitlines())
+    except (OSError, UnicodeDecodeError, Refusal):
+        return None
