@@ -1,14 +1,3 @@
-mod Examples
-mod ExamplesCell
-mod ExamplesCopy
-mod ExamplesDraws
-mod ExamplesExtras
-mod ExamplesFeed
-mod ExamplesLawful
-mod ExamplesTurns
-mod ExamplesWork
-mod ExamplesWorld
-mod TableExamples
 pub mod Lists
 pub mod Places
 pub mod Amounts
@@ -29,8 +18,4 @@ pub mod OpenRequests
 pub mod ExtraWishes
 pub mod RowEnds
 pub mod WordRanges
-mod ExamplesWords
-mod ExamplesReport
-mod ExamplesSlice
-mod ExamplesGenerated
 pub mod PlainWords

@@ -18,7 +18,7 @@ use Rattle.omega_model.specs.declared.entries.Entry.{Entry}
 use Rattle.omega_model.specs.declared.entries.Entry.TheVariants.{Round, MachineAdd, MachineUpdate, MachineRemove, AttrSet, AttrDelete, End, Commit}
 use Rattle.omega_model.specs.declared.rows.TraceTables.{TraceTables}
 use Rattle.omega_model.specs.declared.settings.Command.{Command}
-use Rattle.omega_model.specs.declared.settings.Command.TheVariants.{Replay, Run, Generate}
+use Rattle.omega_model.specs.declared.settings.Command.TheVariants.{Replay, Run, Generate, Simulate, Resume, Audit}
 use Rattle.omega_model.specs.declared.settings.Settings.{Settings}
 
 -- lines after lines
@@ -75,7 +75,10 @@ place_plain history (place, entry) =
 middle_plain : (command : Command) (history : List Entry) → are_plain (middle_lines command history) ≡ true
 middle_plain Replay history = every (lines_at history) (place_plain history) (enumerate_from 0 history)
 middle_plain Run history = every (lines_at history) (place_plain history) (enumerate_from 0 history)
+middle_plain Simulate history = every (lines_at history) (place_plain history) (enumerate_from 0 history)
+middle_plain Resume history = every (lines_at history) (place_plain history) (enumerate_from 0 history)
 middle_plain Generate history = refl
+middle_plain Audit history = refl
 
 final_plain : (settings : Settings) (trace : TraceTables) (history : List Entry)
     → are_plain (final_lines settings trace history) ≡ true

@@ -1,5 +1,5 @@
 -- The settings that texts give are in their ranges.
-use Rattle.std.proofs.Common.{◌≡◌, ◌≤◌, ◌&&◌, ℕ, Bool, true, false, List, Option, Some, None, nat_le, refl, leb-true, lit≤, codes, if◌then◌else◌}
+use Rattle.std.proofs.Common.{◌≡◌, ◌≤◌, ◌&&◌, ℕ, Bool, true, false, List, Option, Some, None, nat_le, refl, leb-true, lit≤, arith, codes, if◌then◌else◌}
 use Rattle.std.specs.Prelude.{unwrap_or}
 use Rattle.std.specs.Option.{option_and_then}
 use Rattle.omega_model.specs.Numbers.{whole}
@@ -36,6 +36,11 @@ percentage percent fits text = go (is_text (codes "max") text) (is_text (codes "
     go false true = fits
     go false false = tt
 
+-- a decision time that a text gives, or the default
+decision_time : (default : ℕ) → default ≤ 1000000000 → (text : Option (List ℕ))
+    → IsFrom 0 1000000000 (unwrap_or (option_and_then (number_from 0 1000000000) text) default)
+decision_time default fits = let least : 0 ≤ default = omega arith in given_in_range 0 1000000000 default (least, fits)
+
 -- whatever the texts are
 pub settings_in_range : (texts : List ℕ → Option (List ℕ)) → IsInRange (settings_by texts)
 settings_in_range texts = record {
@@ -46,4 +51,8 @@ settings_in_range texts = record {
   window = given_in_range 1 1099511627776 300000000 (lit≤ tt, lit≤ tt) (texts (codes "window"));
   machines = (given_in_range 0 4096 64 (lit≤ tt, lit≤ tt) (texts (codes "machines"))).1;
   jobs = (given_in_range 0 20000 500 (lit≤ tt, lit≤ tt) (texts (codes "jobs"))).1;
+  t_job = (decision_time 100000 (lit≤ tt) (texts (codes "t-job"))).1;
+  t_task = (decision_time 5000 (lit≤ tt) (texts (codes "t-task"))).1;
+  service_t_job = (decision_time _ (decision_time 100000 (lit≤ tt) (texts (codes "t-job"))).1 (texts (codes "service-t-job"))).1;
+  service_t_task = (decision_time _ (decision_time 5000 (lit≤ tt) (texts (codes "t-task"))).1 (texts (codes "service-t-task"))).1;
 }

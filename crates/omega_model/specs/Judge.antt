@@ -48,12 +48,6 @@ changed history seen Coarse claim =
     refusal_if (list_any (touches claim.machine) (drop seen history))
     (Changed (seq history claim.machine) (seq (take seen history) claim.machine))
 
--- the same by one who knows the machine's sequence number now, and in the scheduler's copy if it is to
--- be the same
-abbrev pub changed_on : ℕ → Option ℕ → Option Verdict
-changed_on now None = None
-changed_on now (Some copy) = refusal_if (not (copy == now)) (Changed now copy)
-
 -- what a rule hands in of the scheduler's copy: the machine's sequence number there under the coarse
 -- rule, and nothing under the fine one
 abbrev pub known_of : List Entry → ℕ → Rule → ℕ → Option ℕ
@@ -137,11 +131,6 @@ judged_given change cell claim = with_evicted cell claim (verdict_given change c
 -- as the earlier claims of the transaction left it
 abbrev pub judge : List Entry → ℕ → Cell → Rule → Claim → Judgement
 judge history seen cell rule claim = judged_given (changed history seen rule claim) cell claim
-
--- the same by one who knows the machine's sequence number now, and in the scheduler's copy if it is to
--- be the same
-abbrev pub judge_on : Cell → ℕ → Option ℕ → Claim → Judgement
-judge_on cell now copy claim = judged_given (changed_on now copy) cell claim
 
 -- what is answered to a claim under the fine rule, whatever the history
 abbrev pub judge_fine : Cell → Claim → Judgement

@@ -5,10 +5,10 @@ use Rattle.std.specs.Option.{option_and_then}
 use Rattle.std.specs.Str.{bytes_eq}
 use Rattle.omega_model.specs.Numbers.{whole}
 
--- the values of an option: a folder, which may be any text; a whole number from the first bound up to
+-- the values of an option: the path of a folder or a file, which may be any text; a whole number from the first bound up to
 -- the second; or one of these names
 pub data Values : Type 0 where
-  a_folder : Values
+  a_path : Values
   a_number : ℕ → ℕ → Values
   one_of : List (List ℕ) → Values
 
@@ -28,8 +28,8 @@ choice name values = record { name = name; values = values }
 -- the whole table
 abbrev pub whole_table : WordTable
 whole_table = record {
-  commands = codes "replay" ∷ codes "run" ∷ codes "generate" ∷ [];
-  choices = choice (codes "tables") a_folder
+  commands = codes "replay" ∷ codes "run" ∷ codes "generate" ∷ codes "simulate" ∷ codes "resume" ∷ codes "audit" ∷ [];
+  choices = choice (codes "tables") a_path
       ∷ choice (codes "seed") (a_number 0 18446744073709551615)
       ∷ choice (codes "batch") (a_number 1 30)
       ∷ choice (codes "rule") (one_of (codes "fine" ∷ codes "coarse" ∷ []))
@@ -43,6 +43,11 @@ whole_table = record {
       ∷ choice (codes "format") (one_of (codes "text" ∷ codes "json" ∷ []))
       ∷ choice (codes "machines") (a_number 0 4096)
       ∷ choice (codes "jobs") (a_number 0 20000)
+      ∷ choice (codes "t-job") (a_number 0 1000000000)
+      ∷ choice (codes "t-task") (a_number 0 1000000000)
+      ∷ choice (codes "service-t-job") (a_number 0 1000000000)
+      ∷ choice (codes "service-t-task") (a_number 0 1000000000)
+      ∷ choice (codes "kept") a_path
       ∷ [];
 }
 
@@ -64,7 +69,7 @@ number_from low high text =
 
 -- whether a text is one of the values
 abbrev pub is_value : Values → List ℕ → Bool
-is_value a_folder text = true
+is_value a_path text = true
 is_value (a_number low high) text = is_some (number_from low high text)
 is_value (one_of names) text = is_among names text
 

@@ -2,7 +2,7 @@
 use Rattle.std.specs.Prelude.{ℕ, Bool, false, true, not, ◌&&◌, ◌==◌, List, [], ◌∷◌, Option, Some, None, codes, if◌then◌else◌}
 use Rattle.std.specs.Option.{option_map_or}
 use Rattle.std.specs.Str.{bytes_eq}
-use Rattle.omega_model.specs.Options.{Values, a_folder, WordTable, is_among, is_value, choice_at, dashed}
+use Rattle.omega_model.specs.Options.{Values, a_path, WordTable, is_among, is_value, choice_at, dashed}
 
 -- whether a text isn't empty and has no hyphen in front
 abbrev pub begins_plainly : List ℕ → Bool
@@ -11,7 +11,7 @@ begins_plainly (byte ∷ rest) = not (byte == 45)
 
 -- whether a text is one of the values, and can be told from an option's word
 abbrev pub is_plain_value : Values → List ℕ → Bool
-is_plain_value a_folder text = begins_plainly text
+is_plain_value a_path text = begins_plainly text
 is_plain_value values text = is_value values text
 
 -- whether a word is that of an option, and the text is one of its values

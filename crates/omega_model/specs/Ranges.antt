@@ -23,3 +23,7 @@ pub record IsInRange (settings : Settings) : Type 0 where
   pub window : IsFrom 1 1099511627776 settings.window
   pub machines : settings.machines ≤ 4096
   pub jobs : settings.jobs ≤ 20000
+  pub t_job : settings.t_job ≤ 1000000000
+  pub t_task : settings.t_task ≤ 1000000000
+  pub service_t_job : settings.service_t_job ≤ 1000000000
+  pub service_t_task : settings.service_t_task ≤ 1000000000

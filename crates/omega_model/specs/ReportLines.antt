@@ -14,7 +14,7 @@ use Rattle.omega_model.specs.declared.entries.Entry.{Entry}
 use Rattle.omega_model.specs.declared.entries.Entry.TheVariants.{Round, MachineAdd, MachineUpdate, MachineRemove, AttrSet, AttrDelete, End, Commit}
 use Rattle.omega_model.specs.declared.rows.TraceTables.{TraceTables}
 use Rattle.omega_model.specs.declared.settings.Command.{Command}
-use Rattle.omega_model.specs.declared.settings.Command.TheVariants.{Replay, Run, Generate}
+use Rattle.omega_model.specs.declared.settings.Command.TheVariants.{Replay, Run, Generate, Simulate, Resume, Audit}
 use Rattle.omega_model.specs.declared.settings.Settings.{Settings}
 
 -- the first line, with the version of the format
@@ -104,11 +104,15 @@ final_lines settings trace history =
     ++ use_line (state history)
     ∷ waiting_line settings trace history ∷ []
 
--- the lines between the first one and what the history comes to: the summary of `generate` has none
+-- the lines between the first one and what the history comes to: the summary of `generate` has none, and
+-- `audit` has another report
 abbrev pub middle_lines : Command → List Entry → List Line
 middle_lines Replay history = round_lines history
 middle_lines Run history = round_lines history
+middle_lines Simulate history = round_lines history
+middle_lines Resume history = round_lines history
 middle_lines Generate history = []
+middle_lines Audit history = []
 
 -- the lines of the report of a history
 abbrev pub printed_lines : Settings → TraceTables → List Entry → List Line

@@ -9,7 +9,7 @@ use Rattle.omega_model.specs.declared.claims.Mode.TheVariants.{Incremental, Gang
 use Rattle.omega_model.specs.declared.claims.Rule.{Rule}
 use Rattle.omega_model.specs.declared.claims.Rule.TheVariants.{Fine, Coarse}
 use Rattle.omega_model.specs.declared.settings.Command.{Command}
-use Rattle.omega_model.specs.declared.settings.Command.TheVariants.{Replay, Run, Generate}
+use Rattle.omega_model.specs.declared.settings.Command.TheVariants.{Replay, Run, Generate, Simulate, Resume, Audit}
 use Rattle.omega_model.specs.declared.settings.Extra.{Extra}
 use Rattle.omega_model.specs.declared.settings.Extra.TheVariants.{Max, Cap, Relative}
 use Rattle.omega_model.specs.declared.settings.Format.{Format}
@@ -39,7 +39,11 @@ is_text name text = option_map_or (λ given. bytes_eq given name) text false
 -- what each word says; no text, as any other text, stands for the default
 abbrev pub command_of : Option (List ℕ) → Command
 command_of text =
-    if is_text (codes "run") text then Run else (if is_text (codes "generate") text then Generate else Replay)
+    if is_text (codes "run") text then Run
+    else (if is_text (codes "generate") text then Generate
+    else (if is_text (codes "simulate") text then Simulate
+    else (if is_text (codes "resume") text then Resume
+    else (if is_text (codes "audit") text then Audit else Replay))))
 
 abbrev pub rule_of : Option (List ℕ) → Rule
 rule_of text = if is_text (codes "coarse") text then Coarse else Fine
@@ -75,18 +79,29 @@ settings_by texts = record {
   format = format_of (texts (codes "format"));
   machines = number_given texts (codes "machines") 64;
   jobs = number_given texts (codes "jobs") 500;
+  t_job = number_given texts (codes "t-job") 100000;
+  t_task = number_given texts (codes "t-task") 5000;
+  service_t_job = number_given texts (codes "service-t-job") (number_given texts (codes "t-job") 100000);
+  service_t_task = number_given texts (codes "service-t-task") (number_given texts (codes "t-task") 5000);
 }
 
 -- the folder of the tables
 abbrev pub folder_by : (List ℕ → Option (List ℕ)) → List ℕ
 folder_by texts = unwrap_or (texts (codes "tables")) (codes ".")
 
--- the settings and the folder of plain words
+-- the path of what is kept
+abbrev pub kept_by : (List ℕ → Option (List ℕ)) → List ℕ
+kept_by texts = unwrap_or (texts (codes "kept")) (codes "omega.db")
+
+-- the settings, the folder and the path of what is kept, of plain words
 abbrev pub settings_of : List (List ℕ) → Settings
 settings_of words = settings_by (text_given words)
 
 abbrev pub folder_of : List (List ℕ) → List ℕ
 folder_of words = folder_by (text_given words)
+
+abbrev pub kept_of : List (List ℕ) → List ℕ
+kept_of words = kept_by (text_given words)
 
 -- the settings where nothing is given
 abbrev pub default_settings : Settings

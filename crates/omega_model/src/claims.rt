@@ -126,3 +126,24 @@ impl Copied for Judgement {
         })
     }
 }
+
+impl Copied for Outcome {
+    fn copy(&self, alloc: Global) -> Result<Outcome, NoMemory> {
+        Ok(Outcome {
+            key: self.key,
+            verdict: self.verdict,
+            evicted: self.evicted.copy(alloc)?,
+        })
+    }
+}
+
+impl Copied for Txn {
+    fn copy(&self, alloc: Global) -> Result<Txn, NoMemory> {
+        Ok(Txn {
+            job: self.job,
+            rule: self.rule,
+            mode: self.mode,
+            claims: self.claims.copy(alloc)?,
+        })
+    }
+}

@@ -3,7 +3,8 @@ ghost use Rattle.std.specs.Prelude.{◌≡◌, ◌≤◌, length, option_map, sl
 ghost use Rattle.omega_model.specs.Parts.{PositionsRise};
 
 use crate::cells::{Machine, Tasks};
-use crate::list::Seq;
+use crate::list::{Copied, NoMemory, Seq};
+use std::alloc::Global;
 use std::marker::Model;
 
 /// A machine of a cell as it is now: its position in the list from 0, its row, how many entries
@@ -47,6 +48,13 @@ impl Delta {
         Delta { from, to, parts }
     }
 
+    /// How many entries a copy has seen that this delta can bring up to date.
+    pub fn from(&self) -> u64
+        ensures { result ≡ self.now.from }
+    {
+        self.from
+    }
+
     /// How many entries a copy has seen that this delta brought up to date.
     pub fn to(&self) -> u64
         ensures { result ≡ self.now.to }
@@ -74,5 +82,16 @@ impl Delta {
     {
         let Delta { parts, .. } = self;
         parts
+    }
+}
+
+impl Copied for Part {
+    fn copy(&self, alloc: Global) -> Result<Part, NoMemory> {
+        Ok(Part {
+            position: self.position,
+            machine: self.machine.copy(alloc)?,
+            seq: self.seq,
+            tasks: self.tasks.copy(alloc)?,
+        })
     }
 }

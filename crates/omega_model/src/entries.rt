@@ -1,7 +1,12 @@
 //! What a history is made of.
+ghost use Rattle.std.specs.Prelude.{◌≡◌, ◌==◌, ℕ, true, false, None};
+ghost use Rattle.std.specs.Option.{option_map_or};
+ghost use Rattle.omega_model.specs.Touches.{is_commit, touches};
+
 use crate::cells::{Need, TaskKey};
 use crate::claims::{Judgements, Txn};
-use crate::list::{Bytes, Seq};
+use crate::list::{Bytes, Copied, NoMemory, Seq};
+use std::alloc::Global;
 
 /// One step of the cell.
 #[derive(Debug, Drop)]
@@ -42,4 +47,69 @@ pub enum Entry {
     },
 }
 
+impl Entry {
+    /// The number of the one machine that an entry of a machine, of an attribute or of an end touches.
+    /// `None` for a round, which touches no machine, and for a commit, which touches those on which it
+    /// placed claims. Takes no memory.
+    pub fn machine(&self) -> Option<u64>
+        ensures touched { is_commit self.now ≡ false → (id : ℕ) → touches id self.now ≡ option_map_or (λ machine. machine == id) result false }
+        ensures commit { is_commit self.now ≡ true → result ≡ None }
+    {
+        match self {
+            Entry::MachineAdd { machine, .. }
+            | Entry::MachineUpdate { machine, .. }
+            | Entry::MachineRemove { machine }
+            | Entry::AttrSet { machine, .. }
+            | Entry::AttrDelete { machine, .. }
+            | Entry::End { machine, .. } => Some(*machine),
+            Entry::Round { .. } | Entry::Commit { .. } => None,
+        }
+    }
+}
+
 pub type Entries = Seq<Entry>;
+
+impl Copied for Entry {
+    fn copy(&self, alloc: Global) -> Result<Entry, NoMemory> {
+        Ok(match self {
+            Entry::Round { number } => Entry::Round { number: *number },
+            Entry::MachineAdd { machine, cap } => Entry::MachineAdd {
+                machine: *machine,
+                cap: *cap,
+            },
+            Entry::MachineUpdate { machine, cap } => Entry::MachineUpdate {
+                machine: *machine,
+                cap: *cap,
+            },
+            Entry::MachineRemove { machine } => Entry::MachineRemove { machine: *machine },
+            Entry::AttrSet {
+                machine,
+                name,
+                value,
+            } => Entry::AttrSet {
+                machine: *machine,
+                name: name.copy(alloc)?,
+                value: value.copy(alloc)?,
+            },
+            Entry::AttrDelete { machine, name } => Entry::AttrDelete {
+                machine: *machine,
+                name: name.copy(alloc)?,
+            },
+            Entry::End { key, machine } => Entry::End {
+                key: *key,
+                machine: *machine,
+            },
+            Entry::Commit {
+                scheduler,
+                seen,
+                txn,
+                reply,
+            } => Entry::Commit {
+                scheduler: *scheduler,
+                seen: *seen,
+                txn: txn.copy(alloc)?,
+                reply: reply.copy(alloc)?,
+            },
+        })
+    }
+}

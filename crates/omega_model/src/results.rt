@@ -43,7 +43,12 @@ pub enum Status {
     },
     /// This many there are, which is above the limit.
     TooMany(Kind, u64),
-    /// The report or a table that was generated can't be written.
+    /// The kept line of this number, counted from 0, isn't that of the run, or isn't the line of an
+    /// entry that could come there.
+    BadKept(u64),
+    /// What is to be kept can't be loaded or appended to.
+    KeepFault,
+    /// The report can't be written.
     WriteFault,
     /// Memory ran out.
     NoMemory,

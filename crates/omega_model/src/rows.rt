@@ -191,6 +191,12 @@ pub type Rows = Seq<Row>;
 
 pub type Rounds = Seq<Round>;
 
+impl Copied for MachineRow {
+    fn copy(&self, _alloc: Global) -> Result<MachineRow, NoMemory> {
+        Ok(*self)
+    }
+}
+
 impl Copied for AttrRow {
     fn copy(&self, alloc: Global) -> Result<AttrRow, NoMemory> {
         Ok(AttrRow {
@@ -200,6 +206,12 @@ impl Copied for AttrRow {
             value: self.value.copy(alloc)?,
             deleted: self.deleted,
         })
+    }
+}
+
+impl Copied for TaskRow {
+    fn copy(&self, _alloc: Global) -> Result<TaskRow, NoMemory> {
+        Ok(*self)
     }
 }
 
@@ -221,5 +233,24 @@ impl Copied for ActivityRow {
 impl Copied for DiskRow {
     fn copy(&self, _alloc: Global) -> Result<DiskRow, NoMemory> {
         Ok(*self)
+    }
+}
+
+impl Copied for Row {
+    fn copy(&self, alloc: Global) -> Result<Row, NoMemory> {
+        Ok(match self {
+            Row::Machine(row) => Row::Machine(row.copy(alloc)?),
+            Row::Attr(row) => Row::Attr(row.copy(alloc)?),
+            Row::Task(row) => Row::Task(row.copy(alloc)?),
+        })
+    }
+}
+
+impl Copied for Round {
+    fn copy(&self, alloc: Global) -> Result<Round, NoMemory> {
+        Ok(Round {
+            number: self.number,
+            rows: self.rows.copy(alloc)?,
+        })
     }
 }

@@ -7,9 +7,18 @@ use crate::claims::{Mode, Policy, Rule};
 /// What the program does.
 #[derive(Clone, Copy, Debug, PartialEq, Eq)]
 pub enum Command {
+    /// The tables of a folder, the schedulers in fixed turns.
     Replay,
+    /// The same with a thread for each scheduler.
     Run,
+    /// Turns on tables that are made of a seed; prints a summary.
     Generate,
+    /// The tables of a folder by a virtual clock: decisions take time.
+    Simulate,
+    /// A replay whose history is kept, and that goes on from what was kept.
+    Resume,
+    /// What was kept is replayed alone, without tables.
+    Audit,
 }
 
 /// Which schedulers may evict tasks of lower precedence.
@@ -59,6 +68,14 @@ pub struct Settings {
     pub machines: u32,
     /// How many jobs are generated: at most 20,000.
     pub jobs: u32,
+    /// How long a scheduler decides on an attempt, in microseconds: at most 1,000,000,000.
+    pub t_job: u64,
+    /// How much longer for each task that is still to be placed: at most 1,000,000,000.
+    pub t_task: u64,
+    /// The same of the scheduler of services.
+    pub service_t_job: u64,
+    /// The same of the scheduler of services.
+    pub service_t_task: u64,
 }
 
 impl Default for Settings {
@@ -82,6 +99,10 @@ impl Default for Settings {
             format: Format::Text,
             machines: 64,
             jobs: 500,
+            t_job: 100_000,
+            t_task: 5_000,
+            service_t_job: 100_000,
+            service_t_task: 5_000,
         }
     }
 }

@@ -1,5 +1,5 @@
 //! Text, which contracts see as its bytes.
-ghost use Rattle.std.specs.Prelude.{◌≡◌};
+ghost use Rattle.std.specs.Prelude.{◌≡◌, ◌↔◌, IsTrue, [], length};
 ghost use Rattle.std.specs.String.{string_bytes};
 
 use std::marker::Model;
@@ -25,6 +25,20 @@ impl Text {
         ensures { result ≡ string_bytes text }
     {
         Text { string: text }
+    }
+
+    /// How many bytes it has. Takes no memory.
+    pub fn len(&self) -> usize
+        ensures { result ≡ length self.now }
+    {
+        self.string.len()
+    }
+
+    /// Whether it has no byte. Takes no memory.
+    pub fn is_empty(&self) -> bool
+        ensures { IsTrue result ↔ (self.now ≡ []) }
+    {
+        self.string.is_empty()
     }
 
     /// The text itself.

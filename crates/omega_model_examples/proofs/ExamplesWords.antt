@@ -1,11 +1,11 @@
 -- Worked words: which are plain, and which settings they give.
 use Rattle.std.proofs.Common.{◌≡◌, List, ℕ, [], ◌∷◌, true, false, refl, codes}
-use Rattle.omega_model.specs.Options.{WordTable, is_value, part, whole_table, a_folder}
+use Rattle.omega_model.specs.Options.{WordTable, is_value, part, whole_table, a_path}
 use Rattle.omega_model.specs.PlainWords.{is_plain, is_plain_value}
-use Rattle.omega_model.specs.WordSettings.{default_settings, folder_of, settings_of}
+use Rattle.omega_model.specs.WordSettings.{default_settings, folder_of, kept_of, settings_of}
 use Rattle.omega_model.specs.declared.claims.Mode.TheVariants.{Incremental, Gang}
 use Rattle.omega_model.specs.declared.claims.Rule.TheVariants.{Fine, Coarse}
-use Rattle.omega_model.specs.declared.settings.Command.TheVariants.{Replay, Run, Generate}
+use Rattle.omega_model.specs.declared.settings.Command.TheVariants.{Replay, Run, Generate, Audit}
 use Rattle.omega_model.specs.declared.settings.Extra.TheVariants.{Cap, Relative}
 use Rattle.omega_model.specs.declared.settings.Format.TheVariants as format
 use Rattle.omega_model.specs.declared.settings.Preempt.TheVariants.{Nobody, All}
@@ -78,13 +78,13 @@ other_name : is_plain whole_table (codes "run" ∷ codes "--rule" ∷ codes "loo
 other_name = refl
 
 -- a folder that is empty or looks like an option is a value, but not of plain words
-empty_folder : is_plain_value a_folder [] ≡ false
+empty_folder : is_plain_value a_path [] ≡ false
 empty_folder = refl
 
 hyphen : is_plain whole_table (codes "run" ∷ codes "--tables" ∷ codes "-x" ∷ []) ≡ false
 hyphen = refl
 
-any_folder : is_value a_folder (codes "-x") ≡ true
+any_folder : is_value a_path (codes "-x") ≡ true
 any_folder = refl
 
 -- ---- a part of the table
@@ -117,8 +117,15 @@ the_defaults : default_settings ≡ record {
   format = format.Text;
   machines = 64;
   jobs = 500;
+  t_job = 100000;
+  t_task = 5000;
+  service_t_job = 100000;
+  service_t_task = 5000;
 }
 the_defaults = refl
+
+of_another_command : settings_of (codes "audit" ∷ []) ≡ record default_settings { command = Audit }
+of_another_command = refl
 
 of_a_command : settings_of (codes "generate" ∷ []) ≡ record default_settings { command = Generate }
 of_a_command = refl
@@ -126,7 +133,7 @@ of_a_command = refl
 -- the values of all options
 abbrev many : List (List ℕ)
 many =
-    codes "run" ∷ codes "--jobs" ∷ codes "7" ∷ codes "--machines" ∷ codes "8" ∷ codes "--format" ∷ codes "json"
+    codes "run" ∷ codes "--service-t-task" ∷ codes "15" ∷ codes "--t-job" ∷ codes "16" ∷ codes "--kept" ∷ codes "kept.db" ∷ codes "--jobs" ∷ codes "7" ∷ codes "--machines" ∷ codes "8" ∷ codes "--format" ∷ codes "json"
     ∷ codes "--window" ∷ codes "9" ∷ codes "--give-up" ∷ codes "10" ∷ codes "--tries" ∷ codes "11" ∷ codes "--cap" ∷ codes "12"
     ∷ codes "--extra" ∷ codes "cap" ∷ codes "--preempt" ∷ codes "all" ∷ codes "--mode" ∷ codes "gang" ∷ codes "--rule"
     ∷ codes "coarse" ∷ codes "--batch" ∷ codes "13" ∷ codes "--seed" ∷ codes "14" ∷ codes "--tables" ∷ codes "data" ∷ []
@@ -145,6 +152,10 @@ of_many : settings_of many ≡ record {
   format = format.Json;
   machines = 8;
   jobs = 7;
+  t_job = 16;
+  t_task = 5000;
+  service_t_job = 16;
+  service_t_task = 15;
 }
 of_many = refl
 
@@ -153,6 +164,12 @@ many_are_plain = refl
 
 folder_of_many : folder_of many ≡ codes "data"
 folder_of_many = refl
+
+kept_of_many : kept_of many ≡ codes "kept.db"
+kept_of_many = refl
+
+default_kept : kept_of (codes "resume" ∷ []) ≡ codes "omega.db"
+default_kept = refl
 
 default_folder : folder_of (codes "run" ∷ []) ≡ codes "."
 default_folder = refl

@@ -43,6 +43,10 @@ settings = record {
   format = Text;
   machines = 0;
   jobs = 0;
+  t_job = 100000;
+  t_task = 5000;
+  service_t_job = 100000;
+  service_t_task = 5000;
 }
 
 -- a machine, and a task of job 1

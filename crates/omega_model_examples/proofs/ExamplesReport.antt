@@ -43,6 +43,10 @@ settings command format = record {
   format = format;
   machines = 64;
   jobs = 500;
+  t_job = 100000;
+  t_task = 5000;
+  service_t_job = 100000;
+  service_t_task = 5000;
 }
 
 -- CPU and memory alike, and disk

@@ -82,6 +82,10 @@ settings seed = record {
   format = Text;
   machines = 0;
   jobs = 0;
+  t_job = 100000;
+  t_task = 5000;
+  service_t_job = 100000;
+  service_t_task = 5000;
 }
 
 -- with two machines schedulers 0 and 2 begin at the first, and scheduler 1 at the second

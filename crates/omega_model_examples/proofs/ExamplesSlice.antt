@@ -37,6 +37,10 @@ settings = record {
   format = Text;
   machines = 64;
   jobs = 500;
+  t_job = 100000;
+  t_task = 5000;
+  service_t_job = 100000;
+  service_t_task = 5000;
 }
 
 -- two tasks that were submitted on machines, a task that is killed, and two that must be apart, of which

@@ -61,6 +61,10 @@ settings = record {
   format = Text;
   machines = 0;
   jobs = 0;
+  t_job = 100000;
+  t_task = 5000;
+  service_t_job = 100000;
+  service_t_task = 5000;
 }
 
 -- a machine of capacity 10 and a task of need 6 for each of jobs 1 and 2

@@ -57,6 +57,10 @@ settings batch extra = record {
   format = Text;
   machines = 0;
   jobs = 0;
+  t_job = 100000;
+  t_task = 5000;
+  service_t_job = 100000;
+  service_t_task = 5000;
 }
 
 -- a task row of this job, index, code and class; the task needs 100000000 and has precedence 2

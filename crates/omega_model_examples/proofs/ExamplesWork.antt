@@ -82,6 +82,10 @@ settings_with tries give_up = record {
   format = Text;
   machines = 0;
   jobs = 0;
+  t_job = 100000;
+  t_task = 5000;
+  service_t_job = 100000;
+  service_t_task = 5000;
 }
 
 -- a row that submits a task of this need

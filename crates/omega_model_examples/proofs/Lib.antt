@@ -1,0 +1,15 @@
+mod Examples
+mod ExamplesCell
+mod ExamplesCopy
+mod ExamplesDraws
+mod ExamplesExtras
+mod ExamplesFeed
+mod ExamplesLawful
+mod ExamplesTurns
+mod ExamplesWork
+mod ExamplesWorld
+mod TableExamples
+mod ExamplesWords
+mod ExamplesReport
+mod ExamplesSlice
+mod ExamplesGenerated
