@@ -1,0 +1,10 @@
+pub mod NextCommit
+pub mod Orders
+pub mod TurnOrder
+pub mod InRound
+pub mod Constraints
+pub mod WholeCommits
+pub mod VirtualTime
+pub mod Simulated
+pub mod Ticking
+pub mod TimeReport
