@@ -1,0 +1,12 @@
+pub mod FirstOf
+pub mod Soonest
+pub mod Added
+pub mod Early
+pub mod OneByOne
+pub mod Shorter
+pub mod Asked
+pub mod Standings
+pub mod Ticks
+pub mod InTime
+pub mod Pigeons
+pub mod Fitting

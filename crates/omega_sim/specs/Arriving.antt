@@ -1,0 +1,42 @@
+-- What the lines of time need of a trace.
+use Rattle.std.specs.Prelude.{◌≡◌, ℕ, List, [], ◌∷◌, ◌-◌, Option, Some, None, option_map, max}
+use Rattle.std.specs.List.{find, fold}
+use Rattle.omega_model.specs.Feed.{rounds, time_of}
+use Rattle.omega_model.specs.Lawful.{rows_of}
+use Rattle.omega_model.specs.Requests.{job_of_row}
+use Rattle.omega_model.specs.declared.rows.Row.{Row}
+use Rattle.omega_model.specs.declared.rows.Round.{Round}
+use Rattle.omega_model.specs.declared.rows.TraceTables.{TraceTables}
+use Rattle.omega_model.specs.declared.settings.Settings.{Settings}
+use Rattle.omega_sim.specs.Firsts.{time_at}
+use Rattle.omega_laws.specs.Simulated.{greatest_time}
+use Rattle.omega_laws.specs.TimeReport.{is_job}
+use Rattle.omega_sim.specs.declared.arrivals.Arrivals.{Arrivals}
+use Rattle.omega_sim.specs.declared.firsts.FirstTimes.{FirstTimes}
+
+-- when the first task row of a job comes among these, if there is one
+abbrev pub first_time : ℕ → List Row → Option ℕ
+first_time job rows = option_map time_of (find (λ row. is_job job (job_of_row row)) rows)
+
+-- these are the first times of the jobs of some rows
+abbrev pub Arrive : List Row → FirstTimes → Type 0
+Arrive rows times = (job : ℕ) → time_at times job ≡ first_time job rows
+
+-- the greatest time of the first round's rows, and that of the last one's, if there is a round
+abbrev pub bases : List Round → Option (ℕ × ℕ)
+bases [] = None
+bases (first ∷ rest) = Some (greatest_time first.rows, greatest_time (fold (λ (last round : Round). round) first rest).rows)
+
+-- what is held is when each job of these rounds comes first, and the times of the first and the last round
+pub record AreArrivals (some : List Round) (arrivals : Arrivals) : Type 0 where
+  pub came : Arrive (rows_of some) arrivals.first_times
+  pub based : arrivals.bases ≡ bases some
+
+-- it is that of a trace
+abbrev pub AreArrivalsOf : Settings → TraceTables → Arrivals → Type 0
+AreArrivalsOf settings trace arrivals = AreArrivals (rounds trace settings.window) arrivals
+
+-- from the first round's time to the last round's, or to the last commit, if that is later
+abbrev pub span_from : Option (ℕ × ℕ) → ℕ → ℕ
+span_from None until = 0
+span_from (Some (first, last)) until = max last until - first

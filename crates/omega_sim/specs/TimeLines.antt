@@ -1,0 +1,30 @@
+-- The lines of a report that say how long schedulers decided and how long jobs waited.
+use Rattle.std.specs.Prelude.{ℕ, List, [], ◌∷◌, codes, length}
+use Rattle.std.specs.List.{flat_map, range_with_len}
+use Rattle.omega_model.specs.Feed.{rounds}
+use Rattle.omega_model.specs.Policy.{schedulers}
+use Rattle.omega_model.specs.Report.{Line, Name, Number}
+use Rattle.omega_model.specs.declared.entries.Entry.{Entry}
+use Rattle.omega_model.specs.declared.rows.TraceTables.{TraceTables}
+use Rattle.omega_model.specs.declared.settings.Settings.{Settings}
+use Rattle.omega_laws.specs.TimeReport.{busy, committed_jobs, span, wait}
+use Rattle.omega_laws.specs.VirtualTime.{Timed}
+
+-- the line of how long a scheduler decided, of so long a time
+abbrev pub busy_line : ℕ → ℕ → ℕ → Line
+busy_line scheduler decided whole = Name (codes "busy") ∷ Number scheduler ∷ Number decided ∷ Number whole ∷ []
+
+-- the line of how many jobs of a scheduler have a commit, and how long these waited
+abbrev pub wait_line : ℕ → ℕ → ℕ → Line
+wait_line scheduler jobs waited = Name (codes "wait") ∷ Number scheduler ∷ Number jobs ∷ Number waited ∷ []
+
+-- both lines of a scheduler
+abbrev pub lines_of_one : Settings → TraceTables → List Entry → List Timed → ℕ → List Line
+lines_of_one settings trace history times scheduler =
+    busy_line scheduler (busy scheduler times) (span (rounds trace settings.window) times)
+    ∷ wait_line scheduler (length (committed_jobs scheduler history times)) (wait trace history times scheduler) ∷ []
+
+-- those of each scheduler, from 0
+abbrev pub lines_of_time : Settings → TraceTables → List Entry → List Timed → List Line
+lines_of_time settings trace history times =
+    flat_map (lines_of_one settings trace history times) (range_with_len 0 (schedulers settings))

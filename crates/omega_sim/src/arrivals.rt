@@ -1,0 +1,111 @@
+//! What the lines of time need of a trace.
+ghost use Rattle.std.specs.Prelude.{◌≡◌, ◌∷◌, ◌++◌, [], ◌<◌, ◌^◌, List, All, IfOk, OnOk};
+ghost use Rattle.omega_model.specs.Feed.{time_of};
+ghost use Rattle.omega_model.specs.Lawful.{rows_of};
+ghost use Rattle.omega_model.specs.Requests.{job_of_row};
+ghost use Rattle.omega_model.specs.declared.rows.Row.{Row};
+ghost use Rattle.omega_sim.specs.Arriving.{AreArrivals, Arrive, bases, span_from};
+ghost use Rattle.omega_sim.specs.Firsts.{time_at};
+ghost use Rattle.omega_laws.specs.Simulated.{greatest_time};
+
+use crate::firsts::FirstTimes;
+use omega_feed::time_of;
+use omega_model::{NoMemory, Round, Row};
+use std::alloc::Global;
+
+/// When each job of a trace comes first, and when its first and its last round begin, in microseconds.
+/// It takes the memory of the jobs, and its rows can be let go.
+#[derive(Drop)]
+pub struct Arrivals {
+    pub first_times: FirstTimes,
+    /// The greatest time of the first round's rows, and that of the last one's, if there is a round.
+    bases: Option<(u64, u64)>,
+}
+
+impl Arrivals {
+    /// Those of the trace with these rounds, all of whose times have 64 bits. Costs a look-up for each
+    /// task row.
+    pub fn of(alloc: Global, rounds: &[Round]) -> Result<Arrivals, NoMemory>
+        ensures arrivals { IfOk result (AreArrivals rounds.now) }
+        ensures early { OnOk result (All (λ row. time_of row < 2 ^ 64) (rows_of rounds.now)) }
+    {
+        let mut first_times = FirstTimes::new(alloc);
+        for round in rounds {
+            note_rows(&mut first_times, round.rows.as_slice())?;
+        }
+        Ok(Arrivals {
+            first_times,
+            bases: bases(rounds),
+        })
+    }
+
+    /// From the first round's time to the last round's, or to this time, if that is later. It is 0 where
+    /// there is no round.
+    pub fn span(&self, until: u128) -> u128
+        ensures { result ≡ span_from self.now.bases until }
+    {
+        match self.bases {
+            None => 0,
+            Some((first, last)) => u128::from(last)
+                .max(until)
+                .saturating_sub(u128::from(first)),
+        }
+    }
+}
+
+// The greatest time of the first round's rows, and that of the last one's.
+fn bases(rounds: &[Round]) -> Option<(u64, u64)>
+    ensures { result ≡ bases rounds.now }
+{
+    let first = rounds.first()?;
+    let last = rounds.last()?;
+    Some((
+        greatest_time(first.rows.as_slice()),
+        greatest_time(last.rows.as_slice()),
+    ))
+}
+
+/// The greatest time of some rows, in microseconds, or 0 where there is none. Costs a look at each row.
+pub fn greatest_time(rows: &[Row]) -> u64
+    ensures { result ≡ greatest_time rows.now }
+{
+    let mut greatest = 0;
+    for row in rows {
+        greatest = time_of(row).max(greatest);
+    }
+    greatest
+}
+
+// Notes the jobs of some rows, each with its first time.
+fn note_rows(first_times: &mut FirstTimes, rows: &[Row]) -> Result<(), NoMemory>
+    ensures arrive { OnOk result ((before : List Row) → Arrive before first_times.old → Arrive (before ++ rows.now) first_times.new) }
+    ensures early { OnOk result (All (λ row. time_of row < 2 ^ 64) rows.now) }
+{
+    for row in rows {
+        note_row(first_times, row)?;
+    }
+    Ok(())
+}
+
+// Notes the job of a row, if it has one.
+fn note_row(first_times: &mut FirstTimes, row: &Row) -> Result<(), NoMemory>
+    ensures arrive { OnOk result ((before : List Row) → Arrive before first_times.old → Arrive (before ++ row.now ∷ []) first_times.new) }
+    ensures early { time_of row.now < 2 ^ 64 }
+{
+    let time = time_of(row);
+    let Some(job) = job_of(row) else {
+        return Ok(());
+    };
+    first_times.note(job, u128::from(time))?;
+    Ok(())
+}
+
+// The job of a task row.
+fn job_of(row: &Row) -> Option<u64>
+    ensures { result ≡ job_of_row row.now }
+{
+    match row {
+        Row::Task(task) => Some(task.key.job),
+        Row::Machine(_) | Row::Attr(_) => None,
+    }
+}
