@@ -11,7 +11,7 @@ use Rattle.omega_model.specs.Report.{Line, Word, Name, Number}
 use Rattle.omega_model.specs.ReportForms.{is_plain, is_plain_byte, line_json, word_json}
 use Rattle.omega_model.specs.Work.{is_empty}
 use Rattle.omega_report.specs.Items.{line_data, word_data}
-use Rattle.omega_report.proofs.Joined.{join_words}
+use Rattle.omega_report.proofs.Joined.{join_items}
 
 -- ---- plain bytes have no escape
 
@@ -50,7 +50,7 @@ line_compact (word ∷ line) plain =
     let parts = and_parts (is_plain word) (list_all is_plain line) plain in
     ap₂ (λ (a b : List ℕ). 91 ∷ (a ++ b)) (word_compact word parts.0) (more_compact line parts.1)
     ∙ ap (λ (b : List ℕ). 91 ∷ b) (sym (append_assoc (word_json word) (flat_map (λ (w : Word). 44 ∷ word_json w) line) (93 ∷ [])))
-    ∙ ap (λ (b : List ℕ). 91 ∷ (b ++ 93 ∷ [])) (sym (join_words word_json 44 word line))
+    ∙ ap (λ (b : List ℕ). 91 ∷ (b ++ 93 ∷ [])) (sym (join_items word_json 44 word line))
 
 word_whole : (word : Word) → has_float (word_data word) ≡ false
 word_whole (Name name) = refl

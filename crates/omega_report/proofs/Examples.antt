@@ -15,6 +15,7 @@ use Rattle.omega_model.specs.declared.claims.Verdict.{Verdict}
 use Rattle.omega_model.specs.declared.claims.Verdict.TheVariants.{Placed, NoMachine, AlreadyRunning, Changed, VictimRank, SameJob, Full, Withdrawn}
 use Rattle.omega_model.specs.declared.entries.Entry.TheVariants.{Round, Commit}
 use Rattle.omega_model.specs.declared.settings.Format.TheVariants.{Text, Json}
+use Rattle.omega_report.specs.JsonOfText.{json_of_words}
 use Rattle.omega_report.specs.Lines.{end_line, sizes_line, stop_line, unplaced_line, usage_line}
 
 unfoldable key : ℕ → ℕ → TaskKey
@@ -138,3 +139,10 @@ nothing_text = refl
 
 nothing_json : in_format Json [] ≡ codes "[]\n"
 nothing_json = refl
+
+-- the JSON of a line that is given as text, and of a number that 64 bits hold no more
+waited : json_of_words ((codes "wait" ∷ codes "1" ∷ codes "2" ∷ codes "105000" ∷ []) ∷ []) ≡ codes "[[\"wait\",1,2,105000]]\n"
+waited = refl
+
+wide : json_of_words ((codes "18446744073709551615" ∷ codes "18446744073709551616" ∷ []) ∷ []) ≡ codes "[[18446744073709551615,\"18446744073709551616\"]]\n"
+wide = refl

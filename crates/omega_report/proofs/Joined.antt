@@ -1,10 +1,9 @@
--- Words as the first one, and then the others behind what parts them.
+-- Items as the first one, and then the others behind what parts them.
 use Rattle.std.proofs.Common.{◌≡◌, ℕ, List, [], ◌∷◌, ◌++◌, map, sym, ap}
 use Rattle.std.specs.List.{flat_map, join_with_byte}
 use Rattle.std.proofs.lemmas.List.{append-nil}
-use Rattle.omega_model.specs.Report.{Line, Word}
 
-pub join_words : (form : Word → List ℕ) (gap : ℕ) (word : Word) (words : Line)
-    → join_with_byte gap (map form (word ∷ words)) ≡ form word ++ flat_map (λ (w : Word). gap ∷ form w) words
-join_words form gap word [] = sym (append-nil (form word))
-join_words form gap word (next ∷ words) = ap (λ (rest : List ℕ). form word ++ gap ∷ rest) (join_words form gap next words)
+pub join_items : {X : Type 0} (form : X → List ℕ) (gap : ℕ) (item : X) (items : List X)
+    → join_with_byte gap (map form (item ∷ items)) ≡ form item ++ flat_map (λ (other : X). gap ∷ form other) items
+join_items form gap item [] = sym (append-nil (form item))
+join_items form gap item (next ∷ items) = ap (λ (rest : List ℕ). form item ++ gap ∷ rest) (join_items form gap next items)

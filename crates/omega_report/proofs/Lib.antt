@@ -6,10 +6,12 @@ pub mod Tallying
 pub mod PassGrows
 pub mod Summed
 pub mod RoundsCounted
-pub mod Naming
-pub mod LawfulApplies
 pub mod Compact
 pub mod Growing
 pub mod Joined
+pub mod ShortNumbers
+pub mod ShortWords
+pub mod Texts
+pub mod Written
 pub mod ReadBack
 pub mod Spelled

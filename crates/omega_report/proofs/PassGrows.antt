@@ -17,7 +17,7 @@ use Rattle.omega_model.specs.declared.cells.Task.{Task}
 use Rattle.omega_model.specs.declared.cells.TaskKey.{TaskKey}
 use Rattle.omega_model.specs.declared.entries.Entry.{Entry}
 use Rattle.omega_model.specs.declared.settings.Command.{Command}
-use Rattle.omega_model.specs.declared.settings.Command.TheVariants.{Replay, Run, Generate}
+use Rattle.omega_model.specs.declared.settings.Command.TheVariants.{Replay, Run, Generate, Simulate, Resume, Audit}
 use Rattle.omega_model.specs.declared.settings.Format.{Format}
 use Rattle.omega_model.proofs.Growing.{state_push}
 use Rattle.omega_model.proofs.Standing.{failed_push}
@@ -178,7 +178,10 @@ module _ (schedulers : ℕ) (format : Format) (start : List Line) (prints : Bool
 middle_printed : (command : Command) (history : List Entry) → if_printed (prints_rounds command) (round_lines history) ≡ middle_lines command history
 middle_printed Replay history = refl
 middle_printed Run history = refl
+middle_printed Simulate history = refl
+middle_printed Resume history = refl
 middle_printed Generate history = refl
+middle_printed Audit history = refl
 
 -- a pass past the last entry is one over the whole history
 pub after_all : (schedulers : ℕ) (format : Format) (start : List Line) (command : Command) (prints : Bool) (history : List Entry) (n : ℕ) (pass : Pass) → prints ≡ prints_rounds command

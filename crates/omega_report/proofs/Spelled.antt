@@ -54,7 +54,7 @@ plain_spelled byte plain = elim (or_cases (byte == 45) _ plain) [
   | inr small ↦ high byte (letter byte small)
 ]
 
-no_digit : (byte : ℕ) → is_plain_byte byte ≡ true → is_digit byte ≡ false
+pub no_digit : (byte : ℕ) → is_plain_byte byte ≡ true → is_digit byte ≡ false
 no_digit byte plain = elim (or_cases (byte == 45) _ plain) [
   | inl dash ↦ let e = eqb-true byte 45 dash in grind (arith, nat_tests)
   | inr small ↦ let above = letter byte small in grind (arith, nat_tests)
@@ -68,7 +68,7 @@ name_spelled (byte ∷ bytes) plain =
     let parts = and_parts (is_plain_byte byte) (list_all is_plain_byte bytes) plain in
     (plain_spelled byte parts.0, name_spelled bytes parts.1)
 
-bytes_plain : (name : List ℕ) → is_plain (Name name) ≡ true → list_all is_plain_byte name ≡ true
+pub bytes_plain : (name : List ℕ) → is_plain (Name name) ≡ true → list_all is_plain_byte name ≡ true
 bytes_plain name plain = (and_parts (not (is_empty name)) (list_all is_plain_byte name) plain).1
 
 name_read : (name : List ℕ) → is_plain (Name name) ≡ true → (words : Line) → words_read words name ≡ words ++ Name name ∷ []
@@ -84,7 +84,7 @@ digits_spelled [] all = tt
 digits_spelled (digit ∷ digits) all =
     let range = digit_from_value digit all.0 in (low digit (omega arith) (omega arith), digits_spelled digits all.1)
 
-is_read : (digit : ℕ) → 48 ≤ digit → digit ≤ 57 → is_digit digit ≡ true
+pub is_read : (digit : ℕ) → 48 ≤ digit → digit ≤ 57 → is_digit digit ≡ true
 is_read digit above below = grind (arith, nat_tests)
 
 digits_read : (digits : List ℕ) → 0 < length digits → AllDigits 10 digits

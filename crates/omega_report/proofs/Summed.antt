@@ -10,8 +10,9 @@ use Rattle.omega_model.specs.Feed.{rounds}
 use Rattle.omega_model.specs.Policy.{schedulers}
 use Rattle.omega_model.specs.Report.{Line}
 use Rattle.omega_model.specs.ReportCounts.{Counts, abandoned, counts_of, jobs_of, waiting}
-use Rattle.omega_model.specs.ReportForms.{in_format, printed_report}
-use Rattle.omega_model.specs.ReportLines.{counts_line, final_lines, first_line, middle_lines, scheduler_lines}
+use Rattle.omega_model.specs.ReportForms.{in_format}
+use Rattle.omega_model.specs.ReportLines.{counts_line, final_lines, first_line, middle_lines, printed_lines, scheduler_lines}
+use Rattle.omega_model.specs.declared.settings.Format.{Format}
 use Rattle.omega_model.specs.Requests.{failed, given_up}
 use Rattle.omega_model.specs.State.{state}
 use Rattle.omega_model.specs.declared.cells.Need.{Need}
@@ -98,10 +99,10 @@ pub if_ok : {T E : Type 0} (P Q : T → Type 0) (result : Result T E) → ((valu
 if_ok P Q (Ok value) follows holds = follows value holds
 if_ok P Q (Err error) follows holds = tt
 
--- a page on which all lines stand is the report
-pub report_said : (settings : Settings) (trace : TraceTables) (history : List Entry) (page : PageState) (empty first : List Line) → empty ≡ [] → first ≡ empty ++ first_line ∷ []
-    → page.format ≡ settings.format → page.lines ≡ (first ++ middle_lines settings.command history) ++ final_lines settings trace history
-    → in_format page.format page.lines ≡ printed_report settings trace history
-report_said settings trace history page empty first none begun format lines =
+-- a page on which all lines stand is the report in its form
+pub report_said : (settings : Settings) (form : Format) (trace : TraceTables) (history : List Entry) (page : PageState) (empty first : List Line) → empty ≡ [] → first ≡ empty ++ first_line ∷ []
+    → page.format ≡ form → page.lines ≡ (first ++ middle_lines settings.command history) ++ final_lines settings trace history
+    → in_format page.format page.lines ≡ in_format form (printed_lines settings trace history)
+report_said settings form trace history page empty first none begun format lines =
     let start : first ≡ first_line ∷ [] = begun ∙ ap (λ ls. ls ++ first_line ∷ []) none in
     ap₂ in_format format (lines ∙ ap (λ ls. (ls ++ middle_lines settings.command history) ++ final_lines settings trace history) start)

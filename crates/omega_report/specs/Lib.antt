@@ -1,11 +1,12 @@
 pub mod Counted
 pub mod Items
+pub mod JsonOfText
 pub mod Lines
 pub mod Noted
 pub mod Pages
 pub mod Readings
 pub mod Spelling
 pub mod Tallies
+pub mod Writing
 pub mod Failing
 pub mod Passing
-pub mod Ranging

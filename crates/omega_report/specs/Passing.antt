@@ -8,7 +8,7 @@ use Rattle.omega_model.specs.Requests.{failed}
 use Rattle.omega_model.specs.declared.entries.Entry.{Entry}
 use Rattle.omega_model.specs.declared.entries.Entry.TheVariants.{Round}
 use Rattle.omega_model.specs.declared.settings.Command.{Command}
-use Rattle.omega_model.specs.declared.settings.Command.TheVariants.{Replay, Run, Generate}
+use Rattle.omega_model.specs.declared.settings.Command.TheVariants.{Replay, Run, Generate, Simulate, Resume, Audit}
 use Rattle.omega_model.specs.declared.settings.Format.{Format}
 use Rattle.omega_report.specs.Counted.{counts_in}
 use Rattle.omega_report.specs.Failing.{count_of}
@@ -20,7 +20,10 @@ use Rattle.omega_report.specs.declared.pass.Pass.{Pass}
 abbrev pub prints_rounds : Command → Bool
 prints_rounds Replay = true
 prints_rounds Run = true
+prints_rounds Simulate = true
+prints_rounds Resume = true
 prints_rounds Generate = false
+prints_rounds Audit = false
 
 -- whether an entry begins a round
 abbrev pub begins_round : Entry → Bool

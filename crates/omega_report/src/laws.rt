@@ -1,17 +1,15 @@
-//! What holds of every lawful history, by the definitions alone.
-ghost use Rattle.std.specs.Prelude.{◌<◌, ◌^◌, List, length};
-ghost use Rattle.omega_model.specs.Applying.{EachMayApply};
-ghost use Rattle.omega_model.specs.Lawful.{Lawful};
-ghost use Rattle.omega_model.specs.Limits.{IsWithinLimits};
-ghost use Rattle.omega_model.specs.declared.entries.Entry.{Entry};
-ghost use Rattle.omega_model.specs.declared.rows.TraceTables.{TraceTables};
-ghost use Rattle.omega_model.specs.declared.settings.Settings.{Settings};
-ghost use Rattle.omega_report.specs.Ranging.{RowsAreInRange};
+//! What holds of JSON, by the definitions alone.
+ghost use Rattle.std.specs.Prelude.{◌≡◌, List, true};
+ghost use Rattle.std.specs.List.{list_all};
+ghost use Rattle.omega_model.specs.Report.{Line};
+ghost use Rattle.omega_model.specs.ReportForms.{are_plain, json_of};
+ghost use Rattle.omega_model.specs.declared.settings.Format.{Format};
+ghost use Rattle.omega_report.specs.JsonOfText.{in_wide_format};
+ghost use Rattle.omega_report.specs.Spelling.{are_short};
 
-/// Each entry of a lawful history could be applied to the state of those before it, where the tables
-/// are within the limits and their rows in their ranges. Does nothing: the contract is the law.
-pub fn lawful_histories_apply()
-    ensures { (settings : Settings) (trace : TraceTables) (history : List Entry)
-        → IsWithinLimits trace → RowsAreInRange trace → length history < 2 ^ 64
-        → Lawful settings trace history → EachMayApply history }
+/// Where all words of some lines are plain and all their numbers have 64 bits, the JSON that is made of
+/// their text is that of the lines. Does nothing: the contract is the law.
+pub fn json_of_short_lines()
+    ensures { (lines : List Line) → are_plain lines ≡ true → list_all are_short lines ≡ true
+        → in_wide_format Format.Json lines ≡ json_of lines }
 {}

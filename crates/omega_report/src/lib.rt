@@ -12,6 +12,7 @@ mod claims;
 mod counts;
 mod entry_lines;
 mod failures;
+mod json_of_text;
 mod judgements;
 mod laws;
 mod lines;
@@ -21,5 +22,6 @@ mod reporting;
 mod tally;
 mod words;
 
-pub use laws::lawful_histories_apply;
-pub use reporting::report;
+pub use json_of_text::json_of;
+pub use laws::json_of_short_lines;
+pub use reporting::{report, report_as};

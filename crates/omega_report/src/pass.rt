@@ -94,8 +94,8 @@ fn prints_rounds(command: Command) -> bool
     ensures { result ≡ prints_rounds command }
 {
     match command {
-        Command::Replay | Command::Run => true,
-        Command::Generate => false,
+        Command::Replay | Command::Run | Command::Simulate | Command::Resume => true,
+        Command::Generate | Command::Audit => false,
     }
 }
 

@@ -5,12 +5,12 @@ ghost use Rattle.omega_feed.specs.Left.{IsLeft};
 ghost use Rattle.omega_model.specs.Lawful.{Lawful};
 ghost use Rattle.omega_model.specs.Policy.{schedulers};
 ghost use Rattle.omega_model.specs.Report.{Line};
-ghost use Rattle.omega_model.specs.ReportForms.{printed_report};
-ghost use Rattle.omega_model.specs.ReportLines.{final_lines};
+ghost use Rattle.omega_model.specs.ReportForms.{in_format, printed_report};
+ghost use Rattle.omega_model.specs.ReportLines.{final_lines, printed_lines};
 ghost use Rattle.omega_model.specs.State.{state};
 ghost use Rattle.omega_model.specs.declared.entries.Entry.{Entry};
 ghost use Rattle.omega_model.specs.declared.rows.TraceTables.{TraceTables};
-ghost use Rattle.omega_model.specs.declared.settings.Format.{Format};
+ghost use Rattle.omega_model.specs.declared.settings.Format.{Format as Form};
 ghost use Rattle.omega_report.specs.Failing.{count_of};
 ghost use Rattle.omega_report.specs.Passing.{begins_round, lines_of_all, IsAfter};
 
@@ -20,18 +20,10 @@ use crate::page::Page;
 use crate::pass::{Pass, passed};
 use omega_cell::{Effects, Usage};
 use omega_feed::WaitingTasks;
-use omega_model::{Bytes, Entry, NoMemory, Settings};
+use omega_model::{Bytes, Entry, Format, NoMemory, Settings};
 use std::alloc::Global;
 
-/// The bytes of the report of a history in the settings' format: the lines of its entries, each on the
-/// state of those before it, what is used at the end of each round, and what the history comes to. For
-/// `generate` there is only the first line and what the history comes to.
-///
-/// `effects` are those of the history, and there are at most 30 batch schedulers. The bytes are the
-/// report for each trace of which the history is a whole run under these settings, and of which `left`
-/// is what waits at the history's end.
-///
-/// Costs the entries and the lines. No line costs the machines or the tasks that run.
+/// The bytes of the report of a history in the settings' format: what `report_as` answers in it.
 pub fn report(
     alloc: Global,
     settings: &Settings,
@@ -45,7 +37,33 @@ pub fn report(
         → Lawful settings.now trace history.now → IsLeft trace (state history.now) left.now
         → bytes ≡ printed_report settings.now trace history.now) }
 {
-    let mut page = Page::new(alloc, settings.format);
+    report_as(alloc, settings.format, settings, history, effects, left)
+}
+
+/// The bytes of the report of a history in this format: the lines of its entries, each on the
+/// state of those before it, what is used at the end of each round, and what the history comes to. For
+/// `generate` there is only the first line and what the history comes to.
+///
+/// `effects` are those of the history, and there are at most 30 batch schedulers. The bytes are the
+/// report for each trace of which the history is a whole run under these settings, and of which `left`
+/// is what waits at the history's end.
+///
+/// Costs the entries and the lines. No line costs the machines or the tasks that run.
+pub fn report_as(
+    alloc: Global,
+    format: Format,
+    settings: &Settings,
+    history: &[Entry],
+    effects: &Effects,
+    left: &WaitingTasks,
+) -> Result<Bytes, NoMemory>
+    requires batch { settings.now.batch ≤ 30 }
+    requires effects { AreEffects history.now effects.now }
+    ensures { IfOk result (λ bytes. (trace : TraceTables)
+        → Lawful settings.now trace history.now → IsLeft trace (state history.now) left.now
+        → bytes ≡ in_format format (printed_lines settings.now trace history.now)) }
+{
+    let mut page = Page::new(alloc, format);
     page.first()?;
     let pass = passed(alloc, settings, page, history, effects)?;
     summed_up(settings, history, effects.last, left, pass)?.finish()
@@ -62,7 +80,7 @@ fn summed_up(
     requires batch { settings.now.batch ≤ 30 }
     requires last { last ≡ usage_in (state history.now) }
     requires counted { length pass.tally ≡ schedulers settings.now }
-    ensures { IfOk result (λ page. (trace : TraceTables) (format : Format) (lines : List Line)
+    ensures { IfOk result (λ page. (trace : TraceTables) (format : Form) (lines : List Line)
         → Lawful settings.now trace history.now → IsLeft trace (state history.now) left.now
         → IsAfter (schedulers settings.now) format lines history.now pass
         → (page.format ≡ format) × (page.lines ≡ lines ++ final_lines settings.now trace history.now)) }

@@ -2,7 +2,7 @@ use Rattle.std.proofs.Common.{append_assoc}
 use Rattle.std.specs.Prelude.{map}
 use Rattle.omega_model.specs.Report.{word_text}
 use Rattle.omega_report.specs.Spelling.{word_of}
-use Rattle.omega_report.proofs.Joined.{join_words}
+use Rattle.omega_report.proofs.Joined.{join_items}
 use Rattle.omega_report.proofs.as_text.push_words.Goals as goal
 
 pub returns-in_ok-push_more-in-Some-clause-bytes :
@@ -12,6 +12,6 @@ returns-in_ok-push_more-in-Some-clause-bytes c =
       c.in_ok-push_more-in-Some.ensures.bytes,
       c.in_ok-push_word-in-Some.ensures.bytes,
       c.in-Some.ensures.cases.0,
-      join_words word_text 32 (word_of c.in-Some.first.now) (map word_of c.in-Some.more.now),
+      join_items word_text 32 (word_of c.in-Some.first.now) (map word_of c.in-Some.more.now),
     )
     (simp append_assoc)
