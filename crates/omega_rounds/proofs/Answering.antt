@@ -20,8 +20,8 @@ use Rattle.omega_model.specs.declared.settings.Settings.{Settings}
 use Rattle.omega_model.specs.declared.wishes.Wish.{Wish}
 use Rattle.omega_model.proofs.Lists.{by_answer}
 use Rattle.omega_desk.specs.Walks.{are_wished}
-use Rattle.omega_rounds.proofs.OtherJobs.{IsFor, claim_is_for}
-use Rattle.omega_rounds.proofs.Suited.{OfValue}
+use Rattle.omega_laws.proofs.OtherJobs.{IsFor, claim_is_for}
+use Rattle.omega_laws.proofs.Suited.{OfValue}
 
 -- outcomes for some of the wishes are so with one more wish in front, where fewer outcomes are so too
 with_wish : (outcomes : List Outcome) (wish : Wish) (wishes : List Wish)

@@ -18,10 +18,10 @@ use Rattle.omega_machines.specs.declared.MachineState.{MachineState}
 use Rattle.omega_board.specs.Board.{cell_of}
 use Rattle.omega_board.proofs.Commits.{cell_is}
 use Rattle.omega_copy.specs.Copies.{CopyOf, CopyState}
-use Rattle.omega_rounds.specs.NextCommit.{attempt_txn}
+use Rattle.omega_laws.specs.NextCommit.{attempt_txn}
 use Rattle.omega_rounds.specs.Seats.{IsSeat}
 use Rattle.omega_rounds.specs.declared.seat.Seat.{Seat}
-use Rattle.omega_rounds.proofs.Agreeing.{is_attempt}
+use Rattle.omega_laws.proofs.Agreeing.{is_attempt}
 
 -- a plan on a copy, from the place at which the scheduler's next attempt begins, is that of the attempt
 pub planned_is : (settings : Settings) (scheduler : ℕ) (policy : Policy) (copy : CopyState) (request : Request) (start : ℕ) (result : Result Txn NoMemory)

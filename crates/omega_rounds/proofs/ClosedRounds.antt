@@ -17,7 +17,7 @@ use Rattle.omega_model.specs.declared.rows.Round.{Round}
 use Rattle.omega_model.specs.declared.rows.TraceTables.{TraceTables}
 use Rattle.omega_model.specs.declared.settings.Settings.{Settings}
 use Rattle.omega_rounds.specs.Closed.{AreBack, IsBack, IsCommitOfOne, IsDone}
-use Rattle.omega_rounds.specs.InRound.{rows_before, rows_now}
+use Rattle.omega_laws.specs.InRound.{rows_before, rows_now}
 use Rattle.omega_rounds.specs.Keeping.{HasBegun, IsLawful, IsWorld, world_at}
 use Rattle.omega_rounds.specs.Players.{IsOwnDesk, MayStand, OwnMayStand}
 use Rattle.omega_rounds.specs.Seats.{IsDeskOf, synced_of}

@@ -20,11 +20,11 @@ use Rattle.omega_model.specs.declared.settings.Settings.{Settings}
 use Rattle.omega_model.specs.declared.wishes.Request.{Request}
 use Rattle.omega_desk.specs.Counts.{count_of}
 use Rattle.omega_desk.specs.Desks.{DeskState, left_at}
-use Rattle.omega_rounds.specs.NextCommit.{attempt, attempt_txn}
+use Rattle.omega_laws.specs.NextCommit.{attempt, attempt_txn}
 use Rattle.omega_rounds.specs.Players.{IsOwnDesk}
 use Rattle.omega_rounds.specs.Seats.{IsDeskOf, IsRoutedTo}
 use Rattle.omega_rounds.specs.SeatSteps.{attempt_outcomes}
-use Rattle.omega_rounds.proofs.Agreeing.{agrees_first}
+use Rattle.omega_laws.proofs.Agreeing.{agrees_first}
 use Rattle.omega_rounds.proofs.CommitCounts.{failed_commit, failed_other, length-reply_of}
 use Rattle.omega_rounds.proofs.SeatCommits.{moved_to}
 

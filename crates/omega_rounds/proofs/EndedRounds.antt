@@ -8,7 +8,7 @@ use Rattle.omega_rounds.specs.Closed.{IsDone}
 use Rattle.omega_rounds.specs.Going.{IsFirstAtWork, OpensRound, ReachesRound}
 use Rattle.omega_rounds.specs.Playing.{IsAtStart, IsInSomeRun}
 use Rattle.omega_rounds.specs.Stages.{IsInRunOf, Stage, WorldState, next_stage, rows_begun, source_of, world_of}
-use Rattle.omega_rounds.proofs.Agreeing.{works_or_idle}
+use Rattle.omega_laws.proofs.Agreeing.{works_or_idle}
 
 -- the rounds that have begun are over, in the run in which the world was at the start
 pub record HasEnded (start now : WorldState) : Type 0 where

@@ -1,27 +1,11 @@
 mod Crossing
 mod PlayersTogether
-pub mod Places
-pub mod RowEntries
-pub mod LastCommits
-pub mod Agreeing
-pub mod RoundGrows
-pub mod RoundsAdd
-pub mod AnyOrder
-pub mod CommitsRead
-pub mod TurnOrder
 pub mod TurnsTaken
 pub mod Taking
 pub mod AttemptsLeft
+mod Examples
 pub mod Worlds
 pub mod TwoPasses
-pub mod Suited
-pub mod MachinesStay
-pub mod OtherJobs
-pub mod OneJob
-pub mod RoundFronts
-pub mod EntireGangs
-pub mod WholeGangs
-mod Examples
 pub mod Attempted
 pub mod SeatLists
 pub mod Answering
@@ -41,6 +25,9 @@ pub mod WorldGoes
 pub mod PlayedTurns
 pub mod EndedRounds
 pub mod PlayedRounds
+pub mod ClockSteps
+pub mod InTime
+pub mod TickedRounds
 pub mod Without
 pub mod PlayingOn
 pub mod RoundFailures

@@ -16,10 +16,10 @@ use Rattle.omega_model.specs.declared.entries.Entry.TheVariants.{Round as RoundE
 use Rattle.omega_model.specs.declared.rows.Row.{Row}
 use Rattle.omega_model.specs.declared.rows.Round.{Round}
 use Rattle.omega_model.specs.declared.rows.TraceTables.{TraceTables}
-use Rattle.omega_cell.specs.Cells.{is_commit}
+use Rattle.omega_model.specs.Touches.{is_commit}
 use Rattle.omega_copy.specs.Copies.{CopyOf, CopyState}
 use Rattle.omega_rounds.proofs.CommitCounts.{commits_other, copy_grown}
-use Rattle.omega_rounds.proofs.RowEntries.{IsOfRow, are_of_row}
+use Rattle.omega_laws.proofs.RowEntries.{IsOfRow, are_of_row}
 
 -- an entry of a row is no commit
 of_row_none : (entry : Entry) → IsOfRow entry → is_commit entry ≡ false

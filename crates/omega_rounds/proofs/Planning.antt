@@ -12,8 +12,7 @@ use Rattle.omega_model.specs.declared.entries.Entry.{Entry}
 use Rattle.omega_model.specs.declared.settings.Settings.{Settings}
 use Rattle.omega_machines.specs.declared.MachineState.{MachineState}
 use Rattle.omega_machines.specs.Table.{machines_of, seq_at}
-use Rattle.omega_board.specs.Board.{BoardState, cell_of}
-use Rattle.omega_cell.specs.Cells.{IsBoardOf}
+use Rattle.omega_board.specs.Board.{BoardState, cell_of, IsBoardOf}
 use Rattle.omega_copy.specs.Copies.{CopyOf, CopyState, without_room}
 use Rattle.omega_desk.specs.Desks.{DeskState}
 use Rattle.omega_rounds.specs.Plans.{IsAtDesk}

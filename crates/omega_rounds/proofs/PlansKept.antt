@@ -21,7 +21,7 @@ use Rattle.omega_copy.specs.declared.indexes.Indexes.{Indexes}
 use Rattle.omega_desk.specs.Desks.{DeskState}
 use Rattle.omega_lock.specs.Lists.{StartsWith}
 use Rattle.omega_shared.specs.Commits.{GoesOnWithout}
-use Rattle.omega_rounds.specs.NextCommit.{attempt}
+use Rattle.omega_laws.specs.NextCommit.{attempt}
 use Rattle.omega_rounds.specs.Plans.{HasPlan, HasPlanAfter, IsPlan}
 use Rattle.omega_rounds.specs.SeatSteps.{SeatSteps}
 use Rattle.omega_rounds.specs.declared.plans.Planned.{Planned}

@@ -12,7 +12,7 @@ use Rattle.omega_rounds.specs.Playing.{BeginsTurn, IsAtStart, IsInSomeRun, IsRou
 use Rattle.omega_rounds.specs.Stages.{IsInRunOf, Stage, WorldState, next_stage, rows_begun, world_of}
 use Rattle.omega_rounds.specs.Taking.{Taking}
 use Rattle.omega_rounds.proofs.EndedRounds.{HasEnded, ended_more, ended_none}
-use Rattle.omega_rounds.proofs.Places.{take_next}
+use Rattle.omega_laws.proofs.Places.{take_next}
 use Rattle.omega_rounds.proofs.Taking.{taking_first}
 use Rattle.omega_rounds.proofs.WorldSteps.{rows_more}
 

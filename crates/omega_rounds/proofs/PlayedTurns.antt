@@ -11,7 +11,7 @@ use Rattle.omega_model.specs.declared.rows.Round.{Round}
 use Rattle.omega_model.specs.declared.rows.TraceTables.{TraceTables}
 use Rattle.omega_model.specs.declared.settings.Settings.{Settings}
 use Rattle.omega_rounds.specs.Going.{IsRoundOver, LeavesToDo, answer_of}
-use Rattle.omega_rounds.specs.NextCommit.{NobodyHasWork}
+use Rattle.omega_laws.specs.NextCommit.{NobodyHasWork}
 use Rattle.omega_rounds.specs.Passes.{Committing, IdleBelow, Syncing}
 use Rattle.omega_rounds.specs.Playing.{BeginsTurn, CommitsInTurn, CommitsTurn, IsRoundNow, PlaysRound, SyncsTurn, TakesTurnFrom, is_committed}
 use Rattle.omega_rounds.specs.Stages.{IsInRunOf, Stage, WorldState, rows_begun, world_of}
@@ -27,7 +27,7 @@ StepsFrom stage old scheduler new stepped =
     → Step stage.settings trace (rows_begun stage) stage.opened_at (world_of old) scheduler (world_of new) (answer_of stepped)
 
 -- it is one in the round that is under way
-step_now : (stage : Stage) (old new : WorldState) (scheduler : ℕ) (stepped : Stepped) → StepsFrom stage old scheduler new stepped
+pub step_now : (stage : Stage) (old new : WorldState) (scheduler : ℕ) (stepped : Stepped) → StepsFrom stage old scheduler new stepped
     → (trace : TraceTables) (before : List Row) (start : List Entry) (round : Round) → IsRoundNow trace before start round stage
     → Step stage.settings trace (before ++ round.rows) (length (opened trace before start round).history) (world_of old) scheduler (world_of new) (answer_of stepped)
 step_now stage old new scheduler stepped steps trace before start round now =
@@ -143,7 +143,7 @@ committing_more old now new committed next stepped is known stage steps leaves =
     }
 
 -- nobody has work in the round that is under way
-over_now : (world : WorldState) (trace : TraceTables) (before : List Row) (start : List Entry) (round : Round) → IsRoundNow trace before start round world.stage
+pub over_now : (world : WorldState) (trace : TraceTables) (before : List Row) (start : List Entry) (round : Round) → IsRoundNow trace before start round world.stage
     → NobodyHasWork world.stage.settings trace (before ++ round.rows) (length (opened trace before start round).history) world.history
     → IsRoundOver trace world
 over_now world trace before start round now nobody =

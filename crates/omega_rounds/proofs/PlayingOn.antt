@@ -18,7 +18,7 @@ use Rattle.omega_desk.specs.Desks.{AnswersFirst, DeskState, IsSameDesk, left_at}
 use Rattle.omega_shared.specs.Commits.{GoesOnWithout, commit_after}
 use Rattle.omega_shared.specs.Passes.{PassState}
 use Rattle.omega_shared.specs.Turns.{Commits, SpendsTurn}
-use Rattle.omega_rounds.specs.NextCommit.{attempt, attempt_txn}
+use Rattle.omega_laws.specs.NextCommit.{attempt, attempt_txn}
 use Rattle.omega_rounds.specs.Players.{HasPlayed, IsOwnDesk, MayPlay, MayStand, OwnMayStand}
 use Rattle.omega_rounds.specs.PlayingOn.{IsSynced, PlansFirst, PlaysOn}
 use Rattle.omega_rounds.specs.Seats.{IsSeat, synced_of, to_do_of, IsAtRest, SyncedWithin}
@@ -27,7 +27,7 @@ use Rattle.omega_rounds.specs.declared.player.Player.{Player}
 use Rattle.omega_rounds.specs.declared.seat.Seat.{Seat}
 use Rattle.omega_rounds.proofs.Attempted.{start_of_seat}
 use Rattle.omega_rounds.proofs.DeskCommits.{own_desk_own}
-use Rattle.omega_rounds.proofs.LastCommits.{after_last-within}
+use Rattle.omega_laws.proofs.LastCommits.{after_last-within}
 use Rattle.omega_rounds.proofs.SeatCommits.{IsCommitting, answers_first, commits_first, fewer_left, first_some, seat_after}
 use Rattle.omega_rounds.proofs.Without.{after_last-without, attempt_without, desk_without, longer_without, seat_without, stand_without}
 

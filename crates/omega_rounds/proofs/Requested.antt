@@ -25,7 +25,7 @@ use Rattle.omega_model.proofs.OpenRequests.{requests_from_open}
 use Rattle.omega_desk.proofs.Asked.{requests_distinct}
 use Rattle.omega_desk.specs.Walks.{HasDistinctWishes}
 use Rattle.omega_rounds.specs.Seats.{IsRoutedTo}
-use Rattle.omega_rounds.proofs.Suited.{OfValue, each_mapped}
+use Rattle.omega_laws.proofs.Suited.{OfValue, each_mapped}
 
 -- the request of a job
 of_job : (settings : Settings) (trace : TraceTables) (scheduler job : ℕ) (wishes : List Wish) → scheduler_of settings trace job ≡ scheduler

@@ -13,7 +13,7 @@ use Rattle.omega_copy.specs.Copies.{CopyState}
 use Rattle.omega_desk.specs.Desks.{AnswersFirst, DeskState, IsSameDesk, left_at}
 use Rattle.omega_desk.specs.Walks.{are_wished}
 use Rattle.omega_rounds.specs.AttemptsLeft.{attempts_left}
-use Rattle.omega_rounds.specs.NextCommit.{attempt_txn}
+use Rattle.omega_laws.specs.NextCommit.{attempt_txn}
 use Rattle.omega_rounds.specs.Seats.{IsAtRest, IsSeat, to_do_of}
 use Rattle.omega_rounds.specs.SeatSteps.{CommitsFirst, attempt_outcomes}
 use Rattle.omega_rounds.specs.declared.plans.Planned.{Planned}

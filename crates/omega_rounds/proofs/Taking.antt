@@ -18,11 +18,11 @@ use Rattle.omega_model.specs.declared.rows.TraceTables.{TraceTables}
 use Rattle.omega_model.specs.declared.settings.Settings.{Settings}
 use Rattle.omega_model.specs.declared.wishes.Request.{Request}
 use Rattle.omega_model.proofs.Growing.{by_place_push}
-use Rattle.omega_rounds.specs.NextCommit.{HasNoWork, NobodyHasWork, WorksOn, attempt_txn}
+use Rattle.omega_laws.specs.NextCommit.{HasNoWork, NobodyHasWork, WorksOn, attempt_txn}
 use Rattle.omega_rounds.specs.Taking.{Taking}
-use Rattle.omega_rounds.specs.TurnOrder.{attempt_in_turn, sees_in_turn}
-use Rattle.omega_rounds.proofs.RoundGrows.{round_ends, round_first, round_push}
-use Rattle.omega_rounds.proofs.RowEntries.{IsOfRow, are_of_row}
+use Rattle.omega_laws.specs.TurnOrder.{attempt_in_turn, sees_in_turn}
+use Rattle.omega_laws.proofs.RoundGrows.{round_ends, round_first, round_push}
+use Rattle.omega_laws.proofs.RowEntries.{IsOfRow, are_of_row}
 use Rattle.omega_rounds.proofs.TurnsTaken.{turns_agrees, turns_around, turns_commit, turns_first, turns_keeps, turns_may, turns_skip}
 
 -- an entry of a row keeps to the turns

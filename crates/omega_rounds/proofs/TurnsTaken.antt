@@ -19,12 +19,12 @@ use Rattle.omega_model.specs.declared.rows.Round.{Round}
 use Rattle.omega_model.specs.declared.rows.TraceTables.{TraceTables}
 use Rattle.omega_model.specs.declared.settings.Settings.{Settings}
 use Rattle.omega_model.specs.declared.wishes.Request.{Request}
-use Rattle.omega_rounds.specs.NextCommit.{HasNoWork, WorksOn, attempt_txn}
+use Rattle.omega_laws.specs.NextCommit.{HasNoWork, WorksOn, attempt_txn}
 use Rattle.omega_rounds.specs.Taking.{TurnsAt}
-use Rattle.omega_rounds.specs.TurnOrder.{attempt_in_turn, began, sees_in_turn, turn_of}
-use Rattle.omega_rounds.proofs.Agreeing.{agrees_first, left_push-other, works_or_idle}
-use Rattle.omega_rounds.proofs.CommitsRead.{commits_push, opened_has_none, place_read, turn_push, turn_push-other}
-use Rattle.omega_rounds.proofs.LastCommits.{after_last-other, after_last-within}
+use Rattle.omega_laws.specs.TurnOrder.{attempt_in_turn, began, sees_in_turn, turn_of}
+use Rattle.omega_laws.proofs.Agreeing.{agrees_first, left_push-other, works_or_idle}
+use Rattle.omega_laws.proofs.CommitsRead.{commits_push, opened_has_none, place_read, turn_push, turn_push-other}
+use Rattle.omega_laws.proofs.LastCommits.{after_last-other, after_last-within}
 
 -- where no commit is of a turn, the turn begins at the next place
 begins_next : (turn : ℕ) (commits : List Taken) (place : ℕ) → All (λ (taken : Taken). taken.turn < turn) commits

@@ -18,11 +18,11 @@ use Rattle.omega_model.specs.declared.rows.Round.{Round}
 use Rattle.omega_model.specs.declared.rows.TraceTables.{TraceTables}
 use Rattle.omega_model.specs.declared.settings.Settings.{Settings}
 use Rattle.omega_model.specs.declared.wishes.Request.{Request}
-use Rattle.omega_rounds.specs.NextCommit.{HasNoWork, WorksOn, attempt, attempt_txn, left_of}
+use Rattle.omega_laws.specs.NextCommit.{HasNoWork, WorksOn, attempt, attempt_txn, left_of}
 use Rattle.omega_rounds.specs.Passes.{AwaitTurn, Committing, IdleBelow, Syncing}
 use Rattle.omega_rounds.specs.Taking.{Taking, TurnsAt}
-use Rattle.omega_rounds.specs.TurnOrder.{attempt_in_turn, began, sees_in_turn, turn_of}
-use Rattle.omega_rounds.proofs.Agreeing.{is_attempt, left_push-other, works_or_idle}
+use Rattle.omega_laws.specs.TurnOrder.{attempt_in_turn, began, sees_in_turn, turn_of}
+use Rattle.omega_laws.proofs.Agreeing.{is_attempt, left_push-other, works_or_idle}
 use Rattle.omega_rounds.proofs.Taking.{taking_around, taking_commit, taking_skip}
 use Rattle.omega_rounds.proofs.TurnsTaken.{turn_begins, turn_stays}
 

@@ -15,13 +15,13 @@ use Rattle.omega_model.specs.declared.wishes.Request.{Request}
 use Rattle.omega_copy.specs.Copies.{CopyOf, CopyState}
 use Rattle.omega_desk.specs.Desks.{DeskState}
 use Rattle.omega_shared.specs.Commits.{GoesOnWithout}
-use Rattle.omega_rounds.specs.NextCommit.{attempt_txn}
+use Rattle.omega_laws.specs.NextCommit.{attempt_txn}
 use Rattle.omega_rounds.specs.Players.{IsOwnDesk, MayStand, OwnMayStand}
 use Rattle.omega_rounds.specs.Seats.{IsSeat}
 use Rattle.omega_rounds.specs.declared.seat.Seat.{Seat}
 use Rattle.omega_rounds.proofs.CommitCounts.{commits_other, copy_grown, synced_longer}
 use Rattle.omega_rounds.proofs.DeskCommits.{own_desk_other}
-use Rattle.omega_rounds.proofs.LastCommits.{after_last-none}
+use Rattle.omega_laws.proofs.LastCommits.{after_last-none}
 
 -- what stays with each entry that is no commit of a scheduler stays in a history that goes on without one
 module _ (scheduler : ℕ) (P : List Entry → Type 0)

@@ -33,9 +33,9 @@ use Rattle.omega_copy.specs.Copies.{CopyOf, CopyState}
 use Rattle.omega_desk.specs.Counts.{count_of}
 use Rattle.omega_desk.specs.Desks.{DeskState, left_at, still_tried}
 use Rattle.omega_rounds.specs.AttemptsLeft.{attempts_left}
-use Rattle.omega_rounds.specs.InRound.{RoundIsOver, rows_now}
+use Rattle.omega_laws.specs.InRound.{RoundIsOver, rows_now}
 use Rattle.omega_rounds.specs.Keeping.{HasBegun, HasNotBegun, IsLawful, IsWorld, world_at}
-use Rattle.omega_rounds.specs.NextCommit.{NobodyHasWork}
+use Rattle.omega_laws.specs.NextCommit.{NobodyHasWork}
 use Rattle.omega_rounds.specs.Opening.{BeginAll, BeginsSeat, HaveNoWork, IsAsked}
 use Rattle.omega_rounds.specs.Playing.{IsAtStart}
 use Rattle.omega_rounds.specs.Seats.{IsDeskOf, IsRoutedTo, IsSeat, synced_of, to_do_of, SyncedWithin}
@@ -43,9 +43,9 @@ use Rattle.omega_rounds.specs.Stages.{IsInRunOf, Source, Stage, next_stage, rows
 use Rattle.omega_rounds.specs.declared.seat.Seat.{Seat}
 use Rattle.omega_rounds.proofs.PlansKept.{indexes_opened, plan_none}
 use Rattle.omega_rounds.proofs.OpenedEntries.{commits_opened, copy_opened, failed_opened}
-use Rattle.omega_rounds.proofs.Places.{take_next}
+use Rattle.omega_laws.proofs.Places.{take_next}
 use Rattle.omega_rounds.proofs.Requested.{open_own, requests_own}
-use Rattle.omega_rounds.proofs.RoundGrows.{has_left_opened}
+use Rattle.omega_laws.proofs.RoundGrows.{has_left_opened}
 use Rattle.omega_rounds.proofs.SeatLists.{seen_none, sum_none, sum_of_none}
 use Rattle.omega_rounds.proofs.WorldSteps.{new_idle, rows_more, rows_same, state_at}
 use Rattle.omega_rounds.proofs.Worlds.{begins_done, begins_rows, goes_done, goes_rows, world_begins, world_goes_on}

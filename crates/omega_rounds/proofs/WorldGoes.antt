@@ -15,9 +15,9 @@ use Rattle.omega_model.specs.declared.rows.TraceTables.{TraceTables}
 use Rattle.omega_model.specs.declared.settings.Settings.{Settings}
 use Rattle.omega_model.specs.declared.wishes.Request.{Request}
 use Rattle.omega_rounds.specs.Going.{IsFirstAtWork}
-use Rattle.omega_rounds.specs.InRound.{RoundIsOver, rows_now}
+use Rattle.omega_laws.specs.InRound.{RoundIsOver, rows_now}
 use Rattle.omega_rounds.specs.Keeping.{IsWorld, world_at}
-use Rattle.omega_rounds.specs.NextCommit.{NobodyHasWork}
+use Rattle.omega_laws.specs.NextCommit.{NobodyHasWork}
 use Rattle.omega_rounds.specs.Opening.{HaveNoWork, has_work}
 use Rattle.omega_rounds.specs.Stages.{IsInRunOf, Source, Stage}
 use Rattle.omega_rounds.specs.declared.seat.Seat.{Seat}

@@ -23,9 +23,9 @@ use Rattle.omega_model.specs.declared.settings.Settings.{Settings}
 use Rattle.omega_desk.specs.Desks.{DeskState, left_at}
 use Rattle.omega_rounds.specs.AttemptsLeft.{attempts_left}
 use Rattle.omega_rounds.specs.Going.{answer_of}
-use Rattle.omega_rounds.specs.InRound.{StepsInRound, rows_now}
+use Rattle.omega_laws.specs.InRound.{StepsInRound, rows_now}
 use Rattle.omega_rounds.specs.Keeping.{HasBegun, HasNotBegun, IsLawful, IsWorld, world_at}
-use Rattle.omega_rounds.specs.NextCommit.{attempt, attempt_txn}
+use Rattle.omega_laws.specs.NextCommit.{attempt, attempt_txn}
 use Rattle.omega_rounds.specs.Plans.{HasPlan}
 use Rattle.omega_rounds.specs.Seats.{IsDeskOf, IsRoutedTo, IsSeat, synced_of, to_do_of}
 use Rattle.omega_rounds.specs.SeatSteps.{SeatSteps}
@@ -35,7 +35,7 @@ use Rattle.omega_rounds.specs.declared.steps.Stepped.{Stepped}
 use Rattle.omega_rounds.specs.declared.steps.Stepped.TheVariants.{Synced, Committed, Idle}
 use Rattle.omega_rounds.proofs.CommitCounts.{commits_other, copy_grown, synced_longer}
 use Rattle.omega_rounds.proofs.DeskCommits.{desk_other, desk_own}
-use Rattle.omega_rounds.proofs.Places.{take_next}
+use Rattle.omega_laws.proofs.Places.{take_next}
 use Rattle.omega_rounds.proofs.PlansKept.{plans_after}
 use Rattle.omega_rounds.proofs.Requested.{requests_none}
 use Rattle.omega_rounds.proofs.SeatCommits.{fewer_left}

@@ -21,12 +21,12 @@ use Rattle.omega_model.specs.declared.rows.TraceTables.{TraceTables}
 use Rattle.omega_model.specs.declared.settings.Settings.{Settings}
 use Rattle.omega_model.specs.declared.wishes.Request.{Request}
 use Rattle.omega_model.proofs.RoundsInOrder.{rounds_push}
-use Rattle.omega_rounds.specs.InRound.{RoundIsOver, StepsInRound, rows_before, rows_now}
-use Rattle.omega_rounds.specs.NextCommit.{left_of}
-use Rattle.omega_rounds.proofs.Agreeing.{agrees_first}
-use Rattle.omega_rounds.proofs.LastCommits.{after_last-other, after_last-within}
-use Rattle.omega_rounds.proofs.Places.{front_within, take_last, take_next}
-use Rattle.omega_rounds.proofs.RoundGrows.{round_ends, round_first, round_push}
+use Rattle.omega_laws.specs.InRound.{RoundIsOver, StepsInRound, rows_before, rows_now}
+use Rattle.omega_laws.specs.NextCommit.{left_of}
+use Rattle.omega_laws.proofs.Agreeing.{agrees_first}
+use Rattle.omega_laws.proofs.LastCommits.{after_last-other, after_last-within}
+use Rattle.omega_laws.proofs.Places.{front_within, take_last, take_next}
+use Rattle.omega_laws.proofs.RoundGrows.{round_ends, round_first, round_push}
 
 -- a copy stays within its bounds after a commit of another scheduler
 between_grown : (opened_at : ℕ) (history : List Entry) (by seen_then : ℕ) (txn : Txn) (reply : List Judgement) (scheduler seen : ℕ) → by ≢ scheduler

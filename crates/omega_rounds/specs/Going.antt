@@ -8,7 +8,7 @@ use Rattle.omega_model.specs.World.StepAnswer.{Idle as IdleAnswer, Synced as Syn
 use Rattle.omega_model.specs.declared.rows.Round.{Round}
 use Rattle.omega_model.specs.declared.rows.TraceTables.{TraceTables}
 use Rattle.omega_model.specs.declared.wishes.Request.{Request}
-use Rattle.omega_rounds.specs.NextCommit.{HasNoWork, NobodyHasWork, WorksOn}
+use Rattle.omega_laws.specs.NextCommit.{HasNoWork, NobodyHasWork, WorksOn}
 use Rattle.omega_rounds.specs.Stages.{AllHaveBegun, Stage, WorldState, next_stage, rows_begun, world_of}
 use Rattle.omega_rounds.specs.declared.steps.RoundStep.{RoundStep}
 use Rattle.omega_rounds.specs.declared.steps.RoundStep.TheVariants.{Begun, Unfinished, Over}

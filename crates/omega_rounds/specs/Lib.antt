@@ -1,12 +1,6 @@
-pub mod NextCommit
-pub mod Orders
-pub mod TurnOrder
 pub mod Taking
 pub mod Passes
 pub mod AttemptsLeft
-pub mod InRound
-pub mod Constraints
-pub mod Gangs
 pub mod Stages
 pub mod Seats
 pub mod Keeping
@@ -15,6 +9,8 @@ pub mod SeatSteps
 pub mod Plans
 pub mod Opening
 pub mod Playing
+pub mod Clocked
+pub mod InTime
 pub mod Players
 pub mod PlayingOn
 pub mod Closed

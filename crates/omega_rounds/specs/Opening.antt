@@ -8,7 +8,7 @@ use Rattle.omega_model.specs.declared.entries.Entry.{Entry}
 use Rattle.omega_model.specs.declared.rows.Row.{Row}
 use Rattle.omega_model.specs.declared.rows.TraceTables.{TraceTables}
 use Rattle.omega_model.specs.declared.settings.Settings.{Settings}
-use Rattle.omega_cell.specs.Cells.{is_commit}
+use Rattle.omega_model.specs.Touches.{is_commit}
 use Rattle.omega_desk.specs.Desks.{IsSameDesk, left_at, still_tried}
 use Rattle.omega_feed.specs.Asked.{Asked, asked_after}
 use Rattle.omega_rounds.specs.Seats.{IsSeat, synced_of}

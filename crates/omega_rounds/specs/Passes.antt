@@ -9,9 +9,9 @@ use Rattle.omega_model.specs.declared.rows.Round.{Round}
 use Rattle.omega_model.specs.declared.rows.TraceTables.{TraceTables}
 use Rattle.omega_model.specs.declared.settings.Settings.{Settings}
 use Rattle.omega_model.specs.declared.wishes.Request.{Request}
-use Rattle.omega_rounds.specs.NextCommit.{HasNoWork, WorksOn}
+use Rattle.omega_laws.specs.NextCommit.{HasNoWork, WorksOn}
 use Rattle.omega_rounds.specs.Taking.{Taking}
-use Rattle.omega_rounds.specs.TurnOrder.{began}
+use Rattle.omega_laws.specs.TurnOrder.{began}
 
 -- the schedulers below next that have work have synced on this history, and nobody else
 pub record Syncing (settings : Settings) (trace : TraceTables) (rows : List Row) (opened_at : ℕ) (before : List Entry) (world : World) (next : ℕ) : Type 0 where

@@ -1,6 +1,6 @@
 -- What a scheduler has planned.
 use Rattle.std.specs.Prelude.{◌≡◌, ◌≢◌, ◌≤◌, ◌<◌, ◌^◌, ℕ, List, [], Some, IfSome, length}
-use Rattle.omega_cell.specs.Claiming.{copied_seqs}
+use Rattle.omega_model.specs.Touches.{copied_seqs}
 use Rattle.omega_desk.specs.Desks.{DeskState}
 use Rattle.omega_model.specs.Work.{commits_of}
 use Rattle.omega_model.specs.declared.entries.Entry.{Entry}

@@ -8,7 +8,7 @@ use Rattle.omega_model.specs.declared.entries.Entry.{Entry}
 use Rattle.omega_model.specs.declared.settings.Settings.{Settings}
 use Rattle.omega_model.specs.declared.wishes.Request.{Request}
 use Rattle.omega_desk.specs.Desks.{DeskState, left_at}
-use Rattle.omega_rounds.specs.NextCommit.{attempt, attempt_txn}
+use Rattle.omega_laws.specs.NextCommit.{attempt, attempt_txn}
 use Rattle.omega_rounds.specs.Seats.{synced_of}
 use Rattle.omega_rounds.specs.declared.seat.Seat.{Seat}
 use Rattle.omega_rounds.specs.declared.steps.Stepped.{Stepped}

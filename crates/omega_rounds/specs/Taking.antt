@@ -9,8 +9,8 @@ use Rattle.omega_model.specs.declared.rows.Round.{Round}
 use Rattle.omega_model.specs.declared.rows.TraceTables.{TraceTables}
 use Rattle.omega_model.specs.declared.settings.Settings.{Settings}
 use Rattle.omega_model.specs.declared.wishes.Request.{Request}
-use Rattle.omega_rounds.specs.NextCommit.{WorksOn}
-use Rattle.omega_rounds.specs.TurnOrder.{began, turn_of}
+use Rattle.omega_laws.specs.NextCommit.{WorksOn}
+use Rattle.omega_laws.specs.TurnOrder.{began, turn_of}
 
 -- in this turn the schedulers below next that have work have had theirs, and the others that have work
 -- have not; the turn began after the round's rows, and nobody who still waits has committed since

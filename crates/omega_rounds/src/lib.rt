@@ -3,12 +3,11 @@
 //! A world is a cell that schedulers share, with a desk for each of them. Where they take steps of the
 //! world, each plans on the cell's own board when it syncs; on a thread of its own it has a private copy of
 //! the cell. Whatever steps they do in whatever order, its history is lawful so far; `in_turns` runs it
-//! to the end with the schedulers in turns, `on_threads` with a thread for each. The laws say, over
-//! the definitions alone, what comes next in a round, that nothing else could, that what is placed is
-//! on machines that meet its constraints, and that a gang claims all of its request or nothing.
+//! to the end with the schedulers in turns, `in_time` by a virtual clock, `on_threads` with a thread for
+//! each.
 #![tactic(auto)]
 
-mod laws;
+mod clock;
 mod opening;
 mod planned;
 mod plans;
@@ -21,10 +20,7 @@ mod together;
 mod turns;
 mod world;
 
-pub use laws::{
-    claims_meet_constraints, gangs_of_lawful_histories, lawful_histories_in_turns,
-    next_commits_in_turns, rounds_in_any_order,
-};
+pub use clock::in_time;
 pub use steps::{RoundStep, Stepped};
 pub use threads::on_threads;
 pub use turns::in_turns;

@@ -2,7 +2,7 @@
 ghost use Rattle.std.specs.Prelude.{◌≡◌, ◌≤◌, ◌<◌, ◌^◌, ◌++◌, ◌∷◌, [], true, All, List, drop, length, position, IfSome, IsTrue, OnOk};
 ghost use Rattle.std.specs.List.{fold};
 ghost use Rattle.omega_board.specs.Board.{cell_of};
-ghost use Rattle.omega_cell.specs.Cells.{is_commit};
+ghost use Rattle.omega_model.specs.Touches.{is_commit};
 ghost use Rattle.omega_feed.specs.Open.{OthersAreQuiet};
 ghost use Rattle.omega_model.specs.Applying.{ListsOrHasRoom, machine_in};
 ghost use Rattle.omega_model.specs.Lawful.{opened};

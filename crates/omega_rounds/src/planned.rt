@@ -5,7 +5,7 @@ ghost use Rattle.omega_model.specs.Draws.{drawn_start};
 ghost use Rattle.omega_model.specs.Policy.{schedulers};
 ghost use Rattle.omega_model.specs.Work.{commits_of};
 ghost use Rattle.omega_model.specs.declared.entries.Entry.{Entry};
-ghost use Rattle.omega_rounds.specs.NextCommit.{attempt_txn};
+ghost use Rattle.omega_laws.specs.NextCommit.{attempt_txn};
 
 use omega_copy::PrivateCopy;
 use omega_model::{NoMemory, Request, Settings, Txn};

@@ -1,7 +1,8 @@
 //! What a scheduler of a world plans when it syncs.
 ghost use Rattle.std.specs.Prelude.{◌≡◌, ◌≢◌, ◌≤◌, ◌<◌, [], None, List, length, drop, IfOk};
 ghost use Rattle.omega_copy.specs.Copies.{CopyOf};
-ghost use Rattle.omega_copy.specs.Indexes.{AreIndexesOf, HavePlaces, NameTouched};
+ghost use Rattle.omega_board.specs.Naming.{NameTouched};
+ghost use Rattle.omega_copy.specs.Indexes.{AreIndexesOf, HavePlaces};
 ghost use Rattle.omega_model.specs.Policy.{schedulers};
 ghost use Rattle.omega_model.specs.State.{state};
 ghost use Rattle.omega_model.specs.declared.entries.Entry.{Entry};
@@ -9,8 +10,9 @@ ghost use Rattle.omega_rounds.specs.Plans.{IsAtDesk, IsPlan};
 
 use crate::planned::planned;
 use crate::seat::start_on;
+use omega_board::touched;
 use omega_cell::Cell;
-use omega_copy::{Indexes, PrivateCopy, touched};
+use omega_copy::{Indexes, PrivateCopy};
 use omega_desk::Desk;
 use omega_model::{NoMemory, Settings, Txn};
 use std::alloc::Global;

@@ -1,7 +1,7 @@
 //! Which jobs are looked at again, because tasks of theirs may have stopped.
 ghost use Rattle.std.specs.Prelude.{◌≡◌, ◌≤◌, ◌∷◌, [], false, true, All, List, OnOk, drop, length};
 ghost use Rattle.std.specs.List.{flat_map, fold};
-ghost use Rattle.omega_cell.specs.Cells.{is_commit};
+ghost use Rattle.omega_model.specs.Touches.{is_commit};
 ghost use Rattle.omega_feed.specs.Open.{OthersAreQuiet};
 ghost use Rattle.omega_model.specs.Cell.{Cell as CellBefore, keys_of};
 ghost use Rattle.omega_model.specs.State.{ranked_on, state, step};

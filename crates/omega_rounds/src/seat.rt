@@ -4,6 +4,7 @@ ghost use Rattle.std.specs.List.{All};
 ghost use Rattle.omega_copy.specs.Indexes.{AreIndexesOf};
 ghost use Rattle.omega_desk.specs.Desks.{IsSameDesk, left_at, still_tried};
 ghost use Rattle.omega_desk.specs.Walks.{HasDistinctWishes};
+ghost use Rattle.omega_laws.specs.VirtualTime.{first_wishes};
 ghost use Rattle.omega_model.specs.Draws.{drawn_start};
 ghost use Rattle.omega_model.specs.Policy.{schedulers};
 ghost use Rattle.omega_model.specs.Ranges.{IsInRange};
@@ -63,6 +64,16 @@ impl Seat {
         self.desk.begin(requests)?;
         self.synced = None;
         Ok(())
+    }
+
+    /// How many wishes of its first request are left, 0 where no request is. Takes no memory.
+    pub fn left(&self) -> usize
+        ensures { result ≡ first_wishes (Some self.now.desk.requests) }
+    {
+        match self.desk.present() {
+            Some(request) => request.wishes.len(),
+            None => 0,
+        }
     }
 
     /// One step of the seat's scheduler over a cell, beside which indexes of its history stand that all may

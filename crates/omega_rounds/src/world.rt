@@ -15,6 +15,7 @@ ghost use Rattle.omega_model.specs.World.{NobodySynced};
 ghost use Rattle.omega_model.specs.declared.rows.TraceTables.{TraceTables};
 ghost use Rattle.omega_rounds.specs.Closed.{IsDone};
 ghost use Rattle.omega_rounds.specs.Going.{GoesOn, IsOverAtLast, LeavesToDo, MovesOn, OpensRound, ReachesRound, StepsOn};
+ghost use Rattle.omega_rounds.specs.InTime.{HasWishesLeft, IsNoneWithoutWork, rows_time};
 ghost use Rattle.omega_rounds.specs.Opening.{AreNewSeats};
 ghost use Rattle.omega_rounds.specs.Playing.{IsAtStart, IsInSomeRun};
 ghost use Rattle.omega_rounds.specs.Stages.{AllHaveBegun, IsInRunOf, first_stage, rows_begun, world_of};
@@ -27,7 +28,8 @@ use omega_cell::{Cell, Effects};
 use omega_copy::Indexes;
 use omega_feed::{OpenJobs, WaitingTasks, Wanted, feed, rounds};
 use omega_io::Gate;
-use omega_model::{Entries, Entry, NoMemory, Rounds, Settings, TraceTables};
+use omega_model::{Entries, Entry, NoMemory, Round, Rounds, Settings, TraceTables};
+use omega_sim::greatest_time;
 use std::alloc::Global;
 use std::marker::Model;
 use std::sync::Wait;
@@ -297,6 +299,46 @@ impl World {
             seats,
             indexes,
         })
+    }
+
+    /// How many wishes of its first request a scheduler has left, 0 exactly where it has no work. Takes no
+    /// memory.
+    pub fn left(&self, scheduler: u32) -> usize
+        requires { scheduler < schedulers self.now.stage.settings }
+        ensures wishes { HasWishesLeft self.now scheduler result }
+        ensures idle { IsNoneWithoutWork self.now scheduler result }
+    {
+        self.seats[scheduler as usize].left()
+    }
+
+    /// The greatest time of the rows of the round that is under way, in microseconds. `None` exactly before
+    /// the first round. Costs a look at each of these rows.
+    pub fn base(&self) -> Option<u64>
+        ensures rows { result ≡ rows_time self.now.stage }
+        ensures none { result ≡ None → self.now.stage.begun ≡ 0 }
+    {
+        let last = self.begun.checked_sub(1)?;
+        let round = self.rounds.get(last)?;
+        Some(greatest_time(round.rows.as_slice()))
+    }
+
+    /// All rounds of the trace, also those that haven't begun. Takes no memory.
+    pub fn rounds(&self) -> &[Round]
+        ensures { result.now ≡ self.now.stage.source.rounds }
+    {
+        self.rounds.as_slice()
+    }
+
+    /// The settings of the run. Takes no memory.
+    pub(crate) fn settings(&self) -> Settings
+        ensures is { result ≡ self.now.stage.settings }
+    {
+        self.settings
+    }
+
+    /// Where the world's lists get their memory.
+    pub(crate) fn alloc(&self) -> Global {
+        self.alloc
     }
 
     /// How many schedulers there are. Takes no memory.

@@ -1,4 +1,4 @@
-//! Rounds step by step, in turns and on threads.
+//! Rounds step by step, in turns, by a virtual clock and on threads.
 
 ghost use Rattle.std.specs.Prelude.{◌≡◌, IfOk};
 ghost use Rattle.std.specs.Thread.{IsSync};
@@ -6,7 +6,8 @@ ghost use Rattle.omega_model.specs.Ranges.{IsInRange};
 
 use omega_io::PassGate;
 use omega_model::{MachineRow, Need, NoMemory, Settings, Spec, TaskKey, TaskRow, TraceTables};
-use omega_rounds::{RoundStep, Stepped, World, in_turns, on_threads};
+use omega_rounds::{RoundStep, Stepped, World, in_time, in_turns, on_threads};
+use omega_sim::Timed;
 use std::alloc::Global;
 use std::sync::Wait;
 use std::thread::Threads;
@@ -128,6 +129,33 @@ fn entries_in_turns(alloc: Global) -> Result<usize, NoMemory> {
 #[test]
 fn schedulers_in_turns(rt: HostRuntime) -> Result<(), NoMemory> {
     assert_eq!(rt; entries_in_turns(rt.alloc())?, 4);
+    Ok(())
+}
+
+// Whether the commits are those of scheduler 1 at these places, each with its sync and its own time.
+fn commit_at(times: &[Timed], expected: &[(u64, u128, u128)]) -> bool {
+    times.len() == expected.len()
+        && times.iter().zip(expected).all(|(timed, (place, sync, time))| {
+            timed.scheduler == 1
+                && timed.place == *place
+                && timed.sync == *sync
+                && timed.time == *time
+        })
+}
+
+// The commits of the one batch scheduler by the clock: each job has one task, and so takes it 105,000
+// microseconds.
+const BY_THE_CLOCK: [(u64, u128, u128); 2] = [(2, 0, 105_000), (3, 105_000, 210_000)];
+
+// Whether the commits by the clock are these.
+fn commits_by_the_clock(alloc: Global) -> Result<bool, NoMemory> {
+    let times = second(in_time(world(alloc, &Settings::default())?)?);
+    Ok(commit_at(times.as_slice(), &BY_THE_CLOCK))
+}
+
+#[test]
+fn schedulers_by_the_clock(rt: HostRuntime) -> Result<(), NoMemory> {
+    assert!(rt; commits_by_the_clock(rt.alloc())?);
     Ok(())
 }
 

@@ -1,6 +1,6 @@
 use Rattle.std.proofs.Common.{Bor, ◌∙◌, List, length, rules, sym, ap, subst}
 use Rattle.std.specs.Prelude.{option_map}
-use Rattle.omega_cell.specs.Claiming.{copied_seqs}
+use Rattle.omega_model.specs.Touches.{copied_seqs}
 use Rattle.omega_copy.specs.Copies.{CopyOf, CopyState}
 use Rattle.omega_model.specs.declared.claims.Claim.{Claim}
 use Rattle.omega_model.specs.declared.wishes.Request.{Request}

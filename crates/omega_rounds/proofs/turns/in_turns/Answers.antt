@@ -8,7 +8,7 @@ use Rattle.omega_rounds.specs.Stages.{IsInRunOf, WorldState}
 use Rattle.omega_rounds.specs.declared.steps.RoundStep.{RoundStep}
 use Rattle.omega_rounds.proofs.EndedRounds.{same_run}
 use Rattle.omega_rounds.proofs.PlayedRounds.{played_more, played_none, turns_now}
-use Rattle.omega_rounds.proofs.TurnOrder.{only_history}
+use Rattle.omega_laws.proofs.TurnOrder.{only_history}
 use Rattle.omega_rounds.proofs.turns.in_turns.Goals as goal
 
 pub loop-next-init : goal.loop-next-init
