@@ -3,7 +3,7 @@ use Rattle.std.proofs.Common.{◌≡◌, ◌⊎◌, List, ℕ, None, inl, inr, r
 use Rattle.omega_io.specs.Edge.{Rose}
 use Rattle.omega_model.specs.Refusals.{first_refusal}
 use Rattle.omega_model.specs.declared.results.Status.{Status}
-use Rattle.omega_model.specs.declared.results.Status.TheVariants.{Done, Usage, ReadFault, TooLong, BadRow, TooMany, WriteFault, NoMemory}
+use Rattle.omega_model.specs.declared.results.Status.TheVariants.{Done, Usage, ReadFault, TooLong, BadRow, TooMany, BadKept, KeepFault, WriteFault, NoMemory}
 use Rattle.omega_model.specs.declared.rows.Table.{Table}
 use Rattle.omega_top.specs.Answers.{Answers, EndsRun, HasReadCause, NoneRose}
 
@@ -22,6 +22,8 @@ completes bytes before middle now sink_before sink_now Usage clean none same fir
 completes bytes before middle now sink_before sink_now (TooLong table) clean none same first read write = cc
 completes bytes before middle now sink_before sink_now (BadRow table row column cause) clean none same first read write = cc
 completes bytes before middle now sink_before sink_now (TooMany kind number) clean none same first read write = cc
+completes bytes before middle now sink_before sink_now (BadKept number) clean none same first read write = absurd first
+completes bytes before middle now sink_before sink_now KeepFault clean none same first read write = absurd first
 
 -- so does a run whose tables were read, where the sink didn't fail
 pub ends_well : (sink_before sink_now : ℕ) (status : Status) → EndsRun status → ¬ Rose sink_before sink_now
@@ -34,3 +36,5 @@ ends_well sink_before sink_now (ReadFault table) ends stays write = absurd ends
 ends_well sink_before sink_now (TooLong table) ends stays write = absurd ends
 ends_well sink_before sink_now (BadRow table row column cause) ends stays write = absurd ends
 ends_well sink_before sink_now (TooMany kind number) ends stays write = absurd ends
+ends_well sink_before sink_now (BadKept number) ends stays write = absurd ends
+ends_well sink_before sink_now KeepFault ends stays write = absurd ends

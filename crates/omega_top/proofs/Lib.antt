@@ -4,3 +4,6 @@ pub mod Reading
 pub mod Refusing
 pub mod SomeRun
 pub mod NoHistory
+pub mod Unread
+pub mod Timing
+pub mod Written

@@ -1,29 +1,31 @@
--- Runs of some trace, and the gangs of whole runs.
+-- Runs of some trace, and the commits of whole runs.
 use Rattle.std.proofs.Common.{◌≡◌, ℕ, List, [], Option, arith}
 use Rattle.omega_model.specs.Limits.{IsWithinLimits}
 use Rattle.omega_model.specs.Trace.{no_rows}
 use Rattle.omega_model.specs.declared.entries.Entry.{Entry}
 use Rattle.omega_model.specs.declared.results.Status.{Status}
-use Rattle.omega_model.specs.declared.results.Status.TheVariants.{Done, Usage, ReadFault, TooLong, BadRow, TooMany, WriteFault, NoMemory}
+use Rattle.omega_model.specs.declared.results.Status.TheVariants.{Done, Usage, ReadFault, TooLong, BadRow, TooMany, BadKept, KeepFault, WriteFault, NoMemory}
 use Rattle.omega_model.specs.declared.rows.TraceTables.{TraceTables}
 use Rattle.omega_model.specs.declared.settings.Settings.{Settings}
-use Rattle.omega_rounds.proofs.WholeGangs.{lawful_whole}
+use Rattle.omega_laws.proofs.WholeCommits.{lawful_whole}
 use Rattle.omega_tables.specs.Reading.{status_of}
 use Rattle.omega_tables.specs.declared.refusal.ReadRefusal.{ReadRefusal}
 use Rattle.omega_tables.specs.declared.refusal.ReadRefusal.TheVariants.{Fault, TooLong as Long, BadRow as Bad, TooMany as Many, NoMemory as Memory}
-use Rattle.omega_top.specs.Answers.{HasWholeGangs, IsSomeRun, IsWholeRun}
+use Rattle.omega_top.specs.Answers.{HasWholeCommits, IsSomeRun, IsWholeRun}
 
--- the gangs of a run that reached its report are whole
-pub whole_gangs : (settings : Settings) (trace : TraceTables) (history : List Entry) (status : Status)
-    → IsWholeRun settings trace history status → HasWholeGangs settings trace history status
-whole_gangs settings trace history Done whole = lawful_whole settings trace history whole
-whole_gangs settings trace history WriteFault whole = lawful_whole settings trace history whole
-whole_gangs settings trace history NoMemory whole = tt
-whole_gangs settings trace history Usage whole = tt
-whole_gangs settings trace history (ReadFault table) whole = tt
-whole_gangs settings trace history (TooLong table) whole = tt
-whole_gangs settings trace history (BadRow table row column cause) whole = tt
-whole_gangs settings trace history (TooMany kind number) whole = tt
+-- the commits of a run that reached its report are whole attempts
+pub whole_commits : (settings : Settings) (trace : TraceTables) (history : List Entry) (status : Status)
+    → IsWholeRun settings trace history status → HasWholeCommits settings trace history status
+whole_commits settings trace history Done whole = lawful_whole settings trace history whole
+whole_commits settings trace history WriteFault whole = lawful_whole settings trace history whole
+whole_commits settings trace history NoMemory whole = tt
+whole_commits settings trace history Usage whole = tt
+whole_commits settings trace history (ReadFault table) whole = tt
+whole_commits settings trace history (TooLong table) whole = tt
+whole_commits settings trace history (BadRow table row column cause) whole = tt
+whole_commits settings trace history (TooMany kind number) whole = tt
+whole_commits settings trace history (BadKept number) whole = tt
+whole_commits settings trace history KeepFault whole = tt
 
 -- a trace without rows is within the limits
 no_rows-within : IsWithinLimits no_rows
@@ -32,12 +34,12 @@ no_rows-within = record { rows = omega arith; machines = omega arith }
 -- a run that a refusal of the reading ends is one of a trace without rows
 pub refused_run : (settings : Settings) (refusal : ReadRefusal) (before now : Option (List ℕ)) → now ≡ before
     → IsSomeRun settings [] (status_of refusal) before now
-refused_run settings (Fault table) before now stays = record { trace = no_rows; within = no_rows-within; whole = tt; written = stays }
-refused_run settings (Long table) before now stays = record { trace = no_rows; within = no_rows-within; whole = tt; written = stays }
-refused_run settings (Bad table row column cause) before now stays = record { trace = no_rows; within = no_rows-within; whole = tt; written = stays }
-refused_run settings (Many kind number) before now stays = record { trace = no_rows; within = no_rows-within; whole = tt; written = stays }
-refused_run settings Memory before now stays = record { trace = no_rows; within = no_rows-within; whole = tt; written = stays }
+refused_run settings (Fault table) before now stays = record { trace = no_rows; within = no_rows-within; whole = tt; ordered = tt; written = record { report = []; is_report = tt; written = stays } }
+refused_run settings (Long table) before now stays = record { trace = no_rows; within = no_rows-within; whole = tt; ordered = tt; written = record { report = []; is_report = tt; written = stays } }
+refused_run settings (Bad table row column cause) before now stays = record { trace = no_rows; within = no_rows-within; whole = tt; ordered = tt; written = record { report = []; is_report = tt; written = stays } }
+refused_run settings (Many kind number) before now stays = record { trace = no_rows; within = no_rows-within; whole = tt; ordered = tt; written = record { report = []; is_report = tt; written = stays } }
+refused_run settings Memory before now stays = record { trace = no_rows; within = no_rows-within; whole = tt; ordered = tt; written = record { report = []; is_report = tt; written = stays } }
 
 -- so is one that want of memory ends before the reading
 pub no_memory_run : (settings : Settings) (before now : Option (List ℕ)) → now ≡ before → IsSomeRun settings [] NoMemory before now
-no_memory_run settings before now stays = record { trace = no_rows; within = no_rows-within; whole = tt; written = stays }
+no_memory_run settings before now stays = record { trace = no_rows; within = no_rows-within; whole = tt; ordered = tt; written = record { report = []; is_report = tt; written = stays } }

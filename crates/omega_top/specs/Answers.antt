@@ -4,17 +4,17 @@ use Rattle.omega_io.specs.Edge.{Appends, AppendsPart, Rose}
 use Rattle.omega_model.specs.Lawful.{Lawful}
 use Rattle.omega_model.specs.Legal.{Sound}
 use Rattle.omega_model.specs.State.{state}
-use Rattle.omega_model.specs.Turns.{InTurns}
 use Rattle.omega_model.specs.Refusals.{first_refusal, refusal_before}
 use Rattle.omega_model.specs.declared.entries.Entry.{Entry}
 use Rattle.omega_model.specs.declared.results.Status.{Status}
-use Rattle.omega_model.specs.declared.results.Status.TheVariants.{Done, Usage, ReadFault, TooLong, BadRow, TooMany, WriteFault, NoMemory}
+use Rattle.omega_model.specs.declared.results.Status.TheVariants.{Done, Usage, ReadFault, TooLong, BadRow, TooMany, BadKept, KeepFault, WriteFault, NoMemory}
 use Rattle.omega_model.specs.declared.rows.Table.{Table}
 use Rattle.omega_model.specs.declared.rows.TraceTables.{TraceTables}
 use Rattle.omega_model.specs.declared.settings.Settings.{Settings}
 use Rattle.omega_model.specs.Limits.{IsWithinLimits}
-use Rattle.omega_model.specs.ReportForms.{printed_report}
-use Rattle.omega_rounds.specs.Gangs.{GangsAreWhole}
+use Rattle.omega_laws.specs.WholeCommits.{CommitsAreWhole}
+use Rattle.omega_top.specs.Commands.{IsOrdered}
+use Rattle.omega_top.specs.Reports.{IsReport}
 
 -- after each of its entries the state of the history is sound: no machine is used beyond its capacity,
 -- no task runs twice, and each is on a machine that is up
@@ -32,6 +32,8 @@ Answers bytes (ReadFault table) = refusal_before table bytes ≡ None
 Answers bytes (TooLong table) = first_refusal bytes ≡ Some (TooLong table)
 Answers bytes (BadRow table row column cause) = first_refusal bytes ≡ Some (BadRow table row column cause)
 Answers bytes (TooMany kind number) = first_refusal bytes ≡ Some (TooMany kind number)
+Answers bytes (BadKept number) = ⊥
+Answers bytes KeepFault = ⊥
 
 -- a fault of reading is answered only where the count of its table rose
 abbrev pub HasReadCause : (Table → ℕ) → (Table → ℕ) → Status → Type 0
@@ -43,6 +45,8 @@ HasReadCause before now (ReadFault table) = Rose (before table) (now table)
 HasReadCause before now (TooLong table) = ⊤
 HasReadCause before now (BadRow table row column cause) = ⊤
 HasReadCause before now (TooMany kind number) = ⊤
+HasReadCause before now (BadKept number) = ⊤
+HasReadCause before now KeepFault = ⊤
 
 -- of the report all is written in the end, a part of it where the sink fails, and else nothing
 abbrev pub Writes : List ℕ → Option (List ℕ) → Option (List ℕ) → Status → Type 0
@@ -54,6 +58,8 @@ Writes report before now (ReadFault table) = now ≡ before
 Writes report before now (TooLong table) = now ≡ before
 Writes report before now (BadRow table row column cause) = now ≡ before
 Writes report before now (TooMany kind number) = now ≡ before
+Writes report before now (BadKept number) = now ≡ before
+Writes report before now KeepFault = now ≡ before
 
 -- this holds, if the run reached its report
 abbrev pub IfReported : Type 0 → Status → Type 0
@@ -65,6 +71,8 @@ IfReported Fact (ReadFault table) = ⊤
 IfReported Fact (TooLong table) = ⊤
 IfReported Fact (BadRow table row column cause) = ⊤
 IfReported Fact (TooMany kind number) = ⊤
+IfReported Fact (BadKept number) = ⊤
+IfReported Fact KeepFault = ⊤
 
 -- this holds, unless the run reached its report
 abbrev pub UnlessReported : Type 0 → Status → Type 0
@@ -76,6 +84,8 @@ UnlessReported Fact (ReadFault table) = Fact
 UnlessReported Fact (TooLong table) = Fact
 UnlessReported Fact (BadRow table row column cause) = Fact
 UnlessReported Fact (TooMany kind number) = Fact
+UnlessReported Fact (BadKept number) = Fact
+UnlessReported Fact KeepFault = Fact
 
 -- a history comes with a run that reached its report, and else none does
 abbrev pub HasHistory : List Entry → Status → Type 0
@@ -85,27 +95,40 @@ HasHistory history status = UnlessReported (history ≡ []) status
 abbrev pub IsWholeRun : Settings → TraceTables → List Entry → Status → Type 0
 IsWholeRun settings trace history status = IfReported (Lawful settings trace history) status
 
--- a history is the only one that is the whole run of the trace under the settings with the schedulers
--- taking turns
+-- a history is the only one that is the whole run of the trace under the settings with its commits in the
+-- order of the command
 abbrev pub IsTheOnly : Settings → TraceTables → List Entry → Type 0
-IsTheOnly settings trace history = (other : List Entry) → Lawful settings trace other → InTurns other → other ≡ history
+IsTheOnly settings trace history = (other : List Entry) → Lawful settings trace other → IsOrdered settings trace other → other ≡ history
 
--- so is the history of a run that reached its report
+-- the commits of a run that reached its report stand in the order of the command
+abbrev pub IsOrderedRun : Settings → TraceTables → List Entry → Status → Type 0
+IsOrderedRun settings trace history status = IfReported (IsOrdered settings trace history) status
+
+-- the history of a run that reached its report is the only one
 abbrev pub IsOnlyRun : Settings → TraceTables → List Entry → Status → Type 0
 IsOnlyRun settings trace history status = IfReported (IsTheOnly settings trace history) status
 
--- in a run that reached its report each gang claims all of its request or nothing, and no transaction
--- evicts a task of its own job
-abbrev pub HasWholeGangs : Settings → TraceTables → List Entry → Status → Type 0
-HasWholeGangs settings trace history status = IfReported (GangsAreWhole settings trace history) status
+-- in a run that reached its report each commit is the attempt on a request of the trace: each claim is on a
+-- machine that meets the constraints of its wish, a gang claims all of its request or nothing, and no
+-- transaction evicts a task of its own job
+abbrev pub HasWholeCommits : Settings → TraceTables → List Entry → Status → Type 0
+HasWholeCommits settings trace history status = IfReported (CommitsAreWhole settings trace history) status
+
+-- the report of a run that reached it is written, or a part of it from the front where the sink fails
+pub record IsWritten (settings : Settings) (trace : TraceTables) (history : List Entry) (status : Status) (before now : Option (List ℕ)) : Type 0 where
+  pub report : List ℕ
+  pub is_report : IfReported (IsReport settings trace history report) status
+  pub written : Writes report before now status
 
 -- whatever the tables tell, there is a trace within the limits of which the history of a run that reached
--- its report is the whole run, and of which that report, or a part of it from the front, is written
+-- its report is the whole run, with its commits in the order of the command, and of which that report, or a
+-- part of it from the front, is written
 pub record IsSomeRun (settings : Settings) (history : List Entry) (status : Status) (before now : Option (List ℕ)) : Type 0 where
   pub trace : TraceTables
   pub within : IsWithinLimits trace
   pub whole : IsWholeRun settings trace history status
-  pub written : Writes (printed_report settings trace history) before now status
+  pub ordered : IsOrderedRun settings trace history status
+  pub written : IsWritten settings trace history status before now
 
 -- nothing is written by a run that doesn't reach its report
 abbrev pub WritesNothing : Option (List ℕ) → Option (List ℕ) → Status → Type 0
@@ -121,6 +144,8 @@ EndsRun (ReadFault table) = ⊥
 EndsRun (TooLong table) = ⊥
 EndsRun (BadRow table row column cause) = ⊥
 EndsRun (TooMany kind number) = ⊥
+EndsRun (BadKept number) = ⊥
+EndsRun KeepFault = ⊥
 
 -- no count of faults rose
 pub record NoneRose (tables_before tables_now : Table → ℕ) (sink_before sink_now : ℕ) : Type 0 where

@@ -3,8 +3,8 @@ use Rattle.std.specs.Prelude.{◌≡◌, ◌⊎◌, ℕ, true, List, Option}
 use Rattle.omega_io.specs.Edge.{Enters}
 use Rattle.omega_model.specs.PlainWords.{is_plain}
 use Rattle.omega_model.specs.WordSettings.{folder_of, settings_of}
-use Rattle.omega_model.specs.declared.settings.Command.TheVariants.{Generate}
 use Rattle.omega_model.specs.declared.settings.Settings.{Settings}
+use Rattle.omega_top.specs.Commands.{makes_tables}
 use Rattle.omega_words.specs.Built.{built_words}
 use Rattle.omega_words.specs.Taken.{AreAccepted, are_of_table, folder_in, is_taken, settings_in, text_in}
 
@@ -28,4 +28,4 @@ pub record EntersChosen (words : List (List ℕ)) (before now : Option (Option (
 
 -- the words are those of a run that makes its tables
 abbrev pub MakesTables : List (List ℕ) → Type 0
-MakesTables words = (settings_in built_words words).command ≡ Generate
+MakesTables words = makes_tables (settings_in built_words words).command ≡ true

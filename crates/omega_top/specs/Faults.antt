@@ -5,7 +5,7 @@ use Rattle.omega_model.specs.declared.results.Cause.TheVariants.{Fields, Number,
 use Rattle.omega_model.specs.declared.results.Kind.{Kind}
 use Rattle.omega_model.specs.declared.results.Kind.TheVariants.{Rows, Machines}
 use Rattle.omega_model.specs.declared.results.Status.{Status}
-use Rattle.omega_model.specs.declared.results.Status.TheVariants.{Done, Usage, ReadFault, TooLong, BadRow, TooMany, WriteFault, NoMemory}
+use Rattle.omega_model.specs.declared.results.Status.TheVariants.{Done, Usage, ReadFault, TooLong, BadRow, TooMany, BadKept, KeepFault, WriteFault, NoMemory}
 use Rattle.omega_model.specs.declared.rows.Table.{Table}
 use Rattle.omega_model.specs.declared.rows.Table.TheVariants.{MachineEvents, MachineAttributes, TaskEvents, TaskConstraints, MapreduceJobs, MachineDisk}
 
@@ -39,6 +39,8 @@ fault_text (TooLong table) = codes "omega: " ++ table_name table ++ codes " is l
 fault_text (BadRow table row column cause) =
     codes "omega: " ++ table_name table ++ codes " row " ++ decimal row ++ cause_text column cause
 fault_text (TooMany kind number) = codes "omega: too many " ++ kind_name kind ++ codes ": " ++ decimal number
+fault_text (BadKept number) = codes "omega: kept line " ++ decimal number ++ codes " is refused"
+fault_text KeepFault = codes "omega: cannot keep"
 fault_text WriteFault = codes "omega: cannot write"
 fault_text NoMemory = codes "omega: no memory"
 
@@ -50,5 +52,7 @@ exit_status (ReadFault table) = 3
 exit_status (TooLong table) = 3
 exit_status (BadRow table row column cause) = 3
 exit_status (TooMany kind number) = 3
+exit_status (BadKept number) = 6
+exit_status KeepFault = 7
 exit_status WriteFault = 4
 exit_status NoMemory = 5

@@ -2,6 +2,7 @@
 #![tactic(auto)]
 
 mod replay;
+mod report;
 mod status;
 mod top;
 mod trace;

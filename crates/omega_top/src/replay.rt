@@ -1,11 +1,13 @@
 //! The run of a trace.
-ghost use Rattle.std.specs.Prelude.{◌≡◌, ◌≢◌, List, IfOk};
+ghost use Rattle.std.specs.Prelude.{◌≡◌, ◌≢◌, ◌≤◌, All, List, true, IfOk};
 ghost use Rattle.std.specs.Thread.{IsSync};
 ghost use Rattle.omega_cell.specs.Effects.{AreEffects};
-ghost use Rattle.omega_cell.specs.Laws.{EvictionsGoDown, NoGangIsSplit};
 ghost use Rattle.omega_feed.specs.Left.{IsLeft};
+ghost use Rattle.omega_laws.specs.Simulated.{SimulatedWith};
+ghost use Rattle.omega_model.specs.Feed.{rounds};
+ghost use Rattle.omega_model.specs.Fields.{most_activities};
 ghost use Rattle.omega_model.specs.Lawful.{Lawful};
-ghost use Rattle.omega_model.specs.Legal.{Legal};
+ghost use Rattle.omega_model.specs.Limits.{IsWithinLimits};
 ghost use Rattle.omega_model.specs.Ranges.{IsInRange};
 ghost use Rattle.omega_model.specs.State.{state};
 ghost use Rattle.omega_model.specs.Turns.{InTurns};
@@ -13,18 +15,23 @@ ghost use Rattle.omega_model.specs.declared.entries.Entry.{Entry};
 ghost use Rattle.omega_model.specs.declared.rows.TraceTables.{TraceTables};
 ghost use Rattle.omega_model.specs.declared.settings.Command.TheVariants.{Run};
 ghost use Rattle.omega_rounds.specs.Stages.{AllHaveBegun, IsInRunOf};
-ghost use Rattle.omega_top.specs.Answers.{IsTheOnly, NeverOvercommits};
+ghost use Rattle.omega_top.specs.Answers.{IsTheOnly};
+ghost use Rattle.omega_top.specs.Commands.{IsOrdered, OrderedBy, takes_turns};
+ghost use Rattle.omega_top.specs.Reports.{AreLinesOfTime, AreTimesBy, IsTimedBy};
+ghost use Rattle.omega_top.specs.SoundHistory.{IsSoundHistory};
 
 use omega_cell::Effects;
 use omega_feed::WaitingTasks;
 use omega_io::Gate;
-use omega_model::{Command, Entries, NoMemory, Settings, TraceTables};
-use omega_rounds::{World, in_turns, on_threads};
+use omega_model::{ActivityRow, Bytes, Command, Entries, NoMemory, Settings, TraceTables};
+use omega_rounds::{World, in_time, in_turns, on_threads};
+use omega_sim::{Arrivals, Timed, Times, time_lines};
 use std::alloc::Global;
 use std::sync::Wait;
 use std::thread::Threads;
 
-/// The history of a whole run, what its entries did, and what waits at its end.
+/// The history of a whole run, what its entries did, what waits at its end, and on `simulate` how long all
+/// took.
 #[derive(Drop)]
 pub struct WholeRun {
     /// The history.
@@ -33,11 +40,14 @@ pub struct WholeRun {
     pub effects: Effects,
     /// The tasks that wait at its end, and their jobs.
     pub left: WaitingTasks,
+    /// Of a simulated run the lines that say how long its schedulers decided and how long its jobs waited,
+    /// as text.
+    pub time: Option<Bytes>,
 }
 
 /// The history of a trace under these settings, what its entries did, and what waits at its end: on
-/// `run` with each scheduler on a thread of its own, which passes the gate, else with the schedulers
-/// taking turns. On `run` it may wait.
+/// `run` with each scheduler on a thread of its own, which passes the gate; on `simulate` by a virtual
+/// clock, and with how long all took; else with the schedulers taking turns. On `run` it may wait.
 pub fn replayed<R: Threads + Wait + Sync, G: Gate + Sync>(
     rt: &R,
     alloc: Global,
@@ -46,49 +56,112 @@ pub fn replayed<R: Threads + Wait + Sync, G: Gate + Sync>(
     gate: &G,
 ) -> Result<WholeRun, NoMemory>
     requires range { IsInRange settings.now }
+    requires within { IsWithinLimits trace.now }
     requires sync { IsSync R.row × IsSync G.row }
     ensures lawful { IfOk result (λ run. Lawful settings.now trace.now run.history) }
-    ensures turns { settings.now.command ≢ Run → IfOk result (λ run. InTurns run.history) }
+    ensures ordered { IfOk result (λ run. IsOrdered settings.now trace.now run.history) }
+    ensures timed { IfOk result (λ run. IsTimedBy settings.now.command settings.now trace.now run.history run.time) }
+    ensures turns { takes_turns settings.now.command ≡ true → IfOk result (λ run. InTurns run.history) }
     ensures only { settings.now.command ≢ Run → IfOk result (λ run. IsTheOnly settings.now trace.now run.history) }
-    ensures legal { IfOk result (λ run. Legal run.history) }
     ensures effects { IfOk result (λ run. AreEffects run.history run.effects) }
-    ensures sound { IfOk result (λ run. NeverOvercommits run.history) }
-    ensures gangs { IfOk result (λ run. NoGangIsSplit run.history) }
-    ensures evictions { IfOk result (λ run. EvictionsGoDown run.history) }
+    ensures sound { IfOk result (λ run. IsSoundHistory run.history) }
     ensures left { IfOk result (λ run. IsLeft trace.now (state run.history) run.left) }
 {
     let world = World::new(alloc, settings, trace)?;
-    let world = run_to_end(rt, settings.command, world, gate)?;
+    let (world, times) = run_to_end(rt, settings.command, world, gate)?;
+    let time = lines_of_time(alloc, settings, trace, &world, times)?;
     let left = world.waiting()?;
     let (history, effects) = world.into_run();
     Ok(WholeRun {
         history,
         effects,
         left,
+        time,
     })
 }
 
-// Runs all rounds of a new world as a command has it.
+// Runs all rounds of a new world as a command has it. Of a simulated run it answers the times of its commits.
 fn run_to_end<R: Threads + Wait + Sync, G: Gate + Sync>(
     rt: &R,
     command: Command,
     world: World,
     gate: &G,
-) -> Result<World, NoMemory>
+) -> Result<(World, Option<Times>), NoMemory>
     requires new { world.stage.begun ≡ 0 }
+    requires command { world.stage.settings.command ≡ command }
     requires sync { IsSync R.row × IsSync G.row }
-    ensures source { IfOk result (λ after. after.stage.source ≡ world.stage.source) }
-    ensures settings { IfOk result (λ after. after.stage.settings ≡ world.stage.settings) }
-    ensures last { IfOk result (λ after. AllHaveBegun after.stage) }
+    ensures source { IfOk result (λ after. after.0.stage.source ≡ world.stage.source) }
+    ensures settings { IfOk result (λ after. after.0.stage.settings ≡ world.stage.settings) }
+    ensures last { IfOk result (λ after. AllHaveBegun after.0.stage) }
     ensures lawful { IfOk result (λ after. (trace : TraceTables) → IsInRunOf world.stage trace
-        → Lawful world.stage.settings trace after.history) }
-    ensures turns { command ≢ Run → IfOk result (λ after. InTurns after.history) }
+        → Lawful world.stage.settings trace after.0.history) }
+    ensures ordered { IfOk result (λ after. (trace : TraceTables) → IsInRunOf world.stage trace
+        → OrderedBy command world.stage.settings trace after.0.history) }
+    ensures timed { IfOk result (λ after. (trace : TraceTables) → IsInRunOf world.stage trace
+        → AreTimesBy command world.stage.settings trace after.0.history after.1) }
+    ensures turns { takes_turns command ≡ true → IfOk result (λ after. InTurns after.0.history) }
     ensures only { command ≢ Run → IfOk result (λ after. (trace : TraceTables) → IsInRunOf world.stage trace
-        → (other : List Entry) → Lawful world.stage.settings trace other → InTurns other
-        → other ≡ after.history) }
+        → (other : List Entry) → Lawful world.stage.settings trace other
+        → OrderedBy command world.stage.settings trace other → other ≡ after.0.history) }
 {
     match command {
-        Command::Run => on_threads(rt, world, gate),
-        Command::Replay | Command::Generate => in_turns(world),
+        Command::Run => Ok((on_threads(rt, world, gate)?, None)),
+        Command::Simulate => {
+            let (world, times) = in_time(world)?;
+            Ok((world, Some(times)))
+        }
+        _ => Ok((in_turns(world)?, None)),
+    }
+}
+
+// The lines that say how long the schedulers of a run decided and how long its jobs waited, if its commits
+// have these times.
+fn lines_of_time(
+    alloc: Global,
+    settings: &Settings,
+    trace: &TraceTables,
+    world: &World,
+    times: Option<Times>,
+) -> Result<Option<Bytes>, NoMemory>
+    requires range { IsInRange settings.now }
+    requires within { IsWithinLimits trace.now }
+    requires rounds { world.now.stage.source.rounds ≡ rounds trace.now settings.now.window }
+    requires times { AreTimesBy settings.now.command settings.now trace.now world.now.history times }
+    ensures { IfOk result (λ lines. IsTimedBy settings.now.command settings.now trace.now world.now.history lines) }
+{
+    match times {
+        None => Ok(None),
+        Some(times) => {
+            let lines = lines_of_simulated(alloc, settings, trace, world, times.as_slice())?;
+            Ok(Some(lines))
+        }
+    }
+}
+
+// The lines that say how long the schedulers of a simulated run decided and how long its jobs waited.
+fn lines_of_simulated(
+    alloc: Global,
+    settings: &Settings,
+    trace: &TraceTables,
+    world: &World,
+    times: &[Timed],
+) -> Result<Bytes, NoMemory>
+    requires range { IsInRange settings.now }
+    requires within { IsWithinLimits trace.now }
+    requires rounds { world.now.stage.source.rounds ≡ rounds trace.now settings.now.window }
+    requires times { SimulatedWith settings.now trace.now world.now.history times.now }
+    ensures { IfOk result (AreLinesOfTime settings.now trace.now world.now.history) }
+{
+    activities_are_few(trace.activities.as_slice());
+    let arrivals = Arrivals::of(alloc, world.rounds())?;
+    time_lines(alloc, settings, &arrivals, world.history(), times)
+}
+
+// No job has more activities than a row can say: the type of a row keeps it.
+fn activities_are_few(rows: &[ActivityRow])
+    ensures { All (λ row. row.activities ≤ most_activities) rows.now }
+{
+    for row in rows {
+        let _activities = row.activities;
     }
 }

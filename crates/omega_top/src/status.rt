@@ -100,6 +100,11 @@ pub fn fault_line(status: &Status) -> Line
             .with(kind_name(kind))
             .with(": ")
             .with_number(number),
+        Status::BadKept(number) => line
+            .with("omega: kept line ")
+            .with_number(number)
+            .with(" is refused"),
+        Status::KeepFault => line.with("omega: cannot keep"),
         Status::WriteFault => line.with("omega: cannot write"),
         Status::NoMemory => line.with("omega: no memory"),
     }
@@ -166,7 +171,7 @@ fn kind_name(kind: Kind) -> &'static str
 }
 
 /// The number with which the program ends: 0 after `Done`, 2 for the words, 3 for the tables, 4
-/// for the writing, 5 for want of memory.
+/// for the writing, 5 for want of memory, 6 for a kept line and 7 for the keeping.
 pub fn exit_status(status: &Status) -> u8
     ensures { result ≡ exit_status status.now }
 {
@@ -175,6 +180,8 @@ pub fn exit_status(status: &Status) -> u8
         Status::Usage => 2,
         Status::ReadFault(_) | Status::TooLong(_) | Status::BadRow { .. } | Status::TooMany(..) =>
             3,
+        Status::BadKept(_) => 6,
+        Status::KeepFault => 7,
         Status::WriteFault => 4,
         Status::NoMemory => 5,
     }

@@ -1,5 +1,5 @@
 //! The trace of a run: of the tables that it is handed, or of those that it makes.
-ghost use Rattle.std.specs.Prelude.{◌≡◌, ℕ, List, None, IfErr, IfOk, OnOk};
+ghost use Rattle.std.specs.Prelude.{◌≡◌, ℕ, List, None, true, IfErr, IfOk, OnOk};
 ghost use Rattle.omega_io.specs.Edge.{Tells};
 ghost use Rattle.omega_model.specs.Generated.{generated};
 ghost use Rattle.omega_model.specs.Limits.{IsWithinLimits};
@@ -7,9 +7,9 @@ ghost use Rattle.omega_model.specs.Ranges.{IsInRange};
 ghost use Rattle.omega_model.specs.Refusals.{first_refusal};
 ghost use Rattle.omega_model.specs.Trace.{trace_of};
 ghost use Rattle.omega_model.specs.declared.rows.Table.{Table};
-ghost use Rattle.omega_model.specs.declared.settings.Command.TheVariants.{Generate};
-ghost use Rattle.omega_tables.specs.Reading.{ComesFirst, HasCause};
+ghost use Rattle.omega_tables.specs.Reading.{ComesFirst, HasCause, StoppedIn};
 ghost use Rattle.omega_tables.specs.declared.refusal.ReadRefusal.TheVariants.{NoMemory};
+ghost use Rattle.omega_top.specs.Commands.{makes_tables};
 ghost use Rattle.omega_top.specs.Reads.{Reads, StayUnread, left_by};
 
 use omega_gen::{generated_tables_are_never_refused, tables_of_seed};
@@ -19,7 +19,8 @@ use omega_tables::{ReadRefusal, read_tables};
 use std::alloc::Global;
 
 /// The trace of the tables that a run reads: on `generate` of those that it makes of its seed, and
-/// then only memory may want; else of those that it is handed, each of which is read to its end.
+/// then only memory may want; else of those that it is handed, each of which is read to its end. After
+/// a refusal of one table none behind it was read.
 pub fn trace_of_run<T: Tables>(
     alloc: Global,
     settings: &Settings,
@@ -35,16 +36,25 @@ pub fn trace_of_run<T: Tables>(
         → OnOk result (Tells (T.rest tables.new) (left_by settings.now.command bytes)) }
     ensures refusal { (bytes : Table → List ℕ) → Reads settings.now (T.rest tables.old) bytes
         → IfErr result (λ refusal. ComesFirst bytes refusal) }
+    ensures stopped { IfErr result (λ refusal. StoppedIn (T.rest tables.old) (T.rest tables.new) (T.faults tables.old) (T.faults tables.new) refusal) }
     ensures cause { IfErr result (λ refusal. HasCause (T.faults tables.old) (T.faults tables.new) refusal) }
-    ensures made { settings.now.command ≡ Generate → IfErr result (λ refusal. refusal ≡ NoMemory) }
-    ensures unread { settings.now.command ≡ Generate
+    ensures made { makes_tables settings.now.command ≡ true → IfErr result (λ refusal. refusal ≡ NoMemory) }
+    ensures unread { makes_tables settings.now.command ≡ true
         → StayUnread (T.rest tables.old) (T.rest tables.new) (T.faults tables.old) (T.faults tables.new) }
     ensures folder { T.entered tables.new ≡ T.entered tables.old }
 {
-    match settings.command {
-        Command::Generate => generated_trace(alloc, settings),
-        Command::Replay | Command::Run => read_tables(alloc, tables),
+    if makes_tables(settings.command) {
+        generated_trace(alloc, settings)
+    } else {
+        read_tables(alloc, tables)
     }
+}
+
+// Whether the command makes its tables of a seed.
+fn makes_tables(command: Command) -> bool
+    ensures { result ≡ makes_tables command }
+{
+    matches!(command, Command::Generate)
 }
 
 // The trace of the tables that are made of the seed.

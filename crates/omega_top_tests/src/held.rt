@@ -108,6 +108,19 @@ fn two_held_schedulers_plan_beside_each_other(rt: HostRuntime) -> Result<(), NoM
     Ok(())
 }
 
+// The service's scheduler has synced before the other commits, and plans only then: on what it had seen.
+const SYNCED_FIRST: [Order; 2] = [
+    (1, Point::Planned, 0, Point::Synced),
+    (0, Point::Synced, 1, Point::Committed),
+];
+
+#[test]
+fn a_held_scheduler_plans_on_what_it_synced(rt: HostRuntime) -> Result<(), NoMemory> {
+    let ran = run_held(&rt, rt.alloc(), &COARSE, TWO_TASKS, &SYNCED_FIRST)?;
+    expect(&rt, &ran, &end_of_two());
+    Ok(())
+}
+
 // A task of a service and two of batch jobs, each of which has a scheduler of its own.
 const THREE_TASKS: &str =
     "0,,4,0,,0,u,2,1,0.3,0.3,,0\n0,,6,0,,0,u,0,1,0.3,0.3,,0\n0,,5,0,,0,u,0,1,0.3,0.3,,0\n";
@@ -130,16 +143,23 @@ commit 1 2 6
 refuse 6 0 1 changed 2 1
 ";
 
+// How it ends: with all three tasks on the machine.
+const END_OF_THREE: &str =
+    "use cpu 900000000 1000000000 mem 900000000 1000000000 disk 0 1000000000000
+waiting 0 abandoned 0
+";
+
 // Whether the first commit of scheduler 0 was stale, and each of the three placed its task.
 fn all_planned_first(history: &[Entry]) -> bool {
     is_first_stale(history, 0, 2) && (0..3).all(|number| placing_commits(history, number) == 1)
 }
 
-// Sees that a run of all three was done, and began so.
+// Sees that a run of all three was done, and began and ended so.
 fn expect_three(rt: &impl Abort, ran: &Ran) {
     let report = ran.written.as_slice();
     assert!(rt; ran.done.status == Status::Done);
     assert!(rt; report.starts_with(BEGINNING_OF_THREE.as_bytes()));
+    assert!(rt; report.ends_with(END_OF_THREE.as_bytes()));
     assert!(rt; all_planned_first(ran.done.history.as_slice()));
 }
 

@@ -5,8 +5,12 @@ use Rattle.omega_top.proofs.replay.replayed.Goals as goal
 pub returns-clause-effects : goal.returns-clause-effects
 returns-clause-effects g c = rw c.into_run-history.ensures.history c.into_run-history.ensures.effects
 
-pub returns-clause-gangs : goal.returns-clause-gangs
-returns-clause-gangs g c = rw c.into_run-history.ensures.history (no_gang_is_split _ c.into_run-history.ensures.legal)
-
-pub returns-clause-evictions : goal.returns-clause-evictions
-returns-clause-evictions g c = rw c.into_run-history.ensures.history (evictions_go_down _ c.into_run-history.ensures.legal)
+pub returns-clause-sound : goal.returns-clause-sound
+returns-clause-sound g c =
+    let run = c.into_run-history in
+    rw run.ensures.history (record {
+      legal = run.ensures.legal;
+      states = run.ensures.sound;
+      gangs = no_gang_is_split _ run.ensures.legal;
+      evictions = evictions_go_down _ run.ensures.legal;
+    })

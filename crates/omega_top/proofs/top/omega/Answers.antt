@@ -1,9 +1,11 @@
 use Rattle.std.proofs.Common.{◌∙◌, ap, refl, subst, sym}
 use Rattle.omega_model.specs.declared.settings.Settings.{Settings}
+use Rattle.omega_top.specs.Commands.{makes_tables}
 use Rattle.omega_top.specs.Reads.{Reads}
 use Rattle.omega_top.proofs.Completing.{completes, ends_well}
 use Rattle.omega_top.proofs.Reading.{entered_reads}
 use Rattle.omega_top.proofs.SomeRun.{no_memory_run}
+use Rattle.omega_top.proofs.Unread.{entered_no_further, untouched}
 use Rattle.omega_top.proofs.top.omega.Goals as goal
 
 -- entering a folder leaves what is told of the tables
@@ -22,13 +24,18 @@ returns-clause-only g c bytes =
     rw c.omega_with.ensures.settings
     (λ others reads. c.omega_with.ensures.only others bytes (entered_reads c.in-Ok.parsed.settings _ _ bytes c.enter.ensures.rests reads))
 
+pub returns-clause-ordered : goal.returns-clause-ordered
+returns-clause-ordered g c bytes =
+    rw c.omega_with.ensures.settings
+    (λ reads. c.omega_with.ensures.ordered bytes (entered_reads c.in-Ok.parsed.settings _ _ bytes c.enter.ensures.rests reads))
+
 pub returns-clause-turns : goal.returns-clause-turns
 returns-clause-turns g c = rw c.omega_with.ensures.settings c.omega_with.ensures.turns
 
-pub returns-clause-whole_gangs : goal.returns-clause-whole_gangs
-returns-clause-whole_gangs g c bytes =
+pub returns-clause-whole_commits : goal.returns-clause-whole_commits
+returns-clause-whole_commits g c bytes =
     rw c.omega_with.ensures.settings
-    (λ reads. c.omega_with.ensures.whole_gangs bytes (entered_reads c.in-Ok.parsed.settings _ _ bytes c.enter.ensures.rests reads))
+    (λ reads. c.omega_with.ensures.whole_commits bytes (entered_reads c.in-Ok.parsed.settings _ _ bytes c.enter.ensures.rests reads))
 
 pub returns-clause-written : goal.returns-clause-written
 returns-clause-written g c bytes =
@@ -54,7 +61,7 @@ returns-clause-complete g c bytes reads clean none taken =
 
 pub returns-clause-complete_made : goal.returns-clause-complete_made
 returns-clause-complete_made g c makes stays taken =
-    ends_well _ _ _ (c.omega_with.ensures.made (ap (λ (settings : Settings). settings.command) c.in-Ok.ensures.settings ∙ makes))
+    ends_well _ _ _ (c.omega_with.ensures.made (ap (λ (settings : Settings). makes_tables settings.command) c.in-Ok.ensures.settings ∙ makes))
     stays c.omega_with.ensures.write_fault
 
 pub returns-clause-to_end : goal.returns-clause-to_end
@@ -63,3 +70,10 @@ returns-clause-to_end g c bytes told done =
 
 pub returns-then-is_err-clause-some_run : goal.returns-then-is_err-clause-some_run
 returns-then-is_err-clause-some_run g c = rw c.refused-then-is_err.ensures.answer (no_memory_run c.in-Ok.parsed.settings _ _ refl)
+
+pub returns-clause-no_further : goal.returns-clause-no_further
+returns-clause-no_further g c =
+    entered_no_further _ _ _ _ _ _ c.enter.ensures.rests c.enter.ensures.counts c.omega_with.result.status c.omega_with.ensures.no_further
+
+pub returns-in-Err-clause-untouched : goal.returns-in-Err-clause-untouched
+returns-in-Err-clause-untouched g c none = untouched _ _ _

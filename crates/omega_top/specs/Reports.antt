@@ -1,0 +1,64 @@
+-- The report of a run: of a simulated one with how long its schedulers decided and its jobs waited.
+use Rattle.std.specs.Prelude.{◌≡◌, ℕ, List, ◌++◌, Option, Some, None}
+use Rattle.omega_laws.specs.Simulated.{SimulatedWith}
+use Rattle.omega_laws.specs.VirtualTime.{Timed}
+use Rattle.omega_model.specs.Report.{Line}
+use Rattle.omega_model.specs.ReportForms.{printed_report, text_of}
+use Rattle.omega_model.specs.ReportLines.{printed_lines}
+use Rattle.omega_model.specs.declared.entries.Entry.{Entry}
+use Rattle.omega_model.specs.declared.rows.TraceTables.{TraceTables}
+use Rattle.omega_model.specs.declared.settings.Command.{Command}
+use Rattle.omega_model.specs.declared.settings.Command.TheVariants.{Audit, Generate, Replay, Resume, Run, Simulate}
+use Rattle.omega_model.specs.declared.settings.Settings.{Settings}
+use Rattle.omega_report.specs.JsonOfText.{in_wide_format}
+use Rattle.omega_sim.specs.TimeLines.{lines_of_time}
+
+-- the lines of the report of a simulated history whose commits have these times
+abbrev pub simulated_lines : Settings → TraceTables → List Entry → List Timed → List Line
+simulated_lines settings trace history times =
+    printed_lines settings trace history ++ lines_of_time settings trace history times
+
+-- these bytes are the report of a simulated history: its commits have their times in it
+pub record IsSimulatedReport (settings : Settings) (trace : TraceTables) (history : List Entry) (report : List ℕ) : Type 0 where
+  pub times : List Timed
+  pub timed : SimulatedWith settings trace history times
+  pub bytes : report ≡ in_wide_format settings.format (simulated_lines settings trace history times)
+
+-- these are the times of the commits of a run of a command: only a simulated one has them
+abbrev pub AreTimesBy : Command → Settings → TraceTables → List Entry → Option (List Timed) → Type 0
+AreTimesBy Simulate settings trace history (Some times) = SimulatedWith settings trace history times
+AreTimesBy Simulate settings trace history None = ⊥
+AreTimesBy Replay settings trace history times = times ≡ None
+AreTimesBy Run settings trace history times = times ≡ None
+AreTimesBy Generate settings trace history times = times ≡ None
+AreTimesBy Resume settings trace history times = times ≡ None
+AreTimesBy Audit settings trace history times = times ≡ None
+
+-- these bytes are the lines of time of a simulated history
+pub record AreLinesOfTime (settings : Settings) (trace : TraceTables) (history : List Entry) (lines : List ℕ) : Type 0 where
+  pub times : List Timed
+  pub timed : SimulatedWith settings trace history times
+  pub bytes : lines ≡ text_of (lines_of_time settings trace history times)
+
+-- these are the lines of time of a run of a command: only a simulated one has them
+abbrev pub IsTimedBy : Command → Settings → TraceTables → List Entry → Option (List ℕ) → Type 0
+IsTimedBy Simulate settings trace history (Some lines) = AreLinesOfTime settings trace history lines
+IsTimedBy Simulate settings trace history None = ⊥
+IsTimedBy Replay settings trace history lines = lines ≡ None
+IsTimedBy Run settings trace history lines = lines ≡ None
+IsTimedBy Generate settings trace history lines = lines ≡ None
+IsTimedBy Resume settings trace history lines = lines ≡ None
+IsTimedBy Audit settings trace history lines = lines ≡ None
+
+-- these bytes are the report of a history, as a command prints it
+abbrev pub ReportedBy : Command → Settings → TraceTables → List Entry → List ℕ → Type 0
+ReportedBy Simulate settings trace history report = IsSimulatedReport settings trace history report
+ReportedBy Replay settings trace history report = report ≡ printed_report settings trace history
+ReportedBy Run settings trace history report = report ≡ printed_report settings trace history
+ReportedBy Generate settings trace history report = report ≡ printed_report settings trace history
+ReportedBy Resume settings trace history report = report ≡ printed_report settings trace history
+ReportedBy Audit settings trace history report = report ≡ printed_report settings trace history
+
+-- so they are as the command of the settings prints it
+abbrev pub IsReport : Settings → TraceTables → List Entry → List ℕ → Type 0
+IsReport settings = ReportedBy settings.command settings
