@@ -25,3 +25,4 @@ pub mod Entering
 pub mod Commits
 pub mod Rules
 pub mod Histories
+pub mod Whole

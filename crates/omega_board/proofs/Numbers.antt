@@ -16,6 +16,10 @@ use Rattle.omega_model.proofs.Lists.{by_answer}
 pub one_more : (places : List ℕ) (p place : ℕ) → is_among (places ++ p ∷ []) place ≡ (is_among places place || (p == place))
 one_more places p place = list_any-append (λ other. other == place) places (p ∷ []) ∙ ap (λ b. is_among places place || b) (or_no (p == place))
 
+-- where nothing passes, nothing is added
+pub none_added : (places : List ℕ) (place : ℕ) (b : Bool) → b ≡ false → is_among places place ≡ (is_among places place || b)
+none_added places place b none = sym (ap (λ c. is_among places place || c) none ∙ or_no (is_among places place))
+
 -- a number is among those that are left where each is kept once
 pub once_kept : (places : List ℕ) (place : ℕ) → is_among (dedup nat_eq places) place ≡ is_among places place
 once_kept [] place = refl

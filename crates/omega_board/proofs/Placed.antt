@@ -7,7 +7,8 @@ use Rattle.std.proofs.lemmas.List.{length-take}
 use Rattle.std.proofs.lemmas.Option.{none-some}
 use Rattle.omega_model.specs.Need.{fits}
 use Rattle.omega_model.specs.Cell.{Cell, machine_at, task_at}
-use Rattle.omega_model.specs.Judge.{is_up, refusal_if, first_that_applies, no_machine, already_running, changed_on, withstands, victim_rank, rival, same_job, full, free_without, makes_room, standing_victims, evicted_for, verdict_given, judge_fine}
+use Rattle.omega_model.specs.Judge.{is_up, refusal_if, first_that_applies, no_machine, already_running, withstands, victim_rank, rival, same_job, full, free_without, makes_room, standing_victims, evicted_for, verdict_given, judge_fine}
+use Rattle.omega_board.specs.Judging.{changed_on}
 use Rattle.omega_model.specs.Jobs.{stays_of_job}
 use Rattle.omega_model.specs.Touches.{is_placed}
 use Rattle.omega_model.specs.declared.cells.TaskKey.{TaskKey}

@@ -5,7 +5,8 @@ use Rattle.std.proofs.lemmas.Bool.{both_ways, eq-eqb, eqb-true, ne_eqb}
 use Rattle.std.proofs.lemmas.List.Sums.{sum_by-cons}
 use Rattle.omega_model.specs.Applying.{MayPlaceAll}
 use Rattle.omega_model.specs.Cell.{Cell}
-use Rattle.omega_model.specs.Judge.{refusal_if, changed, changed_on, known_of, judged_given, verdict_given, with_evicted, judge, judge_on, judge_fine}
+use Rattle.omega_model.specs.Judge.{refusal_if, changed, known_of, judged_given, verdict_given, with_evicted, judge, judge_fine}
+use Rattle.omega_board.specs.Judging.{changed_on, judge_on}
 use Rattle.omega_model.specs.Reply.{admits, after_claim, judgements, withdrawn_for, first_refused, by_mode, reply_on}
 use Rattle.omega_model.specs.Touches.{is_placed, touches, seq}
 use Rattle.omega_model.specs.declared.claims.Claim.{Claim}

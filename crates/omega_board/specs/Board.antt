@@ -5,9 +5,12 @@ use Rattle.omega_model.specs.Need.{plus, minus}
 use Rattle.omega_model.specs.Cell.{Cell, machine_at, use_on}
 use Rattle.omega_model.specs.Judge.{is_up, runs_on}
 use Rattle.omega_model.specs.Keys.{is_among}
+use Rattle.omega_model.specs.State.{state}
+use Rattle.omega_model.specs.Touches.{seq}
 use Rattle.omega_model.specs.declared.cells.Machine.{Machine}
 use Rattle.omega_model.specs.declared.cells.Task.{Task}
 use Rattle.omega_model.specs.declared.cells.TaskKey.{TaskKey}
+use Rattle.omega_model.specs.declared.entries.Entry.{Entry}
 use Rattle.omega_machines.specs.declared.MachineState.{MachineState}
 use Rattle.omega_machines.specs.Table.{machines_of, seq_at, IsTable}
 use Rattle.omega_running.specs.Kept.{KeysRise}
@@ -55,3 +58,9 @@ Stand tasks machine keys = (place : ℕ) (key : TaskKey) → slice_get keys plac
 -- one more entry is counted on this machine, and on no other
 abbrev pub CountsOn : ℕ → List MachineState → List MachineState → Type 0
 CountsOn machine before after = (id : ℕ) → seq_at after id ≡ seq_at before id + (if machine == id then 1 else 0)
+
+-- a board is the one after a history: its machines and tasks are the state of the history, and its
+-- sequence numbers are those of the history
+pub record IsBoardOf (board : BoardState) (history : List Entry) : Type 0 where
+  pub current : cell_of board ≡ state history
+  pub numbered : (id : ℕ) → seq_at board.table id ≡ seq history id

@@ -71,6 +71,14 @@ pub record MayPut (board : BoardState) (parts : List Part) : Type 0 where
   pub target : Target
   pub leads : LeadTo board parts target
 
+-- the board without machines, tasks and room
+abbrev pub bare : BoardState
+bare = record { table = []; tasks = []; spare = 0 }
+
+-- the target that is a board itself, all of whose machines changed
+abbrev pub whole : BoardState → Target
+whole board = record { cell = cell_of board; seqs = seq_at board.table; changed = λ id. is_listed id (machines_of board.table) }
+
 -- a board is at a target
 pub record IsAt (target : Target) (board : BoardState) : Type 0 where
   pub cell : cell_of board ≡ target.cell

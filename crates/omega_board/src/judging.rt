@@ -3,7 +3,8 @@ ghost use Rattle.std.specs.Prelude.{◌≡◌, ◌≤◌, ◌&&◌, ◌==◌, �
 ghost use Rattle.std.specs.List.{list_any};
 ghost use Rattle.omega_machines.specs.Table.{seq_at};
 ghost use Rattle.omega_model.specs.Cell.{task_at};
-ghost use Rattle.omega_model.specs.Judge.{changed_on, known_of, no_machine, already_running, victim_rank, same_job, full, free_without, runs_on, withstands, standing_victims, evicted_for, verdict_given, would_be_placed, judge_on, judge};
+ghost use Rattle.omega_model.specs.Judge.{known_of, no_machine, already_running, victim_rank, same_job, full, free_without, runs_on, withstands, standing_victims, evicted_for, verdict_given, would_be_placed, judge};
+ghost use Rattle.omega_board.specs.Judging.{changed_on, judge_on};
 ghost use Rattle.omega_model.specs.Keys.{is_among};
 ghost use Rattle.omega_model.specs.Need.{fits};
 ghost use Rattle.omega_model.specs.Touches.{is_placed, seq};

@@ -10,10 +10,12 @@ mod board;
 mod changes;
 mod entries;
 mod judging;
+mod naming;
 mod placing;
 mod putting;
 mod touching;
 mod undo;
 
 pub use board::Board;
+pub use naming::touched;
 pub use undo::Undo;

@@ -10,11 +10,11 @@ ghost use Rattle.omega_model.specs.Need.{Fits};
 ghost use Rattle.omega_running.specs.Kept.{KeysRise};
 ghost use Rattle.omega_running.specs.Order.{Each};
 ghost use Rattle.omega_board.specs.Board.{cell_of};
-ghost use Rattle.omega_board.specs.Parts.{part_at, Target, LeadTo, MayPut, IsAt};
+ghost use Rattle.omega_board.specs.Parts.{part_at, Target, LeadTo, MayPut, IsAt, bare, whole};
 ghost use Rattle.omega_board.specs.Putting.{lacking, gone_of, came_of, listed_parts, with_row, seq_put, with_tasks_of, MayPutRow, MayStartAll};
 
 use crate::Board;
-use omega_model::{Copied, Machine, NoMemory, Part, Parts, Task, TaskKey};
+use omega_model::{Copied, Machine, NoMemory, Part, Parts, Seq, Task, TaskKey};
 use omega_running::stands_in;
 use std::alloc::Global;
 
@@ -34,6 +34,29 @@ impl Board {
             seq,
             tasks,
         })
+    }
+
+    /// A board with the same machines, sequence numbers and tasks. Costs the machines with their
+    /// attributes, and the tasks, also in memory.
+    pub fn copy(&self, alloc: Global) -> Result<Board, NoMemory>
+        ensures cell { IfOk result (λ board. cell_of board ≡ cell_of self.now) }
+        ensures seqs { IfOk result (λ board. (id : ℕ) → seq_at board.table id ≡ seq_at self.now.table id) }
+    {
+        let parts = self.parts(alloc)?;
+        let mut board = Board::new(alloc);
+        board.put_parts(alloc, parts)?;
+        Ok(board)
+    }
+
+    // The parts of all machines, which lead from the bare board to this one.
+    fn parts(&self, alloc: Global) -> Result<Parts, NoMemory>
+        ensures { IfOk result (λ parts. LeadTo bare parts (whole self.now)) }
+    {
+        let mut parts = Vec::new(alloc);
+        for position in 0..self.table.len() {
+            parts.push(self.part(alloc, position)?)?;
+        }
+        Ok(Seq::of(parts))
     }
 
     /// Puts parts in place of what their machines are on this board. They are what changed between

@@ -30,6 +30,7 @@ use std::alloc::Global;
 /// sequence number in the copy. `place CLAIM` answers the same, and applies a commit of the claim where
 /// it is placed. `try CLAIM` and `trial CLAIM` place it and take it back, and answer besides what `at`
 /// does meanwhile; the one makes room for the claim, the other for one claim and then for victims.
+/// `copy` has a copy of the board take its place.
 ///
 /// `at MACHINE` answers how many entries touched the machine, how many tasks run on all machines and
 /// what is free on this one; `part POSITION` the machine at a position of the list: its number, whether
@@ -95,12 +96,28 @@ pub fn take(
         "place" => commit(board, alloc, words, answers),
         "try" => attempt(board, alloc, words, answers),
         "trial" => trial(board, alloc, words, answers),
+        "copy" => copy(board, alloc, words, answers),
         _ if is_question(call) => ask(board, alloc, call, words, answers),
         _ => {
             let stopped = apply(board, alloc, call, words)?;
             tell_tasks(answers, stopped.as_slice())
         }
     }
+}
+
+/// A copy takes the place of the board.
+fn copy(
+    board: &mut Board,
+    alloc: Global,
+    words: &[Bytes],
+    answers: &mut String,
+) -> Result<(), Fault> {
+    if !words.is_empty() {
+        return Err(Fault::UnknownCall);
+    }
+    *board = board.copy(alloc)?;
+    write!(answers, "copied")?;
+    Ok(())
 }
 
 /// Whether a step changes nothing.

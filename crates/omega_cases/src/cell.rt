@@ -1,6 +1,6 @@
 //! One history and what is committed to it: the calls of `omega_cell`.
 ghost use Rattle.std.specs.Prelude.{◌≡◌, ◌<◌, ◌^◌, false, List, None, length, IfOk, OnOk, IsTrue};
-ghost use Rattle.omega_cell.specs.Cells.{is_commit};
+ghost use Rattle.omega_model.specs.Touches.{is_commit};
 ghost use Rattle.omega_copy.specs.Copies.{CopyOf};
 ghost use Rattle.omega_model.specs.Applying.{CapacityIsInRange, EndsRunning};
 ghost use Rattle.omega_model.specs.Limits.{most_machines};

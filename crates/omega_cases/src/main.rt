@@ -11,6 +11,7 @@ mod crowd;
 mod fault;
 mod feed;
 mod fit;
+mod keep;
 mod line;
 mod mapreduce;
 mod planning;
@@ -63,6 +64,7 @@ fn answer_words(alloc: Global, words: &[Bytes]) -> Result<String, Fault> {
         "cell" => cell::answer(alloc, call, rest),
         "feed" => feed::answer(alloc, call, rest),
         "fit" => fit::answer(alloc, call, rest),
+        "keep" => keep::answer(alloc, call, rest),
         "mapreduce" => mapreduce::answer(alloc, call, rest),
         "running" => running::answer(alloc, call, rest),
         "tables" => tables::answer(alloc, call, rest),

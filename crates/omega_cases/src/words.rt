@@ -46,6 +46,10 @@ fn settings_text(alloc: Global, settings: &Settings) -> Result<String, Fault> {
         format,
         machines,
         jobs,
+        t_job,
+        t_task,
+        service_t_job,
+        service_t_task,
     } = *settings;
     let mut text = String::new(alloc);
     write!(text, "{command:?} seed {seed} batch {batch} ")?;
@@ -54,6 +58,11 @@ fn settings_text(alloc: Global, settings: &Settings) -> Result<String, Fault> {
         "{rule:?} {mode:?} preempt {preempt:?} extra {extra:?} "
     )?;
     write!(text, "tries {tries} give-up {give_up} window {window} ")?;
-    write!(text, "{format:?} machines {machines} jobs {jobs}")?;
+    write!(text, "{format:?} machines {machines} jobs {jobs} ")?;
+    write!(text, "t-job {t_job} t-task {t_task} ")?;
+    write!(
+        text,
+        "service-t-job {service_t_job} service-t-task {service_t_task}"
+    )?;
     Ok(text)
 }

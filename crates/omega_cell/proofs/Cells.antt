@@ -9,7 +9,7 @@ use Rattle.omega_model.specs.Fields.{greatest}
 use Rattle.omega_model.specs.Legal.{Follows}
 use Rattle.omega_model.specs.Need.{Fits}
 use Rattle.omega_model.specs.State.{state, step}
-use Rattle.omega_model.specs.Touches.{seq, touches}
+use Rattle.omega_model.specs.Touches.{seq, touches, is_commit}
 use Rattle.omega_model.specs.declared.cells.Task.{Task}
 use Rattle.omega_model.specs.declared.entries.Entry.{Entry}
 use Rattle.omega_model.specs.declared.entries.Entry.TheVariants.{Round, MachineAdd, MachineUpdate, MachineRemove, AttrSet, AttrDelete, End, Commit}
@@ -18,7 +18,7 @@ use Rattle.omega_machines.specs.declared.MachineState.{MachineState}
 use Rattle.omega_machines.specs.Table.{machines_of, seq_at}
 use Rattle.omega_board.specs.Board.{BoardState, cell_of}
 use Rattle.omega_board.proofs.Histories.{seq_push}
-use Rattle.omega_cell.specs.Cells.{IsCell, is_commit}
+use Rattle.omega_cell.specs.Cells.{IsCell}
 
 -- a cell with one more entry that may follow, on whose board it was applied
 pub cell_push : (board after : BoardState) (history : List Entry) (entry : Entry) → IsCell board history → Follows history entry → MayApply (state history) (seq history) entry

@@ -7,7 +7,7 @@ use Rattle.omega_model.specs.Cell.{Cell}
 use Rattle.omega_model.specs.Machines.{is_listed}
 use Rattle.omega_model.specs.Reply.{tasks_after_claim, reply_on}
 use Rattle.omega_model.specs.State.{step, reply_of}
-use Rattle.omega_model.specs.Touches.{places_on}
+use Rattle.omega_model.specs.Touches.{places_on, copied_seqs}
 use Rattle.omega_model.specs.declared.claims.Txn.{Txn}
 use Rattle.omega_model.specs.declared.claims.Judgement.{Judgement}
 use Rattle.omega_model.specs.declared.entries.Entry.{Entry}
@@ -17,7 +17,7 @@ use Rattle.omega_board.specs.Board.{BoardState, cell_of}
 use Rattle.omega_board.proofs.Commits.{cell_is, placed_listed}
 use Rattle.omega_board.proofs.Rules.{reply_may}
 use Rattle.omega_cell.specs.Cells.{IsCell}
-use Rattle.omega_cell.specs.Claiming.{AreNumbered, copied_seqs}
+use Rattle.omega_cell.specs.Claiming.{AreNumbered}
 use Rattle.omega_cell.specs.Rooms.{EvictWithin}
 use Rattle.omega_cell.proofs.Cells.{cell_push, commit_may}
 use Rattle.omega_cell.proofs.Replies.{reply_within}

@@ -8,17 +8,17 @@ use Rattle.std.proofs.lemmas.Option.{none-some, same_Some}
 use Rattle.omega_model.specs.Copy.{Carries, parts_between}
 use Rattle.omega_model.specs.Parts.{DeltaState, PositionsRise}
 use Rattle.omega_model.specs.State.{state}
-use Rattle.omega_model.specs.Touches.{seq}
+use Rattle.omega_model.specs.Touches.{seq, is_touched}
 use Rattle.omega_model.specs.declared.cells.Machine.{Machine}
 use Rattle.omega_model.specs.declared.delta.Part.{Part}
 use Rattle.omega_model.specs.declared.entries.Entry.{Entry}
 use Rattle.omega_machines.specs.declared.MachineState.{MachineState}
 use Rattle.omega_machines.specs.Table.{machines_of, seq_at}
 use Rattle.omega_running.proofs.Lists.{all_of_each}
-use Rattle.omega_board.specs.Board.{BoardState, cell_of}
+use Rattle.omega_board.specs.Board.{BoardState, cell_of, IsBoardOf}
 use Rattle.omega_board.specs.Parts.{part_in, part_at}
-use Rattle.omega_cell.specs.Cells.{IsBoardOf}
-use Rattle.omega_cell.specs.Touched.{is_touched, passes_at, touched_places}
+use Rattle.omega_board.proofs.Whole.{same_items, there_behind}
+use Rattle.omega_cell.specs.Touched.{passes_at, touched_places}
 use Rattle.omega_cell.proofs.Touching.{places_within}
 use Rattle.omega_model.proofs.Lists.{by_answer}
 
@@ -47,34 +47,19 @@ positions_of board (place ∷ places) (part ∷ parts) same =
 pub positions_rise : (board : BoardState) (places : List ℕ) (parts : List Part) → map Some parts ≡ map (part_at board) places → IsStrictlyIncreasing places → PositionsRise parts
 positions_rise board places parts same rises = subst IsStrictlyIncreasing (sym (positions_of board places parts same)) rises
 
--- a machine behind others stands at the place of their number
-behind_there : (front : List Machine) (row : Machine) (rest : List Machine) → slice_get (front ++ row ∷ rest) (length front) ≡ Some row
-behind_there [] row rest = refl
-behind_there (m ∷ front) row rest = behind_there front row rest
-
 -- the parts of a board at the places of machines that pass are those of its machines that pass
 parts_passing : (test : ℕ → Bool) (board : BoardState) (front rows : List Machine) (n : ℕ) → machines_of board.table ≡ front ++ rows → length front ≡ n
     → map (part_at board) (filter (passes_at test (machines_of board.table)) (range_with_len n (length rows)))
     ≡ map Some (map (part_in (cell_of board) (seq_at board.table)) (filter (λ (place, row). test row.id) (enumerate_from n rows)))
 parts_passing test board front [] n parted long = refl
 parts_passing test board front (row ∷ rows) n parted long =
-    let at : slice_get (machines_of board.table) n ≡ Some row = ap (λ ms. slice_get ms n) parted ∙ ap (slice_get (front ++ row ∷ rows)) (sym long) ∙ behind_there front row rows in
+    let at : slice_get (machines_of board.table) n ≡ Some row = ap (λ ms. slice_get ms n) parted ∙ ap (slice_get (front ++ row ∷ rows)) (sym long) ∙ there_behind front row rows in
     let here : passes_at test (machines_of board.table) n ≡ test row.id = ap (λ o. option_map_or (λ (r : Machine). test r.id) o false) at in
     let part : part_at board n ≡ Some (part_in (cell_of board) (seq_at board.table) (n, row)) = ap (option_map (λ (r : Machine). part_in (cell_of board) (seq_at board.table) (n, r))) at in
     let rest = parts_passing test board (front ++ row ∷ []) rows (n + 1) (parted ∙ sym (append_assoc front (row ∷ []) rows)) (length-append front (row ∷ []) ∙ ap (λ k. k + 1) long) in
     by_answer (test row.id)
     (λ t. rw (here, t) (ap₂ (λ (p : Option Part) ps. p ∷ ps) part rest))
     (λ f. rw (here, f) rest)
-
--- lists of which all items are there are equal where these are
-same_items : (xs ys : List Part) → map Some xs ≡ map Some ys → xs ≡ ys
-same_items [] [] e = refl
-same_items [] (y ∷ ys) e = absurd (cc)
-same_items (x ∷ xs) [] e = absurd (cc)
-same_items (x ∷ xs) (y ∷ ys) e =
-    let first : Some x ≡ Some y = cc in
-    let rest : map Some xs ≡ map Some ys = cc in
-    ap₂ (λ (p : Part) ps. p ∷ ps) (same_Some x y first) (same_items xs ys rest)
 
 -- what a board brings since a place of its history carries the history from there to its end
 pub delivered : (board : BoardState) (history : List Entry) (n : ℕ) (later : List Entry) (places : List ℕ) (parts : List Part) (delta : DeltaState) → IsBoardOf board history → n ≤ length history

@@ -4,7 +4,7 @@ use Rattle.std.proofs.lemmas.Bool.{both_ways}
 use Rattle.omega_model.specs.Applying.{MayApply}
 use Rattle.omega_model.specs.Cell.{empty_cell}
 use Rattle.omega_model.specs.State.{state}
-use Rattle.omega_model.specs.Touches.{seq}
+use Rattle.omega_model.specs.Touches.{seq, copied_seqs}
 use Rattle.omega_model.specs.declared.cells.Need.{Need}
 use Rattle.omega_model.specs.declared.cells.TaskKey.{TaskKey}
 use Rattle.omega_model.specs.declared.claims.Claim.{Claim}
@@ -15,7 +15,6 @@ use Rattle.omega_model.specs.declared.claims.Verdict.{Verdict}
 use Rattle.omega_model.specs.declared.claims.Verdict.TheVariants.{Placed, NoMachine}
 use Rattle.omega_model.specs.declared.entries.Entry.{Entry}
 use Rattle.omega_model.specs.declared.entries.Entry.TheVariants.{Round, MachineAdd, MachineUpdate, MachineRemove, End, Commit}
-use Rattle.omega_cell.specs.Claiming.{copied_seqs}
 use Rattle.omega_cell.specs.Effects.{along, displaced_at, usage_at, usage_in}
 use Rattle.omega_cell.specs.declared.effects.Usage.{Usage}
 use Rattle.omega_cell.specs.Laws.{IsWhole, RunsBelow, HasToGo}

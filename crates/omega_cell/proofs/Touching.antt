@@ -1,5 +1,5 @@
 -- The places of the machines that entries touch.
-use Rattle.std.proofs.Common.{◌≡◌, ℕ, zero, suc, ◌+◌, ◌<◌, ◌≤◌, Bool, true, false, ◌||◌, nat_eq, nat_lt, List, [], ◌∷◌, length, get_or, slice_get, position, Option, Some, None, refl, sym, ap, ap₂, ◌∙◌, subst, arith, ◌==◌}
+use Rattle.std.proofs.Common.{◌≡◌, ℕ, zero, suc, ◌+◌, ◌<◌, ◌≤◌, Bool, true, false, ◌||◌, nat_eq, nat_lt, List, [], ◌∷◌, ◌++◌, length, get_or, slice_get, position, Option, Some, None, refl, sym, ap, ap₂, ◌∙◌, subst, arith, ◌==◌}
 use Rattle.std.specs.List.{filter, position_or_len, range_with_len, IsDistinct}
 use Rattle.std.specs.List.Sorted.{IsStrictlyIncreasing, IsStrictlySortedBy}
 use Rattle.std.specs.Option.{option_map_or}
@@ -15,15 +15,12 @@ use Rattle.omega_running.proofs.Kept.{or_no}
 use Rattle.omega_running.proofs.Lists.{each_map, each_of}
 use Rattle.omega_board.specs.Numbers.{is_among}
 use Rattle.omega_board.proofs.Numbered.{differ_back, others_behind}
-use Rattle.omega_board.proofs.Numbers.{not_behind, rest_greater}
+use Rattle.omega_board.proofs.Numbers.{not_behind, one_more, rest_greater}
 use Rattle.omega_board.proofs.Places.{each_get}
 use Rattle.omega_board.proofs.Tasks.{each_passes}
-use Rattle.omega_cell.specs.Touched.{is_number, is_claimed, passes_at}
+use Rattle.omega_cell.specs.Touched.{passes_at}
+use Rattle.omega_model.specs.Touches.{is_number}
 use Rattle.omega_model.proofs.Lists.{by_answer}
-
--- where nothing passes, nothing is added
-pub none_added : (places : List ℕ) (place : ℕ) (b : Bool) → b ≡ false → is_among places place ≡ (is_among places place || b)
-none_added places place b none = sym (ap (λ c. is_among places place || c) none ∙ or_no (is_among places place))
 
 -- a machine that isn't listed has no place
 pub unlisted_nowhere : (id : ℕ) (machines : List Machine) → is_listed id machines ≡ false → (place : ℕ) → passes_at (is_number id) machines place ≡ false
@@ -80,13 +77,23 @@ listed_there id machines p distinct placed place =
         (λ t. absurd (both_ways _ other (eq-eqb _ _ (same_place machines p place there row distinct at is (numbered ∙ eqb-true _ _ t)))))
         (λ f. f)
 
--- where no claim is left, none was placed
-pub none_claimed : (machines : List Machine) (place : ℕ) → passes_at (is_claimed []) machines place ≡ false
-none_claimed machines place = by (slice_get machines place)
+-- among no numbers is none
+pub none_passes : (machines : List Machine) (place : ℕ) → passes_at (is_among []) machines place ≡ false
+none_passes machines place = by (slice_get machines place)
   where
-    by : (o : Option Machine) → option_map_or (λ row. is_claimed [] row.id) o false ≡ false
+    by : (o : Option Machine) → option_map_or (λ row. is_among [] row.id) o false ≡ false
     by None = refl
     by (Some row) = refl
+
+-- the machine at a place is among numbers and one more if it is among them, or that one
+pub passes_more : (numbers : List ℕ) (id : ℕ) (machines : List Machine) (place : ℕ)
+    → passes_at (is_among (numbers ++ id ∷ [])) machines place ≡ (passes_at (is_among numbers) machines place || passes_at (is_number id) machines place)
+passes_more numbers id machines place = by (slice_get machines place)
+  where
+    by : (o : Option Machine) → option_map_or (λ row. is_among (numbers ++ id ∷ []) row.id) o false
+        ≡ (option_map_or (λ row. is_among numbers row.id) o false || option_map_or (λ row. is_number id row.id) o false)
+    by None = refl
+    by (Some row) = one_more numbers id row.id
 
 -- strictly rising places from one on, where those that pass a test behind it are known
 module _ (f : ℕ → Bool) (n s : ℕ)

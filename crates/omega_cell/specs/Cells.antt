@@ -1,15 +1,11 @@
 -- The cell that all schedulers share: a history, and the board after it.
-use Rattle.std.specs.Prelude.{◌≡◌, ℕ, ◌≤◌, ◌<◌, ◌^◌, Bool, true, false, List, [], length}
+use Rattle.std.specs.Prelude.{◌≡◌, ℕ, ◌≤◌, ◌<◌, ◌^◌, List, [], length}
 use Rattle.std.specs.List.{sum_by}
 use Rattle.omega_model.specs.Applying.{EachMayApply}
 use Rattle.omega_model.specs.Legal.{Legal}
-use Rattle.omega_model.specs.State.{state}
-use Rattle.omega_model.specs.Touches.{seq}
 use Rattle.omega_model.specs.declared.claims.Txn.{Txn}
 use Rattle.omega_model.specs.declared.entries.Entry.{Entry}
-use Rattle.omega_model.specs.declared.entries.Entry.TheVariants.{Commit}
-use Rattle.omega_machines.specs.Table.{seq_at}
-use Rattle.omega_board.specs.Board.{BoardState, cell_of}
+use Rattle.omega_board.specs.Board.{BoardState, IsBoardOf}
 use Rattle.omega_board.specs.Undo.{UndoState}
 use Rattle.omega_cell.specs.Rooms.{victim_counts}
 
@@ -18,12 +14,6 @@ pub record CellState : Type 0 where
   pub history : List Entry
   pub task_room : ℕ
   pub entry_room : ℕ
-
--- a board is the one after a history: its machines and tasks are the state of the history, and its
--- sequence numbers are those of the history
-pub record IsBoardOf (board : BoardState) (history : List Entry) : Type 0 where
-  pub current : cell_of board ≡ state history
-  pub numbered : (id : ℕ) → seq_at board.table id ≡ seq history id
 
 -- what every cell keeps: its board is the one after its history, which is legal, and each of whose
 -- entries could be applied to the state before it
@@ -54,8 +44,3 @@ pub record IsPrepared (txn : Txn) (undo : UndoState) (machines : List ℕ) (room
   pub machine_room : length txn.claims ≤ room
   pub entry_room : entry ≡ victim_counts txn.claims
   pub answer_room : answer ≡ victim_counts txn.claims
-
--- whether an entry is a commit
-abbrev pub is_commit : Entry → Bool
-is_commit (Commit scheduler seen txn reply) = true
-is_commit _ = false

@@ -1,16 +1,12 @@
 -- What a scheduler that claims machines knows of them, and what takes its claims back.
-use Rattle.std.specs.Prelude.{◌≡◌, ◌≤◌, ℕ, List, map, take, length}
+use Rattle.std.specs.Prelude.{◌≡◌, ◌≤◌, ℕ, List, length}
 use Rattle.std.specs.List.{sum_by}
 use Rattle.omega_machines.specs.Table.{seq_at}
 use Rattle.omega_board.specs.Board.{BoardState}
 use Rattle.omega_board.specs.Undo.{UndoState}
-use Rattle.omega_model.specs.Touches.{seq}
+use Rattle.omega_model.specs.Touches.{copied_seqs, seq}
 use Rattle.omega_model.specs.declared.claims.Claim.{Claim}
 use Rattle.omega_model.specs.declared.entries.Entry.{Entry}
-
--- the sequence numbers of the claims' machines in a copy that has seen the first entries of a history
-abbrev pub copied_seqs : List Entry → ℕ → List Claim → List ℕ
-copied_seqs history seen claims = map (λ claim. seq (take seen history) claim.machine) claims
 
 -- a board has the sequence numbers of a history, and these are the claims' machines' in a copy that has
 -- seen its first entries

@@ -8,10 +8,9 @@ ghost use Rattle.omega_model.specs.Fields.{greatest};
 ghost use Rattle.omega_model.specs.Legal.{Legal, Sound};
 ghost use Rattle.omega_model.specs.Need.{Fits};
 ghost use Rattle.omega_model.specs.State.{state, reply_of};
-ghost use Rattle.omega_model.specs.Touches.{seq};
+ghost use Rattle.omega_model.specs.Touches.{seq, is_commit, copied_seqs};
 ghost use Rattle.omega_model.specs.Work.{outcomes_of};
-ghost use Rattle.omega_cell.specs.Cells.{HasRoom, KeepsRoom, is_commit};
-ghost use Rattle.omega_cell.specs.Claiming.{copied_seqs};
+ghost use Rattle.omega_cell.specs.Cells.{HasRoom, KeepsRoom};
 ghost use Rattle.omega_cell.specs.Effects.{AreEffects};
 
 use crate::deciding::{decide, outcomes_of};

@@ -1,15 +1,16 @@
 //! The machines that entries touch.
 ghost use Rattle.std.specs.Prelude.{◌≡◌, ◌<◌, nat_eq, length, map, Some, IfOk, OnOk};
-ghost use Rattle.std.specs.List.{All, IsDistinct, zip};
+ghost use Rattle.std.specs.List.{All, IsDistinct};
 ghost use Rattle.std.specs.List.Sorted.{IsStrictlyIncreasing};
 ghost use Rattle.omega_machines.specs.Table.{machines_of};
 ghost use Rattle.omega_model.specs.Machines.{numbers_of};
 ghost use Rattle.omega_board.specs.Parts.{part_at};
-ghost use Rattle.omega_cell.specs.Touched.{Adds, is_number, is_touched_by, is_claimed, touched_places};
+ghost use Rattle.omega_cell.specs.Touched.{Adds, touched_places};
+ghost use Rattle.omega_model.specs.Touches.{is_number};
 
-use omega_board::Board;
+use omega_board::{Board, touched};
 use omega_machines::MachineTable;
-use omega_model::{Claim, Entry, Judgement, NoMemory, Parts, Seq};
+use omega_model::{Entry, NoMemory, Parts, Seq};
 use std::alloc::Global;
 
 /// The positions of the machines that entries touch, each once, in order. Costs the entries and their
@@ -23,9 +24,10 @@ pub(crate) fn touched_positions(
     ensures places { IfOk result (λ positions. positions.items ≡ touched_places (machines_of machines.now) entries.now) }
     ensures rises { IfOk result (λ positions. IsStrictlyIncreasing positions.items) }
 {
+    let numbers = touched(alloc, entries)?;
     let mut positions = Vec::new(alloc);
-    for entry in entries {
-        note_touched(machines, entry, &mut positions)?;
+    for number in &numbers {
+        note(machines, *number, &mut positions)?;
     }
     positions.sort_unstable();
     positions.dedup();
@@ -42,47 +44,6 @@ pub(crate) fn parts_at(alloc: Global, board: &Board, positions: &[usize]) -> Res
         parts.push(board.part(alloc, *position)?)?;
     }
     Ok(Seq::of(parts))
-}
-
-// Notes the positions of the machines that an entry touches.
-fn note_touched(
-    machines: &MachineTable,
-    entry: &Entry,
-    positions: &mut Vec<usize>,
-) -> Result<(), NoMemory>
-    requires { IsDistinct nat_eq (numbers_of (machines_of machines.now)) }
-    ensures { OnOk result (Adds (is_touched_by entry.now) (machines_of machines.now) positions.old.items positions.new.items) }
-{
-    match entry {
-        Entry::Round { .. } => Ok(()),
-        Entry::MachineAdd { machine, .. } => note(machines, *machine, positions),
-        Entry::MachineUpdate { machine, .. } => note(machines, *machine, positions),
-        Entry::MachineRemove { machine } => note(machines, *machine, positions),
-        Entry::AttrSet { machine, .. } => note(machines, *machine, positions),
-        Entry::AttrDelete { machine, .. } => note(machines, *machine, positions),
-        Entry::End { machine, .. } => note(machines, *machine, positions),
-        Entry::Commit { txn, reply, .. } => {
-            note_placed(machines, txn.claims.as_slice(), reply.as_slice(), positions)
-        }
-    }
-}
-
-// Notes the positions of the machines of the placed claims.
-fn note_placed(
-    machines: &MachineTable,
-    claims: &[Claim],
-    reply: &[Judgement],
-    positions: &mut Vec<usize>,
-) -> Result<(), NoMemory>
-    requires { IsDistinct nat_eq (numbers_of (machines_of machines.now)) }
-    ensures { OnOk result (Adds (is_claimed (zip claims.now reply.now)) (machines_of machines.now) positions.old.items positions.new.items) }
-{
-    for (claim, judgement) in claims.iter().zip(reply) {
-        if judgement.verdict.is_placed() {
-            note(machines, claim.machine, positions)?;
-        }
-    }
-    Ok(())
 }
 
 // Notes the position of a machine, if it is in the list.

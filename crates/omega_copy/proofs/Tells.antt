@@ -8,12 +8,15 @@ use Rattle.std.proofs.lemmas.Map.Keys.{IsDistinct-head, IsDistinct-tail}
 use Rattle.omega_model.specs.Cell.{Cell, is_on, total, use_on}
 use Rattle.omega_model.specs.Machines.{numbers_of, is_listed, change, ensured, new_machine}
 use Rattle.omega_model.specs.Need.{minus}
-use Rattle.omega_model.specs.Touches.{is_placed}
+use Rattle.omega_model.specs.Touches.{is_commit, is_placed, is_claimed}
 use Rattle.omega_model.specs.declared.cells.Machine.{Machine}
 use Rattle.omega_model.specs.declared.cells.Need.{Need}
 use Rattle.omega_model.specs.declared.cells.Task.{Task}
 use Rattle.omega_model.specs.declared.claims.Claim.{Claim}
 use Rattle.omega_model.specs.declared.claims.Judgement.{Judgement}
+use Rattle.omega_model.specs.declared.claims.Txn.{Txn}
+use Rattle.omega_model.specs.declared.entries.Entry.{Entry}
+use Rattle.omega_model.specs.declared.entries.Entry.TheVariants.{Round, MachineAdd, MachineUpdate, MachineRemove, AttrSet, AttrDelete, End, Commit}
 use Rattle.omega_machines.specs.declared.MachineState.{MachineState}
 use Rattle.omega_machines.specs.Table.{machines_of, free_at, free_if_up}
 use Rattle.omega_running.specs.Held.{stays_against}
@@ -23,7 +26,6 @@ use Rattle.omega_board.specs.Board.{IsCounted}
 use Rattle.omega_board.proofs.Boards.{recounted-same}
 use Rattle.omega_board.proofs.Numbered.{differ_back, others_behind, unlisted_behind}
 use Rattle.omega_board.proofs.Places.{each_get}
-use Rattle.omega_cell.specs.Touched.{is_claimed}
 use Rattle.omega_copy.specs.Telling.{TellsBut, TellsOf, free_on, freed_of, freed_on, frees_of, is_this_or, placed}
 use Rattle.omega_model.proofs.Lists.{by_answer}
 
@@ -290,3 +292,14 @@ pub written_back : {X : Type 0} (before shown after : List X) (n : ℕ) → show
 written_back before shown after n same count kept =
     let nothing : drop (length after) before ≡ [] = drop_all (length after) before (omega (arith, ap length (sym same), kept)) in
     ap (λ xs. take n (after ++ xs)) nothing ∙ ap (take n) (append-nil after) ∙ take_all n after (omega (arith, count, kept))
+
+-- an entry that hasn't the form of a commit is none
+pub no_commit : (entry : Entry) → ((scheduler seen : ℕ) (txn : Txn) (reply : List Judgement) → entry ≡ Commit scheduler seen txn reply → ⊥) → is_commit entry ≡ false
+no_commit (Round number) other = refl
+no_commit (MachineAdd machine cap) other = refl
+no_commit (MachineUpdate machine cap) other = refl
+no_commit (MachineRemove machine) other = refl
+no_commit (AttrSet machine name value) other = refl
+no_commit (AttrDelete machine name) other = refl
+no_commit (End key machine) other = refl
+no_commit (Commit scheduler seen txn reply) other = absurd (other scheduler seen txn reply refl)

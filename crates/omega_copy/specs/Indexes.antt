@@ -1,24 +1,14 @@
 -- What a copy keeps beside its board, and when it serves on another.
-use Rattle.std.specs.Prelude.{◌≡◌, ◌≤◌, ◌-◌, ℕ, Bool, ◌||◌, List, length, take, drop}
+use Rattle.std.specs.Prelude.{◌≡◌, ◌≤◌, ◌-◌, ℕ, List, length, take, drop}
 use Rattle.omega_model.specs.Applying.{EachMayApply}
 use Rattle.omega_model.specs.State.{state}
 use Rattle.omega_model.specs.declared.entries.Entry.{Entry}
 use Rattle.omega_running.specs.Order.{Each}
-use Rattle.omega_board.specs.Board.{BoardState}
-use Rattle.omega_board.specs.Numbers.{is_among}
-use Rattle.omega_cell.specs.Cells.{IsBoardOf}
-use Rattle.omega_cell.specs.Touched.{is_touched}
+use Rattle.omega_board.specs.Board.{BoardState, IsBoardOf}
+use Rattle.omega_board.specs.Naming.{NameTouched}
 use Rattle.omega_copy.specs.Levels.{Tells}
 use Rattle.omega_copy.specs.Telling.{freed_of}
 use Rattle.omega_copy.specs.declared.indexes.Indexes.{Indexes}
-
--- the later numbers are the earlier ones and those that pass
-abbrev pub Names : (ℕ → Bool) → List ℕ → List ℕ → Type 0
-Names test before after = (id : ℕ) → is_among after id ≡ (is_among before id || test id)
-
--- numbers are those of the machines that entries touch
-abbrev pub NameTouched : List Entry → List ℕ → Type 0
-NameTouched entries machines = (id : ℕ) → is_among machines id ≡ is_touched entries id
 
 -- the indexes of a history tell what is free, and what evictions could free, after as many of its entries
 -- as they have seen

@@ -5,7 +5,7 @@ use Rattle.omega_model.specs.declared.entries.Entry.{Entry}
 use Rattle.omega_machines.specs.Table.{machines_of}
 use Rattle.omega_board.specs.Board.{BoardState}
 use Rattle.omega_board.specs.Numbers.{is_among}
-use Rattle.omega_cell.specs.Touched.{is_touched_by}
+use Rattle.omega_model.specs.Touches.{is_touched_by}
 use Rattle.omega_fit.specs.Positions.{Positions}
 use Rattle.omega_copy.specs.declared.levels.Level.{Level}
 use Rattle.omega_copy.specs.Telling.{TellsBut, freed_of, placed}

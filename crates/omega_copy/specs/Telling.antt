@@ -1,5 +1,6 @@
 -- What an index tells of the machines of a cell.
 use Rattle.std.specs.Prelude.{◌≡◌, ℕ, Bool, false, List, [], ◌∷◌, ◌++◌, Option, Some, None, not, ◌==◌, ◌||◌, length, map, drop, if◌then◌else◌}
+use Rattle.std.specs.Option.{option_map_or}
 use Rattle.omega_model.specs.Cell.{Cell, use_on}
 use Rattle.omega_model.specs.Need.{minus}
 use Rattle.omega_model.specs.declared.cells.Machine.{Machine}
@@ -34,6 +35,10 @@ TellsBut stale prec tasks (free ∷ frees) (machine ∷ machines) =
 -- whether a number is this one, or passes a test
 abbrev pub is_this_or : ℕ → (ℕ → Bool) → ℕ → Bool
 is_this_or machine stale id = machine == id || stale id
+
+-- whether a number is the one that was found, if one was
+abbrev pub is_found : Option ℕ → ℕ → Bool
+is_found found id = option_map_or (λ machine. machine == id) found false
 
 -- an index tells that on the machine of this number, if it is listed
 abbrev pub TellsOf : ℕ → ℕ → List Task → List (Option Need) → List Machine → Type 0

@@ -6,11 +6,10 @@ ghost use Rattle.omega_model.specs.Copy.{Carries};
 ghost use Rattle.omega_model.specs.Judge.{judge_fine, would_be_placed};
 ghost use Rattle.omega_model.specs.Reply.{after_claim};
 ghost use Rattle.omega_model.specs.State.{step};
-ghost use Rattle.omega_model.specs.Touches.{touches};
+ghost use Rattle.omega_model.specs.Touches.{touches, copied_seqs};
 ghost use Rattle.omega_model.specs.declared.entries.Entry.{Entry};
 ghost use Rattle.omega_running.specs.Kept.{KeysRise};
 ghost use Rattle.omega_board.specs.Board.{cell_of};
-ghost use Rattle.omega_cell.specs.Claiming.{copied_seqs};
 ghost use Rattle.omega_copy.specs.Copies.{CopyOf, MayFollow, MayCatchUp, after_trial, one_less, without_room};
 ghost use Rattle.omega_copy.specs.Indexes.{AreIndexesOf, HavePlaces, MayGoOn};
 ghost use Rattle.omega_copy.specs.Levels.{Tells};
@@ -129,8 +128,8 @@ impl PrivateCopy {
         (board, indexes)
     }
 
-    // How many of the entries that it has seen touched a machine.
-    fn seq(&self, machine: u64) -> u64
+    /// How many of the entries that it has seen touched a machine. Takes no memory.
+    pub fn seq(&self, machine: u64) -> u64
         ensures { result ≡ seq_at self.now.board.table machine }
     {
         self.board.machines().seq(machine)

@@ -13,5 +13,5 @@ mod telling;
 mod trial;
 
 pub use copy::PrivateCopy;
-pub use indexes::{Indexes, touched};
+pub use indexes::Indexes;
 pub use levels::Level;

@@ -4,9 +4,9 @@ ghost use Rattle.std.specs.List.{zip};
 ghost use Rattle.omega_machines.specs.Table.{machines_of};
 ghost use Rattle.omega_model.specs.declared.cells.Machine.{Machine};
 ghost use Rattle.omega_board.specs.Board.{cell_of};
-ghost use Rattle.omega_cell.specs.Touched.{is_claimed, is_number, is_touched_by};
+ghost use Rattle.omega_model.specs.Touches.{is_claimed, is_touched_by};
 ghost use Rattle.omega_copy.specs.Levels.{Near, NearEntry, NearParts};
-ghost use Rattle.omega_copy.specs.Telling.{TellsBut, TellsOf, freed_of, freed_on, is_this_or, placed};
+ghost use Rattle.omega_copy.specs.Telling.{TellsBut, TellsOf, freed_of, freed_on, is_found, is_this_or, placed};
 
 use omega_board::Board;
 use omega_fit::FitIndex;
@@ -77,25 +77,22 @@ fn tell_touched(index: &mut FitIndex, prec: u8, board: &Board, entry: &Entry)
     ensures { index.new.free ≡ freed_of prec (cell_of board.now) }
 {
     match entry {
-        Entry::Round { .. } => {}
-        Entry::MachineAdd { machine, .. } => tell_one(index, prec, board, *machine),
-        Entry::MachineUpdate { machine, .. } => tell_one(index, prec, board, *machine),
-        Entry::MachineRemove { machine } => tell_one(index, prec, board, *machine),
-        Entry::AttrSet { machine, .. } => tell_one(index, prec, board, *machine),
-        Entry::AttrDelete { machine, .. } => tell_one(index, prec, board, *machine),
-        Entry::End { machine, .. } => tell_one(index, prec, board, *machine),
         Entry::Commit { txn, reply, .. } => {
             tell_placed(index, prec, board, txn.claims.as_slice(), reply.as_slice());
         }
+        _ => tell_found(index, prec, board, entry.machine()),
     }
 }
 
-// Tells the index what evictions for its precedence could free on a machine; it has told all else.
-fn tell_one(index: &mut FitIndex, prec: u8, board: &Board, machine: u64)
-    requires { TellsBut (is_number machine) prec board.now.tasks index.old.free (machines_of board.now.table) }
+// Tells the index what evictions for its precedence could free on a machine, if there is one; it has told
+// all else.
+fn tell_found(index: &mut FitIndex, prec: u8, board: &Board, machine: Option<u64>)
+    requires { TellsBut (is_found machine) prec board.now.tasks index.old.free (machines_of board.now.table) }
     ensures { index.new.free ≡ freed_of prec (cell_of board.now) }
 {
-    tell(index, prec, board, machine);
+    if let Some(machine) = machine {
+        tell(index, prec, board, machine);
+    }
 }
 
 // The same for the machines of the placed claims.

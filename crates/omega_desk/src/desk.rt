@@ -122,7 +122,7 @@ impl Desk {
             ≡ Some (left_at self.new) }
     {
         let Some(request) = self.present.take() else {
-            return;
+            unreachable!()
         };
         let outcomes = reply.outcomes.as_slice();
         self.attempts += 1;

@@ -22,6 +22,6 @@ mod wanted;
 pub use extras::FIRST_EXTRA;
 pub use jobs::RoutedJob;
 pub use open_jobs::OpenJobs;
-pub use ordered::{feed, rounds};
-pub use unplaced::WaitingTasks;
+pub use ordered::{feed, rounds, time_of};
+pub use unplaced::{WaitingTasks, each_once};
 pub use wanted::Wanted;

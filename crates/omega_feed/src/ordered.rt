@@ -60,7 +60,7 @@ fn in_order(mut rows: Vec<Row>) -> Result<Vec<Row>, NoMemory>
 }
 
 /// The time of a row, in microseconds.
-fn time_of(row: &Row) -> u64
+pub fn time_of(row: &Row) -> u64
     ensures { result ≡ time_of row.now }
 {
     match row {

@@ -2,7 +2,7 @@
 ghost use Rattle.std.specs.Prelude.{◌≡◌, ◌≤◌, ◌<◌, None, Some, IfOk, IfSome, option_map, length};
 ghost use Rattle.omega_board.specs.Board.{cell_of};
 ghost use Rattle.omega_copy.specs.Telling.{freed_of};
-ghost use Rattle.omega_model.specs.Cell.{keys_of, task_at};
+ghost use Rattle.omega_model.specs.Cell.{task_at};
 ghost use Rattle.omega_model.specs.Legal.{Sound};
 ghost use Rattle.omega_model.specs.Plan.{candidates, gives_way, victims};
 ghost use Rattle.omega_running.specs.Kept.{KeysRise};
@@ -16,6 +16,7 @@ use omega_board::Board;
 use omega_copy::PrivateCopy;
 use omega_fit::FitIndex;
 use omega_model::{Keys, NoMemory, Seq, Task, Wish};
+use omega_running::keys_of;
 use std::alloc::Global;
 
 /// A position, and the victims that make room on the machine that stands there.
@@ -151,15 +152,4 @@ fn gives_way(wish: &Wish, task: &Task) -> bool
     ensures { result ≡ gives_way wish.now task.now }
 {
     task.key.job != wish.key.job && task.spec.prec < wish.spec.prec
-}
-
-/// The keys of some tasks.
-fn keys_of(alloc: Global, tasks: &[Task]) -> Result<Keys, NoMemory>
-    ensures { IfOk result (λ keys. keys ≡ keys_of tasks.now) }
-{
-    let mut keys = Vec::new(alloc);
-    for task in tasks {
-        keys.push(task.key)?;
-    }
-    Ok(Seq::of(keys))
 }

@@ -14,4 +14,4 @@ mod table;
 
 pub use orders::is_among;
 pub use standing::stands_in;
-pub use table::Running;
+pub use table::{Running, keys_of};

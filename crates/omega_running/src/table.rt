@@ -219,8 +219,8 @@ fn fill(pool: &mut Vec<Pair>, alloc: Global, n: usize) -> Result<(), NoMemory>
     Ok(())
 }
 
-/// The keys of some tasks.
-fn keys_of(alloc: Global, tasks: &[Task]) -> Result<Keys, NoMemory>
+/// The keys of some tasks, in the same order. Takes the memory of a key for each.
+pub fn keys_of(alloc: Global, tasks: &[Task]) -> Result<Keys, NoMemory>
     ensures { IfOk result (λ keys. keys ≡ keys_of tasks.now) }
 {
     let mut keys = Vec::new(alloc);

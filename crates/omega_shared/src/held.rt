@@ -1,6 +1,6 @@
 //! What the lock of a shared cell holds.
 ghost use Rattle.std.specs.Prelude.{◌≡◌, ◌≤◌, ◌<◌, ◌^◌, ◌++◌, ◌∷◌, [], length, IfOk, IfErr, OnOk, OnErr};
-ghost use Rattle.omega_cell.specs.Claiming.{copied_seqs};
+ghost use Rattle.omega_model.specs.Touches.{copied_seqs};
 ghost use Rattle.omega_model.specs.Applying.{EachMayApply};
 ghost use Rattle.omega_model.specs.Copy.{Carries};
 ghost use Rattle.omega_shared.specs.Commits.{commit_after};

@@ -5,7 +5,7 @@ use Rattle.omega_model.specs.Options.{whole_table}
 use Rattle.omega_model.specs.PlainWords.{is_plain}
 use Rattle.omega_model.specs.WordSettings.{default_settings}
 use Rattle.omega_model.specs.declared.claims.Rule.TheVariants.{Coarse}
-use Rattle.omega_model.specs.declared.settings.Command.TheVariants.{Generate, Run}
+use Rattle.omega_model.specs.declared.settings.Command.TheVariants.{Generate, Run, Simulate}
 use Rattle.omega_words.specs.Built.{built_words}
 use Rattle.omega_words.specs.Taken.{folder_in, is_taken, settings_in}
 use Rattle.omega_words.proofs.Sound.{is_sound}
@@ -26,6 +26,17 @@ of_run = refl
 other_command : is_taken built_words (codes "resume" ∷ []) ≡ false
 unfolding built_words clap_on_literals
 other_command = refl
+
+-- ---- decision times
+
+services_decide_as_others : settings_in built_words (codes "simulate" ∷ codes "--t-job" ∷ codes "7" ∷ codes "--service-t-task=9" ∷ [])
+    ≡ record default_settings { command = Simulate; t_job = 7; service_t_job = 7; service_t_task = 9 }
+unfolding built_words clap_on_literals
+services_decide_as_others = refl
+
+too_long_a_decision : is_taken built_words (codes "simulate" ∷ codes "--t-task" ∷ codes "1000000001" ∷ []) ≡ false
+unfolding built_words clap_on_literals
+too_long_a_decision = refl
 
 -- ---- what is generated
 

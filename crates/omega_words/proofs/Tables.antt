@@ -2,7 +2,7 @@
 use Rattle.std.proofs.Common.{◌≡◌, ◌&&◌, ◌∙◌, List, Option, true, false, ap, ap₂, refl, sym, true≢false, codes}
 use Rattle.std.specs.Option.{option_map_or}
 use Rattle.clap.specs.Words.{Row, Text, matches_of, takes}
-use Rattle.omega_model.specs.Options.{Choice, is_among, whole_table}
+use Rattle.omega_model.specs.Options.{Choice, is_among}
 use Rattle.omega_model.specs.PlainWords.{is_plain, text_given}
 use Rattle.omega_words.specs.Built.{built_words}
 use Rattle.omega_words.specs.Choices.{texts_of}
@@ -21,7 +21,7 @@ by_words : (texts : Text → Option Text) → has_values built_words texts ≡ a
 unfolding built_words
 by_words texts = refl
 
-values_are : (texts : Text → Option Text) → are_of_table built_words texts ≡ (option_map_or (is_among whole_table.commands) (texts (codes "command")) false && are_values built_words.choices texts)
+values_are : (texts : Text → Option Text) → are_of_table built_words texts ≡ (option_map_or (is_among built_words.commands) (texts (codes "command")) false && are_values built_words.choices texts)
 unfolding built_words
 values_are texts = refl
 
@@ -39,16 +39,16 @@ module _ (words : List Text) (choices : List Choice) (rows : List Row) (same : c
   pub rows_are : rows ≡ matches_of (app built_words) words
   rows_are = are ∙ ap (λ (os : List Choice). matches_of (app_of_choices os) words) same
 
-  values_as : are_of_table built_words (text_in built_words words) ≡ (option_map_or (is_among whole_table.commands) (texts_of rows (codes "command")) false && are_values choices (texts_of rows))
+  values_as : are_of_table built_words (text_in built_words words) ≡ (option_map_or (is_among built_words.commands) (texts_of rows (codes "command")) false && are_values choices (texts_of rows))
   values_as =
       ap (λ (rs : List Row). are_of_table built_words (texts_of rs)) (sym rows_are) ∙ values_are (texts_of rows)
-      ∙ ap (λ (os : List Choice). option_map_or (is_among whole_table.commands) (texts_of rows (codes "command")) false && are_values os (texts_of rows)) (sym same)
+      ∙ ap (λ (os : List Choice). option_map_or (is_among built_words.commands) (texts_of rows (codes "command")) false && are_values os (texts_of rows)) (sym same)
 
-  pub values_hold : option_map_or (is_among whole_table.commands) (texts_of rows (codes "command")) false ≡ true → are_values choices (texts_of rows) ≡ true
+  pub values_hold : option_map_or (is_among built_words.commands) (texts_of rows (codes "command")) false ≡ true → are_values choices (texts_of rows) ≡ true
       → are_of_table built_words (text_in built_words words) ≡ true
   values_hold known pass = values_as ∙ ap₂ ◌&&◌ known pass
 
-  pub not_taken : (option_map_or (is_among whole_table.commands) (texts_of rows (codes "command")) false && are_values choices (texts_of rows)) ≡ false → is_taken built_words words ≡ true → ⊥
+  pub not_taken : (option_map_or (is_among built_words.commands) (texts_of rows (codes "command")) false && are_values choices (texts_of rows)) ≡ false → is_taken built_words words ≡ true → ⊥
   not_taken fails taken = true≢false (sym (both (takes (app built_words) words) _ taken).1 ∙ values_as ∙ fails)
 
 pub takes_are : (words : List Text) (choices : List Choice) → choices ≡ built_words.choices → is_taken built_words words ≡ true → takes (app_of_choices choices) words ≡ true

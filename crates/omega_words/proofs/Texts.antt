@@ -4,7 +4,7 @@ use Rattle.std.specs.List.{list_all}
 use Rattle.std.specs.Option.{option_map_or}
 use Rattle.std.specs.Str.{bytes_eq}
 use Rattle.clap.specs.Words.{Text, first_of}
-use Rattle.omega_model.specs.Options.{Choice, Values, WordTable, a_folder, a_number, one_of, is_among, is_value, dashed, choice_at}
+use Rattle.omega_model.specs.Options.{Choice, Values, WordTable, a_path, a_number, one_of, is_among, is_value, dashed, choice_at}
 use Rattle.omega_model.specs.PlainWords.{begins_plainly, is_plain_value, pair_is_plain, options_are_plain, is_plain, text_after, text_given}
 use Rattle.omega_words.specs.Taken.{text_in}
 use Rattle.omega_words.proofs.Sound.{is_name, names_begin_plainly, is_sound, has_value, has_values}
@@ -41,7 +41,7 @@ text_is t sound (command ∷ rest) e name =
     go false other left = rw other left
 
 plain_value : (vs : Values) (text : Text) → is_plain_value vs text ≡ true → is_value vs text ≡ true
-plain_value a_folder text e = refl
+plain_value a_path text e = refl
 plain_value (a_number low high) text e = e
 plain_value (one_of names) text e = e
 

@@ -12,7 +12,7 @@ use Rattle.clap.specs.Lexer.{long_of, short_of}
 use Rattle.clap.specs.Walk.{Walk, option, idle, has_row, walked}
 use Rattle.clap.specs.Takes.{turn_passes, walk_passes}
 use Rattle.clap.specs.Simple.{Shape}
-use Rattle.omega_model.specs.Options.{Choice, Values, WordTable, a_folder, a_number, one_of, is_among, is_value, dashed}
+use Rattle.omega_model.specs.Options.{Choice, Values, WordTable, a_path, a_number, one_of, is_among, is_value, dashed}
 use Rattle.omega_model.specs.PlainWords.{begins_plainly, is_plain_value, pair_is_plain, options_are_plain}
 use Rattle.omega_words.proofs.Sound.{is_name, names_begin_plainly}
 use Rattle.omega_words.proofs.Built.{IsOption, Settles, both, neither, is_not, option_of, option_settles, row_for, rules_built, same_text, text_itself, with_rules}
@@ -106,7 +106,7 @@ begins_whole low high (b ∷ rest) e =
     digit_begins b (both (is_ascii_digit b) _ (digits_of (λ n. if nat_le low n && nat_le n high then Some n else None) (b ∷ rest) e)).0
 
 value_begins : (vs : Values) (text : Text) → names_begin_plainly vs ≡ true → is_plain_value vs text ≡ true → begins_plainly text ≡ true
-value_begins a_folder text sound e = e
+value_begins a_path text sound e = e
 value_begins (a_number low high) text sound e = begins_whole low high text e
 value_begins (one_of names) text sound e = begins_listed names text sound e
 

@@ -1,6 +1,20 @@
 -- The table of words that the program takes.
-use Rattle.omega_model.specs.Options.{WordTable, whole_table}
+use Rattle.std.specs.Prelude.{ℕ, List, [], ◌∷◌, map, filter, not, codes}
+use Rattle.omega_model.specs.Options.{WordTable, is_among, part, whole_table}
 
--- the whole table; it unfolds only where a proof asks for it, since it is long
+-- the commands that are still to come, and the options that they alone have
+abbrev pub later_commands : List (List ℕ)
+later_commands = codes "resume" ∷ codes "audit" ∷ []
+
+abbrev pub later_options : List (List ℕ)
+later_options = codes "kept" ∷ []
+
+-- those of some names that aren't among others
+abbrev pub without : List (List ℕ) → List (List ℕ) → List (List ℕ)
+without others names = filter (λ name. not (is_among others name)) names
+
+-- the table without what is still to come; it unfolds only where a proof asks for it, since it is long
 unfoldable pub built_words : WordTable
-built_words = whole_table
+built_words =
+    part (without later_commands whole_table.commands)
+    (without later_options (map (λ option. option.name) whole_table.choices)) whole_table

@@ -3,14 +3,14 @@ use Rattle.std.specs.Prelude.{ℕ, Bool, List, map, Option, Some, None, unwrap_o
 use Rattle.std.specs.Option.{option_and_then}
 use Rattle.clap.specs.Words.{Row, first_of, found_of, rows_of}
 use Rattle.clap.specs.declared.parser.matches.ArgMatches.{ArgMatches}
-use Rattle.omega_model.specs.Options.{Choice, Values, a_folder, a_number, one_of, number_from}
+use Rattle.omega_model.specs.Options.{Choice, Values, a_path, a_number, one_of, number_from}
 use Rattle.omega_words.specs.declared.choices.Choice.{Choice as CodeChoice}
 use Rattle.omega_words.specs.declared.choices.Values.{Values as CodeValues}
-use Rattle.omega_words.specs.declared.choices.Values.TheVariants.{Folder, Number, OneOf}
+use Rattle.omega_words.specs.declared.choices.Values.TheVariants.{Path, Number, OneOf}
 
 -- the values that the code has, as those of the definition
 abbrev pub values_of : CodeValues → Values
-values_of Folder = a_folder
+values_of Path = a_path
 values_of (Number span) = a_number span.low span.high
 values_of (OneOf names) = one_of (map (λ name. name.now) names.now)
 

@@ -14,8 +14,11 @@ pub struct Span {
 /// What an option's value may be.
 #[derive(Clone, Copy)]
 pub enum Values<'a> {
-    Folder,
+    /// The path of a folder.
+    Path,
+    /// A whole number of a span.
     Number(Span),
+    /// One of these names.
     OneOf(&'a [&'a str]),
 }
 
@@ -59,6 +62,11 @@ pub const JOBS: Span = Span {
     high: 20_000,
 };
 
+pub const DECISION_TIMES: Span = Span {
+    low: 0,
+    high: 1_000_000_000,
+};
+
 /// An option with this name and these values.
 fn make_choice<'a>(name: &'a str, values: Values<'a>) -> Choice<'a>
     ensures { choice_of result ≡ (record { name = name.entry.now; values = values_of values.entry }) }
@@ -67,11 +75,11 @@ fn make_choice<'a>(name: &'a str, values: Values<'a>) -> Choice<'a>
 }
 
 /// The options of the table.
-pub fn table() -> [Choice<'static>; 14]
+pub fn table() -> [Choice<'static>; 18]
     ensures { map choice_of result ≡ built_words.choices }
 {
     [
-        make_choice("tables", Values::Folder),
+        make_choice("tables", Values::Path),
         make_choice("seed", Values::Number(SEEDS)),
         make_choice("batch", Values::Number(BATCHES)),
         make_choice("rule", Values::OneOf(&["fine", "coarse"])),
@@ -85,6 +93,10 @@ pub fn table() -> [Choice<'static>; 14]
         make_choice("format", Values::OneOf(&["text", "json"])),
         make_choice("machines", Values::Number(MACHINES)),
         make_choice("jobs", Values::Number(JOBS)),
+        make_choice("t-job", Values::Number(DECISION_TIMES)),
+        make_choice("t-task", Values::Number(DECISION_TIMES)),
+        make_choice("service-t-job", Values::Number(DECISION_TIMES)),
+        make_choice("service-t-task", Values::Number(DECISION_TIMES)),
     ]
 }
 
@@ -116,7 +128,7 @@ pub fn is_value<'a>(values: Values<'a>, text: &str) -> bool
     ensures { result ≡ is_value (values_of values.entry) text.now }
 {
     match values {
-        Values::Folder => true,
+        Values::Path => true,
         Values::Number(span) => number_from(text, span).is_some(),
         Values::OneOf(names) => is_among(names, text),
     }

@@ -1,8 +1,9 @@
 //! Settings and folder of what `clap` found.
 ghost use Rattle.std.specs.Prelude.{◌≡◌, ◌<◌, ◌≤◌, ◌^◌, false, true, codes, map, option_map};
 ghost use Rattle.std.specs.Option.{option_map_or};
-ghost use Rattle.omega_model.specs.Options.{is_among, is_value, whole_table};
+ghost use Rattle.omega_model.specs.Options.{is_among, is_value};
 ghost use Rattle.omega_model.specs.WordSettings.{command_of, extra_of, folder_by, format_of, is_text, mode_of, preempt_of, rule_of, settings_by};
+ghost use Rattle.omega_words.specs.Built.{built_words};
 ghost use Rattle.omega_words.specs.Choices.{choice_of, number_or, texts_in, where_it};
 ghost use Rattle.omega_words.specs.Taken.{are_values};
 
@@ -131,14 +132,16 @@ fn format_of<'a>(matches: &ArgMatches<'a>) -> Format
 }
 
 /// The command, where the table has it.
+#[tactic(auto, unfolding(crate::specs::Built::built_words))]
 pub fn command_of<'a>(matches: &ArgMatches<'a>) -> Option<Command>
     ensures { let text = texts_in matches.now (codes "command") in
-        result ≡ where_it (option_map_or (is_among whole_table.commands) text false) (command_of text) }
+        result ≡ where_it (option_map_or (is_among built_words.commands) text false) (command_of text) }
 {
     match text_of(matches, "command") {
         Some("replay") => Some(Command::Replay),
         Some("run") => Some(Command::Run),
         Some("generate") => Some(Command::Generate),
+        Some("simulate") => Some(Command::Simulate),
         _ => None,
     }
 }
@@ -148,6 +151,8 @@ pub fn settings_of<'a>(matches: &ArgMatches<'a>, command: Command) -> Settings
     ensures { result ≡ (record (settings_by (texts_in matches.now)) { command = command }) }
 {
     let default = Settings::default();
+    let t_job = number_of(matches, "t-job", choices::DECISION_TIMES, default.t_job);
+    let t_task = number_of(matches, "t-task", choices::DECISION_TIMES, default.t_task);
     Settings {
         command,
         seed: number_of(matches, "seed", choices::SEEDS, default.seed),
@@ -162,6 +167,10 @@ pub fn settings_of<'a>(matches: &ArgMatches<'a>, command: Command) -> Settings
         format: format_of(matches),
         machines: small_number_of(matches, "machines", choices::MACHINES, default.machines),
         jobs: small_number_of(matches, "jobs", choices::JOBS, default.jobs),
+        t_job,
+        t_task,
+        service_t_job: number_of(matches, "service-t-job", choices::DECISION_TIMES, t_job),
+        service_t_task: number_of(matches, "service-t-task", choices::DECISION_TIMES, t_task),
     }
 }
 

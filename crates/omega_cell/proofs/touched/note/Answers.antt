@@ -2,8 +2,8 @@ use Rattle.std.proofs.Common.{◌||◌, ap, sym, ◌∙◌}
 use Rattle.std.specs.Option.{is_some}
 use Rattle.omega_machines.specs.Table.{machines_of}
 use Rattle.omega_board.specs.Numbers.{is_among}
-use Rattle.omega_board.proofs.Numbers.{one_more}
-use Rattle.omega_cell.proofs.Touching.{none_added, unlisted_nowhere, listed_there}
+use Rattle.omega_board.proofs.Numbers.{one_more, none_added}
+use Rattle.omega_cell.proofs.Touching.{unlisted_nowhere, listed_there}
 use Rattle.omega_cell.proofs.touched.note.Goals as goal
 
 pub returns-in_ok-push : goal.returns-in_ok-push

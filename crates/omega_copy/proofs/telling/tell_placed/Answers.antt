@@ -7,7 +7,7 @@ use Rattle.omega_model.specs.declared.claims.Claim.{Claim}
 use Rattle.omega_model.specs.declared.claims.Judgement.{Judgement}
 use Rattle.omega_machines.specs.Table.{machines_of}
 use Rattle.omega_board.proofs.Counts.{zipped_out}
-use Rattle.omega_cell.specs.Touched.{is_claimed}
+use Rattle.omega_model.specs.Touches.{is_claimed}
 use Rattle.omega_copy.specs.Telling.{TellsBut}
 use Rattle.omega_copy.proofs.Tells.{told_all, told_states, zipped_more, placed_more, passed_more}
 use Rattle.omega_copy.proofs.telling.tell_placed.Goals as goal

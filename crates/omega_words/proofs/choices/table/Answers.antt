@@ -18,4 +18,8 @@ returns c =
     (ap₂ ◌∷◌ c.make_choice-11.ensures
     (ap₂ ◌∷◌ c.make_choice-12.ensures
     (ap₂ ◌∷◌ c.make_choice-13.ensures
-    (ap₂ ◌∷◌ c.make_choice-14.ensures refl)))))))))))))
+    (ap₂ ◌∷◌ c.make_choice-14.ensures
+    (ap₂ ◌∷◌ c.make_choice-15.ensures
+    (ap₂ ◌∷◌ c.make_choice-16.ensures
+    (ap₂ ◌∷◌ c.make_choice-17.ensures
+    (ap₂ ◌∷◌ c.make_choice-18.ensures refl)))))))))))))))))

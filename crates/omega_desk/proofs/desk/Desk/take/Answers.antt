@@ -3,8 +3,8 @@ use Rattle.omega_desk.specs.Desks.{IsDesk}
 use Rattle.omega_desk.proofs.Desks.{moved, stayed}
 use Rattle.omega_desk.proofs.desk.Desk.take.Goals as goal
 
-pub invariant_of-self-then-ends_request : goal.invariant_of-self-then-ends_request
-invariant_of-self-then-ends_request c =
+pub invariant_of-self : goal.invariant_of-self
+invariant_of-self c =
     let d = c.self.inside in
     let desk = subst (λ p. IsDesk p d.waiting.items d.attempts d.taken d.failures.counts.entries) (sym c.take.ensures.value ∙ c.in-Some.is) c.self.invariant in
     moved c.in-Some.request d.waiting.items d.attempts d.taken d.failures.counts.entries _ c.as_slice-outcomes.result.now desk c.note-failing.ensures.others c.note-failing.ensures.counts
