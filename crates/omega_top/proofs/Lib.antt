@@ -4,6 +4,7 @@ pub mod Reading
 pub mod Refusing
 pub mod SomeRun
 pub mod NoHistory
+pub mod Ordering
 pub mod Unread
 pub mod Timing
 pub mod Written
