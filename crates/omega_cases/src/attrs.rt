@@ -1,13 +1,12 @@
 //! Placement constraints: the calls of `omega_attrs`.
-use crate::fault::Fault;
-use crate::values::text;
 use omega_attrs::{eligible, holds};
-use omega_model::{Attr, Attrs, Bytes, Constraint, Constraints, Copied, Op, Seq};
+use omega_calls::{Fault, constraint_of};
+use omega_model::{Attr, Attrs, Bytes, Constraints, Copied, Seq};
 use std::alloc::Global;
 
 /// `holds NAME OPERATOR VALUE on NAME VALUE ..`: whether a constraint holds of a machine with these
 /// attributes. `eligible NAME OPERATOR VALUE .. on NAME VALUE ..`: whether all of them do.
-pub fn answer(alloc: Global, call: &str, words: &[Bytes]) -> Result<String, Fault> {
+pub(crate) fn answer(alloc: Global, call: &str, words: &[Bytes]) -> Result<String, Fault> {
     let (wanted, set) = parted(words);
     let attrs = attrs_of(alloc, set)?;
     let answer = match (call, wanted) {
@@ -54,29 +53,4 @@ fn constraints_of(alloc: Global, words: &[Bytes]) -> Result<Constraints, Fault> 
         constraints.push(constraint_of(alloc, name, op, value)?)?;
     }
     Ok(constraints)
-}
-
-/// A constraint of three words.
-pub fn constraint_of(
-    alloc: Global,
-    name: &Bytes,
-    op: &Bytes,
-    value: &Bytes,
-) -> Result<Constraint, Fault> {
-    Ok(Constraint {
-        op: op_of(op)?,
-        name: name.copy(alloc)?,
-        value: value.copy(alloc)?,
-    })
-}
-
-/// The operator of a word.
-fn op_of(word: &Bytes) -> Result<Op, Fault> {
-    match text(word)? {
-        "=" => Ok(Op::Equal),
-        "!=" => Ok(Op::NotEqual),
-        "<" => Ok(Op::Less),
-        ">" => Ok(Op::Greater),
-        _ => Err(Fault::UnknownCall),
-    }
 }

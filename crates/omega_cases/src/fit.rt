@@ -1,7 +1,5 @@
 //! The first position that has room: the calls of `omega_fit`.
-use crate::fault::Fault;
-use crate::telling::tell_place;
-use crate::values::{free, is_colon, need, place, text};
+use omega_calls::{Fault, is_colon, need, place, tell_place, text};
 use omega_fit::{FitIndex, first_fit};
 use omega_model::{Bytes, Need};
 use std::alloc::Global;
@@ -20,8 +18,8 @@ struct Both {
 /// position with room whose number leaves another rest than `LEFT` by 4, round from a start, or `-`;
 /// `push AMOUNT` and `put POSITION AMOUNT` change what is free, and answer nothing. Where an index
 /// and a list answer differently, both answers stand, with `!` between them.
-pub fn answer(alloc: Global, call: &str, words: &[Bytes]) -> Result<String, Fault> {
-    let mut steps = words.split(is_colon);
+pub(crate) fn answer(alloc: Global, call: &str, words: &[Bytes]) -> Result<String, Fault> {
+    let mut steps = words.split(|word| is_colon(word));
     let amounts = steps.next().unwrap_or(&[]);
     let mut both = match call {
         "built" => built(alloc, amounts)?,
@@ -126,4 +124,12 @@ impl Both {
         }
         Ok(())
     }
+}
+
+/// An amount, or `-` for none.
+fn free(word: &Bytes) -> Result<Option<Need>, Fault> {
+    if text(word)? == "-" {
+        return Ok(None);
+    }
+    Ok(Some(need(word)?))
 }

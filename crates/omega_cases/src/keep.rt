@@ -1,6 +1,5 @@
 //! Kept lines and keepers in memory: the calls of `omega_keep`.
-use crate::fault::Fault;
-use crate::values::{number, text};
+use omega_calls::{Fault, number, text};
 use omega_keep::{
     AuditRefusal, KeepRefusal, Keeper, Lines, MemoryKeeper, SteadyKeeper, audit, entry_line,
     read_entry,
@@ -13,7 +12,7 @@ use std::alloc::Global;
 /// the first line that is refused. `memory CALL LINE ..` and `steady LINE ..`: what a keeper in
 /// memory, of which this call fails, or one that never fails, answers where each line is appended by
 /// itself and then all are loaded; at the end the faults.
-pub fn answer(alloc: Global, call: &str, words: &[Bytes]) -> Result<String, Fault> {
+pub(crate) fn answer(alloc: Global, call: &str, words: &[Bytes]) -> Result<String, Fault> {
     match (call, words) {
         ("read", [line]) => read(alloc, line),
         ("write", [line]) => write(alloc, line),

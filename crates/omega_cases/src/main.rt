@@ -1,29 +1,18 @@
-//! Cases of the library crates' calls: reads lines of calls, and prints the answer of each.
+//! Cases of the calls that read text and compute: reads lines of calls, and prints the answer of each.
 //!
 //! A line is words: a subject, a call of it, and what the call is given. A line that begins with `#`
 //! and one without a byte are printed as they are, so that cases can have headings.
 #![tactic(auto)]
 
 mod attrs;
-mod board;
-mod cell;
-mod crowd;
-mod fault;
-mod feed;
 mod fit;
 mod keep;
-mod line;
 mod mapreduce;
-mod planning;
-mod rows;
-mod running;
 mod tables;
-mod telling;
 mod units;
-mod values;
 mod words;
 
-use fault::Fault;
+use omega_calls::{Fault, is_heading, text, words_of};
 use omega_model::Bytes;
 use std::alloc::Global;
 use std::io;
@@ -33,12 +22,11 @@ fn main(rt: HostRuntime) -> io::Result<()> {
     let alloc = rt.alloc();
     for line in BufReader::new(alloc, rt.reader())?.lines(alloc) {
         let line = line?;
-        let text = line.as_str();
-        if text.is_empty() || text.starts_with('#') {
-            println!(rt; "{text}")?;
+        if is_heading(line.as_str()) {
+            println!(rt; "{line}")?;
             continue;
         }
-        match answer(alloc, text) {
+        match answer(alloc, line.as_str()) {
             Ok(answer) => println!(rt; "{answer}")?,
             Err(fault) => println!(rt; "{fault}")?,
         }
@@ -47,8 +35,8 @@ fn main(rt: HostRuntime) -> io::Result<()> {
 }
 
 /// The answer of a line's call.
-fn answer(alloc: Global, text: &str) -> Result<String, Fault> {
-    let words = line::words_of(alloc, text)?;
+fn answer(alloc: Global, line: &str) -> Result<String, Fault> {
+    let words = words_of(alloc, line)?;
     answer_words(alloc, words.as_slice())
 }
 
@@ -57,16 +45,12 @@ fn answer_words(alloc: Global, words: &[Bytes]) -> Result<String, Fault> {
     let [subject, call, rest @ ..] = words else {
         return Err(Fault::UnknownCall);
     };
-    let call = values::text(call)?;
-    match values::text(subject)? {
+    let call = text(call)?;
+    match text(subject)? {
         "attrs" => attrs::answer(alloc, call, rest),
-        "board" => board::answer(alloc, call, rest),
-        "cell" => cell::answer(alloc, call, rest),
-        "feed" => feed::answer(alloc, call, rest),
         "fit" => fit::answer(alloc, call, rest),
         "keep" => keep::answer(alloc, call, rest),
         "mapreduce" => mapreduce::answer(alloc, call, rest),
-        "running" => running::answer(alloc, call, rest),
         "tables" => tables::answer(alloc, call, rest),
         "units" => units::answer(alloc, call, rest),
         "words" => words::answer(alloc, call, rest),

@@ -1,13 +1,12 @@
 //! Extra tasks of MapReduce jobs: the calls of `omega_mapreduce`.
-use crate::fault::Fault;
-use crate::values::{need, small, text};
+use omega_calls::{Fault, need, policy_of, small};
 use omega_mapreduce::extras;
-use omega_model::{Bytes, Extra, Need};
+use omega_model::{Bytes, Need};
 use std::alloc::Global;
 
 /// `extras POLICY ACTIVITIES ASKED RUNNING [NEED USED CAPACITY]`: how many extra tasks a job gets.
 /// The policy is `max`, `relative` or a percentage, for a cap; without amounts all are nothing.
-pub fn answer(alloc: Global, call: &str, words: &[Bytes]) -> Result<String, Fault> {
+pub(crate) fn answer(alloc: Global, call: &str, words: &[Bytes]) -> Result<String, Fault> {
     let extras = match (call, words) {
         ("extras", [policy, activities, asked, running]) => {
             let nothing = [Need::NOTHING; 3];
@@ -33,13 +32,4 @@ fn extras_of(
     let policy = policy_of(policy)?;
     let (activities, asked, running) = (small(activities)?, small(asked)?, small(running)?);
     Ok(extras(policy, activities, asked, running, need, used, cap))
-}
-
-/// The policy of a word.
-pub fn policy_of(word: &Bytes) -> Result<Extra, Fault> {
-    match text(word)? {
-        "max" => Ok(Extra::Max),
-        "relative" => Ok(Extra::Relative),
-        _ => Ok(Extra::Cap(small(word)?)),
-    }
 }

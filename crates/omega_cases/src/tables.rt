@@ -1,6 +1,5 @@
 //! Tables as text: the calls of `omega_tables`.
-use crate::fault::Fault;
-use crate::values::{number, text};
+use omega_calls::{Fault, number, text};
 use omega_io::SteadyTables;
 use omega_model::{Bytes, Copied, Seq, Table, TraceTables};
 use omega_tables::{over_limit, parse_table, read_bytes, read_tables};
@@ -12,7 +11,7 @@ use std::alloc::Global;
 /// limit that is passed by a table of so many lines, which differ in a number between front and
 /// back, and a table of attributes. `many COUNT FRONT BACK TEXT ..`: how many such lines of
 /// machines are read, before the other tables, or the refusal.
-pub fn answer(alloc: Global, call: &str, words: &[Bytes]) -> Result<String, Fault> {
+pub(crate) fn answer(alloc: Global, call: &str, words: &[Bytes]) -> Result<String, Fault> {
     match (call, words) {
         ("parse", [table, texts @ ..]) => parsed(alloc, table_of(table)?, texts),
         ("read", _) => read(alloc, words),

@@ -1,11 +1,11 @@
 //! Numbers in text: the calls of `omega_units`.
-use crate::fault::Fault;
+use omega_calls::Fault;
 use omega_model::Bytes;
 use omega_units::{Rounding, read_quantity, read_u64};
 use std::alloc::Global;
 
 /// `quantity TEXT`: its units, rounded up and down. `number TEXT`: the whole number.
-pub fn answer(alloc: Global, call: &str, words: &[Bytes]) -> Result<String, Fault> {
+pub(crate) fn answer(alloc: Global, call: &str, words: &[Bytes]) -> Result<String, Fault> {
     match (call, words) {
         ("quantity", [text]) => quantity(alloc, text.as_slice()),
         ("number", [text]) => whole(alloc, text.as_slice()),

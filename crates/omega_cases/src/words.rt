@@ -1,12 +1,11 @@
 //! The words of the command line: the calls of `omega_words`.
-use crate::fault::Fault;
-use crate::values::text;
+use omega_calls::{Fault, text};
 use omega_model::{Bytes, Settings};
 use omega_words::{WordsRefusal, read_words};
 use std::alloc::Global;
 
 /// `read WORD ..`: the settings and the folder of the words, or `usage`.
-pub fn answer(alloc: Global, call: &str, words: &[Bytes]) -> Result<String, Fault> {
+pub(crate) fn answer(alloc: Global, call: &str, words: &[Bytes]) -> Result<String, Fault> {
     match call {
         "read" => read(alloc, words),
         _ => Err(Fault::UnknownCall),

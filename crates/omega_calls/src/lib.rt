@@ -1,0 +1,18 @@
+//! Calls as lines of text: a line's words, what they say, how answers are put into words, and the steps of a
+//! board that the programs of cases have in common.
+#![tactic(auto)]
+
+mod entries;
+mod fault;
+mod line;
+mod telling;
+mod values;
+
+pub use entries::{add, apply, commit_claim, end};
+pub use fault::Fault;
+pub use line::{is_heading, words_of};
+pub use telling::{part, tell_need, tell_place, tell_spec, tell_task};
+pub use values::{
+    GREATEST, byte, claim, constraint_of, is_colon, need, number, place, policy_of, small, spec,
+    task, tasks, text,
+};

@@ -1,0 +1,525 @@
+//! A trace's rows and what they ask for: the calls of `omega_feed`.
+ghost use Rattle.std.specs.Prelude.{◌≡◌, [], List, IfOk, OnOk, IsTrue};
+ghost use Rattle.omega_model.specs.Ranges.{IsInRange, IsPercentage};
+ghost use Rattle.omega_model.specs.declared.cells.Task.{Task};
+ghost use Rattle.omega_feed.specs.Open.{OthersAreQuiet};
+
+use crate::board::tell_step;
+use crate::rows::push_row;
+use crate::telling::{tell_entries, tell_requests, tell_rounds};
+use omega_board::Board;
+use omega_calls::{Fault, is_colon, number, part, policy_of, small, text};
+use omega_feed::{OpenJobs, Wanted, feed, rounds};
+use omega_model::{Bytes, Extra, Requests, Round, Rounds, Row, Settings, TraceTables};
+use std::alloc::Global;
+
+/// A trace, how many batch schedulers there are, and how many extras MapReduce jobs get.
+#[derive(Drop)]
+struct Trace {
+    tables: TraceTables,
+    batch: u32,
+    extra: Extra,
+}
+
+/// Who is asked, and which jobs are closed before.
+#[derive(Clone, Copy)]
+struct Question {
+    scheduler: u32,
+    closed: Closed,
+}
+
+/// Which jobs are closed before a scheduler is asked: none, the quiet ones, or these but one.
+#[derive(Clone, Copy)]
+enum Closed {
+    Nothing,
+    Quiet,
+    QuietBut(u64),
+}
+
+/// `script STEP : STEP ..`: what each step answers on one trace and one board, which are empty before
+/// the first; the answers are parted by `:` too.
+///
+/// Steps that answer nothing: the rows of tables, as `push_row` says; `batch NUMBER`, so many batch
+/// schedulers, else 1; `extra max`, `extra relative` and `extra PERCENTAGE`, which is the policy of
+/// extras, else `max`. `board` and a step do that step on the board, and answer as `tell_step` says.
+///
+/// Of all rows so far, in order of time: `rounds WINDOW` answers the rounds, each its number and the
+/// machine or the task of each row. `ask SCHEDULER` answers what the scheduler is asked on the board
+/// once the rows were taken: each job, and for each of its wishes the task, the amount, the precedence
+/// and the number of constraints; `-` where it is asked nothing. `ask SCHEDULER settled` does so once
+/// the quiet jobs are closed, and `ask SCHEDULER reopened JOB` once they are and this job is open again.
+/// `ask-by-round WINDOW SCHEDULER` answers each round's number, and what is asked once its rows were
+/// taken. `entries` answers what the rows do to the board, each once it was taken, and `entries-unwanted`
+/// what each does where no task is wanted; `waiting` how many tasks are wanted in the end and don't run
+/// on the board, and their jobs.
+pub(crate) fn answer(
+    alloc: Global,
+    call: &str,
+    words: &[Bytes],
+    answers: &mut String,
+) -> Result<(), Fault> {
+    if call != "script" {
+        return Err(Fault::UnknownCall);
+    }
+    let mut trace = Trace {
+        tables: TraceTables::new(alloc),
+        batch: 1,
+        extra: Extra::Max,
+    };
+    take_all(&mut trace, &mut Board::new(alloc), alloc, words, answers)
+}
+
+/// Does all steps, and appends their answers.
+fn take_all(
+    trace: &mut Trace,
+    board: &mut Board,
+    alloc: Global,
+    words: &[Bytes],
+    answers: &mut String,
+) -> Result<(), Fault> {
+    for step in words.split(|word| is_colon(word)) {
+        take(trace, board, alloc, step, answers)?;
+    }
+    Ok(())
+}
+
+/// Does a step, and appends its answer.
+fn take(
+    trace: &mut Trace,
+    board: &mut Board,
+    alloc: Global,
+    step: &[Bytes],
+    answers: &mut String,
+) -> Result<(), Fault> {
+    let [call, words @ ..] = step else {
+        return Err(Fault::UnknownCall);
+    };
+    match (text(call)?, words) {
+        ("board", _) => {
+            part(answers)?;
+            tell_step(board, alloc, words, answers)
+        }
+        ("batch", [word]) => {
+            trace.batch = small(word)?;
+            Ok(())
+        }
+        ("extra", [word]) => {
+            trace.extra = policy_of(word)?;
+            Ok(())
+        }
+        (call, _) if is_question(call) => {
+            part(answers)?;
+            tell(trace, board, alloc, call, words, answers)
+        }
+        (call, _) => push_row(&mut trace.tables, alloc, call, words),
+    }
+}
+
+/// Whether a step of this call asks something.
+fn is_question(call: &str) -> bool {
+    matches!(
+        call,
+        "rounds" | "ask" | "ask-by-round" | "entries" | "entries-unwanted" | "waiting"
+    )
+}
+
+/// Appends the answer of a question.
+fn tell(
+    trace: &Trace,
+    board: &Board,
+    alloc: Global,
+    call: &str,
+    words: &[Bytes],
+    answers: &mut String,
+) -> Result<(), Fault> {
+    match (call, words) {
+        ("rounds", [window]) => tell_cut(trace, alloc, number(window)?, answers),
+        ("ask", [scheduler, closed @ ..]) => {
+            let (scheduler, closed) = (small(scheduler)?, closed_of(closed)?);
+            let question = Question { scheduler, closed };
+            tell_asked(trace, board, alloc, question, answers)
+        }
+        ("ask-by-round", [window, scheduler]) => {
+            let (window, scheduler) = (number(window)?, small(scheduler)?);
+            tell_by_round(trace, board, alloc, window, scheduler, answers)
+        }
+        ("entries", []) => tell_taken(trace, board, alloc, answers),
+        ("entries-unwanted", []) => tell_unwanted(trace, board, alloc, answers),
+        ("waiting", []) => tell_waiting(trace, board, alloc, answers),
+        _ => Err(Fault::UnknownCall),
+    }
+}
+
+/// Appends the rounds of a trace.
+fn tell_cut(trace: &Trace, alloc: Global, window: u64, answers: &mut String) -> Result<(), Fault> {
+    let cut = rounds_of(alloc, &trace.tables, window)?;
+    tell_rounds(answers, cut.as_slice())
+}
+
+/// Which jobs are closed, of words.
+fn closed_of(words: &[Bytes]) -> Result<Closed, Fault> {
+    match words {
+        [] => Ok(Closed::Nothing),
+        [word] if text(word)? == "settled" => Ok(Closed::Quiet),
+        [word, job] if text(word)? == "reopened" => Ok(Closed::QuietBut(number(job)?)),
+        _ => Err(Fault::UnknownCall),
+    }
+}
+
+/// The rounds of a trace.
+fn rounds_of(alloc: Global, tables: &TraceTables, window: u64) -> Result<Rounds, Fault> {
+    if window == 0 {
+        return Err(Fault::MayNot);
+    }
+    Ok(rounds(alloc, feed(alloc, tables)?, window)?)
+}
+
+/// Whether a cap is a percentage.
+fn is_percentage(extra: Extra) -> bool
+    ensures { IsTrue result → IsPercentage extra }
+{
+    match extra {
+        Extra::Cap(percent) => percent <= 100,
+        _ => true,
+    }
+}
+
+/// The settings of so many batch schedulers and this policy of extras.
+fn settings_of(batch: u32, extra: Extra) -> Result<Settings, Fault>
+    ensures { IfOk result IsInRange }
+{
+    if batch == 0 || batch > 30 || !is_percentage(extra) {
+        return Err(Fault::MayNot);
+    }
+    Ok(Settings {
+        batch,
+        extra,
+        ..Settings::default()
+    })
+}
+
+/// What a trace asks for before its first row.
+fn at_first(trace: &Trace, alloc: Global) -> Result<Wanted, Fault>
+    ensures { IfOk result (λ wanted. wanted.tasks ≡ []) }
+{
+    let settings = settings_of(trace.batch, trace.extra)?;
+    let rows = feed(alloc, &trace.tables)?;
+    Ok(Wanted::new(alloc, &trace.tables, &rows, &settings)?)
+}
+
+/// Appends what a scheduler is asked on the board once all rows were taken.
+fn tell_asked(
+    trace: &Trace,
+    board: &Board,
+    alloc: Global,
+    question: Question,
+    answers: &mut String,
+) -> Result<(), Fault> {
+    let rows = feed(alloc, &trace.tables)?;
+    tell_asked_after(trace, board, alloc, &rows, question, answers)
+}
+
+/// Appends what a scheduler is asked on the board once these rows were taken.
+fn tell_asked_after(
+    trace: &Trace,
+    board: &Board,
+    alloc: Global,
+    rows: &[Row],
+    question: Question,
+    answers: &mut String,
+) -> Result<(), Fault> {
+    let mut wanted = at_first(trace, alloc)?;
+    tell_asked_of(alloc, &mut wanted, rows, board, question, answers)
+}
+
+/// Appends what is asked of what is wanted, once these rows were taken.
+fn tell_asked_of(
+    alloc: Global,
+    wanted: &mut Wanted,
+    rows: &[Row],
+    board: &Board,
+    question: Question,
+    answers: &mut String,
+) -> Result<(), Fault>
+    requires { wanted.old.tasks ≡ [] }
+{
+    let requests = asked(alloc, wanted, rows, board, question)?;
+    tell_requests(answers, requests.as_slice())
+}
+
+/// What a scheduler is asked on a board once these rows were taken.
+fn asked(
+    alloc: Global,
+    wanted: &mut Wanted,
+    rows: &[Row],
+    board: &Board,
+    question: Question,
+) -> Result<Requests, Fault>
+    requires { wanted.old.tasks ≡ [] }
+{
+    let mut open_jobs = OpenJobs::new(alloc);
+    take_rows(wanted, &mut open_jobs, rows)?;
+    close(alloc, wanted, &mut open_jobs, board, question.closed)?;
+    Ok(wanted.requests(alloc, question.scheduler, board, &open_jobs)?)
+}
+
+/// Takes some rows, where no task was wanted before.
+fn take_rows(wanted: &mut Wanted, open_jobs: &mut OpenJobs, rows: &[Row]) -> Result<(), Fault>
+    requires { wanted.old.tasks ≡ [] }
+    ensures { OnOk result ((tasks : List Task) → OthersAreQuiet open_jobs.new wanted.new tasks) }
+{
+    for row in rows {
+        wanted.take(row, open_jobs)?;
+    }
+    Ok(())
+}
+
+/// Closes the jobs that are to be closed.
+fn close(
+    alloc: Global,
+    wanted: &Wanted,
+    open_jobs: &mut OpenJobs,
+    board: &Board,
+    closed: Closed,
+) -> Result<(), Fault>
+    requires { OthersAreQuiet open_jobs.old wanted.now board.now.tasks }
+    ensures { OnOk result (OthersAreQuiet open_jobs.new wanted.now board.now.tasks) }
+{
+    match closed {
+        Closed::Nothing => Ok(()),
+        Closed::Quiet => Ok(open_jobs.settle(alloc, wanted, board)?),
+        Closed::QuietBut(job) => close_but_one(alloc, wanted, open_jobs, board, job),
+    }
+}
+
+/// Closes the quiet jobs and opens one again.
+fn close_but_one(
+    alloc: Global,
+    wanted: &Wanted,
+    open_jobs: &mut OpenJobs,
+    board: &Board,
+    job: u64,
+) -> Result<(), Fault>
+    requires { OthersAreQuiet open_jobs.old wanted.now board.now.tasks }
+    ensures { OnOk result (OthersAreQuiet open_jobs.new wanted.now board.now.tasks) }
+{
+    open_jobs.settle(alloc, wanted, board)?;
+    open_jobs.reopen(wanted, job)?;
+    Ok(())
+}
+
+/// Appends the number of each round, and what a scheduler is asked once its rows were taken.
+fn tell_by_round(
+    trace: &Trace,
+    board: &Board,
+    alloc: Global,
+    window: u64,
+    scheduler: u32,
+    answers: &mut String,
+) -> Result<(), Fault> {
+    let cut = rounds_of(alloc, &trace.tables, window)?;
+    tell_by_round_of(trace, board, alloc, &cut, scheduler, answers)
+}
+
+/// The same of these rounds.
+fn tell_by_round_of(
+    trace: &Trace,
+    board: &Board,
+    alloc: Global,
+    cut: &Rounds,
+    scheduler: u32,
+    answers: &mut String,
+) -> Result<(), Fault> {
+    let rows = feed(alloc, &trace.tables)?;
+    tell_each_round(
+        trace,
+        board,
+        alloc,
+        &rows,
+        cut.as_slice(),
+        scheduler,
+        answers,
+    )
+}
+
+/// The same of these rounds and rows.
+fn tell_each_round(
+    trace: &Trace,
+    board: &Board,
+    alloc: Global,
+    rows: &[Row],
+    cut: &[Round],
+    scheduler: u32,
+    answers: &mut String,
+) -> Result<(), Fault> {
+    let closed = Closed::Nothing;
+    let question = Question { scheduler, closed };
+    let mut count = 0usize;
+    for (place, round) in cut.iter().enumerate() {
+        if place > 0 {
+            answers.push(' ')?;
+        }
+        write!(answers, "round {} ", round.number)?;
+        count = count.saturating_add(round.rows.len());
+        let taken = rows.get(..count).unwrap_or(rows);
+        tell_asked_after(trace, board, alloc, taken, question, answers)?;
+    }
+    Ok(())
+}
+
+/// Appends the entries of each row once it was taken.
+fn tell_taken(
+    trace: &Trace,
+    board: &Board,
+    alloc: Global,
+    answers: &mut String,
+) -> Result<(), Fault> {
+    let rows = feed(alloc, &trace.tables)?;
+    tell_taken_of(trace, board, alloc, &rows, answers)
+}
+
+/// The same of these rows.
+fn tell_taken_of(
+    trace: &Trace,
+    board: &Board,
+    alloc: Global,
+    rows: &[Row],
+    answers: &mut String,
+) -> Result<(), Fault> {
+    let mut wanted = at_first(trace, alloc)?;
+    tell_each_taken(&mut wanted, board, alloc, rows, answers)
+}
+
+/// The same of what is wanted before the first of these rows.
+fn tell_each_taken(
+    wanted: &mut Wanted,
+    board: &Board,
+    alloc: Global,
+    rows: &[Row],
+    answers: &mut String,
+) -> Result<(), Fault> {
+    let mut told = Told::Nothing;
+    for row in rows {
+        take_row(wanted, alloc, row)?;
+        told = tell_row(wanted, board, alloc, row, told, answers)?;
+    }
+    tell_end(told, answers)
+}
+
+/// Takes a row, whatever jobs are open.
+fn take_row(wanted: &mut Wanted, alloc: Global, row: &Row) -> Result<(), Fault> {
+    let mut open_jobs = OpenJobs::new(alloc);
+    Ok(wanted.take(row, &mut open_jobs)?)
+}
+
+/// Appends the entries of each row where no task is wanted.
+fn tell_unwanted(
+    trace: &Trace,
+    board: &Board,
+    alloc: Global,
+    answers: &mut String,
+) -> Result<(), Fault> {
+    let rows = feed(alloc, &trace.tables)?;
+    tell_unwanted_of(trace, board, alloc, &rows, answers)
+}
+
+/// The same of these rows.
+fn tell_unwanted_of(
+    trace: &Trace,
+    board: &Board,
+    alloc: Global,
+    rows: &[Row],
+    answers: &mut String,
+) -> Result<(), Fault> {
+    let wanted = at_first(trace, alloc)?;
+    tell_each(&wanted, board, alloc, rows, answers)
+}
+
+/// Appends the entries of each row, with what is wanted as it is.
+fn tell_each(
+    wanted: &Wanted,
+    board: &Board,
+    alloc: Global,
+    rows: &[Row],
+    answers: &mut String,
+) -> Result<(), Fault> {
+    let mut told = Told::Nothing;
+    for row in rows {
+        told = tell_row(wanted, board, alloc, row, told, answers)?;
+    }
+    tell_end(told, answers)
+}
+
+/// Whether an entry has been told.
+#[derive(Clone, Copy, PartialEq, Eq)]
+enum Told {
+    Nothing,
+    Some,
+}
+
+/// Appends the entries of a row behind those that were told before, and answers whether any has been told.
+fn tell_row(
+    wanted: &Wanted,
+    board: &Board,
+    alloc: Global,
+    row: &Row,
+    told: Told,
+    answers: &mut String,
+) -> Result<Told, Fault> {
+    let entries = wanted.entries(alloc, row, board)?;
+    if entries.is_empty() {
+        return Ok(told);
+    }
+    if told == Told::Some {
+        answers.push(' ')?;
+    }
+    tell_entries(answers, entries.as_slice())?;
+    Ok(Told::Some)
+}
+
+/// Appends `-` where nothing has been told.
+fn tell_end(told: Told, answers: &mut String) -> Result<(), Fault> {
+    if told == Told::Nothing {
+        answers.push('-')?;
+    }
+    Ok(())
+}
+
+/// Appends how many tasks are wanted in the end and don't run, and their jobs.
+fn tell_waiting(
+    trace: &Trace,
+    board: &Board,
+    alloc: Global,
+    answers: &mut String,
+) -> Result<(), Fault> {
+    let rows = feed(alloc, &trace.tables)?;
+    tell_waiting_of(trace, board, alloc, &rows, answers)
+}
+
+/// The same of these rows.
+fn tell_waiting_of(
+    trace: &Trace,
+    board: &Board,
+    alloc: Global,
+    rows: &[Row],
+    answers: &mut String,
+) -> Result<(), Fault> {
+    let mut wanted = at_first(trace, alloc)?;
+    take_rows(&mut wanted, &mut OpenJobs::new(alloc), rows)?;
+    tell_left(&wanted, board, alloc, answers)
+}
+
+/// The same of what is wanted in the end.
+fn tell_left(
+    wanted: &Wanted,
+    board: &Board,
+    alloc: Global,
+    answers: &mut String,
+) -> Result<(), Fault> {
+    let found = wanted.left(alloc, board)?;
+    write!(answers, "{}", found.tasks)?;
+    for job in found.jobs.as_slice() {
+        write!(answers, " {job}")?;
+    }
+    Ok(())
+}
