@@ -52,7 +52,7 @@ def seconds(row: Row) -> float:
 
 
 def load(row: Row) -> float:
-    return int(Path(row['tables']).name.split('-')[-1]) / 100
+    return float(row['mean_cpu_mean'])
 
 
 def batch(row: Row) -> float:
@@ -69,7 +69,7 @@ FIGURES = {
         'how busy schedulers are, against the decision time of services', ('75',),
         ('--service-t-job', ','.join(DECISIONS)), seconds,
         (Line('services', 'busy_services', {}), Line('batch', 'busy_batch', {})),
-        (BY_DECISION, 'part of the time\nthat it decides'), (True, False), 1),
+        (BY_DECISION, 'part of the time that\na scheduler decides'), (True, False), 1),
     'waits': Figure(
         'how long jobs wait for their first decision, against the decision time of services', ('75',),
         ('--service-t-job', ','.join(DECISIONS)), seconds,
@@ -83,12 +83,12 @@ FIGURES = {
     'schedulers': Figure(
         'conflicts of batch jobs against the number of their schedulers', ('75',),
         ('--batch', '1,2,4,8,16,30', '--rule', 'fine,coarse'), batch,
-        tuple(Line(rule, 'conflict_fraction_batch', {'rule': rule}) for rule in RULES),
+        tuple(Line(rule + ' rule', 'conflict_fraction_batch', {'rule': rule}) for rule in RULES),
         ('batch schedulers', 'conflicts per commit\nthat placed a task'), (True, False)),
     'load': Figure(
-        'conflicts of all against the load', LOADS, ('--batch', '8', '--rule', 'fine,coarse'), load,
-        tuple(Line(rule, 'conflict_fraction', {'rule': rule}) for rule in RULES),
-        ('CPU that all tasks ask for, as part of what there is', 'conflicts per commit\nthat placed a task'),
+        'conflicts of all against what is used of the cell', LOADS, ('--batch', '8', '--rule', 'fine,coarse'), load,
+        tuple(Line(rule + ' rule', 'conflict_fraction', {'rule': rule}) for rule in RULES),
+        ('CPU in use on an average, as part of what there is', 'conflicts per commit\nthat placed a task'),
         (False, False)),
 }
 
@@ -136,7 +136,7 @@ def draw(words: argparse.Namespace, name: str) -> None:
     path.write_bytes(data)
     print(path)
     for label, points in lines.items():
-        print('  %-20s %s' % (label, '  '.join('%g: %.3g' % (point.at, point.mean) for point in sorted(points))))
+        print('  %-20s %s' % (label, '  '.join('%.3g: %.3g' % (point.at, point.mean) for point in sorted(points))))
 
 
 def parser() -> argparse.ArgumentParser:
