@@ -22,5 +22,5 @@ returns-in_ok-in_turns-in_default g c =
       timed = λ trace of. untimed c.args.command _ trace _ c.in_default.not-Run c.in_default.not-Simulate;
       turns = λ takes. run.turns;
       only = λ no_threads trace of other lawful ordered.
-      run.only trace of other lawful (turns_of c.args.command _ trace other c.in_default.not-Run c.in_default.not-Simulate ordered);
+          run.only trace of other lawful (turns_of c.args.command _ trace other c.in_default.not-Run c.in_default.not-Simulate ordered);
     }
