@@ -79,7 +79,8 @@ class Helped(unittest.TestCase):
         self.assertEqual((answer.returncode, answer.stderr), (3, 'omega: cannot read machine_events\n'))
 
     def test_other_scripts(self) -> None:
-        for script in ('bench/tables.py', 'bench/bench.sh', 'tools/slice.py', 'tools/report.py', 'tools/sweep.py'):
+        for script in ('bench/tables.py', 'bench/bench.sh', 'tools/slice.py', 'tools/report.py', 'tools/sweep.py',
+                       'tools/quick.sh'):
             answer = subprocess.run([str(ROOT / script), '--help'], capture_output=True, text=True)
             self.assertEqual((answer.returncode, answer.stderr), (0, ''), script)
             self.assertIn(Path(script).name, answer.stdout)
