@@ -1,11 +1,12 @@
 //! `omega`: replays a trace through cluster schedulers that share one cell, and prints what came of
 //! it.
 //!
-//! A thin program over `omega_top`: it makes the real tables, the real sink and a gate that lets
-//! all pass, and calls the top call with its words.
+//! A thin program over `omega_top`: it makes the real tables, the real sink, a gate that lets all pass and
+//! a keeper in memory, and calls the top call with its words.
 #![tactic(auto)]
 
 use omega_io::{FolderTables, PassGate, StdoutSink};
+use omega_keep::MemoryKeeper;
 use omega_model::{NoMemory, Status};
 use omega_top::{exit_status, fault_line, omega};
 use std::env;
@@ -15,11 +16,21 @@ use std::process::ExitCode;
 fn main(rt: HostRuntime) -> ExitCode {
     let mut tables = FolderTables::new(&rt);
     let mut out = StdoutSink::new(&rt);
+    let mut keeper = MemoryKeeper::new(rt.alloc());
     let status = match arguments(&rt) {
         Ok(texts) => match words_of(&rt, texts.as_slice()) {
             Ok(words) => {
                 let words = words.as_slice();
-                omega(&rt, rt.alloc(), words, &mut tables, &mut out, &PassGate).status
+                let done = omega(
+                    &rt,
+                    rt.alloc(),
+                    words,
+                    &mut tables,
+                    &mut out,
+                    &PassGate,
+                    &mut keeper,
+                );
+                done.status
             }
             Err(NoMemory) => Status::NoMemory,
         },

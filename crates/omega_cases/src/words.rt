@@ -4,7 +4,7 @@ use omega_model::{Bytes, Settings};
 use omega_words::{WordsRefusal, read_words};
 use std::alloc::Global;
 
-/// `read WORD ..`: the settings and the folder of the words, or `usage`.
+/// `read WORD ..`: the settings, the folder and the path of what is kept, of the words, or `usage`.
 pub(crate) fn answer(alloc: Global, call: &str, words: &[Bytes]) -> Result<String, Fault> {
     match call {
         "read" => read(alloc, words),
@@ -12,7 +12,7 @@ pub(crate) fn answer(alloc: Global, call: &str, words: &[Bytes]) -> Result<Strin
     }
 }
 
-/// The settings and the folder of words.
+/// The settings and the paths of words.
 fn read(alloc: Global, words: &[Bytes]) -> Result<String, Fault> {
     let mut texts = Vec::new(alloc);
     for word in words {
@@ -22,7 +22,8 @@ fn read(alloc: Global, words: &[Bytes]) -> Result<String, Fault> {
         Ok(parsed) => {
             let settings = settings_text(alloc, &parsed.settings)?;
             let folder = parsed.folder.as_str();
-            Ok(format!(in alloc; "{settings} folder {folder:?}")?)
+            let kept = parsed.kept.as_str();
+            Ok(format!(in alloc; "{settings} folder {folder:?} kept {kept:?}")?)
         }
         Err(WordsRefusal::Usage) => Ok(format!(in alloc; "usage")?),
         Err(WordsRefusal::NoMemory) => Err(Fault::NoMemory),

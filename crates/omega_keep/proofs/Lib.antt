@@ -9,3 +9,4 @@ mod TouchMap
 mod Audits
 mod Replies
 mod Examples
+pub mod NoneRefused

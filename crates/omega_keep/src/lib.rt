@@ -23,7 +23,7 @@ mod writing;
 
 pub use auditing::{AuditRefusal, audit};
 pub use keeper::{KeepRefusal, Keeper, Lines};
-pub use laws::one_line_each;
+pub use laws::{audited_lines_are_not_refused, one_line_each};
 pub use lines::read_entry;
 pub use memory::MemoryKeeper;
 pub use steady::SteadyKeeper;

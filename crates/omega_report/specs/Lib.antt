@@ -1,3 +1,4 @@
+pub mod AuditLines
 pub mod Counted
 pub mod Items
 pub mod JsonOfText

@@ -8,6 +8,7 @@
 mod ahead;
 mod as_json;
 mod as_text;
+mod audited;
 mod claims;
 mod counts;
 mod entry_lines;
@@ -22,6 +23,7 @@ mod reporting;
 mod tally;
 mod words;
 
+pub use audited::audit_report;
 pub use json_of_text::json_of;
 pub use laws::json_of_short_lines;
 pub use reporting::{report, report_as};

@@ -3,6 +3,7 @@ ghost use Rattle.std.specs.Prelude.{◌≡◌, ◌∷◌, ◌++◌, [], map, IsT
 ghost use Rattle.omega_model.specs.Report.{Name, entry_lines, task_words};
 ghost use Rattle.omega_model.specs.ReportForms.{is_plain};
 ghost use Rattle.omega_model.specs.ReportLines.{counts_line, first_line};
+ghost use Rattle.omega_report.specs.AuditLines.{legal_line};
 ghost use Rattle.omega_report.specs.Counted.{counts_in};
 ghost use Rattle.omega_report.specs.Lines.{end_line, sizes_line, stop_line, unplaced_line, usage_line};
 ghost use Rattle.omega_model.specs.declared.entries.Entry.{Entry};
@@ -20,6 +21,14 @@ impl Page {
         ensures lines { OnOk result (self.new.lines ≡ self.old.lines ++ first_line ∷ []) }
     {
         self.append(&[Name("omega"), Number(2)])
+    }
+
+    /// Appends the line that says how many entries an audit found legal.
+    pub fn legal(&mut self, entries: u64) -> Result<(), NoMemory>
+        ensures format { self.new.format ≡ self.old.format }
+        ensures lines { OnOk result (self.new.lines ≡ self.old.lines ++ legal_line entries ∷ []) }
+    {
+        self.append(&[Name("legal"), Number(entries)])
     }
 
     /// Appends the line of a round that begins.

@@ -1,3 +1,5 @@
+pub mod AuditedLines
+pub mod AuditEnds
 pub mod Completing
 pub mod Making
 pub mod Reading

@@ -3,6 +3,7 @@ use Rattle.std.specs.Prelude.{◌≡◌, ◌⊎◌, ℕ, true, List, Option}
 use Rattle.omega_io.specs.Edge.{Enters}
 use Rattle.omega_model.specs.PlainWords.{is_plain}
 use Rattle.omega_model.specs.WordSettings.{folder_of, settings_of}
+use Rattle.omega_model.specs.declared.settings.Command.TheVariants.{Audit}
 use Rattle.omega_model.specs.declared.settings.Settings.{Settings}
 use Rattle.omega_top.specs.Commands.{makes_tables}
 use Rattle.omega_words.specs.Built.{built_words}
@@ -29,3 +30,7 @@ pub record EntersChosen (words : List (List ℕ)) (before now : Option (Option (
 -- the words are those of a run that makes its tables
 abbrev pub MakesTables : List (List ℕ) → Type 0
 MakesTables words = makes_tables (settings_in built_words words).command ≡ true
+
+-- the words are those of an audit
+abbrev pub Audits : List (List ℕ) → Type 0
+Audits words = (settings_in built_words words).command ≡ Audit

@@ -17,17 +17,26 @@ makes_tables Simulate = false
 makes_tables Resume = false
 makes_tables Audit = false
 
--- whether the schedulers of a command take turns; on `audit` there are none, and it counts among these
+-- whether a command reads the tables that it is handed
+abbrev pub reads_tables : Command → Bool
+reads_tables Replay = true
+reads_tables Run = true
+reads_tables Simulate = true
+reads_tables Resume = true
+reads_tables Generate = false
+reads_tables Audit = false
+
+-- whether the schedulers of a command take turns
 abbrev pub takes_turns : Command → Bool
 takes_turns Replay = true
 takes_turns Generate = true
 takes_turns Resume = true
 takes_turns Run = false
 takes_turns Simulate = false
-takes_turns Audit = true
+takes_turns Audit = false
 
 -- the commits of a history stand in the order of a command: in turns, or by the virtual clock; on threads
--- any order will do
+-- any order will do. On `audit` nothing is run
 abbrev pub OrderedBy : Command → Settings → TraceTables → List Entry → Type 0
 OrderedBy Replay settings trace history = InTurns history
 OrderedBy Generate settings trace history = InTurns history

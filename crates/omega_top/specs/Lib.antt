@@ -2,6 +2,7 @@ pub mod Faults
 pub mod Commands
 pub mod Reports
 pub mod Answers
+pub mod Audits
 pub mod Chosen
 pub mod Reads
 pub mod Unread

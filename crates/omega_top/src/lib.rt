@@ -1,6 +1,7 @@
 //! The top call: words and tables in, a report and a history out.
 #![tactic(auto)]
 
+mod auditing;
 mod replay;
 mod report;
 mod status;

@@ -1,52 +1,61 @@
 //! The top call.
-ghost use Rattle.std.specs.Prelude.{◌≡◌, ◌≢◌, ◌⊎◌, [], ℕ, List, None, Some, map, true, IfSome};
+ghost use Rattle.std.specs.Prelude.{◌≡◌, ◌≢◌, ◌⊎◌, ◌≤◌, [], ℕ, List, None, Some, map, false, true, IfSome};
 ghost use Rattle.std.specs.Thread.{IsSync};
 ghost use Rattle.omega_io.specs.Edge.{Rose, Tells};
+ghost use Rattle.omega_keep.specs.Keeping.{Rose as RoseOfKeeper};
 ghost use Rattle.omega_model.specs.Limits.{IsWithinLimits};
 ghost use Rattle.omega_model.specs.Ranges.{IsInRange};
 ghost use Rattle.omega_model.specs.Refusals.{first_refusal};
 ghost use Rattle.omega_model.specs.Trace.{trace_of};
 ghost use Rattle.omega_model.specs.Turns.{InTurns};
-ghost use Rattle.omega_model.specs.declared.results.Status.TheVariants.{Usage, WriteFault, NoMemory};
+ghost use Rattle.omega_model.specs.declared.results.Status.TheVariants.{KeepFault, Usage, WriteFault, NoMemory};
 ghost use Rattle.omega_model.specs.declared.rows.Table.{Table};
-ghost use Rattle.omega_model.specs.declared.settings.Command.TheVariants.{Run};
-ghost use Rattle.omega_top.specs.Answers.{Answers, EndsRun, HasHistory, HasReadCause, HasWholeCommits, IsOnlyRun, IsOrderedRun, IsSomeRun, IsWholeRun, IsWritten, NoneRose, WritesNothing};
-ghost use Rattle.omega_top.specs.Commands.{makes_tables, takes_turns};
-ghost use Rattle.omega_top.specs.Chosen.{AreChosenBy, AreTaken, EntersChosen, MakesTables};
+ghost use Rattle.omega_model.specs.declared.settings.Command.TheVariants.{Audit, Run};
+ghost use Rattle.omega_top.specs.Answers.{Answers, EndsRun, HasHistory, HasReadCause, HasWholeCommits, IsOnlyRun, IsOrderedRun, IsSomeRun, IsWholeRun, IsWritten, NoneRose, Writes, WritesNothing};
+ghost use Rattle.omega_top.specs.Audits.{EntersKept, IsAudit, IsNotOfKept, IsUntouched, KeepsAudited};
+ghost use Rattle.omega_top.specs.Commands.{makes_tables, reads_tables, takes_turns};
+ghost use Rattle.omega_top.specs.Chosen.{AreChosenBy, AreTaken, Audits, EntersChosen, MakesTables};
 ghost use Rattle.omega_top.specs.Reads.{Reads, StayUnread, left_by};
 ghost use Rattle.omega_top.specs.SoundHistory.{IsSoundHistory};
 ghost use Rattle.omega_top.specs.Unread.{AreUntouched, ReadsNoFurther};
 ghost use Rattle.omega_words.specs.Built.{built_words};
 ghost use Rattle.omega_words.specs.Taken.{settings_in};
 
+use crate::auditing::audit_kept;
 use crate::replay::replayed;
 use crate::report::report_of_run;
 use crate::trace::trace_of_run;
 use omega_io::{Gate, Sink, Tables, write_all};
-use omega_model::{Done, Seq, Settings, Status, TraceTables};
+use omega_keep::{Keeper, audited_lines_are_not_refused};
+use omega_model::{Command, Done, Seq, Settings, Status, TraceTables};
 use omega_words::read_words;
 use std::alloc::Global;
 use std::sync::Wait;
 use std::thread::Threads;
 
 /// Does what the words say with the tables of their folder, or with those that it makes on
-/// `generate`: replays them and writes the report of the history that it answers.
+/// `generate`: replays them and writes the report of the history that it answers. On `audit` it reads no
+/// tables: it replays the lines that the keeper hands out, and writes how many entries they are and what is
+/// used after the last one.
 ///
 /// Of the refusals the first that stands is answered: that of the words, then for each table in
 /// order that of its reading, its length and its rows, then that of the limits over all tables, then
-/// that of the writing. Want of memory alone may be answered at any place before the first write.
-/// After a refusal of one table none behind it was read. On `generate` the folder is entered too,
-/// but none of its tables is read. Settings are answered unless the words weren't read; then no
-/// folder was entered, and all tables are as they were. On `run` each scheduler has a thread of its
-/// own, which passes the gate, and the call may wait; on `simulate` the commits stand in the order of
-/// a virtual clock; else the schedulers take turns.
-pub fn omega<R: Threads + Wait + Sync, T: Tables, K: Sink, G: Gate + Sync>(
+/// that of the writing; on `audit` that of the words, of the loading, of the first kept line that is refused,
+/// and of the writing. Want of memory alone may be answered at any place before the first write.
+/// After a refusal of one table none behind it was read. On `generate` and `audit` the folder is entered too,
+/// but none of its tables is read; the keeper's path is entered on every command, and its list always stays.
+/// Settings are answered unless the words weren't read; then no folder and no path was entered, and all tables
+/// are as they were. On `run` each scheduler has a thread of its own, which passes the gate, and the call may
+/// wait; on `simulate` the commits stand in the order of a virtual clock; on the other commands that run a
+/// trace the schedulers take turns.
+pub fn omega<R: Threads + Wait + Sync, T: Tables, K: Sink, G: Gate + Sync, P: Keeper>(
     rt: &R,
     alloc: Global,
     words: &[&str],
     tables: &mut T,
     out: &mut K,
     gate: &G,
+    keeper: &mut P,
 ) -> Done
     requires sync { IsSync R.row × IsSync G.row }
     ensures usage { result.status ≡ Usage → ¬ AreTaken (map (λ word. word.now) words.now) }
@@ -61,7 +70,7 @@ pub fn omega<R: Threads + Wait + Sync, T: Tables, K: Sink, G: Gate + Sync>(
     ensures first { (bytes : Table → List ℕ) → IfSome result.settings
         (λ settings. Reads settings (T.rest tables.old) bytes → Answers bytes result.status) }
     ensures made { IfSome result.settings (λ settings. makes_tables settings.command ≡ true → EndsRun result.status) }
-    ensures unread { IfSome result.settings (λ settings. makes_tables settings.command ≡ true
+    ensures unread { IfSome result.settings (λ settings. reads_tables settings.command ≡ false
         → StayUnread (T.rest tables.old) (T.rest tables.new) (T.faults tables.old) (T.faults tables.new)) }
     ensures no_further { ReadsNoFurther (T.rest tables.old) (T.rest tables.new) (T.faults tables.old) (T.faults tables.new) result.status }
     ensures read_fault { HasReadCause (T.faults tables.old) (T.faults tables.new) result.status }
@@ -81,8 +90,8 @@ pub fn omega<R: Threads + Wait + Sync, T: Tables, K: Sink, G: Gate + Sync>(
     ensures turns { IfSome result.settings (λ settings. takes_turns settings.command ≡ true → InTurns result.history) }
     ensures whole_commits { (bytes : Table → List ℕ) → IfSome result.settings
         (λ settings. Reads settings (T.rest tables.old) bytes → HasWholeCommits settings (trace_of bytes) result.history result.status) }
-    ensures some_run { IfSome result.settings
-        (λ settings. IsSomeRun settings result.history result.status (K.written out.old) (K.written out.new)) }
+    ensures some_run { IfSome result.settings (λ settings. settings.command ≢ Audit
+        → IsSomeRun settings result.history result.status (K.written out.old) (K.written out.new)) }
     ensures sound { IsSoundHistory result.history }
     ensures history { HasHistory result.history result.status }
     ensures written { (bytes : Table → List ℕ) → IfSome result.settings (λ settings. Reads settings (T.rest tables.old) bytes
@@ -90,6 +99,21 @@ pub fn omega<R: Threads + Wait + Sync, T: Tables, K: Sink, G: Gate + Sync>(
     ensures nothing { WritesNothing (K.written out.old) (K.written out.new) result.status }
     ensures to_end { (bytes : Table → List ℕ) → Tells (T.rest tables.old) bytes → result.status ≡ Status.Done
         → IfSome result.settings (λ settings. Tells (T.rest tables.new) (left_by settings.command bytes)) }
+
+    ensures audit { IfSome result.settings (λ settings. settings.command ≡ Audit
+        → IsAudit settings.format (P.kept keeper.old) result.history result.status (K.written out.old) (K.written out.new)) }
+    ensures complete_audit { Audits (map (λ word. word.now) words.now) → KeepsAudited (P.kept keeper.old)
+        → ¬ RoseOfKeeper (P.faults keeper.old) (P.faults keeper.new) → ¬ Rose (K.faults out.old) (K.faults out.new)
+        → AreTaken (map (λ word. word.now) words.now) → (result.status ≡ Status.Done) ⊎ (result.status ≡ NoMemory) }
+    ensures not_kept { IfSome result.settings (λ settings. settings.command ≢ Audit → IsNotOfKept result.status) }
+    ensures keep_fault { result.status ≡ KeepFault → RoseOfKeeper (P.faults keeper.old) (P.faults keeper.new) }
+    ensures kept { P.kept keeper.new ≡ P.kept keeper.old }
+    ensures kept_path { result.settings ≢ None → result.status ≢ NoMemory
+        → EntersKept (map (λ word. word.now) words.now) (P.entered keeper.old) (P.entered keeper.new) }
+    ensures kept_untouched { result.settings ≡ None
+        → IsUntouched (P.entered keeper.old) (P.entered keeper.new) (P.faults keeper.old) (P.faults keeper.new) }
+    ensures kept_faults { IfSome result.settings (λ settings. settings.command ≢ Audit → P.faults keeper.new ≡ P.faults keeper.old) }
+    ensures kept_later { P.faults keeper.old ≤ P.faults keeper.new }
 {
     let parsed = match read_words(alloc, words) {
         Ok(parsed) => parsed,
@@ -98,18 +122,23 @@ pub fn omega<R: Threads + Wait + Sync, T: Tables, K: Sink, G: Gate + Sync>(
     if tables.enter(parsed.folder.as_str()).is_err() {
         return refused(alloc, Status::NoMemory, Some(parsed.settings));
     }
-    omega_with(rt, alloc, &parsed.settings, tables, out, gate)
+    if keeper.enter(parsed.kept.as_str()).is_err() {
+        return refused(alloc, Status::NoMemory, Some(parsed.settings));
+    }
+    audited_lines_are_not_refused();
+    omega_with(rt, alloc, &parsed.settings, tables, out, gate, keeper)
 }
 
-/// What `omega` does once the words are read and the folder is entered, under any settings in their
+/// What `omega` does once the words are read and folder and path are entered, under any settings in their
 /// ranges.
-pub fn omega_with<R: Threads + Wait + Sync, T: Tables, K: Sink, G: Gate + Sync>(
+pub fn omega_with<R: Threads + Wait + Sync, T: Tables, K: Sink, G: Gate + Sync, P: Keeper>(
     rt: &R,
     alloc: Global,
     settings: &Settings,
     tables: &mut T,
     out: &mut K,
     gate: &G,
+    keeper: &mut P,
 ) -> Done
     requires range { IsInRange settings.now }
     requires sync { IsSync R.row × IsSync G.row }
@@ -119,7 +148,65 @@ pub fn omega_with<R: Threads + Wait + Sync, T: Tables, K: Sink, G: Gate + Sync>(
     ensures first { (bytes : Table → List ℕ) → Reads settings.now (T.rest tables.old) bytes → Answers bytes result.status }
     ensures not_usage { result.status ≢ Usage }
     ensures made { makes_tables settings.now.command ≡ true → EndsRun result.status }
-    ensures unread { makes_tables settings.now.command ≡ true
+    ensures unread { reads_tables settings.now.command ≡ false
+        → StayUnread (T.rest tables.old) (T.rest tables.new) (T.faults tables.old) (T.faults tables.new) }
+    ensures no_further { ReadsNoFurther (T.rest tables.old) (T.rest tables.new) (T.faults tables.old) (T.faults tables.new) result.status }
+    ensures read_fault { HasReadCause (T.faults tables.old) (T.faults tables.new) result.status }
+    ensures write_fault { result.status ≡ WriteFault → Rose (K.faults out.old) (K.faults out.new) }
+
+    ensures lawful { (bytes : Table → List ℕ) → Reads settings.now (T.rest tables.old) bytes
+        → IsWholeRun settings.now (trace_of bytes) result.history result.status }
+    ensures only { settings.now.command ≢ Run → (bytes : Table → List ℕ) → Reads settings.now (T.rest tables.old) bytes
+        → IsOnlyRun settings.now (trace_of bytes) result.history result.status }
+    ensures ordered { (bytes : Table → List ℕ) → Reads settings.now (T.rest tables.old) bytes
+        → IsOrderedRun settings.now (trace_of bytes) result.history result.status }
+    ensures turns { takes_turns settings.now.command ≡ true → InTurns result.history }
+    ensures whole_commits { (bytes : Table → List ℕ) → Reads settings.now (T.rest tables.old) bytes
+        → HasWholeCommits settings.now (trace_of bytes) result.history result.status }
+    ensures some_run { settings.now.command ≢ Audit → IsSomeRun settings.now result.history result.status (K.written out.old) (K.written out.new) }
+    ensures sound { IsSoundHistory result.history }
+    ensures history { HasHistory result.history result.status }
+    ensures written { (bytes : Table → List ℕ) → Reads settings.now (T.rest tables.old) bytes
+        → IsWritten settings.now (trace_of bytes) result.history result.status (K.written out.old) (K.written out.new) }
+    ensures nothing { WritesNothing (K.written out.old) (K.written out.new) result.status }
+    ensures to_end { (bytes : Table → List ℕ) → Tells (T.rest tables.old) bytes → result.status ≡ Status.Done
+        → Tells (T.rest tables.new) (left_by settings.now.command bytes) }
+
+    ensures audit { settings.now.command ≡ Audit
+        → IsAudit settings.now.format (P.kept keeper.old) result.history result.status (K.written out.old) (K.written out.new) }
+    ensures not_kept { settings.now.command ≢ Audit → IsNotOfKept result.status }
+    ensures keep_fault { result.status ≡ KeepFault → RoseOfKeeper (P.faults keeper.old) (P.faults keeper.new) }
+    ensures kept { P.kept keeper.new ≡ P.kept keeper.old }
+    ensures kept_path { P.entered keeper.new ≡ P.entered keeper.old }
+    ensures kept_faults { settings.now.command ≢ Audit → P.faults keeper.new ≡ P.faults keeper.old }
+    ensures kept_later { P.faults keeper.old ≤ P.faults keeper.new }
+{
+    match settings.command {
+        Command::Audit => audit_and_write(alloc, settings, out, keeper),
+        _ => run_and_write(rt, alloc, settings, tables, out, gate),
+    }
+}
+
+// Reads the tables of a run, replays them and writes the report.
+fn run_and_write<R: Threads + Wait + Sync, T: Tables, K: Sink, G: Gate + Sync>(
+    rt: &R,
+    alloc: Global,
+    settings: &Settings,
+    tables: &mut T,
+    out: &mut K,
+    gate: &G,
+) -> Done
+    requires range { IsInRange settings.now }
+    requires run { settings.now.command ≢ Audit }
+    requires sync { IsSync R.row × IsSync G.row }
+    ensures settings { result.settings ≡ Some settings.now }
+    ensures folder { T.entered tables.new ≡ T.entered tables.old }
+
+    ensures first { (bytes : Table → List ℕ) → Reads settings.now (T.rest tables.old) bytes → Answers bytes result.status }
+    ensures not_usage { result.status ≢ Usage }
+    ensures not_kept { IsNotOfKept result.status }
+    ensures made { makes_tables settings.now.command ≡ true → EndsRun result.status }
+    ensures unread { reads_tables settings.now.command ≡ false
         → StayUnread (T.rest tables.old) (T.rest tables.new) (T.faults tables.old) (T.faults tables.new) }
     ensures no_further { ReadsNoFurther (T.rest tables.old) (T.rest tables.new) (T.faults tables.old) (T.faults tables.new) result.status }
     ensures read_fault { HasReadCause (T.faults tables.old) (T.faults tables.new) result.status }
@@ -191,13 +278,51 @@ fn replay_and_write<R: Threads + Wait + Sync, K: Sink, G: Gate + Sync>(
     let Ok(bytes) = report_of_run(alloc, settings, &whole) else {
         return refused(alloc, Status::NoMemory, Some(*settings));
     };
-    let status = match write_all(out, bytes.as_slice()) {
-        Ok(()) => Status::Done,
-        Err(_) => Status::WriteFault,
-    };
+    let status = write(out, bytes.as_slice());
     Done {
         status,
         settings: Some(*settings),
         history: whole.history,
+    }
+}
+
+// Audits what the keeper has and writes the report.
+fn audit_and_write<K: Sink, P: Keeper>(
+    alloc: Global,
+    settings: &Settings,
+    out: &mut K,
+    keeper: &mut P,
+) -> Done
+    ensures settings { result.settings ≡ Some settings.now }
+    ensures audit { IsAudit settings.now.format (P.kept keeper.old) result.history result.status (K.written out.old) (K.written out.new) }
+    ensures write_fault { result.status ≡ WriteFault → Rose (K.faults out.old) (K.faults out.new) }
+    ensures keep_fault { result.status ≡ KeepFault → RoseOfKeeper (P.faults keeper.old) (P.faults keeper.new) }
+    ensures sound { IsSoundHistory result.history }
+    ensures history { HasHistory result.history result.status }
+    ensures kept { P.kept keeper.new ≡ P.kept keeper.old }
+    ensures kept_path { P.entered keeper.new ≡ P.entered keeper.old }
+    ensures kept_later { P.faults keeper.old ≤ P.faults keeper.new }
+{
+    let audit = match audit_kept(alloc, settings.format, keeper) {
+        Ok(audit) => audit,
+        Err(status) => return refused(alloc, status, Some(*settings)),
+    };
+    let status = write(out, audit.report.as_slice());
+    Done {
+        status,
+        settings: Some(*settings),
+        history: audit.history,
+    }
+}
+
+// Writes a report, and answers how that went.
+fn write<K: Sink>(out: &mut K, report: &[u8]) -> Status
+    ensures ends { (result ≡ Status.Done) ⊎ (result ≡ WriteFault) }
+    ensures written { Writes report.now (K.written out.old) (K.written out.new) result }
+    ensures cause { result ≡ WriteFault → Rose (K.faults out.old) (K.faults out.new) }
+{
+    match write_all(out, report) {
+        Ok(()) => Status::Done,
+        Err(_) => Status::WriteFault,
     }
 }

@@ -1,5 +1,5 @@
 //! The trace of a run: of the tables that it is handed, or of those that it makes.
-ghost use Rattle.std.specs.Prelude.{◌≡◌, ℕ, List, None, true, IfErr, IfOk, OnOk};
+ghost use Rattle.std.specs.Prelude.{◌≡◌, ◌≢◌, ℕ, List, None, false, true, IfErr, IfOk, OnOk};
 ghost use Rattle.omega_io.specs.Edge.{Tells};
 ghost use Rattle.omega_model.specs.Generated.{generated};
 ghost use Rattle.omega_model.specs.Limits.{IsWithinLimits};
@@ -7,9 +7,10 @@ ghost use Rattle.omega_model.specs.Ranges.{IsInRange};
 ghost use Rattle.omega_model.specs.Refusals.{first_refusal};
 ghost use Rattle.omega_model.specs.Trace.{trace_of};
 ghost use Rattle.omega_model.specs.declared.rows.Table.{Table};
+ghost use Rattle.omega_model.specs.declared.settings.Command.TheVariants.{Audit};
 ghost use Rattle.omega_tables.specs.Reading.{ComesFirst, HasCause, StoppedIn};
 ghost use Rattle.omega_tables.specs.declared.refusal.ReadRefusal.TheVariants.{NoMemory};
-ghost use Rattle.omega_top.specs.Commands.{makes_tables};
+ghost use Rattle.omega_top.specs.Commands.{makes_tables, reads_tables};
 ghost use Rattle.omega_top.specs.Reads.{Reads, StayUnread, left_by};
 
 use omega_gen::{generated_tables_are_never_refused, tables_of_seed};
@@ -26,7 +27,8 @@ pub fn trace_of_run<T: Tables>(
     settings: &Settings,
     tables: &mut T,
 ) -> Result<TraceTables, ReadRefusal>
-    requires { IsInRange settings.now }
+    requires range { IsInRange settings.now }
+    requires run { settings.now.command ≢ Audit }
     ensures trace { (bytes : Table → List ℕ) → Reads settings.now (T.rest tables.old) bytes
         → IfOk result (λ trace. trace ≡ trace_of bytes) }
     ensures none { (bytes : Table → List ℕ) → Reads settings.now (T.rest tables.old) bytes
@@ -39,7 +41,7 @@ pub fn trace_of_run<T: Tables>(
     ensures stopped { IfErr result (λ refusal. StoppedIn (T.rest tables.old) (T.rest tables.new) (T.faults tables.old) (T.faults tables.new) refusal) }
     ensures cause { IfErr result (λ refusal. HasCause (T.faults tables.old) (T.faults tables.new) refusal) }
     ensures made { makes_tables settings.now.command ≡ true → IfErr result (λ refusal. refusal ≡ NoMemory) }
-    ensures unread { makes_tables settings.now.command ≡ true
+    ensures unread { reads_tables settings.now.command ≡ false
         → StayUnread (T.rest tables.old) (T.rest tables.new) (T.faults tables.old) (T.faults tables.new) }
     ensures folder { T.entered tables.new ≡ T.entered tables.old }
 {

@@ -1,9 +1,11 @@
-//! Tests of the top call: whole runs whose reads and writes are cut or fail, and runs on threads in which
-//! schedulers are held. All other runs are the folders of `tests/` at the top of the repository.
+//! Tests of the top call: whole runs whose reads and writes are cut or fail, audits of lines in memory, and
+//! runs on threads in which schedulers are held. All other runs are the folders of `tests/` at the top of the repository.
 //!
 //! They stand apart from `omega_top`, since a crate with tests is proved once more with them.
 #![tactic(auto)]
 
+#[cfg(test)]
+mod audits;
 #[cfg(test)]
 mod faults;
 #[cfg(test)]

@@ -3,6 +3,7 @@
 ghost use Rattle.std.specs.Thread.{IsSync};
 
 use omega_io::{Gate, MemorySink, MemoryTables, Tables};
+use omega_keep::{Keeper, SteadyKeeper};
 use omega_model::{Bytes, Done, NoMemory, Seq, Status};
 use omega_top::omega;
 use std::alloc::Global;
@@ -92,8 +93,24 @@ pub fn run_past<R: Threads + Wait + Sync, T: Tables, G: Gate + Sync>(
 ) -> Result<Ran, NoMemory>
     requires { IsSync R.row × IsSync G.row }
 {
+    let mut keeper = SteadyKeeper::new(alloc);
+    run_kept(rt, alloc, words, tables, room, gate, &mut keeper)
+}
+
+// The same with this keeper.
+pub fn run_kept<R: Threads + Wait + Sync, T: Tables, G: Gate + Sync, P: Keeper>(
+    rt: &R,
+    alloc: Global,
+    words: &[&str],
+    tables: &mut T,
+    room: u64,
+    gate: &G,
+    keeper: &mut P,
+) -> Result<Ran, NoMemory>
+    requires { IsSync R.row × IsSync G.row }
+{
     let mut sink = MemorySink::new(alloc, room)?;
-    let done = omega(rt, alloc, words, tables, &mut sink, gate);
+    let done = omega(rt, alloc, words, tables, &mut sink, gate, keeper);
     Ok(Ran {
         done,
         written: sink.into_bytes(),

@@ -5,9 +5,9 @@ use Rattle.omega_model.specs.Options.{whole_table}
 use Rattle.omega_model.specs.PlainWords.{is_plain}
 use Rattle.omega_model.specs.WordSettings.{default_settings}
 use Rattle.omega_model.specs.declared.claims.Rule.TheVariants.{Coarse}
-use Rattle.omega_model.specs.declared.settings.Command.TheVariants.{Generate, Run, Simulate}
+use Rattle.omega_model.specs.declared.settings.Command.TheVariants.{Audit, Generate, Run, Simulate}
 use Rattle.omega_words.specs.Built.{built_words}
-use Rattle.omega_words.specs.Taken.{folder_in, is_taken, settings_in}
+use Rattle.omega_words.specs.Taken.{folder_in, is_taken, kept_in, settings_in}
 use Rattle.omega_words.proofs.Sound.{is_sound}
 
 whole_is_sound : is_sound whole_table ≡ true
@@ -37,6 +37,20 @@ services_decide_as_others = refl
 too_long_a_decision : is_taken built_words (codes "simulate" ∷ codes "--t-task" ∷ codes "1000000001" ∷ []) ≡ false
 unfolding built_words clap_on_literals
 too_long_a_decision = refl
+
+-- ---- what is kept
+
+of_audit : settings_in built_words (codes "audit" ∷ codes "--kept" ∷ codes "k.db" ∷ []) ≡ record default_settings { command = Audit }
+unfolding built_words clap_on_literals
+of_audit = refl
+
+kept_named : kept_in built_words (codes "audit" ∷ codes "--kept" ∷ codes "k.db" ∷ []) ≡ codes "k.db"
+unfolding built_words clap_on_literals
+kept_named = refl
+
+kept_unnamed : kept_in built_words (codes "audit" ∷ []) ≡ codes "omega.db"
+unfolding built_words clap_on_literals
+kept_unnamed = refl
 
 -- ---- what is generated
 

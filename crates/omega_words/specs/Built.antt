@@ -2,12 +2,9 @@
 use Rattle.std.specs.Prelude.{ℕ, List, [], ◌∷◌, map, filter, not, codes}
 use Rattle.omega_model.specs.Options.{WordTable, is_among, part, whole_table}
 
--- the commands that are still to come, and the options that they alone have
+-- the commands that are still to come
 abbrev pub later_commands : List (List ℕ)
-later_commands = codes "resume" ∷ codes "audit" ∷ []
-
-abbrev pub later_options : List (List ℕ)
-later_options = codes "kept" ∷ []
+later_commands = codes "resume" ∷ []
 
 -- those of some names that aren't among others
 abbrev pub without : List (List ℕ) → List (List ℕ) → List (List ℕ)
@@ -17,4 +14,4 @@ without others names = filter (λ name. not (is_among others name)) names
 unfoldable pub built_words : WordTable
 built_words =
     part (without later_commands whole_table.commands)
-    (without later_options (map (λ option. option.name) whole_table.choices)) whole_table
+    (map (λ option. option.name) whole_table.choices) whole_table

@@ -5,7 +5,7 @@ use Rattle.std.specs.Option.{option_map_or}
 use Rattle.clap.specs.Faults.{fault_of}
 use Rattle.clap.specs.Words.{App, Rule, new_app, new_rule, takes, matches_of, first_of}
 use Rattle.omega_model.specs.Options.{Choice, WordTable, is_among, is_value}
-use Rattle.omega_model.specs.WordSettings.{settings_by, folder_by}
+use Rattle.omega_model.specs.WordSettings.{settings_by, folder_by, kept_by}
 use Rattle.omega_model.specs.declared.settings.Settings.{Settings}
 
 -- the one positional word, which is required
@@ -53,9 +53,12 @@ is_taken table words = takes (app table) words && are_of_table table (text_in ta
 abbrev pub AreAccepted : WordTable → List (List ℕ) → Type 0
 AreAccepted table words = fault_of (app table) words ≡ []
 
--- the settings and the folder of the matches
+-- the settings, the folder and the path of what is kept, of the matches
 abbrev pub settings_in : WordTable → List (List ℕ) → Settings
 settings_in table words = settings_by (text_in table words)
 
 abbrev pub folder_in : WordTable → List (List ℕ) → List ℕ
 folder_in table words = folder_by (text_in table words)
+
+abbrev pub kept_in : WordTable → List (List ℕ) → List ℕ
+kept_in table words = kept_by (text_in table words)

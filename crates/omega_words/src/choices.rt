@@ -1,4 +1,4 @@
-//! The options, and which texts are their values.
+//! The commands and the options, and which texts are their values.
 ghost use Rattle.std.specs.Prelude.{◌≡◌, ◌≤◌, IfSome, map};
 ghost use Rattle.omega_model.specs.Options.{is_among, is_value, number_from};
 ghost use Rattle.omega_words.specs.Built.{built_words};
@@ -14,7 +14,7 @@ pub struct Span {
 /// What an option's value may be.
 #[derive(Clone, Copy)]
 pub enum Values<'a> {
-    /// The path of a folder.
+    /// The path of a folder or a file.
     Path,
     /// A whole number of a span.
     Number(Span),
@@ -74,8 +74,15 @@ fn make_choice<'a>(name: &'a str, values: Values<'a>) -> Choice<'a>
     Choice { name, values }
 }
 
+/// The commands of the table.
+pub fn commands() -> [&'static str; 5]
+    ensures { map (λ name. name.now) result ≡ built_words.commands }
+{
+    ["replay", "run", "generate", "simulate", "audit"]
+}
+
 /// The options of the table.
-pub fn table() -> [Choice<'static>; 18]
+pub fn table() -> [Choice<'static>; 19]
     ensures { map choice_of result ≡ built_words.choices }
 {
     [
@@ -97,6 +104,7 @@ pub fn table() -> [Choice<'static>; 18]
         make_choice("t-task", Values::Number(DECISION_TIMES)),
         make_choice("service-t-job", Values::Number(DECISION_TIMES)),
         make_choice("service-t-task", Values::Number(DECISION_TIMES)),
+        make_choice("kept", Values::Path),
     ]
 }
 
@@ -112,7 +120,7 @@ pub fn number_from(text: &str, span: Span) -> Option<u64>
 }
 
 /// Whether the text is one of the names.
-fn is_among(names: &[&str], text: &str) -> bool
+pub fn is_among(names: &[&str], text: &str) -> bool
     ensures { result ≡ is_among (map (λ name. name.now) names.now) text.now }
 {
     for name in names {

@@ -6,9 +6,9 @@
 ghost use Rattle.std.specs.Prelude.{◌≡◌, IfErr, IfOk, true, map};
 ghost use Rattle.omega_model.specs.PlainWords.{is_plain};
 ghost use Rattle.omega_model.specs.Ranges.{IsInRange};
-ghost use Rattle.omega_model.specs.WordSettings.{folder_of, settings_of};
+ghost use Rattle.omega_model.specs.WordSettings.{folder_of, kept_of, settings_of};
 ghost use Rattle.omega_words.specs.Built.{built_words};
-ghost use Rattle.omega_words.specs.Taken.{AreAccepted, are_of_table, folder_in, is_taken, settings_in, text_in};
+ghost use Rattle.omega_words.specs.Taken.{AreAccepted, are_of_table, folder_in, is_taken, kept_in, settings_in, text_in};
 
 mod choices;
 mod command;
@@ -17,11 +17,12 @@ mod matches;
 use omega_model::{Settings, Status, Text};
 use std::alloc::Global;
 
-/// What the words say: the settings, and the folder of the tables.
+/// What the words say: the settings, the folder of the tables, and the path of what is kept.
 #[derive(Debug, Drop)]
 pub struct Parsed {
     pub settings: Settings,
     pub folder: Text,
+    pub kept: Text,
 }
 
 /// Why words aren't read.
@@ -50,8 +51,8 @@ impl From<WordsRefusal> for Status {
 ///
 /// A command and options are read as `clap` reads them. `Usage` comes only where `clap` doesn't
 /// take the words or a text isn't among the values of its option, and so never on plain words.
-/// `Ok` comes only where `clap` finds no fault in the words and all texts are values; settings and
-/// folder are those of its matches, and on plain words what the words write.
+/// `Ok` comes only where `clap` finds no fault in the words and all texts are values; settings,
+/// folder and the path of what is kept are those of its matches, and on plain words what the words write.
 pub fn read_words(alloc: Global, words: &[&str]) -> Result<Parsed, WordsRefusal>
     ensures usage { let given = map (λ word. word.now) words.now in
         IfErr result (λ e. is_taken built_words given ≡ true → e ≡ WordsRefusal.NoMemory) }
@@ -69,6 +70,10 @@ pub fn read_words(alloc: Global, words: &[&str]) -> Result<Parsed, WordsRefusal>
         IfOk result (λ r. is_plain built_words given ≡ true → r.settings ≡ settings_of given) }
     ensures plain_folder { let given = map (λ word. word.now) words.now in
         IfOk result (λ r. is_plain built_words given ≡ true → r.folder ≡ folder_of given) }
+    ensures kept { let given = map (λ word. word.now) words.now in
+        IfOk result (λ r. r.kept ≡ kept_in built_words given) }
+    ensures plain_kept { let given = map (λ word. word.now) words.now in
+        IfOk result (λ r. is_plain built_words given ≡ true → r.kept ≡ kept_of given) }
     ensures in_range { IfOk result (λ r. IsInRange r.settings) }
 {
     let choices = choices::table();
@@ -83,11 +88,22 @@ pub fn read_words(alloc: Global, words: &[&str]) -> Result<Parsed, WordsRefusal>
         return Err(WordsRefusal::Usage);
     };
     let settings = matches::settings_of(&matches, command);
-    match String::from_str(alloc, matches::folder_of(&matches)) {
-        Ok(folder) => Ok(Parsed {
-            settings,
-            folder: Text::of(folder),
-        }),
+    let folder = text_of(alloc, matches::folder_of(&matches))?;
+    let kept = text_of(alloc, matches::kept_of(&matches))?;
+    Ok(Parsed {
+        settings,
+        folder,
+        kept,
+    })
+}
+
+// A text of these bytes.
+fn text_of(alloc: Global, text: &str) -> Result<Text, WordsRefusal>
+    ensures value { IfOk result (λ copy. copy ≡ text.now) }
+    ensures refusal { IfErr result (λ refusal. refusal ≡ WordsRefusal.NoMemory) }
+{
+    match String::from_str(alloc, text) {
+        Ok(copy) => Ok(Text::of(copy)),
         Err(_) => Err(WordsRefusal::NoMemory),
     }
 }

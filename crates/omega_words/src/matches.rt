@@ -1,8 +1,8 @@
-//! Settings and folder of what `clap` found.
+//! Settings and paths of what `clap` found.
 ghost use Rattle.std.specs.Prelude.{◌≡◌, ◌<◌, ◌≤◌, ◌^◌, false, true, codes, map, option_map};
 ghost use Rattle.std.specs.Option.{option_map_or};
 ghost use Rattle.omega_model.specs.Options.{is_among, is_value};
-ghost use Rattle.omega_model.specs.WordSettings.{command_of, extra_of, folder_by, format_of, is_text, mode_of, preempt_of, rule_of, settings_by};
+ghost use Rattle.omega_model.specs.WordSettings.{command_of, extra_of, folder_by, format_of, is_text, kept_by, mode_of, preempt_of, rule_of, settings_by};
 ghost use Rattle.omega_words.specs.Built.{built_words};
 ghost use Rattle.omega_words.specs.Choices.{choice_of, number_or, texts_in, where_it};
 ghost use Rattle.omega_words.specs.Taken.{are_values};
@@ -131,18 +131,44 @@ fn format_of<'a>(matches: &ArgMatches<'a>) -> Format
     }
 }
 
+// Whether there is a command, and the table has it.
+fn has_command<'a>(matches: &ArgMatches<'a>) -> bool
+    ensures { result ≡ option_map_or (is_among built_words.commands) (texts_in matches.now (codes "command")) false }
+{
+    match text_of(matches, "command") {
+        None => false,
+        Some(text) => choices::is_among(&choices::commands(), text),
+    }
+}
+
+// The command that is named, `replay` where none is.
+fn named_command<'a>(matches: &ArgMatches<'a>) -> Command
+    ensures { result ≡ command_of (texts_in matches.now (codes "command")) }
+{
+    if is_text(matches, "command", "run") {
+        Command::Run
+    } else if is_text(matches, "command", "generate") {
+        Command::Generate
+    } else if is_text(matches, "command", "simulate") {
+        Command::Simulate
+    } else if is_text(matches, "command", "resume") {
+        Command::Resume
+    } else if is_text(matches, "command", "audit") {
+        Command::Audit
+    } else {
+        Command::Replay
+    }
+}
+
 /// The command, where the table has it.
-#[tactic(auto, unfolding(crate::specs::Built::built_words))]
 pub fn command_of<'a>(matches: &ArgMatches<'a>) -> Option<Command>
     ensures { let text = texts_in matches.now (codes "command") in
         result ≡ where_it (option_map_or (is_among built_words.commands) text false) (command_of text) }
 {
-    match text_of(matches, "command") {
-        Some("replay") => Some(Command::Replay),
-        Some("run") => Some(Command::Run),
-        Some("generate") => Some(Command::Generate),
-        Some("simulate") => Some(Command::Simulate),
-        _ => None,
+    if has_command(matches) {
+        Some(named_command(matches))
+    } else {
+        None
     }
 }
 
@@ -180,6 +206,16 @@ pub fn folder_of<'a>(matches: &ArgMatches<'a>) -> &'a str
 {
     match text_of(matches, "tables") {
         None => ".",
+        Some(text) => text,
+    }
+}
+
+/// The path of what is kept, `omega.db` where none is given.
+pub fn kept_of<'a>(matches: &ArgMatches<'a>) -> &'a str
+    ensures { result.now ≡ kept_by (texts_in matches.now) }
+{
+    match text_of(matches, "kept") {
+        None => "omega.db",
         Some(text) => text,
     }
 }

@@ -1,7 +1,10 @@
-use Rattle.std.proofs.Common.{◌∙◌, ap, refl, subst, sym}
+use Rattle.std.proofs.Common.{◌∙◌, ℕ, ap, refl, subst, sym}
+use Rattle.omega_keep.specs.Keeping.{Rose as RoseOfKeeper}
 use Rattle.omega_model.specs.declared.settings.Settings.{Settings}
+use Rattle.omega_top.specs.Audits.{KeepsAudited}
 use Rattle.omega_top.specs.Commands.{makes_tables}
 use Rattle.omega_top.specs.Reads.{Reads}
+use Rattle.omega_top.proofs.AuditedLines.{audit_completes, no_memory_audit}
 use Rattle.omega_top.proofs.Completing.{completes, ends_well}
 use Rattle.omega_top.proofs.Reading.{entered_reads}
 use Rattle.omega_top.proofs.SomeRun.{no_memory_run}
@@ -69,7 +72,25 @@ returns-clause-to_end g c bytes told done =
     rw c.omega_with.ensures.settings (c.omega_with.ensures.to_end bytes (λ table. c.enter.ensures.rests table ∙ told table) done)
 
 pub returns-then-is_err-clause-some_run : goal.returns-then-is_err-clause-some_run
-returns-then-is_err-clause-some_run g c = rw c.refused-then-is_err.ensures.answer (no_memory_run c.in-Ok.parsed.settings _ _ refl)
+returns-then-is_err-clause-some_run g c = rw c.refused-then-is_err.ensures.answer (λ other. no_memory_run c.in-Ok.parsed.settings _ _ refl)
+
+pub returns-then-is_err-2-clause-some_run : goal.returns-then-is_err-2-clause-some_run
+returns-then-is_err-2-clause-some_run g c = rw c.refused-then-is_err-2.ensures.answer (λ other. no_memory_run c.in-Ok.parsed.settings _ _ refl)
+
+pub returns-then-is_err-clause-audit : goal.returns-then-is_err-clause-audit
+returns-then-is_err-clause-audit g c = rw c.refused-then-is_err.ensures.answer (λ audits. no_memory_audit c.in-Ok.parsed.settings.format _ _)
+
+pub returns-then-is_err-2-clause-audit : goal.returns-then-is_err-2-clause-audit
+returns-then-is_err-2-clause-audit g c = rw c.refused-then-is_err-2.ensures.answer (λ audits. no_memory_audit c.in-Ok.parsed.settings.format _ _)
+
+pub returns-clause-complete_audit : goal.returns-clause-complete_audit
+returns-clause-complete_audit g c audits keeps keeper sink taken =
+    let is = ap (λ (settings : Settings). settings.command) c.in-Ok.ensures.settings ∙ audits in
+    let audit = c.omega_with.ensures.audit is in
+    audit_completes c.audited_lines_are_not_refused.ensures c.in-Ok.parsed.settings.format _ c.omega_with.result.history c.omega_with.result.status _ _ _ _ _ _
+    audit (subst KeepsAudited (sym c.enter-2.ensures.list) keeps) keeper sink
+    (λ fault. subst (λ (count : ℕ). RoseOfKeeper count (g.P.Keeper.faults c.omega_with.new.keeper)) c.enter-2.ensures.count (c.omega_with.ensures.keep_fault fault))
+    c.omega_with.ensures.write_fault
 
 pub returns-clause-no_further : goal.returns-clause-no_further
 returns-clause-no_further g c =

@@ -1,42 +1,68 @@
-use Rattle.std.proofs.Common.{refl, subst, sym}
-use Rattle.omega_model.specs.declared.rows.TraceTables.{TraceTables}
-use Rattle.omega_tables.specs.Reading.{status_of}
-use Rattle.omega_tables.specs.declared.refusal.ReadRefusal.{ReadRefusal}
-use Rattle.omega_top.specs.Answers.{EndsRun, IsWritten}
-use Rattle.omega_top.proofs.Refusing.{answers_refusal}
-use Rattle.omega_top.proofs.Unread.{ends_no_further, stops_there}
-use Rattle.omega_top.proofs.SomeRun.{refused_run, whole_commits}
+use Rattle.std.proofs.Common.{◌∙◌, ap, refl, subst, sym, true≢false}
+use Rattle.omega_io.specs.Edge.{Tells}
+use Rattle.omega_model.specs.declared.settings.Command.{Command}
+use Rattle.omega_top.specs.Audits.{IsNotOfKept}
+use Rattle.omega_top.specs.Commands.{makes_tables, takes_turns}
+use Rattle.omega_top.specs.Reads.{left_by}
+use Rattle.omega_top.proofs.AuditEnds.{audit_no_further, audit_not_usage, audit_read_cause, audit_writes_nothing}
+use Rattle.omega_top.proofs.Reading.{audit_reads_none}
 use Rattle.omega_top.proofs.top.omega_with.Goals as goal
 
-pub returns-in-Ok-clause-whole_commits : goal.returns-in-Ok-clause-whole_commits
-returns-in-Ok-clause-whole_commits g c bytes told =
-    let trace = c.in-Ok.ensures.trace bytes told in
-    rw (← trace) (whole_commits c.args.settings.now _ c.replay_and_write.result.history c.replay_and_write.result.status c.replay_and_write.ensures.lawful)
+pub returns-in-Audit-clause-first : goal.returns-in-Audit-clause-first
+returns-in-Audit-clause-first g c bytes reads = absurd (audit_reads_none c.args.settings.now _ bytes reads c.in-Audit.is)
 
-pub returns-in-Ok-clause-no_further : goal.returns-in-Ok-clause-no_further
-returns-in-Ok-clause-no_further g c = ends_no_further _ _ _ _ c.replay_and_write.result.status c.replay_and_write.ensures.ends
+pub returns-in-Audit-clause-lawful : goal.returns-in-Audit-clause-lawful
+returns-in-Audit-clause-lawful g c bytes reads = absurd (audit_reads_none c.args.settings.now _ bytes reads c.in-Audit.is)
 
-pub returns-in-Err-clause-no_further : goal.returns-in-Err-clause-no_further
-returns-in-Err-clause-no_further g c =
-    rw (c.refused.ensures.answer, c.from.ensures) (stops_there _ _ _ _ c.in-Err.refusal c.in-Err.ensures.stopped)
+pub returns-in-Audit-clause-only : goal.returns-in-Audit-clause-only
+returns-in-Audit-clause-only g c no_threads bytes reads = absurd (audit_reads_none c.args.settings.now _ bytes reads c.in-Audit.is)
 
-pub returns-in-Err-clause-first : goal.returns-in-Err-clause-first
-returns-in-Err-clause-first g c bytes told =
-    rw (c.refused.ensures.answer, c.from.ensures) (answers_refusal bytes c.in-Err.refusal (c.in-Err.ensures.refusal bytes told))
+pub returns-in-Audit-clause-ordered : goal.returns-in-Audit-clause-ordered
+returns-in-Audit-clause-ordered g c bytes reads = absurd (audit_reads_none c.args.settings.now _ bytes reads c.in-Audit.is)
 
-pub returns-in-Err-clause-made : goal.returns-in-Err-clause-made
-returns-in-Err-clause-made g c makes =
-    rw (c.refused.ensures.answer, c.from.ensures)
-    (subst (λ (refusal : ReadRefusal). EndsRun (status_of refusal)) (sym (c.in-Err.ensures.made makes)) tt)
+pub returns-in-Audit-clause-whole_commits : goal.returns-in-Audit-clause-whole_commits
+returns-in-Audit-clause-whole_commits g c bytes reads = absurd (audit_reads_none c.args.settings.now _ bytes reads c.in-Audit.is)
 
-pub returns-in-Err-clause-some_run : goal.returns-in-Err-clause-some_run
-returns-in-Err-clause-some_run g c =
-    rw (c.refused.ensures.answer, c.from.ensures) (refused_run c.args.settings.now c.in-Err.refusal _ _ refl)
+pub returns-in-Audit-clause-written : goal.returns-in-Audit-clause-written
+returns-in-Audit-clause-written g c bytes reads = absurd (audit_reads_none c.args.settings.now _ bytes reads c.in-Audit.is)
 
-pub returns-in-Ok-clause-written : goal.returns-in-Ok-clause-written
-returns-in-Ok-clause-written g c bytes told =
-    let run = c.replay_and_write.result in
-    subst
-    (λ (trace : TraceTables). IsWritten c.args.settings.now trace run.history run.status (g.K.Sink.written c.args.out.now)
-    (g.K.Sink.written c.replay_and_write.new.out))
-    (c.in-Ok.ensures.trace bytes told) c.replay_and_write.ensures.written
+pub returns-in-Audit-clause-made : goal.returns-in-Audit-clause-made
+returns-in-Audit-clause-made g c makes = absurd (true≢false (sym makes ∙ ap makes_tables c.in-Audit.is))
+
+pub returns-in-Audit-clause-turns : goal.returns-in-Audit-clause-turns
+returns-in-Audit-clause-turns g c takes = absurd (true≢false (sym takes ∙ ap takes_turns c.in-Audit.is))
+
+pub returns-in-Audit-clause-some_run : goal.returns-in-Audit-clause-some_run
+returns-in-Audit-clause-some_run g c other = absurd (other c.in-Audit.is)
+
+pub returns-in-Audit-clause-not_kept : goal.returns-in-Audit-clause-not_kept
+returns-in-Audit-clause-not_kept g c other = absurd (other c.in-Audit.is)
+
+pub returns-in-Audit-clause-kept_faults : goal.returns-in-Audit-clause-kept_faults
+returns-in-Audit-clause-kept_faults g c other = absurd (other c.in-Audit.is)
+
+pub returns-in-Audit-clause-unread : goal.returns-in-Audit-clause-unread
+returns-in-Audit-clause-unread g c none = record { rests = λ table. refl; counts = λ table. refl }
+
+pub returns-in-Audit-clause-not_usage : goal.returns-in-Audit-clause-not_usage
+returns-in-Audit-clause-not_usage g c =
+    let audit = c.audit_and_write.ensures.audit in audit_not_usage audit.lines _ _ audit.answers
+
+pub returns-in-Audit-clause-no_further : goal.returns-in-Audit-clause-no_further
+returns-in-Audit-clause-no_further g c =
+    let audit = c.audit_and_write.ensures.audit in audit_no_further audit.lines _ _ _ _ _ c.audit_and_write.result.status audit.answers
+
+pub returns-in-Audit-clause-read_fault : goal.returns-in-Audit-clause-read_fault
+returns-in-Audit-clause-read_fault g c =
+    let audit = c.audit_and_write.ensures.audit in audit_read_cause audit.lines _ _ _ c.audit_and_write.result.status audit.answers
+
+pub returns-in-Audit-clause-nothing : goal.returns-in-Audit-clause-nothing
+returns-in-Audit-clause-nothing g c =
+    let audit = c.audit_and_write.ensures.audit in audit_writes_nothing audit.lines _ _ _ _ c.audit_and_write.result.status audit.answers audit.written
+
+pub returns-in-Audit-clause-to_end : goal.returns-in-Audit-clause-to_end
+returns-in-Audit-clause-to_end g c bytes told done =
+    subst (λ (command : Command). Tells (g.T.Tables.rest c.args.tables.now) (left_by command bytes)) (sym c.in-Audit.is) told
+
+pub returns-in_default-clause-keep_fault : goal.returns-in_default-clause-keep_fault
+returns-in_default-clause-keep_fault g c is = absurd (subst IsNotOfKept is c.run_and_write.ensures.not_kept)

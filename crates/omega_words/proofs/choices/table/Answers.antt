@@ -22,4 +22,5 @@ returns c =
     (ap₂ ◌∷◌ c.make_choice-15.ensures
     (ap₂ ◌∷◌ c.make_choice-16.ensures
     (ap₂ ◌∷◌ c.make_choice-17.ensures
-    (ap₂ ◌∷◌ c.make_choice-18.ensures refl)))))))))))))))))
+    (ap₂ ◌∷◌ c.make_choice-18.ensures
+    (ap₂ ◌∷◌ c.make_choice-19.ensures refl))))))))))))))))))
