@@ -28,7 +28,6 @@ pub record IsPossible (before : List Entry) (entry : Entry) : Type 0 where
 abbrev pub EachIsPossible : List Entry → Type 0
 EachIsPossible history = (place : ℕ) (entry : Entry) → slice_get history place ≡ Some entry → IsPossible (take place history) entry
 
--- at each place stands the line of the entry there
 -- each entry has a line: it is in range, and its reply is as long as its claims
 abbrev pub HaveLines : List Entry → Type 0
 HaveLines history = (place : ℕ) (entry : Entry) → slice_get history place ≡ Some entry → IsLineOf (entry_text entry) entry

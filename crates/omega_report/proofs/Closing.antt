@@ -1,7 +1,5 @@
 -- A page that is finished.
-use Rattle.std.proofs.Common.{◌≡◌, ℕ, ◌==◌, List, [], ◌∷◌, ◌++◌, length, map, refl, sym, ap, subst, append_assoc}
-use Rattle.std.specs.List.{join_with_byte}
-use Rattle.std.proofs.lemmas.List.{append-nil}
+use Rattle.std.proofs.Common.{◌≡◌, ℕ, ◌==◌, List, [], ◌∷◌, ◌++◌, length, refl, sym, ap, subst, append_assoc}
 use Rattle.omega_model.specs.Report.{Line}
 use Rattle.omega_model.specs.ReportForms.{json_of, line_json}
 use Rattle.omega_report.specs.Pages.{end_of_array, more_items, open_json}

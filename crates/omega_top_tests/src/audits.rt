@@ -29,6 +29,10 @@ legal 0
 use cpu 0 0 mem 0 0 disk 0 0
 ";
 
+// The same as JSON.
+const NOTHING_AS_JSON: &str =
+    "[[\"omega\",2],[\"legal\",0],[\"use\",\"cpu\",0,0,\"mem\",0,0,\"disk\",0,0]]\n";
+
 // The lines of a text.
 fn lines_of(alloc: Global, text: &str) -> Result<Lines, NoMemory> {
     let mut lines = Lines::new(alloc);
@@ -42,6 +46,7 @@ fn lines_of(alloc: Global, text: &str) -> Result<Lines, NoMemory> {
 fn expect_audit<R: Threads + Wait + Sync + Abort>(
     rt: &R,
     alloc: Global,
+    words: &[&str],
     mut keeper: MemoryKeeper,
     room: u64,
     end: &End,
@@ -49,15 +54,7 @@ fn expect_audit<R: Threads + Wait + Sync + Abort>(
     requires { IsSync R.row }
 {
     let mut tables = tables_of(alloc, "", "")?;
-    let ran = run_kept(
-        rt,
-        alloc,
-        &["audit"],
-        &mut tables,
-        room,
-        &PassGate,
-        &mut keeper,
-    )?;
+    let ran = run_kept(rt, alloc, words, &mut tables, room, &PassGate, &mut keeper)?;
     expect(rt, &ran, end);
     Ok(())
 }
@@ -74,13 +71,27 @@ fn audited(entries: usize, report: &str) -> End {
 #[test]
 fn an_audit_of_lines(rt: HostRuntime) -> Result<(), NoMemory> {
     let keeper = MemoryKeeper::holding(rt.alloc(), lines_of(rt.alloc(), LINES)?);
-    expect_audit(&rt, rt.alloc(), keeper, 1000, &audited(4, REPORT))
+    expect_audit(
+        &rt,
+        rt.alloc(),
+        &["audit"],
+        keeper,
+        1000,
+        &audited(4, REPORT),
+    )
 }
 
 #[test]
 fn an_audit_of_nothing(rt: HostRuntime) -> Result<(), NoMemory> {
     let keeper = MemoryKeeper::new(rt.alloc());
-    expect_audit(&rt, rt.alloc(), keeper, 1000, &audited(0, NOTHING))
+    expect_audit(
+        &rt,
+        rt.alloc(),
+        &["audit"],
+        keeper,
+        1000,
+        &audited(0, NOTHING),
+    )
 }
 
 #[test]
@@ -88,12 +99,30 @@ fn an_audit_of_an_end_that_is_none(rt: HostRuntime) -> Result<(), NoMemory> {
     let lines = lines_of(rt.alloc(), "add 1 5 5 5\nround 0\nend 10 0 1")?;
     let keeper = MemoryKeeper::holding(rt.alloc(), lines);
     let end = End::refused(Status::BadKept(2));
-    expect_audit(&rt, rt.alloc(), keeper, 1000, &end)
+    expect_audit(&rt, rt.alloc(), &["audit"], keeper, 1000, &end)
 }
 
 #[test]
 fn an_audit_whose_loading_fails(rt: HostRuntime) -> Result<(), NoMemory> {
     let keeper = MemoryKeeper::new(rt.alloc()).fail_at(0);
     let end = End::refused(Status::KeepFault);
-    expect_audit(&rt, rt.alloc(), keeper, 1000, &end)
+    expect_audit(&rt, rt.alloc(), &["audit"], keeper, 1000, &end)
+}
+
+#[test]
+fn an_audit_as_json(rt: HostRuntime) -> Result<(), NoMemory> {
+    let keeper = MemoryKeeper::new(rt.alloc());
+    let words = ["audit", "--format", "json"];
+    let end = audited(0, NOTHING_AS_JSON);
+    expect_audit(&rt, rt.alloc(), &words, keeper, 1000, &end)
+}
+
+#[test]
+fn an_audit_whose_writing_fails(rt: HostRuntime) -> Result<(), NoMemory> {
+    let keeper = MemoryKeeper::holding(rt.alloc(), lines_of(rt.alloc(), LINES)?);
+    let end = End {
+        status: Status::WriteFault,
+        ..audited(4, "omega")
+    };
+    expect_audit(&rt, rt.alloc(), &["audit"], keeper, 5, &end)
 }

@@ -1,9 +1,9 @@
-use Rattle.std.proofs.Common.{◌≡◌, ℕ, List, [], take, refl, sym, ap, ◌∙◌}
+use Rattle.std.proofs.Common.{◌≡◌, [], ap, ◌∙◌}
 use Rattle.std.specs.Prelude.{fold}
 use Rattle.std.proofs.lemmas.List.{take_all}
 use Rattle.std.proofs.lemmas.Result.{IfOk-weaker}
-use Rattle.omega_report.specs.JsonOfText.{are_words, json_of_words, text_of_words, texts_of}
-use Rattle.omega_report.specs.Writing.{WritingState, after_byte}
+use Rattle.omega_report.specs.JsonOfText.{json_of_words, text_of_words, texts_of}
+use Rattle.omega_report.specs.Writing.{after_byte}
 use Rattle.omega_report.specs.declared.json_of_text.Position.TheVariants.{Beginning}
 use Rattle.omega_report.proofs.Texts.{lines_inner, same_text}
 use Rattle.omega_report.proofs.Written.{finished, written}
