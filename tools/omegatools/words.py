@@ -5,8 +5,8 @@ from typing import Dict, List, NamedTuple, Optional, Sequence, Tuple
 
 from .common import Refusal, shown
 
-# Those that end in a report of a run; `audit` doesn't, and the program has no `resume` yet.
-COMMANDS = ('replay', 'run', 'simulate', 'resume', 'generate')
+# Those that end in a report of a run.
+COMMANDS = ('replay', 'run', 'simulate', 'generate')
 
 # Each option with its default. One without a default has that of another option.
 OPTIONS: Dict[str, Optional[str]] = {
