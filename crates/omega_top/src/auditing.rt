@@ -40,8 +40,8 @@ pub fn audit_kept<P: Keeper>(alloc: Global, format: Format, keeper: &mut P) -> R
     }
 }
 
-// The lines that a keeper hands out.
-fn load<P: Keeper>(keeper: &mut P) -> Result<Lines, Status>
+/// The lines that a keeper hands out. Its list and path stay.
+pub fn load<P: Keeper>(keeper: &mut P) -> Result<Lines, Status>
     ensures lines { IfOk result (λ lines. IfSome (P.kept keeper.old) (λ list. lines ≡ list)) }
     ensures stops { IfErr result (StopsAudit (P.kept keeper.old)) }
     ensures cause { IfErr result (λ status. status ≡ KeepFault → Rose (P.faults keeper.old) (P.faults keeper.new)) }

@@ -22,8 +22,9 @@ ghost use Rattle.omega_words.specs.Built.{built_words};
 ghost use Rattle.omega_words.specs.Taken.{settings_in};
 
 use crate::auditing::audit_kept;
-use crate::replay::replayed;
+use crate::replay::{WholeRun, replayed};
 use crate::report::report_of_run;
+use crate::resuming::resumed;
 use crate::trace::trace_of_run;
 use omega_io::{Gate, Sink, Tables, write_all};
 use omega_keep::{Keeper, audited_lines_are_not_refused};
@@ -183,6 +184,7 @@ pub fn omega_with<R: Threads + Wait + Sync, T: Tables, K: Sink, G: Gate + Sync, 
 {
     match settings.command {
         Command::Audit => audit_and_write(alloc, settings, out, keeper),
+        Command::Resume => resume_and_write(alloc, settings, tables, out, keeper),
         _ => run_and_write(rt, alloc, settings, tables, out, gate),
     }
 }
@@ -272,9 +274,14 @@ fn replay_and_write<R: Threads + Wait + Sync, K: Sink, G: Gate + Sync>(
     ensures history { HasHistory result.history result.status }
     ensures written { IsWritten settings.now trace.now result.history result.status (K.written out.old) (K.written out.new) }
 {
-    let Ok(whole) = replayed(rt, alloc, settings, trace, gate) else {
-        return refused(alloc, Status::NoMemory, Some(*settings));
-    };
+    match replayed(rt, alloc, settings, trace, gate) {
+        Ok(whole) => write_run(alloc, settings, whole, out),
+        Err(_) => refused(alloc, Status::NoMemory, Some(*settings)),
+    }
+}
+
+// Writes the report of a run.
+fn write_run<K: Sink>(alloc: Global, settings: &Settings, whole: WholeRun, out: &mut K) -> Done {
     let Ok(bytes) = report_of_run(alloc, settings, &whole) else {
         return refused(alloc, Status::NoMemory, Some(*settings));
     };
@@ -283,6 +290,34 @@ fn replay_and_write<R: Threads + Wait + Sync, K: Sink, G: Gate + Sync>(
         status,
         settings: Some(*settings),
         history: whole.history,
+    }
+}
+
+// Reads the tables of a run, goes on from what the keeper has of it and writes the report.
+fn resume_and_write<T: Tables, K: Sink, P: Keeper>(
+    alloc: Global,
+    settings: &Settings,
+    tables: &mut T,
+    out: &mut K,
+    keeper: &mut P,
+) -> Done {
+    match trace_of_run(alloc, settings, tables) {
+        Ok(trace) => go_on_and_write(alloc, settings, &trace, out, keeper),
+        Err(refusal) => refused(alloc, Status::from(refusal), Some(*settings)),
+    }
+}
+
+// Goes on from what the keeper has of a run of these tables and writes the report.
+fn go_on_and_write<K: Sink, P: Keeper>(
+    alloc: Global,
+    settings: &Settings,
+    trace: &TraceTables,
+    out: &mut K,
+    keeper: &mut P,
+) -> Done {
+    match resumed(alloc, settings, trace, keeper) {
+        Ok(whole) => write_run(alloc, settings, whole, out),
+        Err(status) => refused(alloc, status, Some(*settings)),
     }
 }
 
