@@ -40,3 +40,4 @@ pub mod Planning
 pub mod KeptRounds
 pub mod RoundStarts
 pub mod ResumedRounds
+pub mod AnsweredEntries

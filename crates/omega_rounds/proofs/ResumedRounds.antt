@@ -2,33 +2,32 @@
 use Rattle.std.proofs.Math.ListN.{drop_of_length-le}
 use Rattle.std.proofs.Math.Seq.{drop-nil, take-append_seam}
 use Rattle.std.proofs.lemmas.List.{append-nil, length-append, length-map, length-take-le, map-append, take-append-drop}
-use Rattle.std.proofs.lemmas.Option.{none-some, slice_get_cases, slice_get_past}
-use Rattle.std.proofs.Common.{◌≡◌, ◌≤◌, ◌<◌, ◌+◌, ℕ, zero, suc, true, false, List, [], ◌∷◌, ◌++◌, length, map, take, drop, Option, Some, None, refl, sym, ap, ap₂, subst, arith, ◌∙◌, add-one, inl, inr, append_assoc}
-use Rattle.std.specs.Prelude.{◌⊎◌, min, option_map, slice_get}
-use Rattle.omega_model.specs.Feed.{rounds}
+use Rattle.std.proofs.Common.{◌≡◌, ◌≤◌, ◌<◌, ◌+◌, ℕ, zero, suc, true, false, List, [], ◌∷◌, ◌++◌, length, take, drop, Option, Some, None, refl, sym, ap, subst, arith, ◌∙◌, add-one, inl, inr}
+use Rattle.std.specs.Prelude.{◌⊎◌, min, slice_get}
 use Rattle.omega_model.specs.Lawful.{Lawful, RoundOf, Rounds, opened, rows_of}
 use Rattle.omega_model.specs.Turns.{InTurns, KeepsTurns}
 use Rattle.omega_model.specs.declared.entries.Entry.{Entry}
+use Rattle.omega_model.specs.declared.entries.Entry.TheVariants.{Round as RoundEntry}
 use Rattle.omega_model.specs.declared.rows.Round.{Round}
 use Rattle.omega_model.specs.declared.rows.Row.{Row}
 use Rattle.omega_model.specs.declared.rows.TraceTables.{TraceTables}
 use Rattle.omega_model.specs.declared.settings.Settings.{Settings}
 use Rattle.omega_keep.specs.Keeping.{Adds}
 use Rattle.omega_keep.specs.KeptLines.{entry_text}
-use Rattle.omega_keep.specs.Resumed.{AreWholeRounds, begins_round, ends_round, in_common, lines_of, refused_for}
+use Rattle.omega_keep.specs.Resumed.{begins_round, ends_round, in_common, lines_of, refused_for}
 use Rattle.omega_laws.specs.TurnOrder.{GoesEarlier, LostItsTurn, sees_in_turn}
 use Rattle.omega_laws.proofs.AnyOrder.{only_round}
 use Rattle.omega_laws.proofs.Places.{take_next}
 use Rattle.omega_laws.proofs.RoundsAdd.{round_begins, rounds_add}
 use Rattle.omega_laws.proofs.TurnOrder.{turns_front, turns_order}
-use Rattle.omega_rounds.specs.Going.{GoesOn, OpensRound, ReachesRound}
-use Rattle.omega_rounds.specs.Playing.{BeginsTurn, IsAtStart, IsInSomeRun, PlaysRound}
-use Rattle.omega_rounds.specs.Resuming.{Agree, AppendsRounds, BeginsAgreed, IsPastEnd, IsRunInTurns, LeavesKept, RefusesKept, StopsRound, TakesRound, lines_behind}
-use Rattle.omega_rounds.specs.Stages.{AllHaveBegun, IsInRunOf, Source, Stage, WorldState, next_stage, rows_begun, source_of}
+use Rattle.omega_rounds.specs.Going.{OpensRound, ReachesRound}
+use Rattle.omega_rounds.specs.Playing.{IsAtStart, IsInSomeRun, PlaysRound}
+use Rattle.omega_rounds.specs.Resuming.{Agree, AppendsRounds, BeginsAgreed, IsPastEnd, IsRunInTurns, LeavesKept, RefusesKept, RefusesRound, StopsRound, TakesRound, lines_behind}
+use Rattle.omega_rounds.specs.Stages.{AllHaveBegun, IsInRunOf, Source, Stage, WorldState, next_stage, rows_begun}
 use Rattle.omega_rounds.specs.declared.kept.ResumeRefusal.{ResumeRefusal}
 use Rattle.omega_rounds.specs.declared.kept.ResumeRefusal.TheVariants.{BadKept, KeepFault, NoMemory}
 use Rattle.omega_rounds.proofs.EndedRounds.{HasEnded, same_run}
-use Rattle.omega_rounds.proofs.KeptRounds.{common_ended, common_front, common_told, common_within, ends_middle, refused_at, refused_middle, refused_none}
+use Rattle.omega_rounds.proofs.KeptRounds.{common_ended, common_front, common_told, common_within, drop_next, ends_middle, none_behind, refused_at, refused_middle, refused_none}
 use Rattle.omega_rounds.proofs.PlayedRounds.{HasPlayed, begins_turn, played_more, played_none, turns_now}
 use Rattle.omega_rounds.proofs.RoundStarts.{ends_between, none_in_round}
 use Rattle.omega_rounds.proofs.WorldSteps.{rows_more}
@@ -47,12 +46,6 @@ remains_first now none empty trace made history lawful =
     subst (λ (n : ℕ). Rounds now.stage.settings trace (rows_of (take n now.stage.source.rounds)) now.history (drop n now.stage.source.rounds) history) (sym none)
     (subst (λ (start : List Entry). Rounds now.stage.settings trace [] start now.stage.source.rounds history) (sym empty)
     (subst (λ (some : List Round). Rounds now.stage.settings trace [] [] some history) (sym (ap (λ (s : Source). s.rounds) made)) lawful))
-
--- the next of some items is the first of the rest
-drop_next : {X : Type 0} (xs : List X) (n : ℕ) (x : X) → slice_get xs n ≡ Some x → drop n xs ≡ x ∷ drop (suc n) xs
-drop_next [] n x is = absurd (cc)
-drop_next (y ∷ xs) zero x is = let same : y ≡ x = cc in ap (λ z. z ∷ xs) same
-drop_next (y ∷ xs) (suc n) x is = drop_next xs n x is
 
 -- a round that is played in turns is the next of those that remain
 next_remains : (now after : WorldState) (round : Round) (opened_at : ℕ) → slice_get now.stage.source.rounds now.stage.begun ≡ Some round
@@ -109,7 +102,7 @@ resumed_none kept first world none = record {
 
 agree_none : (kept : List (List ℕ)) → Agree kept []
 agree_none [] = refl
-agree_none (line ∷ lines) = refl
+agree_none (line ∷ lines) = let none : 0 ≡ min (suc (length lines)) 0 = omega arith in none
 
 -- none at all are added
 adds_none : (first : Option (List (List ℕ))) → Adds [] first first
@@ -120,12 +113,6 @@ adds_none (Some list) = ap (λ (l : List (List ℕ)). Some l) (sym (append-nil l
 adds_stay : (first keeps : Option (List (List ℕ))) → Adds [] first keeps → keeps ≡ first
 adds_stay None keeps adds = adds
 adds_stay (Some list) keeps adds = adds ∙ ap (λ (l : List (List ℕ)). Some l) (append-nil list)
-
--- nothing stands behind the kept lines of a history that is no longer
-none_behind : (kept : List (List ℕ)) (history : List Entry) → length history ≤ length kept → lines_behind kept history ≡ []
-none_behind kept history short =
-    let count : length (lines_of history) ≡ length history = length-map history entry_text in
-    drop_of_length-le (lines_of history) {i = length kept} (omega (arith, short, count))
 
 nothing_kept : (kept : List (List ℕ)) (history : List Entry) → length kept ≤ 0 → refused_for history kept ≡ None
 nothing_kept [] history short = refused_none history [] refl refl
@@ -219,6 +206,33 @@ leaves_rounds kept first start now keeps has begins =
 
 -- ---- one more round
 
+-- a round that is played goes on from the history before it
+module _ (kept : List (List ℕ)) (from : ℕ) (world after : WorldState) (begins : BeginsAgreed kept from world) (plays : PlaysRound world after) where
+  goes_on : (later : List Entry) × (after.history ≡ begins.start ++ RoundEntry begins.round.number ∷ later)
+  goes_on =
+      let played = plays begins.trace begins.before begins.start begins.round begins.begins in
+      round_begins after.stage.settings begins.trace begins.before begins.start begins.round after.history played.1.1
+
+  pub within_played : from ≤ length after.history
+  within_played =
+      let all : length after.history ≡ length begins.start + length (RoundEntry begins.round.number ∷ goes_on.0) =
+      ap (λ (h : List Entry). length h) goes_on.1 ∙ length-append begins.start (RoundEntry begins.round.number ∷ goes_on.0) in
+      let is = begins.length_is in
+      omega (arith, all, is)
+
+  pub agree_played : Agree kept (take from after.history)
+  agree_played =
+      let front : take from after.history ≡ begins.start =
+      ap (λ (n : ℕ). take n after.history) begins.length_is
+      ∙ ap (take (length begins.start)) goes_on.1
+      ∙ take-append_seam begins.start (RoundEntry begins.round.number ∷ goes_on.0) in
+      subst (Agree kept) (sym front) begins.agree
+
+  pub stops_played : after.stage ≡ world.stage → (refusal : ResumeRefusal) → RefusesRound kept from after.history refusal → StopsRound world kept from refusal
+  stops_played stage (BadKept place) refuses = (after, (stage, (plays, refuses)))
+  stops_played stage KeepFault past = past
+  stops_played stage NoMemory refuses = tt
+
 module _ (kept : List (List ℕ)) (first : Option (List (List ℕ))) (start now next : WorldState) (number : ℕ) (keeps : Option (List (List ℕ)))
     (has : HasResumed kept first start now keeps) (begins : now.stage.begun ≡ 0 → IsAtStart now) (made : IsInSomeRun now.stage)
     (reaches : ReachesRound now next number) (opens : (trace : TraceTables) → IsInRunOf now.stage trace → OpensRound trace now next) where
@@ -248,15 +262,17 @@ module _ (kept : List (List ℕ)) (first : Option (List (List ℕ))) (start now 
     made_now trace made_then = subst (λ (s : Stage). IsInRunOf s trace) there made_then
 
     turns_then : InTurns after.history
-    turns_then = (plays made.0 (rows_begun now.stage) now.history reaches.round
-    (begins_turn now next number turns_so_far reaches made.0 made.1 (opens made.0 made.1))).0
+    turns_then =
+        let played = plays made.0 (rows_begun now.stage) now.history reaches.round
+        (begins_turn now next number turns_so_far reaches made.0 made.1 (opens made.0 made.1)) in
+        played.0
 
     -- it is the whole next round
     round_now : (trace : TraceTables) → IsInRunOf now.stage trace → RoundOf now.stage.settings trace (rows_begun now.stage) now.history reaches.round after.history
     round_now trace made_so =
-        subst (λ (s : Stage). RoundOf s.settings trace (rows_begun now.stage) now.history reaches.round after.history) there
-        (plays trace (rows_begun now.stage) now.history reaches.round
-        (begins_turn now next number turns_so_far reaches trace made_so (opens trace made_so))).1.1
+        let played = plays trace (rows_begun now.stage) now.history reaches.round
+        (begins_turn now next number turns_so_far reaches trace made_so (opens trace made_so)) in
+        subst (λ (s : Stage). RoundOf s.settings trace (rows_begun now.stage) now.history reaches.round after.history) there played.1.1
 
     remains_then : (trace : TraceTables) → IsInRunOf now.stage trace → (history : List Entry) → Lawful now.stage.settings trace history → InTurns history
         → Remains after trace history
@@ -340,9 +356,9 @@ module _ (kept : List (List ℕ)) (first : Option (List (List ℕ))) (start now 
 
   -- why a round isn't taken is why the kept lines are refused
   pub stops_refused : (from : ℕ) → from ≡ length now.history → (refusal : ResumeRefusal) → StopsRound next kept from refusal → RefusesKept start.stage kept refusal
-  stops_refused from is (BadKept place) stops history run =
+  stops_refused from is (BadKept place) stops = λ history run.
       refused_round stops.0 stops.1.0 stops.1.1.0 from is place stops.1.1.1.0 stops.1.1.1.1.0 stops.1.1.1.1.1 history (run_now start now has.played.ended history run)
-  stops_refused from is KeepFault past history run =
+  stops_refused from is KeepFault past = λ history run.
       stands.ended (omega (arith, past, is)) history (run_now start now has.played.ended history run)
   stops_refused from is NoMemory stops = tt
 
@@ -374,9 +390,10 @@ module _ (kept : List (List ℕ)) (first : Option (List (List ℕ))) (start now 
 
   -- a kept line past the end is the one that is refused
   pub end_refused : (refusal : ResumeRefusal) → IsPastEnd next kept refusal → RefusesKept start.stage kept refusal
-  end_refused (BadKept place) past history run =
+  end_refused (BadKept place) past =
       let count : length next.history ≡ length now.history = ap (λ (w : WorldState). length w.history) same in
       let most : length now.history ≤ length kept = omega (arith, count, past.more, past.place_is) in
+      λ history run.
       refused_at history kept place
       (ap (in_common kept) (over history run) ∙ min_right kept now.history stands_at_end.agree most ∙ sym count ∙ sym past.place_is) past.more
   end_refused KeepFault past = absurd past

@@ -1,12 +1,12 @@
 -- Where rounds begin in a history.
-use Rattle.std.proofs.Common.{◌≡◌, ◌≤◌, ◌<◌, ℕ, true, false, List, [], ◌∷◌, ◌++◌, length, take, drop, Some, refl, sym, ap, subst, arith, ◌∙◌, append_assoc, length-append}
+use Rattle.std.proofs.Common.{◌≡◌, ◌≤◌, ◌<◌, ◌+◌, ℕ, true, false, List, [], ◌∷◌, ◌++◌, length, take, drop, Some, refl, sym, ap, subst, arith, ◌∙◌, append_assoc, length-append}
 use Rattle.std.specs.Prelude.{All, slice_get}
 use Rattle.std.specs.List.{fold}
 use Rattle.std.proofs.lemmas.List.{append-nil, length-take-le}
 use Rattle.std.proofs.lemmas.List.Elements.{All-head, All-tail}
 use Rattle.std.proofs.lemmas.Option.{slice_get_within}
 use Rattle.omega_model.proofs.Growing.{by_place_push}
-use Rattle.omega_model.specs.Lawful.{Applied, IsCommitOfRound, RoundOf, RoundSoFar, Rounds, opened, with_row}
+use Rattle.omega_model.specs.Lawful.{Applied, IsCommitOfRound, RoundSoFar, Rounds, opened, with_row}
 use Rattle.omega_model.specs.State.{state}
 use Rattle.omega_model.specs.RowEntries.{row_entries}
 use Rattle.omega_model.specs.Wanted.{wanted}

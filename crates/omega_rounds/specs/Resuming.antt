@@ -5,6 +5,8 @@ use Rattle.omega_keep.specs.Resumed.{AreWholeRounds, in_common, lines_of, refuse
 use Rattle.omega_model.specs.Lawful.{Lawful}
 use Rattle.omega_model.specs.Turns.{InTurns}
 use Rattle.omega_model.specs.declared.entries.Entry.{Entry}
+use Rattle.omega_model.specs.declared.results.Status.{Status}
+use Rattle.omega_model.specs.declared.results.Status.TheVariants as status
 use Rattle.omega_model.specs.declared.rows.Round.{Round}
 use Rattle.omega_model.specs.declared.rows.Row.{Row}
 use Rattle.omega_model.specs.declared.rows.TraceTables.{TraceTables}
@@ -24,6 +26,12 @@ pub record IsRunInTurns (stage : Stage) (history : List Entry) : Type 0 where
 -- the lines of a history behind as many as are kept
 abbrev pub lines_behind : List (List ℕ) → List Entry → List (List ℕ)
 lines_behind kept history = drop (length kept) (lines_of history)
+
+-- a refusal as the status that is answered
+abbrev pub status_of : ResumeRefusal → Status
+status_of (BadKept place) = status.BadKept place
+status_of KeepFault = status.KeepFault
+status_of NoMemory = status.NoMemory
 
 -- why kept lines of a run are refused: for the place at which they are no lines of whole rounds of its
 -- history. Where the keeper failed they are such lines

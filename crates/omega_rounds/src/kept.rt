@@ -8,7 +8,7 @@ ghost use Rattle.omega_rounds.specs.Resuming.{Agree, IsNotOfLines, RefusesRound,
 ghost use Rattle.omega_rounds.specs.declared.kept.ResumeRefusal.TheVariants.{KeepFault, NoMemory as WantOfMemory};
 
 use omega_keep::{KeepRefusal, Keeper, Lines, entry_line};
-use omega_model::{Bytes, Entry, NoMemory, Seq};
+use omega_model::{Bytes, Entry, NoMemory, Seq, Status};
 use std::alloc::Global;
 
 /// Why a run doesn't go on from kept lines.
@@ -28,6 +28,21 @@ impl From<NoMemory> for ResumeRefusal {
 
     fn from(_error: NoMemory) -> ResumeRefusal {
         ResumeRefusal::NoMemory
+    }
+}
+
+impl From<ResumeRefusal> for Status {
+    ghost use Rattle.std.specs.Prelude.{◌≡◌};
+    ghost use Rattle.omega_rounds.specs.Resuming.{status_of};
+
+    ghost from_gives = { λ refusal status. status ≡ status_of refusal };
+
+    fn from(refusal: ResumeRefusal) -> Status {
+        match refusal {
+            ResumeRefusal::BadKept(place) => Status::BadKept(place),
+            ResumeRefusal::KeepFault => Status::KeepFault,
+            ResumeRefusal::NoMemory => Status::NoMemory,
+        }
     }
 }
 
@@ -57,9 +72,11 @@ pub(crate) fn take_round<P: Keeper>(
 {
     let appended = history.split_at(from).1;
     if from < kept.as_slice().len() {
-        check_lines(alloc, appended, from, kept.as_slice().split_at(from).1)
+        check_lines(alloc, appended, from, kept.as_slice().split_at(from).1)?;
+        Ok(())
     } else {
-        append_lines(alloc, appended, keeper)
+        append_lines(alloc, appended, keeper)?;
+        Ok(())
     }
 }
 
@@ -87,14 +104,18 @@ fn check_lines(
 // How many of the first kept lines are those of these entries in order.
 fn in_common(alloc: Global, kept: &[Bytes], entries: &[Entry]) -> Result<usize, NoMemory>
     requires { All IsAnswered entries.now }
-    ensures { IfOk result (λ count. count ≡ in_common kept.now entries.now) }
+    ensures count { IfOk result (λ count. count ≡ in_common kept.now entries.now) }
+    ensures within { IfOk result (λ count. count ≤ length entries.now) }
 {
-    for (place, (line, entry)) in kept.iter().zip(entries).enumerate() {
+    for (place, entry) in entries.iter().enumerate() {
+        let Some(line) = kept.get(place) else {
+            return Ok(place);
+        };
         if !is_line(alloc, line, entry)? {
             return Ok(place);
         }
     }
-    Ok(kept.len().min(entries.len()))
+    Ok(entries.len())
 }
 
 // Whether a kept line is the line of an entry.

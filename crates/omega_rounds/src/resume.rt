@@ -58,7 +58,10 @@ pub fn resume_turns<P: Keeper>(
         match step {
             RoundStep::Begun(_) => world = resume_round(next, from, kept, keeper)?,
             RoundStep::Unfinished(_) => unreachable!(),
-            RoundStep::Over => return end_kept(next, kept),
+            RoundStep::Over => {
+                end_kept(&next, kept)?;
+                return Ok(next);
+            }
         }
     }
 }
@@ -85,15 +88,14 @@ fn resume_round<P: Keeper>(
     Ok(world)
 }
 
-// The world, unless its whole history has fewer entries than lines are kept.
-fn end_kept(world: World, kept: &Lines) -> Result<World, ResumeRefusal>
-    ensures same { IfOk result (λ after. after ≡ world) }
-    ensures all { OnOk result (length kept.now ≤ length world.history) }
-    ensures refused { IfErr result (IsPastEnd world kept.now) }
+// Refuses kept lines of which there are more than entries in the whole history of a world.
+fn end_kept(world: &World, kept: &Lines) -> Result<(), ResumeRefusal>
+    ensures all { OnOk result (length kept.now ≤ length world.now.history) }
+    ensures refused { IfErr result (IsPastEnd world.now kept.now) }
 {
     let count = world.history().len();
     if count < kept.as_slice().len() {
         return Err(ResumeRefusal::BadKept(count as u64));
     }
-    Ok(world)
+    Ok(())
 }

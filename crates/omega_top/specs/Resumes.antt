@@ -9,6 +9,8 @@ use Rattle.omega_model.specs.declared.entries.Entry.{Entry}
 use Rattle.omega_model.specs.declared.results.Status.{Status}
 use Rattle.omega_model.specs.declared.results.Status.TheVariants.{Done, Usage, ReadFault, TooLong, BadRow, TooMany, BadKept, KeepFault, WriteFault, NoMemory}
 use Rattle.omega_model.specs.declared.rows.TraceTables.{TraceTables}
+use Rattle.omega_model.specs.declared.settings.Command.{Command}
+use Rattle.omega_model.specs.declared.settings.Command.TheVariants.{Audit, Generate, Replay, Resume, Run, Simulate}
 use Rattle.omega_model.specs.declared.settings.Settings.{Settings}
 
 -- a history is the run of a trace in which the schedulers take turns: there is no other
@@ -73,6 +75,19 @@ pub record KeepsRounds (settings : Settings) (trace : TraceTables) (before : Opt
   pub run : IsRunInTurns settings trace history
   pub accepted : refused_for history kept ≡ None
 
+-- why a keeper's lines aren't loaded: it failed, or memory ran out
+abbrev pub StopsLoading : Status → Type 0
+StopsLoading KeepFault = ⊤
+StopsLoading NoMemory = ⊤
+StopsLoading (BadKept place) = ⊥
+StopsLoading Done = ⊥
+StopsLoading WriteFault = ⊥
+StopsLoading Usage = ⊥
+StopsLoading (ReadFault table) = ⊥
+StopsLoading (TooLong table) = ⊥
+StopsLoading (BadRow table row column cause) = ⊥
+StopsLoading (TooMany kind number) = ⊥
+
 -- why a run stops that goes on from kept lines and whose tables were read
 abbrev pub StopsResume : Status → Type 0
 StopsResume (BadKept place) = ⊤
@@ -85,3 +100,47 @@ StopsResume (ReadFault table) = ⊥
 StopsResume (TooLong table) = ⊥
 StopsResume (BadRow table row column cause) = ⊥
 StopsResume (TooMany kind number) = ⊥
+
+-- why a run stops whose tables were read: for want of memory, and on `resume` also for kept lines that are
+-- refused and for a keeper that failed
+abbrev pub StopsBy : Command → Status → Type 0
+StopsBy Resume status = StopsResume status
+StopsBy Replay status = status ≡ NoMemory
+StopsBy Run status = status ≡ NoMemory
+StopsBy Generate status = status ≡ NoMemory
+StopsBy Simulate status = status ≡ NoMemory
+StopsBy Audit status = status ≡ NoMemory
+
+-- how a run ends whose tables were read
+abbrev pub EndsBy : Command → Status → Type 0
+EndsBy command Done = ⊤
+EndsBy command WriteFault = ⊤
+EndsBy command NoMemory = ⊤
+EndsBy command (BadKept place) = command ≡ Resume
+EndsBy command KeepFault = command ≡ Resume
+EndsBy command Usage = ⊥
+EndsBy command (ReadFault table) = ⊥
+EndsBy command (TooLong table) = ⊥
+EndsBy command (BadRow table row column cause) = ⊥
+EndsBy command (TooMany kind number) = ⊥
+
+-- a run went on from what a keeper handed out, which are the lines of whole rounds of its history, to the
+-- end: the keeper's list is that of the whole history
+pub record KeepsWhole (before now : Option (List (List ℕ))) (history : List Entry) : Type 0 where
+  pub kept : List (List ℕ)
+  pub told : IfSome before (λ list. kept ≡ list)
+  pub accepted : refused_for history kept ≡ None
+  pub leaves : now ≡ option_map (λ list. lines_of history) before
+
+-- it stopped on the way
+pub record StopsFrom (settings : Settings) (trace : TraceTables) (before now : Option (List (List ℕ))) (status : Status) : Type 0 where
+  pub kept : List (List ℕ)
+  pub told : IfSome before (λ list. kept ≡ list)
+  pub stops : StopsResume status
+  pub answers : ResumeAnswers settings trace kept [] status
+  pub leaves : LeavesList settings trace [] before now status
+
+-- a keeper's list stays, and its count
+pub record StaysAtKeeper (before now : Option (List (List ℕ))) (count count_now : ℕ) : Type 0 where
+  pub list : now ≡ before
+  pub faults : count_now ≡ count
