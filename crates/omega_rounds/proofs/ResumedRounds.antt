@@ -12,6 +12,7 @@ use Rattle.omega_model.specs.declared.rows.Round.{Round}
 use Rattle.omega_model.specs.declared.rows.Row.{Row}
 use Rattle.omega_model.specs.declared.rows.TraceTables.{TraceTables}
 use Rattle.omega_model.specs.declared.settings.Settings.{Settings}
+use Rattle.omega_model.proofs.RoundsInOrder.{rounds_push}
 use Rattle.omega_keep.specs.Keeping.{Adds}
 use Rattle.omega_keep.specs.KeptLines.{entry_text}
 use Rattle.omega_keep.specs.Resumed.{begins_round, ends_round, in_common, lines_of, refused_for}
@@ -22,7 +23,7 @@ use Rattle.omega_laws.proofs.RoundsAdd.{round_begins, rounds_add}
 use Rattle.omega_laws.proofs.TurnOrder.{turns_front, turns_order}
 use Rattle.omega_rounds.specs.Going.{OpensRound, ReachesRound}
 use Rattle.omega_rounds.specs.Playing.{IsAtStart, IsInSomeRun, PlaysRound}
-use Rattle.omega_rounds.specs.Resuming.{Agree, AppendsRounds, BeginsAgreed, IsPastEnd, IsRunInTurns, LeavesKept, RefusesKept, RefusesRound, StopsRound, TakesRound, lines_behind}
+use Rattle.omega_rounds.specs.Resuming.{Agree, AppendsRounds, AreRoundsInTurns, BeginsAgreed, IsPastEnd, IsRunInTurns, LeavesKept, RefusesKept, RefusesRound, StopsRound, TakesRound, lines_behind}
 use Rattle.omega_rounds.specs.Stages.{AllHaveBegun, IsInRunOf, Source, Stage, WorldState, next_stage, rows_begun}
 use Rattle.omega_rounds.specs.declared.kept.ResumeRefusal.{ResumeRefusal}
 use Rattle.omega_rounds.specs.declared.kept.ResumeRefusal.TheVariants.{BadKept, KeepFault, NoMemory}
@@ -77,10 +78,12 @@ next_remains now after round opened_at next stage trace whole turns history all 
 
 -- ---- what is kept
 
--- once the rounds that have begun in a world are over: the others remain of a history of the run; the kept lines
--- agree with the history so far; behind them its lines were appended; and where they are no more than its
+-- once the rounds that have begun in a world are over: they are the first ones of the run, and the others remain of
+-- a history of it; the kept lines agree with the history so far; behind them its lines were appended; and where they are no more than its
 -- entries none is refused
 pub record StandsKept (kept : List (List ℕ)) (first : Option (List (List ℕ))) (now : WorldState) (keeps : Option (List (List ℕ))) : Type 0 where
+  pub rounds : (trace : TraceTables) → IsInRunOf now.stage trace
+      → Rounds now.stage.settings trace [] [] (take now.stage.begun now.stage.source.rounds) now.history
   pub remains : (trace : TraceTables) → IsInRunOf now.stage trace → (history : List Entry) → Lawful now.stage.settings trace history → InTurns history
       → Remains now trace history
   pub agree : Agree kept now.history
@@ -122,6 +125,8 @@ nothing_kept (line ∷ lines) history short = absurd (omega (arith, short))
 stands_first : (kept : List (List ℕ)) (first : Option (List (List ℕ))) (now : WorldState) (keeps : Option (List (List ℕ)))
     → now.stage.begun ≡ 0 → now.history ≡ [] → keeps ≡ first → StandsKept kept first now keeps
 stands_first kept first now keeps none empty same = record {
+  rounds = λ trace made.
+      subst (λ (n : ℕ). Rounds now.stage.settings trace [] [] (take n now.stage.source.rounds) now.history) (sym none) empty;
   remains = λ trace made history lawful turns. remains_first now none empty trace made history lawful;
   agree = subst (Agree kept) (sym empty) (agree_none kept);
   adds = subst (λ (k : Option (List (List ℕ))). Adds (lines_behind kept now.history) first k) (sym same)
@@ -176,6 +181,19 @@ get_front [] ys place x is = absurd (cc)
 get_front (y ∷ xs) ys zero x is = is
 get_front (y ∷ xs) ys (suc place) x is = get_front xs ys place x is
 
+-- the rounds that were played are the first ones
+rounds_played : (start now : WorldState) → HasEnded start now → (trace : TraceTables) → IsInRunOf now.stage trace → (lines : List (List ℕ))
+    → Rounds now.stage.settings trace [] [] (take now.stage.begun now.stage.source.rounds) now.history → InTurns now.history → lines ≡ lines_of now.history
+    → AreRoundsInTurns start.stage.settings trace lines
+rounds_played start now has trace made lines whole turns told =
+    subst (λ (s : Settings). AreRoundsInTurns s trace lines) has.settings (record {
+      count = now.stage.begun;
+      history = now.history;
+      made = subst (λ (some : List Round). Rounds now.stage.settings trace [] [] (take now.stage.begun some) now.history) (ap (λ (s : Source). s.rounds) made) whole;
+      turns = turns;
+      told = told;
+    })
+
 -- what was added are the lines of whole rounds
 pub leaves_rounds : (kept : List (List ℕ)) (first : Option (List (List ℕ))) (start now : WorldState) (keeps : Option (List (List ℕ)))
     → HasResumed kept first start now keeps → (now.stage.begun ≡ 0 → IsAtStart now) → AppendsRounds start.stage kept first keeps
@@ -186,20 +204,27 @@ leaves_rounds kept first start now keeps has begins =
       adds = stands.adds;
       whole = elim (cases_le (length now.history) (length kept)) [
         | inl short ↦ inl (none_behind kept now.history short)
-        | inr past ↦ inr (λ history run.
-            let here = run_now start now has.played.ended history run in
-            let remains = stands.remains here.trace here.made history here.lawful here.turns in
-            let later = rest_of_run now here.trace history remains in
+        | inr past ↦
             let all : in_common kept now.history ≡ length kept = min_left kept now.history stands.agree (omega (arith, past)) in
-            let count : length (lines_of now.history) ≡ length now.history = length-map now.history entry_text in
-            record {
-              count = length now.history;
-              ends = ends_between now.stage.settings here.trace (rows_begun now.stage) now.history (drop now.stage.begun now.stage.source.rounds) history remains;
-              told = ap (λ (front : List (List ℕ)). front ++ lines_behind kept now.history) (common_told kept now.history all)
-                  ∙ take-append-drop (length kept) (lines_of now.history)
-                  ∙ sym (take-append_seam (lines_of now.history) (lines_of later.0))
-                  ∙ ap (λ (n : ℕ). take n (lines_of now.history ++ lines_of later.0)) count
-                  ∙ ap (take (length now.history)) (sym (map-append entry_text now.history later.0) ∙ ap lines_of (sym later.1));
+            let whole : kept ++ lines_behind kept now.history ≡ lines_of now.history =
+            ap (λ (front : List (List ℕ)). front ++ lines_behind kept now.history) (common_told kept now.history all)
+            ∙ take-append-drop (length kept) (lines_of now.history) in
+            inr (record {
+              played = λ trace made. rounds_played start now has.played.ended trace (same_run start now has.played.ended trace made) (kept ++ lines_behind kept now.history)
+                  (stands.rounds trace (same_run start now has.played.ended trace made)) (turns_now start now has.played begins) whole;
+              front = λ history run.
+                  let here = run_now start now has.played.ended history run in
+                  let remains = stands.remains here.trace here.made history here.lawful here.turns in
+                  let later = rest_of_run now here.trace history remains in
+                  let count : length (lines_of now.history) ≡ length now.history = length-map now.history entry_text in
+                  record {
+                    count = length now.history;
+                    ends = ends_between now.stage.settings here.trace (rows_begun now.stage) now.history (drop now.stage.begun now.stage.source.rounds) history remains;
+                    told = whole
+                        ∙ sym (take-append_seam (lines_of now.history) (lines_of later.0))
+                        ∙ ap (λ (n : ℕ). take n (lines_of now.history ++ lines_of later.0)) count
+                        ∙ ap (take (length now.history)) (sym (map-append entry_text now.history later.0) ∙ ap lines_of (sym later.1));
+                  };
             })
       ];
     }
@@ -280,6 +305,17 @@ module _ (kept : List (List ℕ)) (first : Option (List (List ℕ))) (start now 
         next_remains now after reaches.round (length next.history) reaches.next there trace (round_now trace made_so) turns_then history turns
         (stands.remains trace made_so history lawful turns)
 
+    rounds_then : (trace : TraceTables) → IsInRunOf now.stage trace
+        → Rounds after.stage.settings trace [] [] (take after.stage.begun after.stage.source.rounds) after.history
+    rounds_then trace made_so =
+        let some : List Round = now.stage.source.rounds in
+        let taken : take (now.stage.begun + 1) some ≡ take now.stage.begun some ++ reaches.round ∷ [] =
+        ap (λ (n : ℕ). take n some) (add-one now.stage.begun) ∙ take_next some now.stage.begun reaches.round reaches.next in
+        subst (λ (s : Stage). Rounds s.settings trace [] [] (take s.begun s.source.rounds) after.history) (sym there)
+        (subst (λ (first : List Round). Rounds now.stage.settings trace [] [] first after.history) (sym taken)
+        (rounds_push now.stage.settings trace [] [] (take now.stage.begun some) reaches.round now.history after.history
+        (stands.rounds trace made_so) (round_now trace made_so)))
+
     -- the history so far is its front
     front_taken : take (length now.history) after.history ≡ now.history
     front_taken =
@@ -307,6 +343,7 @@ module _ (kept : List (List ℕ)) (first : Option (List (List ℕ))) (start now 
       none = λ none.
           let begun : after.stage.begun ≡ now.stage.begun + 1 = ap (λ (s : Stage). s.begun) there in absurd (omega (arith, none, begun));
       some = λ some. record {
+        rounds = λ trace made_then. rounds_then trace (made_now trace made_then);
         remains = λ trace made_then history lawful turns.
             remains_then trace (made_now trace made_then) history (subst (λ (s : Stage). Lawful s.settings trace history) there lawful) turns;
         agree = takes.agree;

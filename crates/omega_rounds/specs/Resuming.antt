@@ -2,7 +2,8 @@
 use Rattle.std.specs.Prelude.{◌≡◌, ◌<◌, ◌≤◌, ◌⊎◌, ◌+◌, ℕ, List, [], ◌++◌, Some, None, Option, drop, length, min, take, ⊤}
 use Rattle.omega_keep.specs.Keeping.{Adds}
 use Rattle.omega_keep.specs.Resumed.{AreWholeRounds, in_common, lines_of, refused_for}
-use Rattle.omega_model.specs.Lawful.{Lawful}
+use Rattle.omega_model.specs.Feed.{rounds}
+use Rattle.omega_model.specs.Lawful.{Lawful, Rounds}
 use Rattle.omega_model.specs.Turns.{InTurns}
 use Rattle.omega_model.specs.declared.entries.Entry.{Entry}
 use Rattle.omega_model.specs.declared.results.Status.{Status}
@@ -10,6 +11,7 @@ use Rattle.omega_model.specs.declared.results.Status.TheVariants as status
 use Rattle.omega_model.specs.declared.rows.Round.{Round}
 use Rattle.omega_model.specs.declared.rows.Row.{Row}
 use Rattle.omega_model.specs.declared.rows.TraceTables.{TraceTables}
+use Rattle.omega_model.specs.declared.settings.Settings.{Settings}
 use Rattle.omega_rounds.specs.Playing.{BeginsTurn, PlaysRound}
 use Rattle.omega_rounds.specs.Stages.{IsInRunOf, Stage, WorldState}
 use Rattle.omega_rounds.specs.declared.kept.ResumeRefusal.{ResumeRefusal}
@@ -40,12 +42,26 @@ RefusesKept stage kept (BadKept place) = (history : List Entry) → IsRunInTurns
 RefusesKept stage kept KeepFault = (history : List Entry) → IsRunInTurns stage history → refused_for history kept ≡ None
 RefusesKept stage kept NoMemory = ⊤
 
--- to a keeper's list some lines were added, which are none, or with the kept ones before them those of whole
--- rounds of the run's history
+-- lines are those of the first rounds of a trace, so many of them, in which the schedulers take turns
+pub record AreRoundsInTurns (settings : Settings) (trace : TraceTables) (lines : List (List ℕ)) : Type 0 where
+  pub count : ℕ
+  pub history : List Entry
+  pub made : Rounds settings trace [] [] (take count (rounds trace settings.window)) history
+  pub turns : InTurns history
+  pub told : lines ≡ lines_of history
+
+-- lines are those of the first rounds of a run, and the first lines of its whole history, up to the end of a
+-- round
+pub record AreRoundsOf (stage : Stage) (lines : List (List ℕ)) : Type 0 where
+  pub played : (trace : TraceTables) → IsInRunOf stage trace → AreRoundsInTurns stage.settings trace lines
+  pub front : (history : List Entry) → IsRunInTurns stage history → AreWholeRounds history lines
+
+-- to a keeper's list some lines were added: none, or such that with the kept ones before them they are those of
+-- the run's first rounds
 pub record AppendsRounds (stage : Stage) (kept : List (List ℕ)) (before now : Option (List (List ℕ))) : Type 0 where
   pub added : List (List ℕ)
   pub adds : Adds added before now
-  pub whole : (added ≡ []) ⊎ ((history : List Entry) → IsRunInTurns stage history → AreWholeRounds history (kept ++ added))
+  pub whole : (added ≡ []) ⊎ AreRoundsOf stage (kept ++ added)
 
 -- what a run that goes on from kept lines leaves at its keeper where it is refused: whole rounds more, and
 -- nothing more where the kept lines are refused

@@ -5,19 +5,21 @@ use Rattle.std.proofs.lemmas.List.{append-nil, length-map, take-append-drop}
 use Rattle.std.specs.Prelude.{◌==◌, IfSome, option_map, unwrap_or, if◌then◌else◌}
 use Rattle.std.proofs.lemmas.Bool.{eqb-true}
 use Rattle.omega_model.proofs.Lists.{by_answer}
-use Rattle.omega_model.specs.Lawful.{Lawful}
+use Rattle.omega_model.specs.Feed.{rounds}
+use Rattle.omega_model.specs.Lawful.{Lawful, Rounds}
 use Rattle.omega_model.specs.Limits.{IsWithinLimits}
 use Rattle.omega_model.specs.Trace.{no_rows}
 use Rattle.omega_model.specs.Turns.{InTurns}
 use Rattle.omega_model.specs.declared.entries.Entry.{Entry}
 use Rattle.omega_model.specs.declared.results.Status.{Status}
 use Rattle.omega_model.specs.declared.results.Status.TheVariants as status
+use Rattle.omega_model.specs.declared.rows.Round.{Round}
 use Rattle.omega_model.specs.declared.rows.TraceTables.{TraceTables}
 use Rattle.omega_model.specs.declared.settings.Settings.{Settings}
 use Rattle.omega_keep.specs.Keeping.{Adds}
 use Rattle.omega_keep.specs.KeptLines.{entry_text}
 use Rattle.omega_keep.specs.Resumed.{AreWholeRounds, ends_round, in_common, lines_of, refused_for}
-use Rattle.omega_rounds.specs.Resuming.{AppendsRounds, IsRunInTurns as RunOfStage, LeavesKept, RefusesKept, lines_behind, status_of}
+use Rattle.omega_rounds.specs.Resuming.{AppendsRounds, AreRoundsInTurns, AreRoundsOf as RoundsOfStage, IsRunInTurns as RunOfStage, LeavesKept, RefusesKept, lines_behind, status_of}
 use Rattle.omega_rounds.specs.Stages.{IsInRunOf, Stage, first_stage}
 use Rattle.omega_rounds.specs.declared.kept.ResumeRefusal.{ResumeRefusal}
 use Rattle.omega_rounds.specs.declared.kept.ResumeRefusal.TheVariants.{BadKept, KeepFault, NoMemory}
@@ -25,7 +27,7 @@ use Rattle.omega_rounds.proofs.KeptRounds.{common_told, ends_all}
 use Rattle.omega_tables.specs.Reading.{status_of as status_of_reading}
 use Rattle.omega_tables.specs.declared.refusal.ReadRefusal.{ReadRefusal}
 use Rattle.omega_tables.specs.declared.refusal.ReadRefusal.TheVariants as reading
-use Rattle.omega_top.specs.Resumes.{GrowsByRounds, IsResume, IsRunInTurns, IsSomeResume, KeepsWhole, LeavesList, ResumeAnswers, StopsFrom, StopsLoading, StopsResume}
+use Rattle.omega_top.specs.Resumes.{AreRoundsOf, GrowsByRounds, IsResume, IsRunInTurns, IsSomeResume, KeepsWhole, LeavesList, ResumeAnswers, StopsFrom, StopsLoading, StopsResume}
 use Rattle.omega_top.proofs.AuditedLines.{told_list}
 use Rattle.omega_top.proofs.SomeRun.{no_rows-within}
 
@@ -70,9 +72,8 @@ keeps_whole before now kept history told none adds = record {
 }
 
 -- the lines of a whole history are those of whole rounds
-all_told : (before : Option (List (List ℕ))) (history : List Entry) → IfSome (option_map (λ list. lines_of history) before) (AreWholeRounds history)
-all_told None history = tt
-all_told (Some list) history = record {
+all_told : (history : List Entry) → AreWholeRounds history (lines_of history)
+all_told history = record {
   count = length history;
   ends = ends_all history (length history) refl;
   told = sym (take-length (lines_of history)) ∙ ap (λ (n : ℕ). take n (lines_of history)) (length-map history entry_text);
@@ -119,10 +120,17 @@ module _ (settings : Settings) (trace : TraceTables) where
     turns = run.turns;
   }
 
-  grown_told : (before : Option (List (List ℕ))) (kept added : List (List ℕ)) (history : List Entry) → IfSome before (λ list. kept ≡ list)
-      → AreWholeRounds history (kept ++ added) → IfSome (option_map (λ list. list ++ added) before) (AreWholeRounds history)
-  grown_told None kept added history told whole = tt
-  grown_told (Some list) kept added history told whole = subst (λ (l : List (List ℕ)). AreWholeRounds history (l ++ added)) told whole
+  -- and so are its first rounds
+  rounds_of_stage : (stage : Stage) → stage ≡ first_stage settings trace → (lines : List (List ℕ)) → RoundsOfStage stage lines → AreRoundsOf settings trace lines
+  rounds_of_stage stage is lines of = record {
+    played = subst (λ (at : Stage). AreRoundsInTurns at.settings trace lines) is (of.played trace (subst (λ (at : Stage). IsInRunOf at trace) (sym is) refl));
+    front = λ history run. of.front history (run_of_stage stage is history run);
+  }
+
+  grown_told : (before : Option (List (List ℕ))) (kept added : List (List ℕ)) → IfSome before (λ list. kept ≡ list)
+      → AreRoundsOf settings trace (kept ++ added) → IfSome (option_map (λ list. list ++ added) before) (AreRoundsOf settings trace)
+  grown_told None kept added told whole = tt
+  grown_told (Some list) kept added told whole = subst (λ (l : List (List ℕ)). AreRoundsOf settings trace (l ++ added)) told whole
 
   -- what it leaves at the keeper where it stops on the way
   grows_by : (stage : Stage) → stage ≡ first_stage settings trace → (before now : Option (List (List ℕ))) (kept : List (List ℕ))
@@ -132,9 +140,8 @@ module _ (settings : Settings) (trace : TraceTables) where
     adds = appends.adds;
     whole = elim appends.whole [
       | inl none ↦ inl none
-      | inr whole ↦ inr (λ history run.
-          subst (λ (list : Option (List (List ℕ))). IfSome list (AreWholeRounds history)) (sym appends.adds)
-          (grown_told before kept appends.added history told (whole history (run_of_stage stage is history run))))
+      | inr whole ↦ inr (subst (λ (list : Option (List (List ℕ))). IfSome list (AreRoundsOf settings trace)) (sym appends.adds)
+          (grown_told before kept appends.added told (rounds_of_stage stage is (kept ++ appends.added) whole)))
     ];
   }
 
@@ -153,11 +160,28 @@ module _ (settings : Settings) (trace : TraceTables) where
   stops_from stage is before now kept told NoMemory refuses leaves =
       record { kept = kept; told = told; stops = tt; answers = tt; leaves = grows_by stage is before now kept told leaves }
 
+  -- the lines of its whole history are those of its first rounds
+  whole_told : (before : Option (List (List ℕ))) (history : List Entry) → Lawful settings trace history → InTurns history
+      → ((other : List Entry) → Lawful settings trace other → InTurns other → other ≡ history)
+      → IfSome (option_map (λ list. lines_of history) before) (AreRoundsOf settings trace)
+  whole_told None history lawful turns only = tt
+  whole_told (Some list) history lawful turns only = record {
+    played = record {
+      count = length (rounds trace settings.window);
+      history = history;
+      made = subst (λ (some : List Round). Rounds settings trace [] [] some history) (sym (take-length (rounds trace settings.window))) lawful;
+      turns = turns;
+      told = refl;
+    };
+    front = λ other run. subst (λ (one : List Entry). AreWholeRounds one (lines_of history)) (sym (only other run.lawful run.turns)) (all_told history);
+  }
+
   -- a run that went on to its end and then wants memory
   pub stops_whole : (before now : Option (List (List ℕ))) (history : List Entry) → KeepsWhole before now history
+      → Lawful settings trace history → InTurns history
       → ((other : List Entry) → Lawful settings trace other → InTurns other → other ≡ history)
       → StopsFrom settings trace before now status.NoMemory
-  stops_whole before now history keeps only = record {
+  stops_whole before now history keeps lawful turns only = record {
     kept = keeps.kept;
     told = keeps.told;
     stops = tt;
@@ -165,10 +189,8 @@ module _ (settings : Settings) (trace : TraceTables) where
     leaves = record {
       added = lines_behind keeps.kept history;
       adds = keeps.leaves ∙ whole_adds before keeps.kept history keeps.told keeps.accepted;
-      whole = inr (λ other run.
-          subst (λ (list : Option (List (List ℕ))). IfSome list (AreWholeRounds other)) (sym keeps.leaves)
-          (subst (λ (one : List Entry). IfSome (option_map (λ list. lines_of one) before) (AreWholeRounds other)) (only other run.lawful run.turns)
-          (all_told before other)));
+      whole = inr (subst (λ (list : Option (List (List ℕ))). IfSome list (AreRoundsOf settings trace)) (sym keeps.leaves)
+          (whole_told before history lawful turns only));
     };
   }
 

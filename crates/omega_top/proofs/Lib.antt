@@ -12,3 +12,4 @@ pub mod Timing
 pub mod Written
 pub mod GoneOn
 pub mod Ending
+pub mod NewWorlds

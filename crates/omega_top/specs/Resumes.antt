@@ -12,6 +12,7 @@ use Rattle.omega_model.specs.declared.rows.TraceTables.{TraceTables}
 use Rattle.omega_model.specs.declared.settings.Command.{Command}
 use Rattle.omega_model.specs.declared.settings.Command.TheVariants.{Audit, Generate, Replay, Resume, Run, Simulate}
 use Rattle.omega_model.specs.declared.settings.Settings.{Settings}
+use Rattle.omega_rounds.specs.Resuming.{AreRoundsInTurns}
 
 -- a history is the run of a trace in which the schedulers take turns: there is no other
 pub record IsRunInTurns (settings : Settings) (trace : TraceTables) (history : List Entry) : Type 0 where
@@ -33,12 +34,18 @@ ResumeAnswers settings trace kept history (TooLong table) = ⊤
 ResumeAnswers settings trace kept history (BadRow table row column cause) = ⊤
 ResumeAnswers settings trace kept history (TooMany kind number) = ⊤
 
--- to a keeper's list some lines were added, if it is told: none, or such that it is now that of whole rounds of
--- the run's history, from the first one on
+-- lines are those of the first rounds of the run, and the first lines of its whole history, up to the end of a
+-- round
+pub record AreRoundsOf (settings : Settings) (trace : TraceTables) (lines : List (List ℕ)) : Type 0 where
+  pub played : AreRoundsInTurns settings trace lines
+  pub front : (history : List Entry) → IsRunInTurns settings trace history → AreWholeRounds history lines
+
+-- to a keeper's list some lines were added, if it is told: none, or such that it is now that of the first rounds
+-- of the run
 pub record GrowsByRounds (settings : Settings) (trace : TraceTables) (before now : Option (List (List ℕ))) : Type 0 where
   pub added : List (List ℕ)
   pub adds : Adds added before now
-  pub whole : (added ≡ []) ⊎ ((history : List Entry) → IsRunInTurns settings trace history → IfSome now (AreWholeRounds history))
+  pub whole : (added ≡ []) ⊎ IfSome now (AreRoundsOf settings trace)
 
 -- what a keeper's list is after such a run: the lines of the whole history, where that is answered; where the
 -- run stopped in the middle, those of more whole rounds; and else as it was
