@@ -60,7 +60,7 @@ common_ended (line ∷ lines) (entry ∷ history) later all =
     ] all
 
 -- behind as many as are the same one goes on with the rest of both
-pub common_split : (from : ℕ) (kept : List (List ℕ)) (history : List Entry) → in_common kept (take from history) ≡ from
+common_split : (from : ℕ) (kept : List (List ℕ)) (history : List Entry) → in_common kept (take from history) ≡ from
     → in_common kept history ≡ from + in_common (drop from kept) (drop from history)
 common_split zero kept history same = omega arith
 common_split (suc from) [] history same = absurd (omega (arith, same))
@@ -179,13 +179,13 @@ module _ (from : ℕ) (kept : List (List ℕ)) (history : List Entry) (within : 
   same_before more = let count = front_length in omega (arith, agree, count, more)
 
   -- so the round's lines go on with those that are kept from there on
-  pub same_with : from < length kept → in_common kept history ≡ from + in_common (drop from kept) (drop from history)
+  same_with : from < length kept → in_common kept history ≡ from + in_common (drop from kept) (drop from history)
   same_with more = common_split from kept history (same_before more)
 
   rest_length : length (drop from history) + from ≡ length history
   rest_length = let count = length-drop from history in omega (arith, count, within)
 
-  pub checked_all : from < length kept → in_common (drop from kept) (drop from history) ≡ length (drop from history) → in_common kept history ≡ length history
+  checked_all : from < length kept → in_common (drop from kept) (drop from history) ≡ length (drop from history) → in_common kept history ≡ length history
   checked_all more all = let split = same_with more in let count = rest_length in omega (arith, split, all, count)
 
   pub checked_ends : from < length kept → in_common (drop from kept) (drop from history) ≡ length (drop from history) → length history ≤ length kept

@@ -29,7 +29,7 @@ use Rattle.omega_rounds.specs.declared.kept.ResumeRefusal.{ResumeRefusal}
 use Rattle.omega_rounds.specs.declared.kept.ResumeRefusal.TheVariants.{BadKept, KeepFault, NoMemory}
 use Rattle.omega_rounds.proofs.EndedRounds.{HasEnded, same_run}
 use Rattle.omega_rounds.proofs.KeptRounds.{common_ended, common_front, common_told, common_within, drop_next, ends_middle, none_behind, refused_at, refused_middle, refused_none}
-use Rattle.omega_rounds.proofs.PlayedRounds.{HasPlayed, begins_turn, played_more, played_none, turns_now}
+use Rattle.omega_rounds.proofs.PlayedRounds.{HasPlayed, begins_turn, played_more, turns_now}
 use Rattle.omega_rounds.proofs.RoundStarts.{ends_between, none_in_round}
 use Rattle.omega_rounds.proofs.WorldSteps.{rows_more}
 
@@ -96,13 +96,6 @@ pub record HasResumed (kept : List (List ℕ)) (first : Option (List (List ℕ))
   pub none : now.stage.begun ≡ 0 → keeps ≡ first
   pub some : 0 < now.stage.begun → StandsKept kept first now keeps
 
-pub resumed_none : (kept : List (List ℕ)) (first : Option (List (List ℕ))) (world : WorldState) → world.stage.begun ≡ 0 → HasResumed kept first world world first
-resumed_none kept first world none = record {
-  played = played_none world none;
-  none = λ same. refl;
-  some = λ some. absurd (omega (arith, none, some));
-}
-
 agree_none : (kept : List (List ℕ)) → Agree kept []
 agree_none [] = refl
 agree_none (line ∷ lines) = let none : 0 ≡ min (suc (length lines)) 0 = omega arith in none
@@ -135,7 +128,7 @@ stands_first kept first now keeps none empty same = record {
   ended = λ short history is. nothing_kept kept history (subst (λ (h : List Entry). length kept ≤ length h) empty short);
 }
 
-pub stands_now : (kept : List (List ℕ)) (first : Option (List (List ℕ))) (start now : WorldState) (keeps : Option (List (List ℕ)))
+stands_now : (kept : List (List ℕ)) (first : Option (List (List ℕ))) (start now : WorldState) (keeps : Option (List (List ℕ)))
     → HasResumed kept first start now keeps → (now.stage.begun ≡ 0 → IsAtStart now) → StandsKept kept first now keeps
 stands_now kept first start now keeps has begins = by now.stage.begun refl
   where
@@ -144,7 +137,7 @@ stands_now kept first start now keeps has begins = by now.stage.begun refl
     by (suc n) some = has.some (omega (arith, some))
 
 -- a history of the run at its start is one of the run now
-pub run_now : (start now : WorldState) → HasEnded start now → (history : List Entry) → IsRunInTurns start.stage history → IsRunInTurns now.stage history
+run_now : (start now : WorldState) → HasEnded start now → (history : List Entry) → IsRunInTurns start.stage history → IsRunInTurns now.stage history
 run_now start now has history is = record {
   trace = is.trace;
   made = same_run start now has is.trace is.made;
@@ -365,7 +358,7 @@ module _ (kept : List (List ℕ)) (first : Option (List (List ℕ))) (start now 
     }
 
     -- a line of the round that isn't kept, or that is the first one that isn't, is the one that is refused
-    pub refused_round : (from : ℕ) → from ≡ length now.history → (place : ℕ) → from < length kept → place ≡ in_common kept after.history → place < length after.history
+    refused_round : (from : ℕ) → from ≡ length now.history → (place : ℕ) → from < length kept → place ≡ in_common kept after.history → place < length after.history
         → (history : List Entry) → IsRunInTurns now.stage history → refused_for history kept ≡ Some place
     refused_round from is place more place_is within history run =
         let remains = remains_then run.trace run.made history run.lawful run.turns in

@@ -201,16 +201,6 @@ module _ (settings : Settings) (trace : TraceTables) where
       → IsResume settings trace before now [] status
   stopped_resume before now status stops = record { kept = stops.kept; told = stops.told; answers = stops.answers; leaves = stops.leaves }
 
-  -- one that went on to its end, however the writing went
-  pub ended_resume : (before now : Option (List (List ℕ))) (history : List Entry) (status : Status) → (status ≡ status.Done) ⊎ (status ≡ status.WriteFault)
-      → KeepsWhole before now history → IsResume settings trace before now history status
-  ended_resume before now history status (inl done) keeps =
-      subst (IsResume settings trace before now history) (sym done)
-      (record { kept = keeps.kept; told = keeps.told; answers = keeps.accepted; leaves = keeps.leaves })
-  ended_resume before now history status (inr cut) keeps =
-      subst (IsResume settings trace before now history) (sym cut)
-      (record { kept = keeps.kept; told = keeps.told; answers = keeps.accepted; leaves = keeps.leaves })
-
   -- one whose tables are refused
   pub refused_resume : (list : Option (List (List ℕ))) (refusal : ReadRefusal) → IsResume settings trace list list [] (status_of_reading refusal)
   refused_resume list (reading.Fault table) = record { kept = unwrap_or list []; told = told_list list; answers = tt; leaves = refl }

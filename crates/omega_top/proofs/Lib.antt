@@ -11,5 +11,4 @@ pub mod Unread
 pub mod Timing
 pub mod Written
 pub mod GoneOn
-pub mod Ending
 pub mod NewWorlds
