@@ -1,5 +1,5 @@
 -- Runs that go on from what a keeper has.
-use Rattle.std.proofs.Common.{◌≡◌, ◌⊎◌, ◌∙◌, ℕ, List, [], ◌++◌, length, map, take, drop, Option, Some, None, inl, inr, refl, sym, ap, subst}
+use Rattle.std.proofs.Common.{◌≡◌, ◌∙◌, ℕ, List, [], ◌++◌, length, take, Option, Some, None, inl, inr, refl, sym, ap, subst}
 use Rattle.std.proofs.Math.Seq.{take-length}
 use Rattle.std.proofs.lemmas.List.{append-nil, length-map, take-append-drop}
 use Rattle.std.specs.Prelude.{◌==◌, IfSome, option_map, unwrap_or, if◌then◌else◌}
@@ -7,7 +7,6 @@ use Rattle.std.proofs.lemmas.Bool.{eqb-true}
 use Rattle.omega_model.proofs.Lists.{by_answer}
 use Rattle.omega_model.specs.Feed.{rounds}
 use Rattle.omega_model.specs.Lawful.{Lawful, Rounds}
-use Rattle.omega_model.specs.Limits.{IsWithinLimits}
 use Rattle.omega_model.specs.Trace.{no_rows}
 use Rattle.omega_model.specs.Turns.{InTurns}
 use Rattle.omega_model.specs.declared.entries.Entry.{Entry}
@@ -27,7 +26,7 @@ use Rattle.omega_rounds.proofs.KeptRounds.{common_told, ends_all}
 use Rattle.omega_tables.specs.Reading.{status_of as status_of_reading}
 use Rattle.omega_tables.specs.declared.refusal.ReadRefusal.{ReadRefusal}
 use Rattle.omega_tables.specs.declared.refusal.ReadRefusal.TheVariants as reading
-use Rattle.omega_top.specs.Resumes.{AreRoundsOf, GrowsByRounds, IsResume, IsRunInTurns, IsSomeResume, KeepsWhole, LeavesList, ResumeAnswers, StopsFrom, StopsLoading, StopsResume}
+use Rattle.omega_top.specs.Resumes.{AreRoundsOf, GrowsByRounds, IsResume, IsRunInTurns, IsSomeResume, KeepsWhole, StopsFrom, StopsLoading}
 use Rattle.omega_top.proofs.AuditedLines.{told_list}
 use Rattle.omega_top.proofs.SomeRun.{no_rows-within}
 

@@ -1,8 +1,6 @@
-use Rattle.std.proofs.Common.{◌≡◌, ◌∙◌, ap, refl, subst, sym}
+use Rattle.std.proofs.Common.{◌∙◌, subst, sym}
 use Rattle.omega_model.specs.Lawful.{Lawful}
-use Rattle.omega_model.specs.declared.rows.TraceTables.{TraceTables}
-use Rattle.omega_model.specs.declared.settings.Settings.{Settings}
-use Rattle.omega_rounds.specs.Stages.{IsInRunOf, Stage, first_stage, source_of}
+use Rattle.omega_rounds.specs.Stages.{Stage}
 use Rattle.omega_top.specs.Commands.{OrderedBy}
 use Rattle.omega_top.proofs.NewWorlds.{in_run, in_run_still}
 use Rattle.omega_top.proofs.replay.replayed.Goals as goal
