@@ -21,6 +21,8 @@ import time
 from pathlib import Path
 from typing import List, NamedTuple, Optional, Tuple
 
+from omegatools.common import Refusal, ends
+
 
 class Answer(NamedTuple):
     """What a program wrote, and its status."""
@@ -101,21 +103,20 @@ def fault_at(program: Path, words: List[str], folder: Path, whole: Tuple[bytes, 
     return None if after == lines else 'ended after %.3f s: %d lines in the end, and %d are wanted' % (at, after, lines)
 
 
-def main(arguments: List[str]) -> int:
+def main(arguments: Optional[List[str]]) -> int:
     parser = argparse.ArgumentParser(description=__doc__, formatter_class=argparse.RawDescriptionHelpFormatter)
     parser.add_argument('program', type=Path, metavar='PROGRAM')
     parser.add_argument('--moments', type=int, default=20, help='%(default)s')
     chosen, words = parser.parse_known_args(arguments)
     program = chosen.program.resolve()
     if not program.is_file():
-        parser.error('there is no program %s' % chosen.program)
+        raise Refusal('there is no program %s' % chosen.program)
     failed = 0
     with tempfile.TemporaryDirectory() as scratch:
         try:
             whole = whole_run(program, words, Path(scratch))
         except Wrong as wrong:
-            print(wrong)
-            return 1
+            raise Refusal(str(wrong)) from None
         for moment in range(chosen.moments):
             fault = fault_at(program, words, Path(scratch), whole, moment / chosen.moments)
             if fault:
@@ -126,4 +127,4 @@ def main(arguments: List[str]) -> int:
 
 
 if __name__ == '__main__':
-    sys.exit(main(sys.argv[1:]))
+    sys.exit(ends('kills.py', main))

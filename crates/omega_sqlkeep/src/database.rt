@@ -1,4 +1,8 @@
 //! The table of kept lines, and what is asked of a database that has it.
+ghost use Rattle.std.specs.Prelude.{OnErr};
+ghost use Rattle.sqlite.specs.Held.{state};
+ghost use Rattle.sqlite.specs.State.{HasCleanDisk};
+ghost use Rattle.omega_sqlkeep.specs.Appends.{IsAsBefore};
 
 use omega_keep::Lines;
 use omega_model::{Bytes, Seq};
@@ -6,7 +10,8 @@ use sqlite::{Alter, Connection, Error, ErrorCode, Row, params};
 use std::alloc::Global;
 
 // Makes the table where it is absent. Its places rise from 1, and a line is bytes.
-const TABLE: &str = "CREATE TABLE IF NOT EXISTS kept (place INTEGER PRIMARY KEY, line BLOB NOT NULL) STRICT";
+const TABLE: &str =
+    "CREATE TABLE IF NOT EXISTS kept (place INTEGER PRIMARY KEY, line BLOB NOT NULL) STRICT";
 
 // All lines, in order.
 const LINES: &str = "SELECT line FROM kept ORDER BY place";
@@ -46,8 +51,11 @@ pub fn load_from<S: Alter>(alloc: Global, connection: &mut Connection<S>) -> Res
 }
 
 // Puts all lines at the end of the table in one transaction, which makes the table where it is absent.
-// A refusal gives the transaction up. A connection that is in a transaction already is refused.
-pub fn append_to<S: Alter>(connection: &mut Connection<S>, lines: &Lines) -> Result<(), Error> {
+// A refusal gives the transaction up, so that, where the disk has told no lie, nothing has changed. A
+// connection that is in a transaction already is refused.
+pub fn append_to<S: Alter>(connection: &mut Connection<S>, lines: &Lines) -> Result<(), Error>
+    ensures none { HasCleanDisk (state S.Store connection.new) → OnErr result (IsAsBefore (state S.Store connection.old) (state S.Store connection.new)) }
+{
     if !connection.is_autocommit() {
         return Err(Error::SqliteFailure(ErrorCode::TransactionState));
     }

@@ -1,13 +1,13 @@
 //! A keeper over a file.
-ghost use Rattle.std.specs.Prelude.{◌≡◌, None, Some};
+ghost use Rattle.std.specs.Prelude.{◌≡◌, None, Some, OnErr};
 
 use crate::database::{append_to, load_from};
 use crate::refusals::{counted, refusal_of};
 use omega_keep::{KeepRefusal, Keeper, Lines};
 use omega_model::{NoMemory, Seq, Text};
 use sqlite::{Connection, Error, ErrorCode, File, FileStore};
-use std::fs;
 use std::io::ErrorKind;
+use std::{fs, io};
 
 // A connection to a file and its log.
 type FileConnection = Connection<FileStore<File>>;
@@ -65,12 +65,41 @@ fn append_at(
     append_to(opened(rt, path.as_str(), connection)?, lines)
 }
 
+// Below this length a log has no page, so that nothing is lost with it.
+const SHORT_LOG: u64 = 512;
+
+// Removes the log of the file at a path where it has nothing.
+fn remove_log(rt: &HostRuntime, path: &str) -> io::Result<()> {
+    let real = fs::canonicalize(rt, path)?;
+    let log = format!(in rt.alloc(); "{}-wal", real.as_str())?;
+    if fs::metadata(rt, log.as_str())?.len() < SHORT_LOG {
+        fs::remove_file(rt, log.as_str())?;
+    }
+    Ok(())
+}
+
+// Copies the log into the file and removes it, while nobody else can have the file. A log that can't be
+// removed stays.
+fn close_at(rt: &HostRuntime, path: &str, connection: FileConnection) -> Result<(), Error> {
+    match connection.close_files() {
+        Ok(files) => {
+            let _ = remove_log(rt, path);
+            drop(files);
+            Ok(())
+        }
+        Err((error, store)) => {
+            drop(store.close());
+            Err(error)
+        }
+    }
+}
+
 /// A keeper of the lines in the table `kept` of the database in a file.
 ///
 /// The file is opened at the first load or append after `enter`, and works as a `SqlKeeper` over it from
 /// then on. No other connection, and no other program, can have it open meanwhile. A load of a file that
 /// isn't there answers no lines and makes none; the first append makes it. Beside the file stands its
-/// log, whose name ends in `-wal`: until the keeper is closed the newest lines may be in it alone.
+/// log, whose name ends in `-wal`: until `close` the newest lines may be in it alone.
 ///
 /// It tells the path and not its list. What the database refuses is a fault, as are a file that can't be
 /// opened and a load or an append before the first `enter`, but for want of memory, which is answered as
@@ -84,6 +113,8 @@ pub struct FileKeeper<'a> {
 }
 
 impl<'a> FileKeeper<'a> {
+    ghost use Rattle.omega_sqlkeep.specs.Connections.{HasOpened};
+
     /// No path yet, and no fault. Takes no memory.
     pub fn new(rt: &'a HostRuntime) -> FileKeeper<'a>
         ensures path { ⟦<FileKeeper<'a> as Keeper>⟧.entered result ≡ Some None }
@@ -98,18 +129,23 @@ impl<'a> FileKeeper<'a> {
     }
 
     /// Closes the file, if it was opened, and copies its log into it, so that the file alone has all
-    /// lines. Where that is refused the lines are in the file and its log together. Needs no clause on
-    /// what it leaves, since it leaves nothing.
-    pub fn close(self) -> Result<(), KeepRefusal> {
+    /// lines and no log stands beside it. Where that is refused the lines are in the file and its log
+    /// together.
+    pub fn close(self) -> Result<(), KeepRefusal>
+        ensures { OnErr result (HasOpened self) }
+    {
         let FileKeeper {
-            rt: _,
-            path: _,
+            rt,
+            path,
             connection,
             faults: _,
         } = self;
-        match connection {
-            Some(open) => open.close().map_err(|error| refusal_of(error)),
-            None => Ok(()),
+        match (path, connection) {
+            (Some(path), Some(open)) => match close_at(rt, path.as_str(), open) {
+                Ok(()) => Ok(()),
+                Err(error) => Err(refusal_of(error)),
+            },
+            _ => Ok(()),
         }
     }
 }
@@ -131,13 +167,17 @@ impl<'a> Keeper for FileKeeper<'a> {
     }
 
     fn load(&mut self) -> Result<Lines, KeepRefusal> {
-        let answer = load_at(self.rt, &self.path, &mut self.connection);
-        counted(answer, &mut self.faults)
+        match load_at(self.rt, &self.path, &mut self.connection) {
+            Ok(lines) => Ok(lines),
+            Err(error) => Err(counted(error, &mut self.faults)),
+        }
     }
 
     fn append(&mut self, lines: &Lines) -> Result<(), KeepRefusal> {
-        let answer = append_at(self.rt, &self.path, &mut self.connection, lines);
-        counted(answer, &mut self.faults)
+        match append_at(self.rt, &self.path, &mut self.connection, lines) {
+            Ok(()) => Ok(()),
+            Err(error) => Err(counted(error, &mut self.faults)),
+        }
     }
 
     fn faults(&self) -> u64 {

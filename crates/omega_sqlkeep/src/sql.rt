@@ -1,5 +1,8 @@
 //! A keeper over a connection to a database.
-ghost use Rattle.std.specs.Prelude.{◌≡◌};
+ghost use Rattle.std.specs.Prelude.{◌≡◌, OnErr};
+ghost use Rattle.sqlite.specs.Held.{state};
+ghost use Rattle.sqlite.specs.State.{HasCleanDisk};
+ghost use Rattle.omega_sqlkeep.specs.Appends.{IsAsBefore};
 
 use crate::database::{append_to, load_from};
 use crate::refusals::counted;
@@ -12,8 +15,9 @@ use std::alloc::Global;
 ///
 /// A load makes the table where it is absent, and answers the lines in the order of their places. An
 /// append puts all lines at the end in one transaction; where anything is refused it gives the
-/// transaction up, so that none is added. It tells neither its list nor a path, and a path that is
-/// entered means nothing to it.
+/// transaction up, so that none is added and, as long as the disk tells no lie, the database shows and has
+/// committed what it did before. It tells neither its list nor a path, and a path that is entered means
+/// nothing to it.
 ///
 /// Each statement that is refused, and each row that isn't bytes, is a fault, but for want of memory,
 /// which is answered as such. The count of faults stops at 2^64 - 1.
@@ -55,6 +59,7 @@ impl<S: Alter + Drop> SqlKeeper<S> {
 
 impl<S: Alter + Drop> Keeper for SqlKeeper<S> {
     ghost use Rattle.std.specs.Prelude.{None};
+    ghost use Rattle.omega_sqlkeep.specs.Connections.{connection_of};
 
     ghost entered = { λ _. None };
 
@@ -67,13 +72,19 @@ impl<S: Alter + Drop> Keeper for SqlKeeper<S> {
     }
 
     fn load(&mut self) -> Result<Lines, KeepRefusal> {
-        let answer = load_from(self.alloc, &mut self.connection);
-        counted(answer, &mut self.faults)
+        match load_from(self.alloc, &mut self.connection) {
+            Ok(lines) => Ok(lines),
+            Err(error) => Err(counted(error, &mut self.faults)),
+        }
     }
 
-    fn append(&mut self, lines: &Lines) -> Result<(), KeepRefusal> {
-        let answer = append_to(&mut self.connection, lines);
-        counted(answer, &mut self.faults)
+    fn append(&mut self, lines: &Lines) -> Result<(), KeepRefusal>
+        ensures none { HasCleanDisk (state S.Store (connection_of self.new)) → OnErr result (IsAsBefore (state S.Store (connection_of self.old)) (state S.Store (connection_of self.new))) }
+    {
+        match append_to(&mut self.connection, lines) {
+            Ok(()) => Ok(()),
+            Err(error) => Err(counted(error, &mut self.faults)),
+        }
     }
 
     fn faults(&self) -> u64 {

@@ -123,7 +123,6 @@ fn stop_everywhere(alloc: Global, stopped: Stopped) -> Result<Option<u64>, Fail>
 #[test]
 fn a_log_that_stops(rt: HostRuntime) -> Result<(), Fail> {
     let calls = stop_everywhere(rt.alloc(), Stopped::Log)?;
-    println!(&rt; "log {}", calls.unwrap_or(0))?;
     assert!(rt; calls.is_some_and(|calls| calls > 10));
     Ok(())
 }
@@ -131,7 +130,6 @@ fn a_log_that_stops(rt: HostRuntime) -> Result<(), Fail> {
 #[test]
 fn a_database_that_stops(rt: HostRuntime) -> Result<(), Fail> {
     let calls = stop_everywhere(rt.alloc(), Stopped::Database)?;
-    println!(&rt; "db {}", calls.unwrap_or(0))?;
     assert!(rt; calls.is_some_and(|calls| calls > 5));
     Ok(())
 }

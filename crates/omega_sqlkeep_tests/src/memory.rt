@@ -1,6 +1,8 @@
 //! A keeper over a database in memory.
 
-use crate::lines::{ALL, FIRST, MORE, expect_append, expect_lines, expect_no_append, expect_no_load};
+use crate::lines::{
+    ALL, FIRST, MORE, expect_append, expect_lines, expect_no_append, expect_no_load,
+};
 use omega_keep::Keeper;
 use omega_sqlkeep::SqlKeeper;
 use sqlite::{Connection, MemStore};
@@ -45,7 +47,12 @@ fn places_that_others_wrote(rt: HostRuntime) -> Result<(), Fail> {
     let mut keeper = keeper_over(rt.alloc(), statements)?;
     expect_lines(&rt, rt.alloc(), &mut keeper, &["a", "", "r"])?;
     expect_append(&rt, rt.alloc(), &mut keeper, &MORE)?;
-    expect_lines(&rt, rt.alloc(), &mut keeper, &["a", "", "r", MORE[0], MORE[1]])?;
+    expect_lines(
+        &rt,
+        rt.alloc(),
+        &mut keeper,
+        &["a", "", "r", MORE[0], MORE[1]],
+    )?;
     Ok(())
 }
 
@@ -76,7 +83,8 @@ fn a_row_that_is_no_bytes(rt: HostRuntime) -> Result<(), Fail> {
 
 #[test]
 fn no_line_of_an_append_that_fails(rt: HostRuntime) -> Result<(), Fail> {
-    let statements = "CREATE TABLE kept (place INTEGER PRIMARY KEY, line BLOB NOT NULL CHECK (length(line) < 12)) STRICT";
+    let statements =
+        "CREATE TABLE kept (place INTEGER PRIMARY KEY, line BLOB NOT NULL CHECK (length(line) < 12)) STRICT";
     let mut keeper = keeper_over(rt.alloc(), statements)?;
     expect_append(&rt, rt.alloc(), &mut keeper, &MORE)?;
     expect_no_append(&rt, rt.alloc(), &mut keeper)?;
