@@ -132,7 +132,7 @@ impl<'a> FileKeeper<'a> {
     /// lines and no log stands beside it. Where that is refused the lines are in the file and its log
     /// together.
     pub fn close(self) -> Result<(), KeepRefusal>
-        ensures { OnErr result (HasOpened self) }
+        ensures { OnErr result (HasOpened self.entry) }
     {
         let FileKeeper {
             rt,

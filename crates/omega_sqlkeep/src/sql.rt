@@ -1,5 +1,6 @@
 //! A keeper over a connection to a database.
-ghost use Rattle.std.specs.Prelude.{◌≡◌, OnErr};
+ghost use Rattle.std.specs.Prelude.{◌≡◌, ◌≤◌, IfErr, OnErr};
+ghost use Rattle.omega_keep.specs.Keeping.{FailsFor};
 ghost use Rattle.sqlite.specs.Held.{state};
 ghost use Rattle.sqlite.specs.State.{HasCleanDisk};
 ghost use Rattle.omega_sqlkeep.specs.Appends.{IsAsBefore};
@@ -59,7 +60,7 @@ impl<S: Alter + Drop> SqlKeeper<S> {
 
 impl<S: Alter + Drop> Keeper for SqlKeeper<S> {
     ghost use Rattle.std.specs.Prelude.{None};
-    ghost use Rattle.omega_sqlkeep.specs.Connections.{connection_of};
+    ghost use Rattle.omega_sqlkeep.specs.Connections.{connection_of, faults_of};
 
     ghost entered = { λ _. None };
 
@@ -80,6 +81,8 @@ impl<S: Alter + Drop> Keeper for SqlKeeper<S> {
 
     fn append(&mut self, lines: &Lines) -> Result<(), KeepRefusal>
         ensures none { HasCleanDisk (state S.Store (connection_of self.new)) → OnErr result (IsAsBefore (state S.Store (connection_of self.old)) (state S.Store (connection_of self.new))) }
+        ensures cause { IfErr result (FailsFor (faults_of self.old) (faults_of self.new)) }
+        ensures later { faults_of self.old ≤ faults_of self.new }
     {
         match append_to(&mut self.connection, lines) {
             Ok(()) => Ok(()),
