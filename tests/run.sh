@@ -17,9 +17,7 @@ usage() {
 tests=$(dirname "$(readlink -f "${BASH_SOURCE[0]}")") || exit 2
 root=$(dirname "$tests")
 [ $# -gt 0 ] || usage
-built=true
 if [ "$1" = --reference ]; then
-    built=false
     program=(python3 "$root/reference/omega.py")
 else
     program=("$(readlink -f "$1")")
@@ -35,7 +33,6 @@ mkdir "$scratch/empty"
 echo "omega: the words are refused" >"$scratch/refusal"
 passed=0
 failed=0
-waiting=0
 
 # Runs the program in a folder with these words; what it writes goes to files. Answers its status.
 answer_in() {
@@ -115,18 +112,9 @@ try_refused() {
     done <"$1"
 }
 
-# Whether a case is of a subject that the program can't answer yet, as its file `not-yet` says.
-is_early() {
-    $built && [ -f "${1%/*}/not-yet" ]
-}
-
-# Counts a folder's case, unless it is early.
+# Counts a folder's case.
 try_folder() {
-    if is_early "$1"; then
-        waiting=$((waiting + 1))
-    else
-        count "$(realpath --relative-to="$root" "$1")" "$(faults_in "$1")"
-    fi
+    count "$(realpath --relative-to="$root" "$1")" "$(faults_in "$1")"
 }
 
 [ $# -gt 0 ] || set -- "$tests" "$root/examples"
@@ -136,6 +124,5 @@ while IFS= read -r -d '' file; do
     refused) try_refused "$file" ;;
     esac
 done < <(find "$@" -type f \( -name words -o -name refused \) -print0 | sort -z)
-[ "$waiting" = 0 ] || echo "$waiting cases are of commands that are still to come, and were passed over"
 echo "$passed passed, $failed failed"
 [ "$failed" -eq 0 ] && [ "$passed" -gt 0 ]
