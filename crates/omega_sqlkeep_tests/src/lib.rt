@@ -1,5 +1,5 @@
 //! Tests of the keepers over a database: what they keep, what they refuse, and what a machine that stops at
-//! any call to its disk leaves.
+//! any call to its disk leaves, of appends and of whole runs that go on from there.
 //!
 //! They stand apart from `omega_sqlkeep`, since a crate with tests is proved once more with them.
 #![tactic(auto)]
@@ -12,3 +12,5 @@ mod files;
 mod lines;
 #[cfg(test)]
 mod memory;
+#[cfg(test)]
+mod resumes;
