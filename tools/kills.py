@@ -7,7 +7,8 @@
 First `replay WORDS` tells the report, and a whole `resume WORDS` into a new file how long one takes. Then, for
 each of so many moments, evenly over that time, a resume into a new file is ended. What it leaves has to be the
 lines of an audit that finds nothing to refuse, a second resume has to end with the report, and an audit of the
-file must then count as many lines as one of the whole run. Each moment is a line: when it was, how many lines
+file must then count as many lines as one of the whole run. A run that ends before its moment tells anew how
+long one takes, and the moment is tried again, a few times. Each moment is a line: when it was, how many lines
 were kept by then, and how many in the end. The last line is 'N passed, M failed'; the status is 0 where none
 failed.
 """
@@ -19,9 +20,11 @@ import sys
 import tempfile
 import time
 from pathlib import Path
-from typing import List, NamedTuple, Optional, Tuple
+from typing import List, NamedTuple, Optional
 
 from omegatools.common import Refusal, ends
+
+TRIES = 5   # of a moment
 
 
 class Answer(NamedTuple):
@@ -70,37 +73,49 @@ def end_after(program: Path, words: List[str], seconds: float) -> bool:
         return True
 
 
-def tried(program: Path, words: List[str], report: bytes, path: Path, seconds: float) -> Tuple[bool, int, int]:
-    """Ends a resume into a new file after so long, and has another go on. Answers whether the first was still at
-    work, and how many lines there were then and at the end."""
-    resume = ['resume', '--kept', str(path)] + words
-    ended = end_after(program, resume, seconds)
-    before = kept_lines(program, path)
-    if report_of(program, resume) != report:
-        raise Wrong('the report isn\'t that of replay')
-    return ended, before, kept_lines(program, path)
+class Runs:
+    """A program and words, with what a whole run comes to: its report, how many lines it keeps, and its seconds."""
 
+    def __init__(self, program: Path, words: List[str], folder: Path) -> None:
+        self.program, self.words, self.folder = program, words, folder
+        self.files = 0
+        self.report = report_of(program, ['replay'] + words)
+        path = self.new_file()
+        begin = time.monotonic()
+        if report_of(program, self.resume(path)) != self.report:
+            raise Wrong('a whole resume prints another report than replay')
+        self.seconds = time.monotonic() - begin
+        self.lines = kept_lines(program, path)
 
-def whole_run(program: Path, words: List[str], folder: Path) -> Tuple[bytes, int, float]:
-    """The report of a replay, how many lines a whole resume keeps, and how long that takes."""
-    report = report_of(program, ['replay'] + words)
-    begin = time.monotonic()
-    if report_of(program, ['resume', '--kept', str(folder / 'whole.db')] + words) != report:
-        raise Wrong('a whole resume prints another report than replay')
-    seconds = time.monotonic() - begin
-    return report, kept_lines(program, folder / 'whole.db'), seconds
+    def new_file(self) -> Path:
+        self.files += 1
+        return self.folder / ('%d.db' % self.files)
 
+    def resume(self, path: Path) -> List[str]:
+        return ['resume', '--kept', str(path)] + self.words
 
-def fault_at(program: Path, words: List[str], folder: Path, whole: Tuple[bytes, int, float], part: float) -> Optional[str]:
-    """Tries one moment, prints its line, and answers what was wrong."""
-    report, lines, seconds = whole
-    at = part * seconds
-    try:
-        ended, before, after = tried(program, words, report, folder / ('%f.db' % part), at)
-    except Wrong as wrong:
-        return 'ended after %.3f s: %s' % (at, wrong)
-    print('ended after %.3f s%s: %d lines, then %d' % (at, '' if ended else ', by itself', before, after))
-    return None if after == lines else 'ended after %.3f s: %d lines in the end, and %d are wanted' % (at, after, lines)
+    def ended(self, part: float) -> Path:
+        """The file of a run that was ended when this part of its time was over; of the last one that was tried,
+        where all ended by themselves."""
+        for _ in range(TRIES):
+            path = self.new_file()
+            begin = time.monotonic()
+            if end_after(self.program, self.resume(path), part * self.seconds):
+                break
+            self.seconds = time.monotonic() - begin
+        return path
+
+    def tried(self, part: float) -> str:
+        """Ends a run at one moment and has another go on. Says what was kept."""
+        path = self.ended(part)
+        told = 'ended after %.3f s of %.3f' % (part * self.seconds, self.seconds)
+        before = kept_lines(self.program, path)
+        if report_of(self.program, self.resume(path)) != self.report:
+            raise Wrong('%s: the report isn\'t that of replay' % told)
+        after = kept_lines(self.program, path)
+        if after != self.lines:
+            raise Wrong('%s: %d lines in the end, and %d are wanted' % (told, after, self.lines))
+        return '%s: %d lines, then %d' % (told, before, after)
 
 
 def main(arguments: Optional[List[str]]) -> int:
@@ -114,13 +129,14 @@ def main(arguments: Optional[List[str]]) -> int:
     failed = 0
     with tempfile.TemporaryDirectory() as scratch:
         try:
-            whole = whole_run(program, words, Path(scratch))
+            runs = Runs(program, words, Path(scratch))
         except Wrong as wrong:
             raise Refusal(str(wrong)) from None
         for moment in range(chosen.moments):
-            fault = fault_at(program, words, Path(scratch), whole, moment / chosen.moments)
-            if fault:
-                print(fault)
+            try:
+                print(runs.tried(moment / chosen.moments), flush=True)
+            except Wrong as wrong:
+                print(wrong, flush=True)
                 failed += 1
     print('%d passed, %d failed' % (chosen.moments - failed, failed))
     return 1 if failed else 0

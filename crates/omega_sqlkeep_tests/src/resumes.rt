@@ -228,10 +228,16 @@ fn a_line_that_was_changed(rt: HostRuntime) -> Result<(), Fail> {
 }
 
 // A run of these words over the tables that stand in their folder, kept in a file.
-fn run_in_folder(rt: &HostRuntime, words: &[&str]) -> Result<Ran, NoMemory> {
-    let mut tables = FolderTables::new(rt);
-    let mut keeper = FileKeeper::new(rt);
-    let ran = run_over(rt, rt.alloc(), words, &mut tables, &mut keeper)?;
+fn run_in_folder<R: Threads + Wait + Sync>(
+    rt: &R,
+    host: &HostRuntime,
+    words: &[&str],
+) -> Result<Ran, NoMemory>
+    requires { IsSync R.row }
+{
+    let mut tables = FolderTables::new(host);
+    let mut keeper = FileKeeper::new(host);
+    let ran = run_over(rt, host.alloc(), words, &mut tables, &mut keeper)?;
     let _ = keeper.close();
     Ok(ran)
 }
@@ -251,10 +257,10 @@ fn a_file_that_two_runs_keep(rt: HostRuntime) -> Result<(), Fail> {
         "kept_runs/k.db",
     ];
     for _ in 0..2 {
-        let ran = run_in_folder(&rt, &words)?;
+        let ran = run_in_folder(&rt, &rt, &words)?;
         assert!(rt; is_done(&ran, &report));
     }
-    let audited = run_in_folder(&rt, &["audit", "--kept", "kept_runs/k.db"])?;
+    let audited = run_in_folder(&rt, &rt, &["audit", "--kept", "kept_runs/k.db"])?;
     let legal =
         "omega 2\nlegal 6\nuse cpu 300000000 500000000 mem 300000000 500000000 disk 0 1000000000000\n";
     assert!(rt; audited.written.as_slice() == legal.as_bytes());
