@@ -421,8 +421,9 @@ def restarts(files, size):
 
 
 def short_rounds(files, size):
-    """Jobs of one task, each in a round of its own of a microsecond"""
-    files.machine(1)
+    """Jobs of one task, each in a round of its own of a microsecond, on 100 machines"""
+    for number in range(1, 101):
+        files.machine(number)
     for job in range(size):
         files.task(job, job, 0, 0, 0)
 

@@ -2,16 +2,16 @@
 # Has a built program, or the reference, answer the cases of this folder and of examples/, and tells how many
 # answers are right.
 #
-#     tests/run.sh PROGRAM [FOLDER..]         a program
-#     tests/run.sh --reference [FOLDER..]     the plain program of reference/, which computed what is expected
+#     tests/run.sh PROGRAM [--small] [FOLDER..]   a program; with --small without the cases whose tables are made
+#     tests/run.sh --reference [FOLDER..]         the plain program of reference/, which computed what is expected
 #
 # With FOLDERs, such as tests/gangs, only the cases below these. README.md says what a case is and how one is added.
-# Cases whose tables are made, since they are large, aren't for the reference. The last line is 'N passed, M failed';
-# the status is 0 where none failed.
+# Tables are made where they are too large to be kept; these cases take a built and proved program some seconds each,
+# and are none for the reference. The last line is 'N passed, M failed'; the status is 0 where none failed.
 set -u
 
 usage() {
-    echo "usage: tests/run.sh PROGRAM|--reference [FOLDER..]" >&2
+    echo "usage: tests/run.sh PROGRAM [--small] [FOLDER..], or --reference [FOLDER..]" >&2
     exit 2
 }
 
@@ -19,8 +19,10 @@ tests=$(dirname "$(readlink -f "${BASH_SOURCE[0]}")") || exit 2
 root=$(dirname "$tests")
 [ $# -gt 0 ] || usage
 built=true
+small=false
 if [ "$1" = --reference ]; then
     built=false
+    small=true
     program=(python3 "$root/reference/omega.py")
 else
     program=("$(readlink -f "$1")")
@@ -30,6 +32,7 @@ else
     fi
 fi
 shift
+[ "${1-}" != --small ] || { small=true && shift; }
 scratch=$(mktemp -d) || exit 2
 trap 'rm -rf "$scratch"' EXIT
 mkdir "$scratch/empty"
@@ -166,9 +169,9 @@ is_early() {
     $built && [ -f "${1%/*}/not-yet" ]
 }
 
-# Whether a case is too large for the reference.
+# Whether a case is too large for this run.
 is_too_large() {
-    ! $built && [ -f "$1/make.sh" ]
+    $small && [ -f "$1/make.sh" ]
 }
 
 # Counts a folder's case, unless it is early or too large.
@@ -190,7 +193,7 @@ while IFS= read -r -d '' file; do
     texts) try_texts "$file" ;;
     esac
 done < <(find "$@" -type f \( -name words -o -name refused -o -name texts \) -print0 | sort -z)
-[ "$large" = 0 ] || echo "$large cases are too large for the reference, and were passed over"
+[ "$large" = 0 ] || echo "$large cases are of large tables, and were passed over"
 [ "$waiting" = 0 ] || echo "$waiting cases are of commands that are still to come, and were passed over"
 echo "$passed passed, $failed failed"
 [ "$failed" -eq 0 ] && [ "$passed" -gt 0 ]
