@@ -5,7 +5,7 @@
 #     bench/bench.sh PROGRAM SECTION..                        some of the tables below
 #     bench/bench.sh PROGRAM page                             all of them, written into docs/SPEED.md
 #
-# Sections: scales parts rows machines schedulers words threads shapes plans kept. ROWS are rows of task_events, LOAD
+# Sections: scales parts rows machines schedulers words threads shapes chosen plans kept. ROWS are rows of task_events, LOAD
 # is as in tables.py. Each line is the median of five runs with their range, or one run that took more than ten
 # seconds.
 #
@@ -84,7 +84,8 @@ measure() { # FIRST COLUMNS, FOLDER, WORDS..
     shift 2
     base=$(timed "$folder" /dev/null "$data/reading" . | cut -d' ' -f4)
     seconds=$(timed "$folder" "$data/report" "$program" "$@")
-    if [ "$(<"$data/status")" != 0 ]; then
+    # A shape may be refused, and is read for that.
+    if [ "$(<"$data/status")" != 0 ] && [ "$(<"$data/status")" != 3 ]; then
         echo "$first | status $(<"$data/status") | | | | | |"
         return
     fi
@@ -179,6 +180,32 @@ shapes() {
     shape map_reduce 20000 replay
 }
 
+# Shapes that a stranger could choose, so that a loop is long.
+chosen() {
+    header '| Shape | Size | Words'
+    shape victims 20000 replay --preempt all
+    shape updates 2000 replay
+    shape shrinking 2000 replay
+    shape crowded 5000 replay --preempt all
+    shape taking_over 2000 run
+    shape constraints 5000 replay
+    shape matched 5000 replay
+    shape nowhere 5000 replay
+    shape lopsided 5000 replay
+    shape many_rounds 10000 replay
+    shape given_up 2000 replay --give-up 1
+    shape large_job 500000 replay
+    shape one_waits 2000 replay
+    shape restarts 2000 replay
+    shape short_rounds 100000 replay --window 1
+    shape short_rounds 5000 run --window 1
+    shape extras 10 replay --extra max
+    shape extras_alike 20 replay --extra max
+    shape commas 10000000 replay
+    shape quotes 10000000 replay
+    shape long_text 5000000 replay
+}
+
 # What a plan of one task costs on cells of different size.
 plans() {
     header '| Shape | Machines | Words'
@@ -234,7 +261,7 @@ kept_anew() { # FOLDER FILE WHERE
     echo "| \`resume\` into a new file$3 | $(cells "$seconds") |"
 }
 
-sections=(scales parts rows machines schedulers words threads shapes plans kept)
+sections=(scales parts rows machines schedulers words threads shapes chosen plans kept)
 
 # Puts what each section prints between that section's marks on the page, and the date and the processor above.
 page() {

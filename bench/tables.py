@@ -294,6 +294,177 @@ def map_reduce(files, size):
         files.put('mapreduce_jobs', job, 8)
 
 
+# What a stranger could choose so that a loop of the program is long.
+
+
+def rounds_of(files, count, job):
+    """So many rounds, each of which has a row that changes nothing."""
+    for number in range(count):
+        files.task(number * ROUND, job, 0, 8, 0)
+
+
+def victims(files, size):
+    """One task that evicts all tasks of its machine"""
+    files.machine(1)
+    for index in range(size):
+        files.task(0, 10, index, 0, 0.5 / size)
+    files.task(ROUND, 11, 0, 0, 1, prio=9)
+
+
+def updates(files, size):
+    """One machine with many tasks, and as many updates that leave it as it is"""
+    files.machine(1)
+    for index in range(size):
+        files.task(0, 10, index, 0, 0.5 / size)
+    for number in range(size):
+        files.put('machine_events', ROUND + number, 1, 2, 'p', 1, 1)
+
+
+def shrinking(files, size):
+    """One machine with many tasks that becomes smaller by one of them at a time"""
+    files.machine(1)
+    for index in range(size):
+        files.task(0, 10, index, 0, '1e-6')
+    for left in range(size - 1, -1, -1):
+        files.put('machine_events', ROUND + size - left, 1, 2, 'p', '%de-6' % left, 1)
+
+
+def crowded(files, size):
+    """Jobs of one task on one machine, of which evictions have been asked for once"""
+    files.machine(1)
+    files.task(0, 0, 0, 0, 1000, prio=9)
+    for job in range(1, size + 1):
+        files.task(ROUND, job, 0, 0, 0.5 / size)
+
+
+def taking_over(files, size):
+    """Jobs of one task on one machine, for runs on threads"""
+    files.machine(1)
+    for job in range(size):
+        files.task(0, job, 0, 0, 0)
+
+
+def constraints(files, size):
+    """One task with many constraints that waits on 100 machines in 20 rounds"""
+    for number in range(1, 101):
+        files.machine(number)
+    files.task(0, 10, 0, 0, 0.1)
+    for number in range(size):
+        files.put('task_constraints', 0, 10, 0, 1, 'name%d' % number, 'v')
+    files.put('task_constraints', 0, 10, 0, 0, 'rack', 'r')
+    rounds_of(files, 20, 11)
+
+
+def matched(files, size):
+    """One machine with many attributes, and one task with a constraint on each"""
+    attributes(files, size)
+    files.task(0, 10, 0, 0, 0.1)
+    for number in range(size):
+        files.put('task_constraints', 0, 10, 0, 0, 'name%d' % number, 'v')
+
+
+def nowhere(files, size):
+    """Jobs with a constraint that no machine meets, on as many machines"""
+    for number in range(1, size + 1):
+        files.machine(number)
+        files.task(0, number, 0, 0, 0.1)
+        files.put('task_constraints', 0, number, 0, 0, 'rack', 'r')
+
+
+def lopsided(files, size):
+    """Jobs on as many machines, of which half have no memory and half no CPU"""
+    for number in range(1, size + 1):
+        files.machine(number, number % 2, 1 - number % 2)
+        files.task(0, number, 0, 0, 0.1)
+
+
+def many_rounds(files, size):
+    """20 jobs that fit nowhere, in many rounds"""
+    files.machine(1, 0.1, 0.1)
+    for job in range(20):
+        files.task(0, job, 0, 0, 0.5)
+    rounds_of(files, size, 20)
+
+
+def given_up(files, size):
+    """Jobs that are given up, in as many rounds"""
+    files.machine(1, 0.1, 0.1)
+    for job in range(size):
+        files.task(0, job, 0, 0, 0.5)
+    rounds_of(files, size, size)
+
+
+def large_job(files, size):
+    """One job of very many tasks, one of which fits nowhere, in 20 rounds"""
+    files.machine(1)
+    for index in range(size):
+        files.task(0, 10, index, 0, 0 if index else 1000)
+    rounds_of(files, 20, 11)
+
+
+def one_waits(files, size):
+    """One job of which one task waits, in as many rounds as it has tasks"""
+    files.machine(1)
+    for index in range(size):
+        files.task(0, 10, index, 0, 0 if index else 1000)
+    rounds_of(files, size, 11)
+
+
+def restarts(files, size):
+    """One job of which one task ends and is submitted anew in as many rounds as it has tasks"""
+    files.machine(1)
+    for index in range(size):
+        files.task(0, 10, index, 0, 0)
+    for number in range(1, size):
+        files.task(number * ROUND, 10, size - 1, 4, 0)
+        files.task(number * ROUND, 10, size - 1, 0, 0)
+
+
+def short_rounds(files, size):
+    """Jobs of one task, each in a round of its own of a microsecond, on 100 machines"""
+    for number in range(1, 101):
+        files.machine(number)
+    for job in range(size):
+        files.task(job, job, 0, 0, 0)
+
+
+def extras(files, size):
+    """MapReduce jobs of one task that ask for 10,000 extra tasks on a full cell, in 20 rounds"""
+    files.machine(1)
+    for job in range(size):
+        files.task(0, job, 0, 0, 1)
+        files.put('mapreduce_jobs', job, 10_000)
+    rounds_of(files, 20, size)
+
+
+def extras_alike(files, size):
+    """One MapReduce task with many constraints that asks for 10,000 extra tasks"""
+    files.machine(1)
+    files.task(0, 10, 0, 0, 0)
+    files.put('mapreduce_jobs', 10, 10_000)
+    for number in range(size):
+        files.put('task_constraints', 0, 10, 0, 1, 'name%d' % number, 'v')
+
+
+def commas(files, size):
+    """One row of very many fields"""
+    files.files['machine_events'].write(',' * size + '\n')
+
+
+def quotes(files, size):
+    """One field of very many quotes"""
+    files.put('machine_events', 0, 1, 0, '"' + '""' * size + '"', 1, 1)
+
+
+def long_text(files, size):
+    """One attribute of a long text, and a task with a constraint as long, which waits in 20 rounds"""
+    files.machine(1)
+    files.put('machine_attributes', 0, 1, 'name', 'v' * size, 0)
+    files.task(0, 10, 0, 0, 1000)
+    files.put('task_constraints', 0, 10, 0, 0, 'name', 'v' * size)
+    rounds_of(files, 20, 11)
+
+
 # 100,000 jobs of one task (20,000 in the last shape), each a plan of its own, on a cell of so many machines:
 # here the size is that of the cell, and the plans are as many for each.
 
@@ -340,7 +511,9 @@ def too_little(files, size):
 
 
 SHAPES = {shape.__name__: shape for shape in (
-    one_job, apart, never_fits, one_machine, long_runs, attributes, scarce, map_reduce, half_full, full, evicting, too_little)}
+    one_job, apart, never_fits, one_machine, long_runs, attributes, scarce, map_reduce, half_full, full, evicting,
+    too_little, victims, updates, shrinking, crowded, taking_over, constraints, matched, nowhere, lopsided,
+    many_rounds, given_up, large_job, one_waits, restarts, short_rounds, extras, extras_alike, commas, quotes, long_text)}
 
 
 def main(words):

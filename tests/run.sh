@@ -2,22 +2,25 @@
 # Has a built program, or the reference, answer the cases of this folder and of examples/, and tells how many
 # answers are right.
 #
-#     tests/run.sh PROGRAM [FOLDER..]         a program
-#     tests/run.sh --reference [FOLDER..]     the plain program of reference/, which computed what is expected
+#     tests/run.sh PROGRAM [--small] [FOLDER..]   a program; with --small without the cases whose tables are made
+#     tests/run.sh --reference [FOLDER..]         the plain program of reference/, which computed what is expected
 #
 # With FOLDERs, such as tests/gangs, only the cases below these. README.md says what a case is and how one is added.
-# The last line is 'N passed, M failed'; the status is 0 where none failed.
+# Tables are made where they are too large to be kept; these cases take a built and proved program some seconds each,
+# and are none for the reference. The last line is 'N passed, M failed'; the status is 0 where none failed.
 set -u
 
 usage() {
-    echo "usage: tests/run.sh PROGRAM|--reference [FOLDER..]" >&2
+    echo "usage: tests/run.sh PROGRAM [--small] [FOLDER..], or --reference [FOLDER..]" >&2
     exit 2
 }
 
 tests=$(dirname "$(readlink -f "${BASH_SOURCE[0]}")") || exit 2
 root=$(dirname "$tests")
 [ $# -gt 0 ] || usage
+small=false
 if [ "$1" = --reference ]; then
+    small=true
     program=(python3 "$root/reference/omega.py")
 else
     program=("$(readlink -f "$1")")
@@ -27,12 +30,14 @@ else
     fi
 fi
 shift
+[ "${1-}" != --small ] || { small=true && shift; }
 scratch=$(mktemp -d) || exit 2
 trap 'rm -rf "$scratch"' EXIT
 mkdir "$scratch/empty"
 echo "omega: the words are refused" >"$scratch/refusal"
 passed=0
 failed=0
+large=0
 
 # Runs the program in a folder with these words; what it writes goes to files. Answers its status.
 answer_in() {
@@ -59,10 +64,15 @@ count() {
     fi
 }
 
-# Prints what is wrong with the answer to a folder's words. Where the folder has kept lines the run is in a copy of it.
+# Prints what is wrong with the answer to a folder's words. Where the folder has kept lines, or its tables are made,
+# the run is in a copy of it.
 faults_in() {
     local words status wanted=0 where=$1 base=$scratch/copy/omega.db at
     mapfile -t words <"$1/words"
+    if [ -f "$1/make.sh" ]; then
+        where=$scratch/copy
+        copy_with_made "$1" || echo "its tables weren't made"
+    fi
     if [ -f "$1/kept" ]; then
         where=$scratch/copy
         for at in "${!words[@]}"; do
@@ -76,7 +86,15 @@ faults_in() {
     differences "$1/fault.txt" "$scratch/err"
     [ -f "$1/status" ] && wanted=$(<"$1/status")
     [ "$status" = "$wanted" ] || echo "the status is $status, and $wanted is wanted"
-    [ "$where" = "$1" ] || kept_differences "$1" "$base"
+    [ ! -f "$1/kept" ] || kept_differences "$1" "$base"
+    rm -rf "$scratch/copy"
+}
+
+# Makes a copy of a folder, and in it the tables that its script makes.
+copy_with_made() {
+    rm -rf "$scratch/copy"
+    cp -r "$1" "$scratch/copy"
+    (cd "$scratch/copy" && exec bash ./make.sh)
 }
 
 # Makes a copy of a folder, and in it a database of its kept lines, if it has any.
@@ -112,9 +130,49 @@ try_refused() {
     done <"$1"
 }
 
-# Counts a folder's case.
+# Prints what is wrong with the answer to the tables of a folder, of which one has this text in place of its own. With
+# status 0 the line must stand in the report, else be the refusal.
+faults_of_text() {
+    local folder=$1 table=$2 text=$3 wanted=$4 line=$5 status
+    rm -rf "$scratch/copy"
+    cp -r "$folder" "$scratch/copy"
+    printf %b "$text" >"$scratch/copy/$table.csv"
+    answer_in "$scratch/copy" replay
+    status=$?
+    [ "$status" = "$wanted" ] || echo "the status is $status, and $wanted is wanted"
+    if [ "$wanted" = 0 ]; then
+        grep -qxF -- "$line" "$scratch/out" || echo "the report has no line '$line'"
+        differences /dev/null "$scratch/err"
+    else
+        differences /dev/null "$scratch/out"
+        echo "omega: $line" | cmp -s - "$scratch/err" || echo "it says '$(<"$scratch/err")', and '$line' is wanted"
+    fi
+}
+
+# The cases of a file of texts: on each line what is shown, the table, its text as `printf %b` has it, the status and
+# a line, with a bar between two of them. A line that begins with # says something of those behind it.
+try_texts() {
+    local shown table text wanted line
+    while IFS='|' read -r shown table text wanted line; do
+        case $shown in
+        '#'*) ;;
+        *) count "$shown" "$(faults_of_text "${1%/*}" "$table" "$text" "$wanted" "$line")" ;;
+        esac
+    done <"$1"
+}
+
+# Whether a case is too large for this run.
+is_too_large() {
+    $small && [ -f "$1/make.sh" ]
+}
+
+# Counts a folder's case, unless it is too large.
 try_folder() {
-    count "$(realpath --relative-to="$root" "$1")" "$(faults_in "$1")"
+    if is_too_large "$1"; then
+        large=$((large + 1))
+    else
+        count "$(realpath --relative-to="$root" "$1")" "$(faults_in "$1")"
+    fi
 }
 
 [ $# -gt 0 ] || set -- "$tests" "$root/examples"
@@ -122,7 +180,9 @@ while IFS= read -r -d '' file; do
     case ${file##*/} in
     words) try_folder "${file%/words}" ;;
     refused) try_refused "$file" ;;
+    texts) try_texts "$file" ;;
     esac
-done < <(find "$@" -type f \( -name words -o -name refused \) -print0 | sort -z)
+done < <(find "$@" -type f \( -name words -o -name refused -o -name texts \) -print0 | sort -z)
+[ "$large" = 0 ] || echo "$large cases are of large tables, and were passed over"
 echo "$passed passed, $failed failed"
 [ "$failed" -eq 0 ] && [ "$passed" -gt 0 ]

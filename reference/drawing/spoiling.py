@@ -69,3 +69,42 @@ def spoil_tables(rng: random.Random, tables: dict[Table, bytes]) -> dict[Table, 
         table = rng.choice(sorted(tables))
         tables[table] = spoiled(rng, tables[table])
     return tables
+
+
+def spoiled_line(rng: random.Random, line: bytes) -> bytes:
+    """The bytes of a kept line with one place spoiled: any byte may come, also one that parts lines elsewhere."""
+    at, kind = rng.randrange(len(line) + 1), rng.randrange(8)
+    if kind == 0 and at < len(line):
+        return line[:at] + bytes([line[at] ^ (1 << rng.randrange(8))]) + line[at + 1:]
+    if kind == 1:
+        return line[:at] + line[at + 1:]
+    if kind == 2:
+        return line[:at] + rng.choice(BYTES) + line[at:]
+    if kind == 3:
+        return line[:at]
+    if kind == 4:
+        return rng.choice([MARK_OF_BYTE_ORDER + line, b'"' + line, line + b'"', line + b'\r', line + b'\n', b' ' + line])
+    words = line.split(b' ')
+    place = rng.randrange(len(words))
+    words[place] = rng.choice(HOSTILE + (words[place] + b'0', b'0' + words[place], words[place].upper()))
+    return b' '.join(words)
+
+
+def spoil_lines(rng: random.Random, lines: list[bytes]) -> list[bytes]:
+    """One to three places are spoiled: in the bytes of a line, or a line is left out, put twice, moved or cut off."""
+    lines = list(lines)
+    for _ in range(rng.randint(1, 3)):
+        place, kind = rng.randrange(len(lines) + 1), rng.randrange(12)
+        if kind == 0:
+            lines.insert(place, rng.choice(HOSTILE + tuple(lines)))
+        elif kind == 1:
+            del lines[place:]
+        elif place == len(lines):
+            continue
+        elif kind == 2:
+            del lines[place]
+        elif kind == 3:
+            lines.insert(rng.randrange(len(lines)), lines.pop(place))
+        else:
+            lines[place] = spoiled_line(rng, lines[place])
+    return lines

@@ -80,7 +80,7 @@ class Helped(unittest.TestCase):
 
     def test_other_scripts(self) -> None:
         for script in ('bench/tables.py', 'bench/bench.sh', 'tools/slice.py', 'tools/report.py', 'tools/sweep.py',
-                       'tools/quick.sh'):
+                       'tools/quick.sh', 'tools/refused.py', 'reference/spoiled.py'):
             answer = subprocess.run([str(ROOT / script), '--help'], capture_output=True, text=True)
             self.assertEqual((answer.returncode, answer.stderr), (0, ''), script)
             self.assertIn(Path(script).name, answer.stdout)

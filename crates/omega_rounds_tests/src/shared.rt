@@ -360,3 +360,45 @@ fn a_sync_sees_what_others_did(rt: HostRuntime) {
     let mut pair = Pair::new(&rt, rt.alloc(), 4).expect(&rt, "memory");
     expect_story(&rt, rt.alloc(), &mut pair, &story);
 }
+
+// Commits a transaction, and where memory runs out commits what is handed back once more. Answers
+// the verdict on its first claim, if there is memory by then.
+fn commit_at_last<R: Wait>(
+    rt: &R,
+    alloc: Global,
+    shared: &SharedCell,
+    pass: &mut Pass,
+    copy: &PrivateCopy,
+    txn: Txn,
+) -> Option<Answer>
+    requires of { pass.old.of ≡ shared.now.of }
+    requires left { 1 < pass.old.turns }
+    requires stands { CopyOf copy.now pass.old.seen }
+    requires few { length txn.claims < 2 ^ 32 }
+{
+    match shared.commit(rt, alloc, pass, copy, txn) {
+        Ok(reply) => Some(Answer::Told(reply.outcomes.get(0)?.verdict)),
+        Err((back, NoMemory)) => commit(rt, alloc, shared, pass, copy, back),
+    }
+}
+
+// Commits a claim from a copy that has synced, in at most two attempts. The outer answer is missing
+// where there is no memory for what comes before the commit.
+fn commit_in_two<R: Wait>(rt: &R, alloc: Global) -> Option<Option<Answer>> {
+    let (shared, mut first, _second) = share_by_two(rt, alloc, one_machine(alloc)?, 3)?;
+    let mut copy = PrivateCopy::new(alloc);
+    take_step(rt, alloc, &shared, &mut first, &mut copy, Step::Sync)?;
+    let txn = claim_of(alloc, 2, Rule::Coarse)?;
+    if first.turns_left() < 2 {
+        return None;
+    }
+    Some(commit_at_last(rt, alloc, &shared, &mut first, &copy, txn))
+}
+
+// Where each allocation is refused in turn, from outside, a commit that is made again after want of
+// memory, of the transaction that was handed back, answers its reply.
+#[test]
+fn a_commit_that_is_made_again(rt: HostRuntime) {
+    let answer = commit_in_two(&rt, rt.alloc()).expect(&rt, "memory");
+    assert!(rt; answer == Some(Answer::Told(Verdict::Placed)));
+}

@@ -123,6 +123,18 @@ fn no_read_comes_behind_the_last(rt: HostRuntime) -> Result<(), NoMemory> {
     Ok(())
 }
 
+// Sees that a read of a table fails.
+fn expect_failed_read<T: Tables>(rt: &impl Abort, tables: &mut T) {
+    assert!(rt; tables.read(Table::MachineEvents, &mut [0u8; 1]).is_err());
+}
+
+#[test]
+fn a_read_that_failed_before_is_past(rt: HostRuntime) -> Result<(), NoMemory> {
+    let mut tables = single_bytes(rt.alloc())?.fail_at(0);
+    expect_failed_read(&rt, &mut tables);
+    expect_replay(&rt, rt.alloc(), tables, ROOM, &End::done())
+}
+
 // How a replay ends whose sink has room for so many bytes.
 fn end_in(room: usize) -> End<'static> {
     let report = End::done().report;

@@ -97,7 +97,7 @@ pub fn run_past<R: Threads + Wait + Sync, T: Tables, G: Gate + Sync>(
     run_kept(rt, alloc, words, tables, room, gate, &mut keeper)
 }
 
-// The same with this keeper.
+// The same with this keeper. Each write takes a single byte.
 pub fn run_kept<R: Threads + Wait + Sync, T: Tables, G: Gate + Sync, P: Keeper>(
     rt: &R,
     alloc: Global,
@@ -109,7 +109,7 @@ pub fn run_kept<R: Threads + Wait + Sync, T: Tables, G: Gate + Sync, P: Keeper>(
 ) -> Result<Ran, NoMemory>
     requires { IsSync R.row × IsSync G.row }
 {
-    let mut sink = MemorySink::new(alloc, room)?;
+    let mut sink = MemorySink::new(alloc, room)?.cut(1);
     let done = omega(rt, alloc, words, tables, &mut sink, gate, keeper);
     Ok(Ran {
         done,

@@ -1,0 +1,2 @@
+: >machine_events.csv
+head -c 268435456 /dev/zero | tr '\0' '\n' >task_events.csv

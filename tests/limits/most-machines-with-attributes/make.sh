@@ -1,0 +1,3 @@
+: >task_events.csv
+seq 65536 | sed 's/.*/0,&,0,p,1,1/' >machine_events.csv
+seq 65536 | sed 's/.*/0,&,n,v,0/' >machine_attributes.csv

@@ -1,0 +1,43 @@
+"""What tools/refused.py does before it runs anything, and what bench/tables.py makes of each shape."""
+import subprocess
+import sys
+import tempfile
+import unittest
+from pathlib import Path
+
+from called import ROOT
+
+
+class Refused(unittest.TestCase):
+    def answer(self, *words: str) -> 'subprocess.CompletedProcess[str]':
+        return subprocess.run([str(ROOT / 'tools' / 'refused.py'), *words], capture_output=True, text=True)
+
+    def test_a_case_without_words(self) -> None:
+        answer = self.answer(str(ROOT / 'tests' / 'plans'))
+        self.assertEqual((answer.returncode, answer.stdout), (2, ''))
+        self.assertIn('has no words', answer.stderr)
+
+    # A program in which nothing refuses an allocation, as the one that is proved.
+    def test_another_program(self) -> None:
+        answer = self.answer('--program', sys.executable, str(ROOT / 'tests' / 'plans' / 'one-task'))
+        self.assertEqual((answer.returncode, answer.stdout), (1, ''))
+        self.assertIn("isn't in", answer.stderr)
+
+
+class Shapes(unittest.TestCase):
+    # Each is of a size, and its rows, or the bytes of its longest one, about double with it.
+    def test_they_grow_with_their_size(self) -> None:
+        tables = str(ROOT / 'bench' / 'tables.py')
+        listed = subprocess.run([sys.executable, tables], capture_output=True, text=True, check=True).stdout
+        shapes = [line.split(':')[0] for line in listed.splitlines()]
+        for shape in shapes[12:]:
+            lengths = []
+            for size in (300, 600):
+                with tempfile.TemporaryDirectory() as folder:
+                    subprocess.run([sys.executable, tables, shape, folder, str(size)], check=True)
+                    lengths.append(sum(file.stat().st_size for file in Path(folder).glob('*.csv')))
+            self.assertTrue(1.2 < lengths[1] / lengths[0] < 3, (shape, lengths))
+
+
+if __name__ == '__main__':
+    unittest.main()
