@@ -35,7 +35,7 @@ class Kills(unittest.TestCase):
 
     def test_another_report_after_a_kill(self) -> None:
         path = self.pretended('case "$1 $3" in audit*) printf "omega 2\\nlegal 3\\nuse\\n" ;;\n'
-                              'replay*|*1.db) echo report ;; *) echo other ;; esac\n')
+                              'replay*|*/1.db) echo report ;; *) echo other ;; esac\n')
         answer = call('kills.py', kills.main, path, '--moments', 2)
         self.assertEqual(answer.status, 1)
         self.assertTrue(answer.out.endswith("the report isn't that of replay\n0 passed, 2 failed\n"))

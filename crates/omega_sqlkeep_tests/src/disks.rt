@@ -38,11 +38,14 @@ pub fn up_again(files: Files<Disk>) -> Files<Disk> {
     Files { log, db }
 }
 
-// A keeper over two files, or the files where the database can't be opened.
+// A keeper over two files, or the files where one of them can't be used or the database can't be opened.
 pub fn keeper_over(
     alloc: Global,
     files: Files<Disk>,
 ) -> Result<SqlKeeper<FileStore<Disk>>, Files<Disk>> {
+    if !files.may_be_used() {
+        return Err(files);
+    }
     match Connection::open_files(alloc, files, Options::new(7)) {
         Ok(connection) => Ok(SqlKeeper::over(alloc, connection)),
         Err((_, left)) => Err(left.into_files()),

@@ -71,7 +71,7 @@ pub fn expect_no_load<P: Keeper>(rt: &impl Abort, keeper: &mut P) {
     let before = keeper.faults();
     let failed = matches!(keeper.load(), Err(KeepRefusal::Failed));
     assert!(rt; failed);
-    assert!(rt; keeper.faults() == before + 1);
+    assert!(rt; before.checked_add(1) == Some(keeper.faults()));
 }
 
 // Sees that a keeper fails to append.
@@ -84,6 +84,6 @@ pub fn expect_no_append<P: Keeper>(
     let before = keeper.faults();
     let failed = matches!(keeper.append(&lines), Err(KeepRefusal::Failed));
     assert!(rt; failed);
-    assert!(rt; keeper.faults() == before + 1);
+    assert!(rt; before.checked_add(1) == Some(keeper.faults()));
     Ok(())
 }
