@@ -1,6 +1,5 @@
 -- What a trace asks for after its rows, and what one more row does to it.
 use Rattle.std.proofs.Common.{◌≡◌, ℕ, Bool, true, false, cond, ◌==◌, List, [], ◌∷◌, ◌++◌, Option, map, refl, ap, ◌∙◌, arith}
-use Rattle.std.specs.Prelude.{IfOk, Result, Ok, Err}
 use Rattle.std.specs.List.{filter, filter_map, cons_option}
 use Rattle.std.proofs.lemmas.Grind.{common_steps}
 use Rattle.omega_model.specs.Cell.{Cell}
@@ -29,11 +28,6 @@ filter_map_mapped : {X Y Z : Type 0} (f : X → Y) (h : Y → Option Z) (k : X �
     → filter_map h (map f xs) ≡ filter_map k xs
 filter_map_mapped f h k e [] = refl
 filter_map_mapped f h k e (x ∷ xs) = ap (λ z. cons_option z (filter_map h (map f xs))) (e x) ∙ ap (λ z. cons_option (k x) z) (filter_map_mapped f h k e xs)
-
--- what follows from what holds of a value holds of it too
-pub if_ok_weaker : {T E : Type 0} {P Q : T → Type 0} (result : Result T E) → ((value : T) → P value → Q value) → IfOk result P → IfOk result Q
-if_ok_weaker (Ok value) follows holds = follows value holds
-if_ok_weaker (Err error) follows holds = tt
 
 -- the requests are the open requests
 pub asked_open : (settings : Settings) (trace : TraceTables) (rows : List Row) (cell : Cell) (scheduler : ℕ)

@@ -70,7 +70,7 @@ last_within passes most start (suc count) before low within =
     (λ f. rw f (last_within passes most (start + 1) count before low (omega (arith, within))))
 
 -- no more extras are allowed than are missing
-allowed_within : (choice : Extra) (count : ℕ) (need used capacity : Need) → allowed choice count need used capacity ≤ count
+pub allowed_within : (choice : Extra) (count : ℕ) (need used capacity : Need) → allowed choice count need used capacity ≤ count
 allowed_within Max count need used capacity = omega arith
 allowed_within Relative count need used capacity = omega arith
 allowed_within (Cap percent) count need used capacity = last_within (keeps_within percent need used capacity) count 0 (count + 1) None (omega arith) (omega arith)

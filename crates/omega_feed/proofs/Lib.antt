@@ -11,3 +11,4 @@ pub mod Picked
 pub mod AtEnd
 pub mod Active
 pub mod ExtraIndexes
+pub mod HeldExtras

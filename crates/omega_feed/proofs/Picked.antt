@@ -1,5 +1,5 @@
 -- The requests of the open jobs are those of all jobs.
-use Rattle.std.proofs.Common.{◌≡◌, ℕ, zero, suc, ◌+◌, ◌<◌, ◌≤◌, Bool, true, false, cond, ◌||◌, ◌==◌, List, [], ◌∷◌, ◌++◌, Option, Some, None, map, drop, refl, ap, sym, ◌∙◌, inl, inr, arith, add-one}
+use Rattle.std.proofs.Common.{◌≡◌, ℕ, zero, suc, ◌+◌, ◌<◌, ◌≤◌, Bool, true, false, cond, ◌||◌, ◌==◌, List, [], ◌∷◌, ◌++◌, Option, Some, None, map, drop, length, refl, subst, ap, sym, ◌∙◌, inl, inr, arith, add-one}
 use Rattle.std.specs.Prelude.{slice_get, option_and_then, option_map, is_some}
 use Rattle.std.specs.BTreeMap.{is_at}
 use Rattle.std.specs.BTreeSet as set
@@ -14,12 +14,14 @@ use Rattle.omega_model.proofs.Lists.{by_answer}
 use Rattle.omega_running.specs.Order.{Each}
 use Rattle.omega_running.proofs.Lists.{any_none, each_map, each_of_all, filter_none}
 use Rattle.omega_model.specs.Cell.{Cell}
-use Rattle.omega_model.specs.ExtraTasks.{wanted_of}
+use Rattle.omega_model.specs.ExtraTasks.{capacity_in_all, free_indexes, running_extras, used_in, wanted_of}
+use Rattle.omega_model.specs.Extras.{extras, target}
 use Rattle.omega_model.specs.Requests.{request_of, is_waiting}
 use Rattle.omega_model.specs.Wanted.{WantedTask}
-use Rattle.omega_feed.specs.Asked.{Asked, activities_in, is_task_of, asked_extras, asked_wish, asked_wishes, extras_after, job_request, asked_requests}
+use Rattle.omega_feed.specs.Asked.{Asked, activities_in, held_indexes, is_task_of, asked_extra, asked_extras, asked_wish, asked_wishes, extras_after, job_request, asked_requests}
 use Rattle.omega_feed.specs.Index.{place_request}
-use Rattle.omega_feed.specs.Open.{IsQuiet, OthersAreQuiet, RunsIfOf}
+use Rattle.omega_feed.specs.Open.{HasItsExtras, IsQuiet, OthersAreQuiet, RunsIfOf}
+use Rattle.omega_feed.proofs.HeldExtras.{few_extras, none_missing, none_wanted}
 use Rattle.omega_feed.specs.declared.jobs.RoutedJob.{RoutedJob}
 
 -- numbers that rise
@@ -141,19 +143,22 @@ has_place : (p : ℕ) (ps : List ℕ) → list_any (is_at (nat_cmp p)) ps ≡ ha
 has_place p [] = refl
 has_place p (q ∷ ps) = ap (λ b. b || list_any (is_at (nat_cmp p)) ps) (same_place p q) ∙ ap (λ b. (q == p) || b) (has_place p ps)
 
--- a job has none wanted, where none is wanted of it
-none_wanted : (job : ℕ) (tasks : List WantedTask) → list_any (is_task_of job) tasks ≡ false → wanted_of job tasks ≡ []
-none_wanted job [] none = refl
-none_wanted job (task ∷ tasks) none = by_cases (task.key.job == job) none (none_wanted job tasks) where
-  by_cases : (b : Bool) → (b || list_any (is_task_of job) tasks) ≡ false → (list_any (is_task_of job) tasks ≡ false → wanted_of job tasks ≡ [])
-      → cond b (task ∷ wanted_of job tasks) (wanted_of job tasks) ≡ []
-  by_cases true e later = absurd (cc)
-  by_cases false e later = later e
-
 -- without a wanted task there are no extras
 no_extras : (asked : Asked) (cell : Cell) (job : ℕ) (activities : Option ℕ) → extras_after asked cell job activities [] ≡ []
 no_extras asked cell job None = refl
 no_extras asked cell job (Some activities) = refl
+
+-- nor with all that a job should have
+no_more : (asked : Asked) (cell : Cell) (job : ℕ) (its : HasItsExtras asked cell.tasks job) (models : List WantedTask) → models ≡ wanted_of job asked.tasks
+    → extras_after asked cell job (Some its.activities) models ≡ []
+no_more asked cell job its [] same = refl
+no_more asked cell job its (model ∷ others) same =
+    let count : ℕ = extras asked.extra its.activities (length (model ∷ others)) (length (running_extras cell job)) model.spec.need (used_in cell) (capacity_in_all cell) in
+    let few = few_extras job cell.tasks its.extras its.once its.run in
+    let enough = subst (λ (own : List WantedTask). target asked.extra its.activities (length own) ≤ length own + length its.extras) (sym same) its.enough in
+    let none : count ≡ 0 =
+    none_missing asked.extra its.activities (length (model ∷ others)) (length (running_extras cell job)) model.spec.need (used_in cell) (capacity_in_all cell) (omega (arith, few, enough)) in
+    ap (λ (n : ℕ). map (asked_extra asked.constraints model) (free_indexes (held_indexes cell job) n)) none
 
 -- a task of a quiet job doesn't wait
 waits_not : (cell : Cell) (job : ℕ) (task : WantedTask) → RunsIfOf job cell.tasks task → is_waiting cell job task ≡ false
@@ -168,9 +173,11 @@ quiet_wishes asked cell job quiet =
     (each_of_all (RunsIfOf job cell.tasks) asked.tasks quiet.running)) in
     let none : asked_extras asked cell job ≡ [] = elim quiet.no_extras [
       | inl e ↦ ap (λ z. extras_after asked cell job z (wanted_of job asked.tasks)) e
-      | inr e ↦
+      | inr (inl e) ↦
           ap (extras_after asked cell job (activities_in asked.activities job)) (none_wanted job asked.tasks e)
           ∙ no_extras asked cell job (activities_in asked.activities job)
+      | inr (inr its) ↦
+          ap (λ z. extras_after asked cell job z (wanted_of job asked.tasks)) its.has ∙ no_more asked cell job its (wanted_of job asked.tasks) refl
     ] in
     ap (λ z. map (asked_wish asked.constraints) z ++ asked_extras asked cell job) idle ∙ none
 

@@ -1,23 +1,26 @@
 -- Jobs of which nothing waits, and how they stay so.
-use Rattle.std.proofs.Common.{eq-eqb, ◌≡◌, ℕ, Bool, true, false, cond, not, ◌||◌, ◌==◌, List, [], ◌∷◌, Option, Some, None, map, refl, ap, sym, subst, ◌∙◌, inl, inr}
+use Rattle.std.proofs.Common.{eq-eqb, ◌≡◌, ◌≤◌, ◌<◌, ◌+◌, ◌⊎◌, ℕ, Bool, true, false, cond, not, ◌||◌, ◌==◌, List, [], ◌∷◌, ◌++◌, Option, Some, None, map, length, refl, ap, sym, subst, ◌∙◌, inl, inr, arith}
+use Rattle.std.proofs.lemmas.List.{append-nil}
 use Rattle.std.specs.Prelude.{is_some, option_map}
 use Rattle.std.specs.BTreeSet as set
 use Rattle.std.specs.BTreeSet.{BTreeSet}
 use Rattle.std.specs.List.{All, filter, list_any}
 use Rattle.std.specs.Ordering.{nat_cmp}
-use Rattle.std.proofs.lemmas.Bool.{eqb-true, cases_eq, cases_Bool, both_ways, or_cases, or_left, or_right}
-use Rattle.std.proofs.lemmas.List.Elements.{All-append, All-cons, All-filter, All-head, All-nil, All-tail}
+use Rattle.std.proofs.lemmas.Bool.{eqb-true, cases_eq, cases_order, cases_Bool, both_ways, ne_eqb, or_cases, or_left, or_right}
+use Rattle.std.proofs.lemmas.List.Elements.{All-append, All-cons, All-filter, All-head, All-nil, All-tail, filter-append}
 use Rattle.std.proofs.lemmas.List.Folds.{list_any-append}
 use Rattle.omega_model.specs.Cell.{task_at}
+use Rattle.omega_model.specs.ExtraTasks.{wanted_of}
+use Rattle.omega_model.specs.Extras.{target}
 use Rattle.omega_model.specs.Keys.{key_lt}
 use Rattle.omega_model.specs.Wanted.{WantedTask, with_wanted, is_named}
 use Rattle.omega_model.specs.declared.cells.Spec.{Spec}
 use Rattle.omega_model.specs.declared.cells.Task.{Task}
 use Rattle.omega_model.specs.declared.cells.TaskKey.{TaskKey}
-use Rattle.omega_feed.specs.Asked.{Asked, is_task_of}
+use Rattle.omega_feed.specs.Asked.{Asked, activities_in, is_task_of}
 use Rattle.omega_feed.specs.Index.{wanted_task}
-use Rattle.omega_feed.specs.Open.{IsOpen, IsQuiet, OthersAreQuiet, RunsIfOf, StayOpen}
-use Rattle.omega_model.proofs.InOrder.{key_same}
+use Rattle.omega_feed.specs.Open.{HasItsExtras, IsOpen, IsQuiet, OthersAreQuiet, RunsIfOf, StayOpen}
+use Rattle.omega_model.proofs.InOrder.{key_asym, key_same, tested_before}
 use Rattle.omega_model.proofs.Lists.{by_answer}
 use Rattle.omega_feed.proofs.TaskMap.{idle}
 
@@ -51,7 +54,7 @@ none_filtered p q tasks none =
 pub all_quiet : (places : BTreeSet ℕ) (asked : Asked) (tasks : List Task) → asked.tasks ≡ [] → OthersAreQuiet places asked tasks
 all_quiet places asked tasks none place job at closed = record {
   running = let P : List WantedTask → Type 0 = λ wanted. All (RunsIfOf job tasks) wanted in subst P (sym none) (All-nil _);
-  no_extras = inr (ap (list_any (is_task_of job)) none);
+  no_extras = inr (inl (ap (list_any (is_task_of job)) none));
 }
 
 -- where what was open is open, all others are still quiet
@@ -62,20 +65,107 @@ still_quiet before after asked tasks stay quiet place job at closed =
       | inr e ↦ quiet place job at e
     ]
 
--- a job stays quiet with a task less
-quiet_without : (asked : Asked) (tasks : List Task) (job : ℕ) (key : TaskKey) → IsQuiet asked tasks job
+-- a job has its extras where as many other tasks are wanted of it
+its_extras_with : (asked : Asked) (tasks : List Task) (job : ℕ) (wanted : List WantedTask) → wanted_of job wanted ≡ wanted_of job asked.tasks
+    → HasItsExtras asked tasks job → HasItsExtras (record asked { tasks = wanted }) tasks job
+its_extras_with asked tasks job wanted same its = record {
+  activities = its.activities;
+  has = its.has;
+  extras = its.extras;
+  once = its.once;
+  run = its.run;
+  enough = subst (λ (own : List WantedTask). target asked.extra its.activities (length own) ≤ length own + length its.extras) (sym same) its.enough;
+}
+
+-- the tasks of a job without a task of another
+wanted_without : (job : ℕ) (key : TaskKey) → (key.job ≡ job → ⊥) → (tasks : List WantedTask)
+    → wanted_of job (filter (λ task. not (is_named key task)) tasks) ≡ wanted_of job tasks
+wanted_without job key ne [] = refl
+wanted_without job key ne (task ∷ tasks) =
+    let later = wanted_without job key ne tasks in
+    by_answer (is_named key task)
+    (λ named.
+    let other : (task.key.job == job) ≡ false = ne_eqb task.key.job job (λ e. ne (sym (ap (λ (k : TaskKey). k.job) (key_same task.key key named)) ∙ e)) in
+    rw (named, other) later)
+    (λ unnamed.
+    by_answer (task.key.job == job)
+    (λ own. rw (unnamed, own) (ap (λ (rest : List WantedTask). task ∷ rest) later))
+    (λ other. rw (unnamed, other) later))
+
+-- with one more
+module _ (job : ℕ) (key : TaskKey) where
+  -- all tasks of a lower job stand before a key, and none behind it
+  lower : job < key.job → (tasks : List WantedTask)
+      → (wanted_of job (filter (λ task. key_lt task.key key) tasks) ≡ wanted_of job tasks) × (wanted_of job (filter (λ task. key_lt key task.key) tasks) ≡ [])
+  lower less [] = (refl, refl)
+  lower less (task ∷ tasks) =
+      let later = lower less tasks in
+      by_answer (task.key.job == job)
+      (λ own.
+      let is : task.key.job ≡ job = eqb-true _ _ own in
+      let before : key_lt task.key key ≡ true = tested_before task.key key (inl (omega (arith, is, less))) in
+      (rw (before, own) (ap (λ (rest : List WantedTask). task ∷ rest) later.0), rw (key_asym task.key key before) later.1))
+      (λ other. (
+        by_answer (key_lt task.key key) (λ t. rw (t, other) later.0) (λ f. rw (f, other) later.0),
+        by_answer (key_lt key task.key) (λ t. rw (t, other) later.1) (λ f. rw f later.1),
+      ))
+
+  -- those of a higher job stand behind it
+  higher : key.job < job → (tasks : List WantedTask)
+      → (wanted_of job (filter (λ task. key_lt task.key key) tasks) ≡ []) × (wanted_of job (filter (λ task. key_lt key task.key) tasks) ≡ wanted_of job tasks)
+  higher less [] = (refl, refl)
+  higher less (task ∷ tasks) =
+      let later = higher less tasks in
+      by_answer (task.key.job == job)
+      (λ own.
+      let is : task.key.job ≡ job = eqb-true _ _ own in
+      let behind : key_lt key task.key ≡ true = tested_before key task.key (inl (omega (arith, is, less))) in
+      (rw (key_asym key task.key behind) later.0, rw (behind, own) (ap (λ (rest : List WantedTask). task ∷ rest) later.1)))
+      (λ other. (
+        by_answer (key_lt task.key key) (λ t. rw (t, other) later.0) (λ f. rw f later.0),
+        by_answer (key_lt key task.key) (λ t. rw (t, other) later.1) (λ f. rw (f, other) later.1),
+      ))
+
+  wanted_with : (spec : Spec) → (key.job ≡ job → ⊥) → (tasks : List WantedTask) → wanted_of job (with_wanted key spec tasks) ≡ wanted_of job tasks
+  wanted_with spec ne tasks =
+      let front = filter (λ (other : WantedTask). key_lt other.key key) tasks in
+      let back = filter (λ (other : WantedTask). key_lt key other.key) tasks in
+      let apart : wanted_of job (with_wanted key spec tasks) ≡ wanted_of job front ++ wanted_of job back =
+      filter-append (is_task_of job) front (record { key = key; spec = spec } ∷ back) ∙ rw (ne_eqb key.job job ne) refl in
+      apart ∙ elim (cases_order key.job job) [
+        | inl same ↦ absurd (ne same)
+        | inr (inl less) ↦ let is = higher less tasks in rw (is.0, is.1) refl
+        | inr (inr more) ↦ let is = lower more tasks in rw (is.0, is.1) (append-nil (wanted_of job tasks))
+      ]
+
+-- a job stays quiet with a task less of another job
+quiet_without : (asked : Asked) (tasks : List Task) (job : ℕ) (key : TaskKey) → (key.job ≡ job → ⊥) → IsQuiet asked tasks job
     → IsQuiet (record asked { tasks = filter (λ task. not (is_named key task)) asked.tasks }) tasks job
-quiet_without asked tasks job key q = record {
+quiet_without asked tasks job key ne q = record {
   running = All-filter (λ task. not (is_named key task)) (RunsIfOf job tasks) asked.tasks q.running;
   no_extras = elim q.no_extras [
     | inl e ↦ inl e
-    | inr e ↦ inr (none_filtered (is_task_of job) (λ task. not (is_named key task)) asked.tasks e)
+    | inr (inl e) ↦ inr (inl (none_filtered (is_task_of job) (λ task. not (is_named key task)) asked.tasks e))
+    | inr (inr its) ↦ inr (inr (its_extras_with asked tasks job (filter (λ task. not (is_named key task)) asked.tasks) (wanted_without job key ne asked.tasks) its))
   ];
 }
 
-pub others_without : (places : BTreeSet ℕ) (asked : Asked) (tasks : List Task) (key : TaskKey) → OthersAreQuiet places asked tasks
-    → OthersAreQuiet places (record asked { tasks = filter (λ task. not (is_named key task)) asked.tasks }) tasks
-others_without places asked tasks key quiet place job at closed = quiet_without asked tasks job key (quiet place job at closed)
+-- so do all that are, with a task less of a job that is open or has no activities
+pub others_without : (before after : BTreeSet ℕ) (asked : Asked) (tasks : List Task) (key : TaskKey) → StayOpen before after
+    → IsOpen after asked key.job ⊎ (activities_in asked.activities key.job ≡ None) → OthersAreQuiet before asked tasks
+    → OthersAreQuiet after (record asked { tasks = filter (λ task. not (is_named key task)) asked.tasks }) tasks
+others_without before after asked tasks key stay own quiet place job at closed =
+    let was : IsQuiet asked tasks job = still_quiet before after asked tasks stay quiet place job at closed in
+    elim (cases_eq key.job job) [
+      | inr ne ↦ quiet_without asked tasks job key ne was
+      | inl e ↦ elim own [
+        | inl opened ↦ absurd (both_ways _ closed (opened place (at ∙ ap Some (sym e))))
+        | inr none ↦ record {
+          running = All-filter (λ task. not (is_named key task)) (RunsIfOf job tasks) asked.tasks was.running;
+          no_extras = inl (subst (λ (j : ℕ). activities_in asked.activities j ≡ None) e none);
+        }
+      ]
+    ]
 
 -- a job stays quiet with a task more of another job
 quiet_with : (asked : Asked) (tasks : List Task) (job : ℕ) (key : TaskKey) (spec : Spec) → (key.job ≡ job → ⊥) → IsQuiet asked tasks job
@@ -92,10 +182,11 @@ quiet_with asked tasks job key spec ne q =
           (All-cons P new back (λ t. absurd (ne (eqb-true _ _ t))) (All-filter (λ other. key_lt key other.key) P asked.tasks q.running));
       no_extras = elim q.no_extras [
         | inl e ↦ inl e
-        | inr e ↦ inr (elim (cases_Bool (list_any (is_task_of job) (with_wanted key spec asked.tasks))) [
+        | inr (inl e) ↦ inr (inl (elim (cases_Bool (list_any (is_task_of job) (with_wanted key spec asked.tasks))) [
           | inl d ↦ absurd (both_ways _ e (had_task job key spec asked.tasks ne d))
           | inr d ↦ d
-        ])
+        ]))
+        | inr (inr its) ↦ inr (inr (its_extras_with asked tasks job (with_wanted key spec asked.tasks) (wanted_with job key spec ne asked.tasks) its))
       ];
     }
 
@@ -120,21 +211,10 @@ named_runs tasks job key (task ∷ wanted) named all own = elim (or_cases (is_na
   | inr later ↦ named_runs tasks job key wanted later (All-tail (RunsIfOf job tasks) task wanted all) own
 ]
 
--- its job has a wanted task
-named_of_job : (job : ℕ) (key : TaskKey) (wanted : List WantedTask) → list_any (is_named key) wanted ≡ true → (key.job == job) ≡ true
-    → list_any (is_task_of job) wanted ≡ true
-named_of_job job key [] named own = absurd (cc)
-named_of_job job key (task ∷ wanted) named own = elim (or_cases (is_named key task) (list_any (is_named key) wanted) named) [
-  | inl here ↦
-      or_left (is_task_of job task) (list_any (is_task_of job) wanted)
-      (subst (λ (k : TaskKey). (k.job == job) ≡ true) (sym (key_same task.key key here)) own)
-  | inr later ↦ or_right (is_task_of job task) (list_any (is_task_of job) wanted) (named_of_job job key wanted later own)
-]
-
--- a job stays quiet where a task that is wanted is wanted otherwise
+-- a job stays quiet where a task that is wanted of one without activities is wanted otherwise
 quiet_again : (asked : Asked) (tasks : List Task) (job : ℕ) (key : TaskKey) (spec : Spec) → list_any (is_named key) asked.tasks ≡ true
-    → IsQuiet asked tasks job → IsQuiet (record asked { tasks = with_wanted key spec asked.tasks }) tasks job
-quiet_again asked tasks job key spec named q =
+    → activities_in asked.activities key.job ≡ None → IsQuiet asked tasks job → IsQuiet (record asked { tasks = with_wanted key spec asked.tasks }) tasks job
+quiet_again asked tasks job key spec named none q =
     elim (cases_Bool (key.job == job)) [
       | inr ne ↦ quiet_with asked tasks job key spec (λ e. absurd (both_ways _ ne (eq-eqb key.job job e))) q
       | inl own ↦
@@ -147,17 +227,14 @@ quiet_again asked tasks job key spec named q =
                 All-append P front (new ∷ back)
                 (All-filter (λ other. key_lt other.key key) P asked.tasks q.running)
                 (All-cons P new back (named_runs tasks job key asked.tasks named q.running) (All-filter (λ other. key_lt key other.key) P asked.tasks q.running));
-            no_extras = elim q.no_extras [
-              | inl none ↦ inl none
-              | inr none ↦ absurd (both_ways _ none (named_of_job job key asked.tasks named own))
-            ];
+            no_extras = inl (subst (λ (j : ℕ). activities_in asked.activities j ≡ None) (eqb-true key.job job own) none);
           }
     ]
 
 -- so do all that were
 pub others_again : (places : BTreeSet ℕ) (asked : Asked) (tasks : List Task) (key : TaskKey) (spec : Spec) → list_any (is_named key) asked.tasks ≡ true
-    → OthersAreQuiet places asked tasks → OthersAreQuiet places (record asked { tasks = with_wanted key spec asked.tasks }) tasks
-others_again places asked tasks key spec named quiet place job at closed = quiet_again asked tasks job key spec named (quiet place job at closed)
+    → activities_in asked.activities key.job ≡ None → OthersAreQuiet places asked tasks → OthersAreQuiet places (record asked { tasks = with_wanted key spec asked.tasks }) tasks
+others_again places asked tasks key spec named none quiet place job at closed = quiet_again asked tasks job key spec named none (quiet place job at closed)
 
 -- where no entry of a job is idle, each of its tasks runs
 pub all_run_from : (job : ℕ) (tasks : List Task) (es : List (TaskKey × Spec)) → filter (idle tasks) (filter (λ e. e.0.job == job) es) ≡ []

@@ -1,12 +1,16 @@
 -- The jobs of which something may have to be placed, by their places among all jobs.
-use Rattle.std.specs.Prelude.{◌≡◌, ◌⊎◌, ℕ, true, false, All, List, Some, None, is_some}
+use Rattle.std.specs.Prelude.{◌≡◌, ◌⊎◌, ◌≤◌, ◌+◌, ◌&&◌, ◌||◌, ℕ, Bool, true, false, All, List, Some, None, is_some, length, nat_le}
 use Rattle.std.specs.BTreeSet as set
 use Rattle.std.specs.BTreeSet.{BTreeSet}
-use Rattle.std.specs.List.{list_any}
+use Rattle.std.specs.List.{IsDistinct, list_any}
 use Rattle.std.specs.Ordering.{nat_cmp}
 use Rattle.omega_model.specs.Cell.{task_at}
-use Rattle.omega_model.specs.Wanted.{WantedTask}
+use Rattle.omega_model.specs.ExtraTasks.{first_extra, wanted_of}
+use Rattle.omega_model.specs.Extras.{target}
+use Rattle.omega_model.specs.Keys.{same_key}
+use Rattle.omega_model.specs.Wanted.{WantedTask, is_named}
 use Rattle.omega_model.specs.declared.cells.Task.{Task}
+use Rattle.omega_model.specs.declared.cells.TaskKey.{TaskKey}
 use Rattle.omega_model.specs.declared.rows.Row.{Row}
 use Rattle.omega_model.specs.declared.rows.Row.TheVariants.{Machine, Attr, Task as TaskEvent}
 use Rattle.omega_feed.specs.Asked.{Asked, activities_in, is_task_of}
@@ -16,11 +20,31 @@ use Rattle.omega_feed.specs.Index.{job_at}
 abbrev pub RunsIfOf : ℕ → List Task → WantedTask → Type 0
 RunsIfOf job tasks task = is_task_of job task ≡ true → is_some (task_at tasks task.key) ≡ true
 
--- nothing of a job waits: each of its wanted tasks runs, and it gets no extras, since it has no
--- activities or no task of it is wanted
+-- a task is an extra of a job, and runs
+pub record IsRunningExtra (tasks : List Task) (job : ℕ) (key : TaskKey) : Type 0 where
+  pub job_is : key.job ≡ job
+  pub extra : first_extra ≤ key.index
+  pub runs : is_some (task_at tasks key) ≡ true
+
+-- a job has all the extras that it should have: with these, each of which runs, and the tasks that are
+-- wanted of it there are as many as its activities want, so that it gets none on any cell
+pub record HasItsExtras (asked : Asked) (tasks : List Task) (job : ℕ) : Type 0 where
+  pub activities : ℕ
+  pub has : activities_in asked.activities job ≡ Some activities
+  pub extras : List TaskKey
+  pub once : IsDistinct same_key extras
+  pub run : All (IsRunningExtra tasks job) extras
+  pub enough : target asked.extra activities (length (wanted_of job asked.tasks)) ≤ length (wanted_of job asked.tasks) + length extras
+
+-- a job gets no extras while these tasks run: it has no activities, no task of it is wanted, or it has all
+abbrev pub GetsNoExtras : Asked → List Task → ℕ → Type 0
+GetsNoExtras asked tasks job =
+    (activities_in asked.activities job ≡ None) ⊎ ((list_any (is_task_of job) asked.tasks ≡ false) ⊎ HasItsExtras asked tasks job)
+
+-- nothing of a job waits: each of its wanted tasks runs, and it gets no extras
 pub record IsQuiet (asked : Asked) (tasks : List Task) (job : ℕ) : Type 0 where
   pub running : All (RunsIfOf job tasks) asked.tasks
-  pub no_extras : (activities_in asked.activities job ≡ None) ⊎ (list_any (is_task_of job) asked.tasks ≡ false)
+  pub no_extras : GetsNoExtras asked tasks job
 
 -- if a job stands at a place, it is quiet
 abbrev pub IsQuietAt : Asked → List Task → ℕ → Type 0
@@ -38,6 +62,12 @@ NoneIsQuiet places asked tasks = (place : ℕ) → set.contains nat_cmp places p
 -- the place of a job is open, if it stands at one
 abbrev pub IsOpen : BTreeSet ℕ → Asked → ℕ → Type 0
 IsOpen places asked job = (place : ℕ) → job_at asked.jobs place ≡ Some job → set.contains nat_cmp places place ≡ true
+
+-- whether the end of a task may let something of its job wait: the task is wanted, or it is an extra and
+-- a task of its job is wanted
+abbrev pub is_missed : Asked → TaskKey → Bool
+is_missed asked key =
+    list_any (is_named key) asked.tasks || (nat_le first_extra key.index && list_any (is_task_of key.job) asked.tasks)
 
 -- what was open is open
 abbrev pub StayOpen : BTreeSet ℕ → BTreeSet ℕ → Type 0

@@ -2,12 +2,12 @@
 ghost use Rattle.std.specs.Prelude.{◌≡◌, ◌≤◌, ◌<◌, ◌+◌, IfOk, length, min, map, nat_le};
 ghost use Rattle.std.specs.List.{filter};
 ghost use Rattle.omega_model.specs.ExtraTasks.{capacity_in_all, first_extra, free_indexes, is_extra_of, used_in};
-ghost use Rattle.omega_model.specs.Extras.{extras};
+ghost use Rattle.omega_model.specs.Extras.{extras, target};
 ghost use Rattle.omega_model.specs.Fields.{most_activities};
 ghost use Rattle.omega_board.specs.Board.{cell_of};
 
 use omega_board::Board;
-use omega_mapreduce::extras;
+use omega_mapreduce::{extras, target};
 use omega_model::{Extra, Need, NoMemory, Task, TaskKey, Tasks};
 use omega_running::Running;
 use std::alloc::Global;
@@ -84,6 +84,15 @@ pub fn extra_count(
         used,
         capacity,
     )
+}
+
+/// Whether a job with these activities has all the tasks that it should have, with so many wanted and
+/// so many extras running. Takes no memory.
+pub fn has_all(policy: Extra, activities: u32, wanted: usize, held: usize) -> bool
+    ensures { result ≡ nat_le (target policy activities wanted) (wanted + held) }
+{
+    let aim = target(policy, activities, narrowed(wanted));
+    wanted.saturating_add(held) >= aim as usize
 }
 
 /// A count, or the greatest number of 32 bits where it is more.

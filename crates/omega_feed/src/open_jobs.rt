@@ -51,9 +51,10 @@ impl OpenJobs {
     }
 
     /// Closes each job that is quiet on the cell of a board, and no other: one of which no wanted task
-    /// waits, and that has no activities or no wanted task. A refused call leaves what is open. Costs the
-    /// wanted tasks of the open jobs at most, each times the logarithm of the number of all, since a job's
-    /// first task that waits decides; and memory for those that stay open.
+    /// waits, and that gets no extras, since it has no activities, no wanted task, or all its extras. A
+    /// refused call leaves what is open. Costs the wanted tasks of the open jobs at most, each times the
+    /// logarithm of the number of all, since a job's first task that waits decides; of one with activities
+    /// its running tasks, too; and memory for those that stay open.
     pub fn settle(&mut self, alloc: Global, wanted: &Wanted, board: &Board) -> Result<(), NoMemory>
         requires { OthersAreQuiet self.old wanted.now board.now.tasks }
         ensures ok { OnOk result (OthersAreQuiet self.new wanted.now board.now.tasks) }
@@ -63,7 +64,7 @@ impl OpenJobs {
     {
         let mut places = BTreeSet::new(alloc);
         for place in self.places.iter() {
-            if !wanted.is_quiet_at(*place, board) {
+            if !wanted.is_quiet_at(alloc, *place, board)? {
                 places.insert(*place)?;
             }
         }

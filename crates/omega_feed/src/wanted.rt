@@ -14,16 +14,17 @@ ghost use Rattle.omega_model.specs.declared.rows.Row.{Row};
 ghost use Rattle.omega_model.specs.declared.rows.TraceTables.{TraceTables};
 ghost use Rattle.omega_model.specs.declared.settings.Settings.{Settings};
 ghost use Rattle.omega_board.specs.Board.{cell_of};
+ghost use Rattle.omega_running.specs.Kept.{KeysRise};
 ghost use Rattle.omega_feed.specs.Asked.{activities_in, asked_after, asked_extra, asked_wish, asked_wishes, extras_after, is_task_of};
 ghost use Rattle.omega_feed.specs.Index.{HasLowTask, job_at, routed_request, wanted_task};
 ghost use Rattle.omega_feed.specs.Left.{AreLeft};
-ghost use Rattle.omega_feed.specs.Open.{IsQuietAt, OpensAtMost, OthersAreQuiet, RowOpens, StayOpen};
+ghost use Rattle.omega_feed.specs.Open.{GetsNoExtras, IsOpen, IsQuietAt, OpensAtMost, OthersAreQuiet, RowOpens, StayOpen, is_missed};
 
 use crate::activities::JobActivities;
 use crate::constraints::TaskConstraints;
 use crate::disks::MachineDisks;
 use crate::entries::entries_of;
-use crate::extras::{extra_count, free_indexes, running_extra_count};
+use crate::extras::{FIRST_EXTRA, extra_count, free_indexes, has_all, running_extra_count};
 use crate::jobs::{Jobs, RoutedJob};
 use crate::open_jobs::OpenJobs;
 use crate::tasks::{Change, WantedTasks};
@@ -85,9 +86,10 @@ impl Wanted {
         })
     }
 
-    /// Applies a row: what it submits, schedules or updates is wanted as it says, and its job is opened if
-    /// the task is a new one, and no other; what ends in it is not wanted any more. A refused call leaves what is wanted, and may
-    /// have opened the job. Costs the logarithm of the number of tasks and of jobs.
+    /// Applies a row: what it submits, schedules or updates is wanted as it says, and what ends in it is not
+    /// wanted any more. Its job is opened if the task is a new one or the job has activities, and no other. A
+    /// refused call leaves what is wanted, and may have opened the job. Costs the logarithm of the number of
+    /// tasks and of jobs.
     pub fn take(&mut self, row: &Row, open_jobs: &mut OpenJobs) -> Result<(), NoMemory>
         ensures ok { OnOk result (self.new ≡ record self.old { tasks = wanted_after self.old.tasks row.now }) }
         ensures err { OnErr result (self.new ≡ self.old) }
@@ -115,16 +117,40 @@ impl Wanted {
     {
         match self.tasks.change_of(row) {
             Change::Want => self.want(row.key, row.spec, open_jobs),
-            Change::End => {
-                self.tasks.remove(row.key);
-                Ok(())
-            }
+            Change::End => self.end(row.key, open_jobs),
             Change::Keep => Ok(()),
         }
     }
 
-    /// A task is wanted, or wanted otherwise. Its job is opened where the task wasn't wanted before; where
-    /// it was, it waits as before or runs.
+    /// A task isn't wanted any more. Its job is opened where it has activities, since it may get other
+    /// extras then.
+    fn end(&mut self, key: TaskKey, open_jobs: &mut OpenJobs) -> Result<(), NoMemory>
+        ensures ok { OnOk result (self.new ≡ record self.old { tasks = filter (λ task. not (is_named key task)) self.old.tasks }) }
+        ensures err { OnErr result (self.new ≡ self.old) }
+        ensures quiet { (tasks : List Task) → OthersAreQuiet open_jobs.old self.old tasks
+            → OnOk result (OthersAreQuiet open_jobs.new self.new tasks) }
+        ensures stay { StayOpen open_jobs.old open_jobs.new }
+        ensures alone { OpensAtMost open_jobs.old open_jobs.new self.old key.job }
+    {
+        self.reopen_mapreduce(key.job, open_jobs)?;
+        self.tasks.remove(key);
+        Ok(())
+    }
+
+    /// Opens a job if it has activities, and no other.
+    fn reopen_mapreduce(&self, job: u64, open_jobs: &mut OpenJobs) -> Result<(), NoMemory>
+        ensures stay { StayOpen open_jobs.old open_jobs.new }
+        ensures ok { OnOk result (IsOpen open_jobs.new self.now job ⊎ (activities_in self.now.activities job ≡ None)) }
+        ensures alone { OpensAtMost open_jobs.old open_jobs.new self.now job }
+    {
+        if self.activities.of(job).is_none() {
+            return Ok(());
+        }
+        open_jobs.reopen(self, job)
+    }
+
+    /// A task is wanted, or wanted otherwise. Its job is opened where the task wasn't wanted before or the
+    /// job has activities; else the task waits as before or runs.
     fn want(&mut self, key: TaskKey, spec: Spec, open_jobs: &mut OpenJobs) -> Result<(), NoMemory>
         requires { key.index < first_extra }
         ensures ok { OnOk result (self.new ≡ record self.old { tasks = with_wanted key spec self.old.tasks }) }
@@ -134,7 +160,7 @@ impl Wanted {
         ensures stay { StayOpen open_jobs.old open_jobs.new }
         ensures alone { OpensAtMost open_jobs.old open_jobs.new self.old key.job }
     {
-        if self.tasks.contains(key) {
+        if self.tasks.contains(key) && self.activities.of(key.job).is_none() {
             self.tasks.insert(key, spec)?;
             return Ok(());
         }
@@ -143,11 +169,12 @@ impl Wanted {
         Ok(())
     }
 
-    /// Whether a task is wanted. Costs the logarithm of their number.
-    pub fn wants(&self, key: TaskKey) -> bool
-        ensures { result ≡ list_any (is_named key) self.now.tasks }
+    /// Whether the end of a task may let something of its job wait: the task is wanted, or it is an extra
+    /// and a task of its job is wanted. Costs the logarithm of the number of wanted tasks.
+    pub fn misses(&self, key: TaskKey) -> bool
+        ensures { result ≡ is_missed self.now key }
     {
-        self.tasks.contains(key)
+        self.tasks.contains(key) || (key.index >= FIRST_EXTRA && self.tasks.has_job(key.job))
     }
 
     /// The place of a job among all jobs of the trace: the only one at which it stands, `None` exactly
@@ -159,23 +186,41 @@ impl Wanted {
     }
 
     /// Whether the job at a place is quiet on the cell of a board: none of its wanted tasks waits, and
-    /// it has no activities or no wanted task. Costs the wanted tasks of the job up to the first that
-    /// waits, each times the logarithm of the number of all.
-    pub(crate) fn is_quiet_at(&self, place: usize, board: &Board) -> bool
-        ensures { IsTrue result ↔ IsQuietAt self.now board.now.tasks place }
+    /// it gets no extras. Costs the wanted tasks of the job up to the first that waits, each times the
+    /// logarithm of the number of all; of a job with activities besides its running tasks, and the memory
+    /// of both.
+    pub(crate) fn is_quiet_at(
+        &self,
+        alloc: Global,
+        place: usize,
+        board: &Board,
+    ) -> Result<bool, NoMemory>
+        ensures { IfOk result (λ quiet. IsTrue quiet ↔ IsQuietAt self.now board.now.tasks place) }
     {
         let Some(RoutedJob { job, .. }) = self.jobs.at(place) else {
-            return true;
+            return Ok(true);
         };
-        self.gets_no_extras(job) && self.tasks.all_run(job, board.running())
+        if !self.tasks.all_run(job, board.running()) {
+            return Ok(false);
+        }
+        self.gets_no_extras(alloc, job, board.running())
     }
 
-    /// Whether a job gets no extras on any cell: it has no activities, or no task of it is wanted.
-    fn gets_no_extras(&self, job: u64) -> bool
-        ensures { IsTrue result ↔ ((activities_in self.now.activities job ≡ None)
-            ⊎ (list_any (is_task_of job) self.now.tasks ≡ false)) }
+    /// Whether a job gets no extras while these tasks run: it has no activities, no task of it is wanted,
+    /// or it has all that it should have.
+    fn gets_no_extras(&self, alloc: Global, job: u64, running: &Running) -> Result<bool, NoMemory>
+        requires { KeysRise running.now.tasks }
+        ensures { IfOk result (λ none. IsTrue none ↔ GetsNoExtras self.now running.now.tasks job) }
     {
-        self.activities.of(job).is_none() || !self.tasks.has_job(job)
+        let Some(activities) = self.activities.of(job) else {
+            return Ok(true);
+        };
+        let wanted = self.tasks.of_job(alloc, job)?;
+        if wanted.is_empty() {
+            return Ok(true);
+        }
+        let held = running_extra_count(alloc, running, job)?;
+        Ok(has_all(self.extra, activities, wanted.len(), held))
     }
 
     /// The entries of the row that was taken last, on the cell of a board. Costs the logarithm of the

@@ -33,8 +33,9 @@ pub fn extras(
     allowed(choice, missing, need, used, capacity)
 }
 
-/// How many tasks a job should have, the wanted ones among them.
-fn target(choice: Extra, activities: u32, asked: u32) -> u32
+/// How many tasks a job with so many activities should have in all, of which `asked` tasks are wanted:
+/// as many as its activities, or under `Extra::Relative` at most four times those that are wanted.
+pub fn target(choice: Extra, activities: u32, asked: u32) -> u32
     ensures { result ≡ target choice activities asked }
 {
     match choice {

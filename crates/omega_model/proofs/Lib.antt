@@ -19,3 +19,4 @@ pub mod ExtraWishes
 pub mod RowEnds
 pub mod WordRanges
 pub mod PlainWords
+pub mod Answering

@@ -1,5 +1,5 @@
--- A step of a scheduler with the work that is really left, and what a world keeps from step to step.
-use Rattle.std.specs.Prelude.{◌≡◌, ℕ, List, [], Some, ◌≤◌, ◌⊎◌, length, take}
+-- A step of a scheduler with the work that is really left, and a world in one of the trace's rounds.
+use Rattle.std.specs.Prelude.{◌≡◌, ℕ, List, Some, ◌≤◌, length, take}
 use Rattle.omega_model.specs.Feed.{rounds}
 use Rattle.omega_model.specs.Lawful.{opened, after_last, rows_of, Underway}
 use Rattle.omega_model.specs.Work.{HasLeft}
@@ -40,17 +40,7 @@ abbrev pub rows_end : (settings : Settings) (trace : TraceTables) (history : Lis
 rows_end settings trace history underway =
     length (opened trace (rows_of (take underway.done (rounds trace settings.window))) underway.start underway.round).history
 
--- a world before its first round
-pub record IsNew (world : World) : Type 0 where
-  pub empty : world.history ≡ []
-  pub nobody : NobodySynced world
-
 -- a world in one of the trace's rounds
 pub record IsInRound (settings : Settings) (trace : TraceTables) (world : World) : Type 0 where
   pub underway : Underway settings trace world.history
   pub synced : EachIsBetween (rows_end settings trace world.history underway) world
-
--- what a world keeps: its history is the run of the trace up to some moment, and what each scheduler
--- has synced is within its bounds
-abbrev pub LawfulWorld : Settings → TraceTables → World → Type 0
-LawfulWorld settings trace world = IsNew world ⊎ IsInRound settings trace world

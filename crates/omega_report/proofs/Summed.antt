@@ -94,11 +94,6 @@ summed_is settings trace history entries windows counts used capacity tasks jobs
 pub length_tallies : (count : ℕ) (history : List Entry) → length (tallies count history) ≡ count
 length_tallies count history = length-map-range_with_len (λ scheduler. counts_of scheduler history) 0 count
 
--- what follows from what holds of a value holds of it too
-pub if_ok : {T E : Type 0} (P Q : T → Type 0) (result : Result T E) → ((value : T) → P value → Q value) → IfOk result P → IfOk result Q
-if_ok P Q (Ok value) follows holds = follows value holds
-if_ok P Q (Err error) follows holds = tt
-
 -- a page on which all lines stand is the report in its form
 pub report_said : (settings : Settings) (form : Format) (trace : TraceTables) (history : List Entry) (page : PageState) (empty first : List Line) → empty ≡ [] → first ≡ empty ++ first_line ∷ []
     → page.format ≡ form → page.lines ≡ (first ++ middle_lines settings.command history) ++ final_lines settings trace history

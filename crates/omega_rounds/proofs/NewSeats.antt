@@ -7,7 +7,6 @@ use Rattle.omega_model.specs.Feed.{rounds}
 use Rattle.omega_model.specs.Policy.{schedulers}
 use Rattle.omega_model.specs.Ranges.{IsInRange}
 use Rattle.omega_model.specs.Requests.{failed, requests}
-use Rattle.omega_model.specs.Stepping.{IsNew}
 use Rattle.omega_model.specs.Work.{Standing, fresh}
 use Rattle.omega_model.specs.declared.entries.Entry.{Entry}
 use Rattle.omega_model.specs.declared.rows.Row.{Row}
@@ -17,7 +16,7 @@ use Rattle.omega_model.specs.declared.settings.Settings.{Settings}
 use Rattle.omega_model.specs.declared.wishes.Request.{Request}
 use Rattle.omega_desk.specs.Counts.{count_of}
 use Rattle.omega_desk.specs.Desks.{DeskState, left_at}
-use Rattle.omega_rounds.specs.Keeping.{IsWorld, world_at}
+use Rattle.omega_rounds.specs.Keeping.{IsNew, IsWorld, world_at}
 use Rattle.omega_rounds.specs.Opening.{AreNewSeats}
 use Rattle.omega_rounds.specs.Seats.{IsDeskOf, IsRoutedTo, IsSeat, synced_of, to_do_of}
 use Rattle.omega_rounds.specs.Stages.{IsInRunOf, Source, stage_of}

@@ -1,6 +1,5 @@
 -- What is planned on the board of a cell.
 use Rattle.std.proofs.Common.{◌≡◌, ◌∙◌, ℕ, List, length, take, refl, sym, ap, arith}
-use Rattle.std.specs.Prelude.{Result, Ok, Err, IfOk}
 use Rattle.std.proofs.Math.Seq.{take-length}
 use Rattle.std.proofs.lemmas.List.{length-map}
 use Rattle.omega_model.specs.Cell.{Cell}
@@ -16,11 +15,6 @@ use Rattle.omega_board.specs.Board.{BoardState, cell_of, IsBoardOf}
 use Rattle.omega_copy.specs.Copies.{CopyOf, CopyState, without_room}
 use Rattle.omega_desk.specs.Desks.{DeskState}
 use Rattle.omega_rounds.specs.Plans.{IsAtDesk}
-
--- what follows from what holds of a result
-pub ok_maps : {T E : Type 0} (P Q : T → Type 0) → ((value : T) → P value → Q value) → (result : Result T E) → IfOk result P → IfOk result Q
-ok_maps P Q follows (Ok value) holds = follows value holds
-ok_maps P Q follows (Err error) holds = tt
 
 -- the start of a desk's attempt is that of its scheduler's next one
 pub start_at_desk : (settings : Settings) (history : List Entry) (scheduler : ℕ) (desk : DeskState) (machines : ℕ) → IsAtDesk settings history scheduler desk

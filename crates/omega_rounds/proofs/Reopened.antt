@@ -5,21 +5,22 @@ use Rattle.std.specs.BTreeSet as set
 use Rattle.std.specs.BTreeSet.{BTreeSet}
 use Rattle.std.specs.List.{All, flat_map, fold, list_any, AllByRecursion as Each}
 use Rattle.std.specs.Ordering.{nat_cmp}
-use Rattle.std.proofs.lemmas.Bool.{both_ways, eqb-true, or_from, or_left, or_right}
+use Rattle.std.proofs.lemmas.Bool.{and_from, both_ways, cases_Bool, eqb-true, le-leb, or_from, or_left, or_right}
 use Rattle.std.proofs.lemmas.Grind.{flat_map-append}
 use Rattle.std.proofs.lemmas.List.{append-nil, take-append-drop, take-append-le, take_all, take_more}
 use Rattle.std.proofs.lemmas.List.Elements.{All-append, All-cons, All-from_recursion, All-head, All-nil, All-tail, All-weaker}
 use Rattle.std.proofs.lemmas.List.Sums.{fold-append}
 use Rattle.omega_model.specs.Touches.{is_commit}
-use Rattle.omega_feed.specs.Asked.{Asked}
+use Rattle.omega_feed.specs.Asked.{Asked, is_task_of}
 use Rattle.omega_feed.specs.Index.{job_at}
-use Rattle.omega_feed.specs.Open.{IsOpen, IsQuiet, OthersAreQuiet, RunsIfOf, StayOpen}
+use Rattle.omega_feed.specs.Open.{HasItsExtras, IsOpen, IsQuiet, IsRunningExtra, OthersAreQuiet, RunsIfOf, StayOpen, is_missed}
 use Rattle.omega_feed.proofs.Quiet.{still_quiet}
 use Rattle.omega_lock.specs.Lists.{StartsWith}
 use Rattle.omega_model.proofs.Growing.{state_push}
 use Rattle.omega_model.proofs.InOrder.{key_itself, key_same}
 use Rattle.omega_model.proofs.Lists.{by_answer}
 use Rattle.omega_model.specs.Cell.{Cell, empty_cell}
+use Rattle.omega_model.specs.ExtraTasks.{first_extra}
 use Rattle.omega_model.specs.Keys.{is_among, same_key}
 use Rattle.omega_model.specs.Lawful.{IsCommitOfRound}
 use Rattle.omega_model.specs.State.{state, step, tasks_after}
@@ -31,7 +32,7 @@ use Rattle.omega_model.specs.declared.entries.Entry.{Entry}
 use Rattle.omega_model.specs.declared.entries.Entry.TheVariants.{Round as RoundEntry, MachineAdd, MachineUpdate, MachineRemove, AttrSet, AttrDelete, End, Commit}
 use Rattle.omega_model.specs.declared.settings.Settings.{Settings}
 use Rattle.omega_rounds.specs.Keeping.{IsWorld, WereQuiet}
-use Rattle.omega_rounds.specs.Reopening.{IsOpenIfWanted, OpensJobs, may_stop}
+use Rattle.omega_rounds.specs.Reopening.{IsOpenIfMissed, OpensJobs, may_stop}
 use Rattle.omega_rounds.specs.SeatSteps.{SeatSteps}
 use Rattle.omega_rounds.specs.Stages.{Stage}
 use Rattle.omega_rounds.specs.declared.seat.Seat.{Seat}
@@ -44,23 +45,23 @@ use Rattle.omega_rounds.proofs.Worlds.{rows_within}
 pub opens_none : (places : BTreeSet ℕ) (asked : Asked) → OpensJobs places places asked []
 opens_none places asked = record { stay = λ place there. there; opened = All-nil _ }
 
--- one is, if it is wanted
-pub opens_one : (before after : BTreeSet ℕ) (asked : Asked) (key : TaskKey) → StayOpen before after → IsOpenIfWanted after asked key
+-- one is, if it may be missed
+pub opens_one : (before after : BTreeSet ℕ) (asked : Asked) (key : TaskKey) → StayOpen before after → IsOpenIfMissed after asked key
     → OpensJobs before after asked (key ∷ [])
-opens_one before after asked key stay opened = record { stay = stay; opened = All-cons (IsOpenIfWanted after asked) key [] opened (All-nil _) }
+opens_one before after asked key stay opened = record { stay = stay; opened = All-cons (IsOpenIfMissed after asked) key [] opened (All-nil _) }
 
--- one need not be that isn't wanted
-pub opens_unwanted : (places : BTreeSet ℕ) (asked : Asked) (key : TaskKey) → list_any (is_named key) asked.tasks ≡ false
+-- one need not be that isn't
+pub opens_unmissed : (places : BTreeSet ℕ) (asked : Asked) (key : TaskKey) → is_missed asked key ≡ false
     → OpensJobs places places asked (key ∷ [])
-opens_unwanted places asked key not_wanted = opens_one places places asked key (λ place there. there) (λ wanted. absurd (both_ways _ not_wanted wanted))
+opens_unmissed places asked key not_missed = opens_one places places asked key (λ place there. there) (λ missed. absurd (both_ways _ not_missed missed))
 
 -- some are, and then others
 opens_more : (before middle after : BTreeSet ℕ) (asked : Asked) (keys more : List TaskKey) → OpensJobs before middle asked keys
     → OpensJobs middle after asked more → OpensJobs before after asked (keys ++ more)
 opens_more before middle after asked keys more some others = record {
   stay = λ place there. others.stay place (some.stay place there);
-  opened = All-append (IsOpenIfWanted after asked) keys more
-      (All-weaker (IsOpenIfWanted middle asked) (IsOpenIfWanted after asked)
+  opened = All-append (IsOpenIfMissed after asked) keys more
+      (All-weaker (IsOpenIfMissed middle asked) (IsOpenIfMissed after asked)
       (λ key opened wanted place here. others.stay place (opened wanted place here)) keys some.opened)
       others.opened;
 }
@@ -87,19 +88,19 @@ opens_evicted before middle after asked reply i one is within some others =
     subst (OpensJobs before after asked) (sym all)
     (opens_more before middle after asked (evicted (take i reply)) one.evicted some others)
 
--- a wanted task of a job that isn't open is none of those whose jobs are open if they are wanted
+-- a task of a job that isn't open, and that may be missed, is none of those whose jobs are open if they may be
 not_among : (places : BTreeSet ℕ) (asked : Asked) (keys : List TaskKey) (key : TaskKey) (place : ℕ) → job_at asked.jobs place ≡ Some key.job
-    → list_any (is_named key) asked.tasks ≡ true → set.contains nat_cmp places place ≡ false → All (IsOpenIfWanted places asked) keys
+    → is_missed asked key ≡ true → set.contains nat_cmp places place ≡ false → All (IsOpenIfMissed places asked) keys
     → is_among key keys ≡ false
-not_among places asked [] key place here wanted closed opened = refl
-not_among places asked (first ∷ keys) key place here wanted closed opened =
-    let P : TaskKey → Type 0 = IsOpenIfWanted places asked in
+not_among places asked [] key place here missed closed opened = refl
+not_among places asked (first ∷ keys) key place here missed closed opened =
+    let P : TaskKey → Type 0 = IsOpenIfMissed places asked in
     or_from (same_key key first) (is_among key keys)
     (by_answer (same_key key first)
     (λ t. absurd (both_ways _ closed
-    (subst P (sym (key_same key first t)) (All-head P first keys opened) wanted place here)))
+    (subst P (sym (key_same key first t)) (All-head P first keys opened) missed place here)))
     (λ f. f))
-    (not_among places asked keys key place here wanted closed (All-tail P first keys opened))
+    (not_among places asked keys key place here missed closed (All-tail P first keys opened))
 
 -- what follows for a wanted task follows for each of them
 for_each_wanted : (P Q : WantedTask → Type 0) (all tasks : List WantedTask)
@@ -113,6 +114,30 @@ for_each_wanted P Q all (task ∷ tasks) follows within each =
     (for_each_wanted P Q all tasks follows (λ key named. within key (or_right (is_named key task) _ named)) (All-tail P task tasks each))
 
 module _ (before after : BTreeSet ℕ) (asked : Asked) where
+  -- a job that isn't open, and of which a task is wanted, has its extras after an entry, too
+  extras_next : (tasks : List Task) (entry : Entry) → OpensJobs before after asked (may_stop tasks entry)
+      → (place job : ℕ) → job_at asked.jobs place ≡ Some job → set.contains nat_cmp after place ≡ false
+      → list_any (is_task_of job) asked.tasks ≡ true → HasItsExtras asked tasks job → HasItsExtras asked (tasks_after tasks entry) job
+  extras_next tasks entry opens place job here closed some its = record {
+    activities = its.activities;
+    has = its.has;
+    extras = its.extras;
+    once = its.once;
+    run = All-weaker (IsRunningExtra tasks job) (IsRunningExtra (tasks_after tasks entry) job)
+        (λ key is.
+        let named : job_at asked.jobs place ≡ Some key.job = here ∙ ap Some (sym is.job_is) in
+        let wanted : list_any (is_task_of key.job) asked.tasks ≡ true = subst (λ (j : ℕ). list_any (is_task_of j) asked.tasks ≡ true) (sym is.job_is) some in
+        let missed : is_missed asked key ≡ true =
+        or_right (list_any (is_named key) asked.tasks) _ (and_from _ _ (le-leb first_extra key.index is.extra) wanted) in
+        record {
+          job_is = is.job_is;
+          extra = is.extra;
+          runs = runs_after tasks entry key (not_among after asked (may_stop tasks entry) key place named missed closed opens.opened) is.runs;
+        })
+        its.extras its.run;
+    enough = its.enough;
+  }
+
   -- after an entry the jobs that aren't open are quiet, where those are open whose tasks it may stop
   pub quiet_next : (tasks : List Task) (entry : Entry) → OthersAreQuiet before asked tasks → OpensJobs before after asked (may_stop tasks entry)
       → OthersAreQuiet after asked (tasks_after tasks entry)
@@ -122,9 +147,17 @@ module _ (before after : BTreeSet ℕ) (asked : Asked) where
         running = for_each_wanted (RunsIfOf job tasks) (RunsIfOf job (tasks_after tasks entry)) asked.tasks asked.tasks
             (λ task wanted runs own.
             let named : job_at asked.jobs place ≡ Some task.key.job = here ∙ ap Some (sym (eqb-true task.key.job job own)) in
-            runs_after tasks entry task.key (not_among after asked (may_stop tasks entry) task.key place named wanted closed opens.opened) (runs own))
+            let missed : is_missed asked task.key ≡ true = or_left (list_any (is_named task.key) asked.tasks) _ wanted in
+            runs_after tasks entry task.key (not_among after asked (may_stop tasks entry) task.key place named missed closed opens.opened) (runs own))
             (λ key wanted. wanted) is.running;
-        no_extras = is.no_extras;
+        no_extras = elim is.no_extras [
+          | inl none ↦ inl none
+          | inr (inl none) ↦ inr (inl none)
+          | inr (inr its) ↦ elim (cases_Bool (list_any (is_task_of job) asked.tasks)) [
+            | inl some ↦ inr (inr (extras_next tasks entry opens place job here closed some its))
+            | inr none ↦ inr (inl none)
+          ]
+        ];
       }
 
   -- so they are in a history with one more entry

@@ -7,7 +7,7 @@ use Rattle.omega_model.specs.Feed.{rounds}
 use Rattle.omega_model.specs.Lawful.{Lawful, RoundSoFar, Rounds, Underway, opened, rows_of}
 use Rattle.omega_model.specs.Policy.{schedulers}
 use Rattle.omega_model.specs.State.{reply_of}
-use Rattle.omega_model.specs.Stepping.{BeginsRound, EachIsBetween, IsBetween, IsInRound, IsNew, rows_end}
+use Rattle.omega_model.specs.Stepping.{BeginsRound, EachIsBetween, IsBetween, IsInRound, rows_end}
 use Rattle.omega_model.specs.Work.{HasLeft, standing_of}
 use Rattle.omega_model.specs.World.{Commits, NobodySynced, StepAnswer, Syncs, World}
 use Rattle.omega_model.specs.World.StepAnswer.{Idle, Synced, Committed}
@@ -27,6 +27,7 @@ use Rattle.omega_laws.proofs.Agreeing.{agrees_first}
 use Rattle.omega_laws.proofs.LastCommits.{after_last-other, after_last-within}
 use Rattle.omega_laws.proofs.Places.{front_within, take_last, take_next}
 use Rattle.omega_laws.proofs.RoundGrows.{round_ends, round_first, round_push}
+use Rattle.omega_rounds.specs.Keeping.{IsNew}
 
 -- a copy stays within its bounds after a commit of another scheduler
 between_grown : (opened_at : ℕ) (history : List Entry) (by seen_then : ℕ) (txn : Txn) (reply : List Judgement) (scheduler seen : ℕ) → by ≢ scheduler

@@ -1,20 +1,31 @@
 -- What every world keeps.
-use Rattle.std.specs.Prelude.{◌≡◌, ◌⊎◌, ◌+◌, ◌≤◌, ℕ, List, Some, length, map, slice_get, take}
+use Rattle.std.specs.Prelude.{◌≡◌, ◌⊎◌, ◌+◌, ◌≤◌, ℕ, List, [], Some, length, map, slice_get, take}
 use Rattle.std.specs.BTreeSet.{BTreeSet}
 use Rattle.omega_feed.specs.Asked.{Asked}
 use Rattle.omega_feed.specs.Open.{OthersAreQuiet}
 use Rattle.omega_model.specs.Policy.{schedulers}
 use Rattle.omega_model.specs.Ranges.{IsInRange}
 use Rattle.omega_model.specs.State.{state}
-use Rattle.omega_model.specs.Stepping.{IsInRound, IsNew, rows_end}
+use Rattle.omega_model.specs.Stepping.{IsInRound, rows_end}
 use Rattle.omega_model.specs.Wanted.{WantedTask, wanted}
-use Rattle.omega_model.specs.World.{World}
+use Rattle.omega_model.specs.World.{NobodySynced, World}
 use Rattle.omega_model.specs.declared.entries.Entry.{Entry}
 use Rattle.omega_model.specs.declared.rows.TraceTables.{TraceTables}
+use Rattle.omega_model.specs.declared.settings.Settings.{Settings}
 use Rattle.omega_rounds.specs.Plans.{HasPlan}
 use Rattle.omega_rounds.specs.Seats.{IsDeskOf, IsSeat, synced_of}
 use Rattle.omega_rounds.specs.Stages.{IsInRunOf, Stage, rows_begun, synced_at}
 use Rattle.omega_rounds.specs.declared.seat.Seat.{Seat}
+
+-- a world before its first round
+pub record IsNew (world : World) : Type 0 where
+  pub empty : world.history ≡ []
+  pub nobody : NobodySynced world
+
+-- what a world keeps: its history is the run of the trace up to some moment, and what each scheduler
+-- has synced is within its bounds
+abbrev pub LawfulWorld : Settings → TraceTables → World → Type 0
+LawfulWorld settings trace world = IsNew world ⊎ IsInRound settings trace world
 
 -- no round has begun
 pub record HasNotBegun (stage : Stage) (world : World) : Type 0 where

@@ -1,12 +1,11 @@
 -- Which tasks an entry may stop, and that their jobs are looked at again.
 use Rattle.std.specs.Prelude.{◌≡◌, ℕ, true, All, List, [], ◌∷◌}
 use Rattle.std.specs.BTreeSet.{BTreeSet}
-use Rattle.std.specs.List.{flat_map, list_any}
+use Rattle.std.specs.List.{flat_map}
 use Rattle.omega_feed.specs.Asked.{Asked}
-use Rattle.omega_feed.specs.Open.{IsOpen, StayOpen}
+use Rattle.omega_feed.specs.Open.{IsOpen, StayOpen, is_missed}
 use Rattle.omega_model.specs.Cell.{keys_of}
 use Rattle.omega_model.specs.State.{ranked_on}
-use Rattle.omega_model.specs.Wanted.{is_named}
 use Rattle.omega_model.specs.declared.cells.Task.{Task}
 use Rattle.omega_model.specs.declared.cells.TaskKey.{TaskKey}
 use Rattle.omega_model.specs.declared.entries.Entry.{Entry}
@@ -24,11 +23,11 @@ may_stop tasks (AttrDelete machine name) = []
 may_stop tasks (End key machine) = key ∷ []
 may_stop tasks (Commit scheduler seen txn reply) = flat_map (λ judgement. judgement.evicted) reply
 
--- the job of a task is open, if the task is wanted
-abbrev pub IsOpenIfWanted : BTreeSet ℕ → Asked → TaskKey → Type 0
-IsOpenIfWanted places asked key = list_any (is_named key) asked.tasks ≡ true → IsOpen places asked key.job
+-- the job of a task is open, if its end may let something of the job wait
+abbrev pub IsOpenIfMissed : BTreeSet ℕ → Asked → TaskKey → Type 0
+IsOpenIfMissed places asked key = is_missed asked key ≡ true → IsOpen places asked key.job
 
--- the jobs of those of these tasks that are wanted are opened, and what was open stays open
+-- the jobs of those of these tasks that may be missed are opened, and what was open stays open
 pub record OpensJobs (before after : BTreeSet ℕ) (asked : Asked) (keys : List TaskKey) : Type 0 where
   pub stay : StayOpen before after
-  pub opened : All (IsOpenIfWanted after asked) keys
+  pub opened : All (IsOpenIfMissed after asked) keys

@@ -79,9 +79,9 @@ fn reopen_jobs(open_jobs: &mut OpenJobs, wanted: &Wanted, keys: &[TaskKey]) -> R
     Ok(())
 }
 
-/// Opens the jobs of the wanted tasks that an entry may stop when it is fed to the cell of a board: of all
-/// tasks on a machine that changes, and of one that ends. Most that end are wanted no more, so that their
-/// jobs aren't looked at again. Costs what the machine has, and the logarithm of the number of jobs and of
+/// Opens the jobs of the tasks that an entry may stop when it is fed to the cell of a board, where they may
+/// be missed: of all tasks on a machine that changes, and of one that ends. Most that end are wanted no
+/// more, so that their jobs aren't looked at again. Costs what the machine has, and the logarithm of the number of jobs and of
 /// wanted tasks for each.
 pub(crate) fn reopen_stopped(
     alloc: Global,
@@ -99,7 +99,7 @@ pub(crate) fn reopen_stopped(
         | Entry::MachineRemove { machine } => {
             reopen_on(alloc, open_jobs, wanted, board, *machine)
         }
-        Entry::End { key, .. } => reopen_wanted(open_jobs, wanted, *key),
+        Entry::End { key, .. } => reopen_missed(open_jobs, wanted, *key),
         Entry::Round { .. }
         | Entry::AttrSet { .. }
         | Entry::AttrDelete { .. }
@@ -107,11 +107,11 @@ pub(crate) fn reopen_stopped(
     }
 }
 
-// Opens the job of a task, if the task is wanted.
-fn reopen_wanted(open_jobs: &mut OpenJobs, wanted: &Wanted, key: TaskKey) -> Result<(), NoMemory>
+// Opens the job of a task, if its end may let something of the job wait.
+fn reopen_missed(open_jobs: &mut OpenJobs, wanted: &Wanted, key: TaskKey) -> Result<(), NoMemory>
     ensures { OnOk result (OpensJobs open_jobs.old open_jobs.new wanted.now (key ∷ [])) }
 {
-    if !wanted.wants(key) {
+    if !wanted.misses(key) {
         return Ok(());
     }
     open_jobs.reopen(wanted, key.job)?;

@@ -6,7 +6,8 @@ use Rattle.omega_model.specs.ReportForms.{in_format}
 use Rattle.omega_model.specs.ReportLines.{printed_lines}
 use Rattle.omega_model.specs.State.{state}
 use Rattle.omega_model.specs.declared.rows.TraceTables.{TraceTables}
-use Rattle.omega_report.proofs.Summed.{if_ok, length_tallies, report_said}
+use Rattle.omega_model.proofs.Answering.{if_ok_weaker}
+use Rattle.omega_report.proofs.Summed.{length_tallies, report_said}
 use Rattle.omega_report.proofs.reporting.report_as.Goals as goal
 use Rattle.std.specs.Prelude.{length}
 
@@ -27,6 +28,6 @@ returns c =
     let whole = c.in_ok-summed_up.ensures trace _ _ lawful waits c.in_ok-pass.ensures in
     report_said settings form trace history page c.new-page.result.lines c.first.new.self.lines c.new-page.ensures.lines c.in_ok-first.ensures.lines
     (whole.0 ∙ c.in_ok-first.ensures.format ∙ c.new-page.ensures.format) whole.1 in
-    if_ok (λ (bytes : List ℕ). bytes ≡ in_format page.format page.lines)
+    if_ok_weaker (λ (bytes : List ℕ). bytes ≡ in_format page.format page.lines)
     (λ (bytes : List ℕ). (trace : TraceTables) → Lawful settings trace history → IsLeft trace (state history) left → bytes ≡ in_format form (printed_lines settings trace history))
     c.finish.result (λ bytes is trace lawful waits. is ∙ said trace lawful waits) c.finish.ensures

@@ -5,7 +5,8 @@ use Rattle.omega_copy.specs.Copies.{CopyOf, CopyState}
 use Rattle.omega_copy.specs.Indexes.{HavePlaces}
 use Rattle.omega_model.specs.State.{state}
 use Rattle.omega_model.specs.declared.entries.Entry.{Entry}
-use Rattle.omega_rounds.proofs.Planning.{as_many, copy_over, ok_maps}
+use Rattle.omega_model.proofs.Answering.{if_ok_weaker}
+use Rattle.omega_rounds.proofs.Planning.{as_many, copy_over}
 use Rattle.omega_rounds.specs.Plans.{IsPlan}
 use Rattle.omega_rounds.proofs.plans.plan_apart.Goals as goal
 
@@ -45,6 +46,6 @@ returns-clause-plan c =
     let seen : c.over-copy.result.seen ≡ length c.args.cell.history =
     c.over-copy.ensures.seen ∙ ap (λ (h : List Entry). length h) (c.history.ensures ∙ c.apart-board.ensures.history) in
     let stands = copy_over c.over-copy.result c.apart-board.result.0 c.args.cell.history c.over-copy.ensures.board seen kept.board_is in
-    ok_maps _ _ (λ plan is.
+    if_ok_weaker _ _ c.plan_on-plan.result (λ plan is.
     subst (λ (n : ℕ). IsPlan c.args.settings.now c.args.cell.history c.args.scheduler n c.args.desk.now plan) seen
-    (is c.args.cell.history stands c.requires.desk)) c.plan_on-plan.result c.plan_on-plan.ensures.plan
+    (is c.args.cell.history stands c.requires.desk)) c.plan_on-plan.ensures.plan

@@ -1,6 +1,6 @@
 use Rattle.std.proofs.Common.{◌≡◌, ◌-◌, ◌∙◌, List, drop, length, take, ap}
 use Rattle.std.proofs.lemmas.List.{take_rest}
-use Rattle.omega_feed.proofs.AskedAfter.{if_ok_weaker}
+use Rattle.omega_model.proofs.Answering.{if_ok_weaker}
 use Rattle.omega_model.specs.State.{state}
 use Rattle.omega_model.specs.declared.entries.Entry.{Entry}
 use Rattle.omega_rounds.proofs.Reopened.{since_place}
@@ -13,6 +13,6 @@ returns c =
     let history : List Entry = c.args.cell.now.history in
     let rest : take (length entries - n) (drop n entries) ≡ drop n history =
     take_rest entries n ∙ ap (drop n) c.history.ensures.history in
-    if_ok_weaker c.reopen_all.result
+    if_ok_weaker _ _ c.reopen_all.result
     (λ done quiet. since_place c.reopen_all.new.open_jobs c.args.wanted.now n history (take (length entries - n) (drop n entries)) rest quiet)
     (c.reopen_all.ensures (state (take n history)) c.requires.quiet)

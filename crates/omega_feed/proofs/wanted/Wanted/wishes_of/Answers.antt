@@ -7,7 +7,7 @@ use Rattle.omega_model.specs.ExtraTasks.{wanted_of}
 use Rattle.omega_model.specs.Requests.{is_waiting}
 use Rattle.omega_feed.specs.Asked.{Asked, activities_in, asked_wish, extras_after}
 use Rattle.omega_feed.specs.Index.{wanted_task}
-use Rattle.omega_feed.proofs.AskedAfter.{if_ok_weaker}
+use Rattle.omega_model.proofs.Answering.{if_ok_weaker}
 use Rattle.omega_feed.proofs.ExtraIndexes.{waiting_of}
 use Rattle.omega_feed.proofs.wanted.Wanted.wishes_of.Goals as goal
 
@@ -23,6 +23,6 @@ returns c =
     c.in_ok-wishes.ensures
     ∙ (λ i. map (asked_wish asked.constraints) (filter (λ task. not (is_some (task_at (c.running.ensures.tasks i) task.key))) (models i)))
     ∙ ap (map (asked_wish asked.constraints)) (waiting_of cell c.args.job asked.tasks) in
-    if_ok_weaker c.with_extras.result
+    if_ok_weaker _ _ c.with_extras.result
     (λ all is. is ∙ (λ i. waiting i ++ extras_after asked cell c.args.job (activities_in asked.activities c.args.job) (again i)))
     c.with_extras.ensures
