@@ -5,7 +5,7 @@
 #     bench/bench.sh PROGRAM SECTION..                        some of the tables below
 #     bench/bench.sh PROGRAM page                             all of them, written into docs/SPEED.md
 #
-# Sections: scales parts rows machines schedulers words threads shapes chosen plans. ROWS are rows of task_events, LOAD
+# Sections: scales parts rows machines schedulers words threads shapes chosen plans kept. ROWS are rows of task_events, LOAD
 # is as in tables.py. Each line is the median of five runs with their range, or one run that took more than ten
 # seconds.
 #
@@ -235,7 +235,33 @@ sized() { # NAME SIZE WORDS..
     measure "| $what | $size | \`$*\`" "$folder" "$@"
 }
 
-sections=(scales parts rows machines schedulers words threads shapes chosen plans)
+# What it costs to keep a run in a file, to go on from a whole one, and to audit it. In memory a file needs no sync.
+kept() {
+    local folder base=$data/kept.db memory=/dev/shm/omega-bench.db
+    folder=$(trace $((12500 / scale)) $((1000000 / scale)) 75)
+    echo '| What is done | Elapsed | Processor | Memory |'
+    echo '|---|---|---|---|'
+    part '`replay`' "$folder" replay
+    if [ -w /dev/shm ]; then
+        kept_anew "$folder" "$memory" ' in memory'
+        rm -f "$memory" "$memory-wal"
+    fi
+    kept_anew "$folder" "$base" ''
+    part '`resume` of the whole file' "$folder" resume --kept "$base"
+    part '`audit` of it' "$folder" audit --kept "$base"
+    echo
+    echo "The file has $(($(stat -c %s "$base") / 1048576)) MiB: $(tail -c 2000 "$data/kept-report" | sed -n 's/^entries \([0-9]*\) rounds \([0-9]*\)$/\1 entries of \2 rounds/p')."
+}
+
+# A line: a run that is kept in a new file, each time it is made.
+kept_anew() { # FOLDER FILE WHERE
+    local seconds
+    # shellcheck disable=SC2016
+    seconds=$(timed "$1" "$data/kept-report" sh -c 'rm -f "$1" "$1-wal"; exec "$0" resume --kept "$1"' "$program" "$2")
+    echo "| \`resume\` into a new file$3 | $(cells "$seconds") |"
+}
+
+sections=(scales parts rows machines schedulers words threads shapes chosen plans kept)
 
 # Puts what each section prints between that section's marks on the page, and the date and the processor above.
 page() {

@@ -18,10 +18,8 @@ usage() {
 tests=$(dirname "$(readlink -f "${BASH_SOURCE[0]}")") || exit 2
 root=$(dirname "$tests")
 [ $# -gt 0 ] || usage
-built=true
 small=false
 if [ "$1" = --reference ]; then
-    built=false
     small=true
     program=(python3 "$root/reference/omega.py")
 else
@@ -39,7 +37,6 @@ mkdir "$scratch/empty"
 echo "omega: the words are refused" >"$scratch/refusal"
 passed=0
 failed=0
-waiting=0
 large=0
 
 # Runs the program in a folder with these words; what it writes goes to files. Answers its status.
@@ -164,21 +161,14 @@ try_texts() {
     done <"$1"
 }
 
-# Whether a case is of a subject that the program can't answer yet, as its file `not-yet` says.
-is_early() {
-    $built && [ -f "${1%/*}/not-yet" ]
-}
-
 # Whether a case is too large for this run.
 is_too_large() {
     $small && [ -f "$1/make.sh" ]
 }
 
-# Counts a folder's case, unless it is early or too large.
+# Counts a folder's case, unless it is too large.
 try_folder() {
-    if is_early "$1"; then
-        waiting=$((waiting + 1))
-    elif is_too_large "$1"; then
+    if is_too_large "$1"; then
         large=$((large + 1))
     else
         count "$(realpath --relative-to="$root" "$1")" "$(faults_in "$1")"
@@ -194,6 +184,5 @@ while IFS= read -r -d '' file; do
     esac
 done < <(find "$@" -type f \( -name words -o -name refused -o -name texts \) -print0 | sort -z)
 [ "$large" = 0 ] || echo "$large cases are of large tables, and were passed over"
-[ "$waiting" = 0 ] || echo "$waiting cases are of commands that are still to come, and were passed over"
 echo "$passed passed, $failed failed"
 [ "$failed" -eq 0 ] && [ "$passed" -gt 0 ]

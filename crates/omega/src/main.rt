@@ -2,12 +2,12 @@
 //! it.
 //!
 //! A thin program over `omega_top`: it makes the real tables, the real sink, a gate that lets all pass and
-//! a keeper in memory, and calls the top call with its words.
+//! a keeper over a file, and calls the top call with its words.
 #![tactic(auto)]
 
 use omega_io::{FolderTables, PassGate, StdoutSink};
-use omega_keep::MemoryKeeper;
 use omega_model::{NoMemory, Status};
+use omega_sqlkeep::FileKeeper;
 use omega_top::{exit_status, fault_line, omega};
 use std::env;
 use std::io::ErrorKind;
@@ -16,7 +16,7 @@ use std::process::ExitCode;
 fn main(rt: HostRuntime) -> ExitCode {
     let mut tables = FolderTables::new(&rt);
     let mut out = StdoutSink::new(&rt);
-    let mut keeper = MemoryKeeper::new(rt.alloc());
+    let mut keeper = FileKeeper::new(&rt);
     let status = match arguments(&rt) {
         Ok(texts) => match words_of(&rt, texts.as_slice()) {
             Ok(words) => {
@@ -36,6 +36,8 @@ fn main(rt: HostRuntime) -> ExitCode {
         },
         Err(status) => status,
     };
+    // What is kept stays kept where this fails: then a part of it is in the log beside the file.
+    let _ = keeper.close();
     let line = fault_line(&status);
     if !line.as_bytes().is_empty() {
         // Where even this can't be written, the exit status still tells.

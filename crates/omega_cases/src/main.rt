@@ -1,4 +1,4 @@
-//! Cases of the calls that read text and compute: reads lines of calls, and prints the answer of each.
+//! Cases of the calls that read words and lines, and compute: reads lines of calls, and prints the answer of each.
 //!
 //! A line is words: a subject, a call of it, and what the call is given. A line that begins with `#`
 //! and one without a byte are printed as they are, so that cases can have headings.
@@ -8,7 +8,6 @@ mod attrs;
 mod fit;
 mod keep;
 mod mapreduce;
-mod tables;
 mod units;
 mod words;
 
@@ -51,7 +50,6 @@ fn answer_words(alloc: Global, words: &[Bytes]) -> Result<String, Fault> {
         "fit" => fit::answer(alloc, call, rest),
         "keep" => keep::answer(alloc, call, rest),
         "mapreduce" => mapreduce::answer(alloc, call, rest),
-        "tables" => tables::answer(alloc, call, rest),
         "units" => units::answer(alloc, call, rest),
         "words" => words::answer(alloc, call, rest),
         _ => Err(Fault::UnknownCall),

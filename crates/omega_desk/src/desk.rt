@@ -1,15 +1,17 @@
 //! The desk.
-ghost use Rattle.std.specs.Prelude.{◌≡◌, ◌+◌, ◌<◌, ◌^◌, [], Some, length, option_map, slice_get, OnOk, OnErr};
-ghost use Rattle.std.specs.List.{All};
+ghost use Rattle.std.specs.Prelude.{◌≡◌, ◌+◌, ◌<◌, ◌^◌, ℕ, [], Some, length, option_map, slice_get, OnOk, OnErr};
+ghost use Rattle.std.specs.List.{All, list_any};
 ghost use Rattle.omega_model.specs.Draws.{drawn_start};
-ghost use Rattle.omega_model.specs.Work.{after_outcomes, fresh};
-ghost use Rattle.omega_desk.specs.Counts.{count_of};
+ghost use Rattle.omega_model.specs.Touches.{is_placed};
+ghost use Rattle.omega_model.specs.Work.{after_outcomes, failing_after, failing_with, fresh};
+ghost use Rattle.omega_model.specs.declared.wishes.Request.{Request};
+ghost use Rattle.omega_desk.specs.Counts.{count_of, IsCounted, KeepsCounts, KeepsRoom};
 ghost use Rattle.omega_desk.specs.Desks.{AnswersFirst, IsSameDesk, left_at, still_tried};
 ghost use Rattle.omega_desk.specs.Walks.{HasDistinctWishes};
 
 use crate::failures::Failures;
 use crate::walk::{ends_request, rest_of};
-use omega_model::{NoMemory, Reply, Request, Requests, Settings};
+use omega_model::{NoMemory, Outcome, Reply, Request, Requests, Settings};
 use rand_pcg::Lcg64Xsh32;
 use rand_pcg::rand_core::utils::NextWord;
 use std::alloc::Global;
@@ -37,9 +39,9 @@ impl Model for Desk {
 
     ghost Value = { DeskState };
 
-    ghost view = { λ d. record { settings = d.settings; scheduler = d.scheduler; attempts = d.attempts; requests = option_to_list d.present ++ d.waiting.items; taken = d.taken; counts = d.failures.counts.entries } };
+    ghost view = { λ d. record { settings = d.settings; scheduler = d.scheduler; attempts = d.attempts; requests = option_to_list d.present ++ d.waiting.items; taken = d.taken; counts = d.failures } };
 
-    ghost invariant = { λ d. IsDesk d.present d.waiting.items d.attempts d.taken d.failures.counts.entries };
+    ghost invariant = { λ d. IsDesk d.present d.waiting.items d.attempts d.taken d.failures };
 }
 
 impl Desk {
@@ -75,7 +77,7 @@ impl Desk {
         ensures err { OnErr result (left_at self.new ≡ fresh (left_at self.old).failing []) }
     {
         let requests = still_tried(requests, &self.failures, &self.settings);
-        self.failures.reserve(requests.as_slice())?;
+        reserve(&mut self.failures, requests.as_slice())?;
         self.waiting = VecDeque::from(requests);
         self.present = self.waiting.pop_front();
         Ok(())
@@ -127,7 +129,7 @@ impl Desk {
         let outcomes = reply.outcomes.as_slice();
         self.attempts += 1;
         self.taken += 1;
-        let failing = self.failures.note(request.job, outcomes);
+        let failing = note(&mut self.failures, request.job, outcomes);
         let rest = rest_of(request, outcomes);
         if ends_request(&self.settings, self.taken, failing, &rest, outcomes) {
             self.taken = 0;
@@ -140,9 +142,38 @@ impl Desk {
 
 // The requests of jobs that aren't given up.
 fn still_tried(requests: Requests, failures: &Failures, settings: &Settings) -> Vec<Request>
-    ensures { result.items ≡ still_tried settings.now (count_of failures.now.counts.entries) requests }
+    ensures { result.items ≡ still_tried settings.now (count_of failures.now) requests }
 {
     let mut open = requests.into_items();
     open.retain(|request| failures.of(request.job) < u64::from(settings.give_up));
     open
+}
+
+// Makes room for the counts of the jobs of these requests.
+fn reserve(failures: &mut Failures, requests: &[Request]) -> Result<(), NoMemory>
+    ensures counts { KeepsCounts failures.old failures.new }
+    ensures room { OnOk result (All (λ (request : Request). IsCounted failures.new request.job) requests.now) }
+{
+    for request in requests {
+        failures.reserve(request.job)?;
+    }
+    Ok(())
+}
+
+// One more commit for a job, with these outcomes. Answers the job's count after it.
+fn note(failures: &mut Failures, job: u64, outcomes: &[Outcome]) -> u64
+    requires room { IsCounted failures.old job }
+    requires few { count_of failures.old job + 1 < 2 ^ 64 }
+    ensures count { result ≡ failing_after (count_of failures.old job) outcomes.now }
+    ensures counts { (other : ℕ) → count_of failures.new other ≡ failing_with (count_of failures.old) job outcomes.now other }
+    ensures others { KeepsRoom failures.old failures.new }
+{
+    failures.note(job, places_any(outcomes))
+}
+
+// Whether outcomes place a task.
+fn places_any(outcomes: &[Outcome]) -> bool
+    ensures { result ≡ list_any (λ outcome. is_placed outcome.verdict) outcomes.now }
+{
+    outcomes.iter().any(|outcome| outcome.verdict.is_placed())
 }

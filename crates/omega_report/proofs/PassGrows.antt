@@ -21,14 +21,13 @@ use Rattle.omega_model.specs.declared.settings.Command.TheVariants.{Replay, Run,
 use Rattle.omega_model.specs.declared.settings.Format.{Format}
 use Rattle.omega_model.proofs.Growing.{state_push}
 use Rattle.omega_model.proofs.Standing.{failed_push}
-use Rattle.omega_report.specs.Failing.{count_of}
+use Rattle.omega_desk.specs.Counts.{count_of}
 use Rattle.omega_report.specs.Lines.{stop_line, usage_line}
 use Rattle.omega_report.specs.Noted.{IsAhead, usage_if}
 use Rattle.omega_report.specs.declared.ahead.Ahead.{Ahead}
 use Rattle.omega_report.specs.Pages.{PageState}
 use Rattle.omega_report.specs.Passing.{if_printed, lines_to, prints_rounds, use_if, IsAfter}
 use Rattle.omega_report.specs.Tallies.{tallies}
-use Rattle.omega_report.specs.declared.failures.Failures.{Failures}
 use Rattle.omega_report.specs.declared.pass.Pass.{Pass}
 
 -- the lines of the tasks that an entry displaces, by their names
@@ -59,7 +58,7 @@ none_printed true = refl
 none_printed false = refl
 
 -- a pass before the first entry
-pub after_none : (schedulers : ℕ) (page : PageState) (prints : Bool) (history : List Entry) (tally : List Counts) (failures : Failures)
+pub after_none : (schedulers : ℕ) (page : PageState) (prints : Bool) (history : List Entry) (tally : List Counts) (failures : List (ℕ × ℕ))
     → tally ≡ tallies schedulers [] → ((job : ℕ) → count_of failures job ≡ 0)
     → IsAfter schedulers page.format (page.lines ++ if_printed prints (lines_to history 0)) (take 0 history)
     (record { page = page; tally = tally; failures = failures })
@@ -169,7 +168,7 @@ module _ (schedulers : ℕ) (format : Format) (start : List Line) (prints : Bool
             ∙ ap (λ (ls : List Line). (ls ++ if_printed prints (lines_on (state (take n history)) entry)) ++ use_if (prints && ends) (state (take (n + 1) history))) so.printed
             ∙ printed_more prints history n entry start below is;
         counted = uses.tally ∙ takes.tally schedulers (take n history) so.counted ∙ ap (tallies schedulers) more;
-        failing = λ job. ap (λ (f : Failures). count_of f job) uses.failures ∙ takes.failures job
+        failing = λ job. ap (λ (f : List (ℕ × ℕ)). count_of f job) uses.failures ∙ takes.failures job
             ∙ ap (λ (k : ℕ). failed_after job k entry) (so.failing job)
             ∙ sym (failed_push (take n history) entry job) ∙ ap (λ (h : List Entry). failed h job) more;
       }

@@ -1,6 +1,6 @@
 -- What a history comes to, on the page.
 use Rattle.std.proofs.Common.{◌≡◌, ℕ, zero, suc, ◌+◌, ◌<◌, ◌≤◌, Bool, List, [], ◌∷◌, ◌++◌, map, drop, length, get_or, refl, sym, ap, ap₂, ◌∙◌, append-nil, append_assoc, nat_le}
-use Rattle.std.specs.Prelude.{count_by, Result, Ok, Err, IfOk}
+use Rattle.std.specs.Prelude.{count_by}
 use Rattle.std.specs.List.{filter, range_with_len}
 use Rattle.std.proofs.lemmas.List.{drop_all, drop_more}
 use Rattle.std.proofs.lemmas.List.FromFn.{length-map-range_with_len}

@@ -9,5 +9,4 @@ pub mod Readings
 pub mod Spelling
 pub mod Tallies
 pub mod Writing
-pub mod Failing
 pub mod Passing

@@ -10,8 +10,8 @@ use Rattle.omega_model.specs.declared.entries.Entry.TheVariants.{Round}
 use Rattle.omega_model.specs.declared.settings.Command.{Command}
 use Rattle.omega_model.specs.declared.settings.Command.TheVariants.{Replay, Run, Generate, Simulate, Resume, Audit}
 use Rattle.omega_model.specs.declared.settings.Format.{Format}
+use Rattle.omega_desk.specs.Counts.{count_of}
 use Rattle.omega_report.specs.Counted.{counts_in}
-use Rattle.omega_report.specs.Failing.{count_of}
 use Rattle.omega_report.specs.Tallies.{tallies}
 use Rattle.omega_report.specs.declared.counts.Counts.{Counts as HeldCounts}
 use Rattle.omega_report.specs.declared.pass.Pass.{Pass}

@@ -1,8 +1,9 @@
 //! The lines of commits and their claims.
-ghost use Rattle.std.specs.Prelude.{◌≡◌, ◌∷◌, ◌++◌, [], map, IsTrue, OnOk};
+ghost use Rattle.std.specs.Prelude.{◌≡◌, ◌∷◌, ◌++◌, false, [], map, IsTrue, OnOk};
 ghost use Rattle.std.specs.List.{flat_map, zip};
 ghost use Rattle.omega_model.specs.Report.{Name, Number, claim_lines, entry_lines, evict_line, place_line, refuse_line};
 ghost use Rattle.omega_model.specs.ReportForms.{is_plain};
+ghost use Rattle.omega_model.specs.Touches.{is_placed};
 ghost use Rattle.omega_report.specs.Lines.{refusal_line};
 ghost use Rattle.omega_model.specs.declared.entries.Entry.{Entry};
 
@@ -37,10 +38,7 @@ impl Page {
         ensures format { self.new.format ≡ self.old.format }
         ensures lines { OnOk result (self.new.lines ≡ self.old.lines ++ flat_map claim_lines (zip claims.now reply.now)) }
     {
-        for (i, claim) in claims.iter().enumerate() {
-            let Some(judgement) = reply.get(i) else {
-                return Ok(());
-            };
+        for (claim, judgement) in claims.iter().zip(reply) {
             self.claim(claim, judgement)?;
         }
         Ok(())
@@ -77,13 +75,14 @@ impl Page {
 
     // The line of a claim that isn't placed, with its reason.
     fn refused(&mut self, claim: &Claim, verdict: Verdict) -> Result<(), NoMemory>
+        requires unplaced { is_placed verdict ≡ false }
         ensures format { self.new.format ≡ self.old.format }
         ensures lines { OnOk result (self.new.lines ≡ self.old.lines ++ refuse_line claim.now verdict ∷ []) }
     {
         let name = Name("refuse");
         let [job, index, machine] = task_words(claim.key, claim.machine);
         match verdict {
-            Verdict::Placed => self.append(&[name, job, index, machine]),
+            Verdict::Placed => unreachable!(),
             Verdict::NoMachine => self.append(&[name, job, index, machine, Name("no-machine")]),
             Verdict::AlreadyRunning(on) => self.refused_with(claim, "running", on),
             Verdict::Changed { now, copy } => self.append(&[

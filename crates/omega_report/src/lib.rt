@@ -12,7 +12,6 @@ mod audited;
 mod claims;
 mod counts;
 mod entry_lines;
-mod failures;
 mod json_of_text;
 mod judgements;
 mod laws;

@@ -1,23 +1,24 @@
 //! One pass over a history.
 ghost use Rattle.std.specs.Prelude.{◌≡◌, ◌++◌, ◌∷◌, ◌&&◌, ◌≤◌, ℕ, List, [], IfOk, OnOk, slice_get};
 ghost use Rattle.omega_cell.specs.Effects.{AreEffects};
+ghost use Rattle.omega_desk.specs.Counts.{count_of, Notes};
 ghost use Rattle.omega_model.specs.Cell.{Cell, keys_of};
 ghost use Rattle.omega_model.specs.Policy.{schedulers};
 ghost use Rattle.omega_model.specs.ReportLines.{is_round_end, lines_on, middle_lines};
 ghost use Rattle.omega_model.specs.Requests.{failed_after};
 ghost use Rattle.omega_model.specs.State.{displaced};
 ghost use Rattle.omega_model.specs.declared.entries.Entry.{Entry};
-ghost use Rattle.omega_report.specs.Failing.{count_of};
 ghost use Rattle.omega_report.specs.Noted.{usage_if};
 ghost use Rattle.omega_report.specs.Passing.{if_printed, prints_rounds, IsAfter};
 ghost use Rattle.omega_report.specs.Tallies.{tallies};
 
 use crate::ahead::Ahead;
 use crate::entry_lines::push_entry;
-use crate::failures::Failures;
+use crate::judgements::places_some;
 use crate::page::Page;
 use crate::tally::Tally;
 use omega_cell::{Effects, Usage};
+use omega_desk::Failures;
 use omega_model::{Command, Entry, NoMemory, Settings, TaskKey};
 use std::alloc::Global;
 
@@ -70,7 +71,7 @@ impl Pass {
     {
         push_entry(&mut self.page, prints, entry, stopped)?;
         self.tally.note(entry)?;
-        self.failures.note(entry)?;
+        note_entry(&mut self.failures, entry)?;
         Ok(())
     }
 
@@ -87,6 +88,31 @@ impl Pass {
         self.page.usage(usage.used, usage.capacity)?;
         Ok(())
     }
+}
+
+// Notes the next entry, which counts for its job if it is a commit. So many commits that a count can't
+// hold them don't fit into memory either.
+fn note_entry(failures: &mut Failures, entry: &Entry) -> Result<(), NoMemory>
+    ensures { OnOk result ((job : ℕ) → count_of failures.new job ≡ failed_after job (count_of failures.old job) entry.now) }
+{
+    match entry {
+        Entry::Commit { txn, reply, .. } => {
+            note_commit(failures, txn.job, places_some(reply.as_slice()))
+        }
+        _ => Ok(()),
+    }
+}
+
+// One more commit for a job, which placed something or nothing.
+fn note_commit(failures: &mut Failures, job: u64, placed: bool) -> Result<(), NoMemory>
+    ensures { OnOk result (Notes failures.old failures.new job placed) }
+{
+    if failures.of(job) == u64::MAX {
+        return Err(NoMemory);
+    }
+    failures.reserve(job)?;
+    failures.note(job, placed);
+    Ok(())
 }
 
 // Whether a command prints the lines of the rounds.

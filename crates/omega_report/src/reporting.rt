@@ -1,6 +1,7 @@
 //! The report of a history.
 ghost use Rattle.std.specs.Prelude.{◌≡◌, ◌++◌, ◌<◌, ◌≤◌, ◌^◌, List, IfOk, OnOk, count_by, length, nat_le};
 ghost use Rattle.omega_cell.specs.Effects.{AreEffects, usage_in};
+ghost use Rattle.omega_desk.specs.Counts.{count_of};
 ghost use Rattle.omega_feed.specs.Left.{IsLeft};
 ghost use Rattle.omega_model.specs.Lawful.{Lawful};
 ghost use Rattle.omega_model.specs.Policy.{schedulers};
@@ -11,14 +12,13 @@ ghost use Rattle.omega_model.specs.State.{state};
 ghost use Rattle.omega_model.specs.declared.entries.Entry.{Entry};
 ghost use Rattle.omega_model.specs.declared.rows.TraceTables.{TraceTables};
 ghost use Rattle.omega_model.specs.declared.settings.Format.{Format as Form};
-ghost use Rattle.omega_report.specs.Failing.{count_of};
 ghost use Rattle.omega_report.specs.Passing.{begins_round, lines_of_all, IsAfter};
 
 use crate::counts::Counts;
-use crate::failures::Failures;
 use crate::page::Page;
 use crate::pass::{Pass, passed};
 use omega_cell::{Effects, Usage};
+use omega_desk::Failures;
 use omega_feed::WaitingTasks;
 use omega_model::{Bytes, Entry, Format, NoMemory, Settings};
 use std::alloc::Global;

@@ -37,3 +37,7 @@ pub mod RunOn
 pub mod Reopened
 pub mod PlansKept
 pub mod Planning
+pub mod KeptRounds
+pub mod RoundStarts
+pub mod ResumedRounds
+pub mod AnsweredEntries

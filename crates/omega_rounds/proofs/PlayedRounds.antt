@@ -1,7 +1,7 @@
 -- Rounds that are played one after the other.
 use Rattle.std.proofs.Common.{◌≡◌, ◌<◌, ℕ, zero, suc, List, ◌++◌, length, take, refl, sym, ap, subst, arith, ◌∙◌, add-one}
 use Rattle.std.proofs.lemmas.Option.{none-some}
-use Rattle.omega_model.specs.Lawful.{rows_of}
+use Rattle.omega_model.specs.Lawful.{RoundOf, rows_of}
 use Rattle.omega_model.specs.Stepping.{BeginsRound}
 use Rattle.omega_model.specs.Turns.{InTurns}
 use Rattle.omega_model.specs.declared.entries.Entry.{Entry}
@@ -34,7 +34,7 @@ turns_now start now has begins = by now.stage.begun refl
     by (suc n) some = has.turns (omega (arith, some))
 
 -- the first turn of the next round begins
-begins_turn : (now next : WorldState) (number : ℕ) → InTurns now.history → (reaches : ReachesRound now next number)
+pub begins_turn : (now next : WorldState) (number : ℕ) → InTurns now.history → (reaches : ReachesRound now next number)
     → (trace : TraceTables) → IsInRunOf now.stage trace → OpensRound trace now next
     → BeginsTurn trace (rows_begun now.stage) now.history reaches.round next 0
 begins_turn now next number turns reaches trace made opens =
@@ -63,10 +63,11 @@ pub played_more : (start now next after : WorldState) (number : ℕ) → HasPlay
     → HasPlayed start after
 played_more start now next after number has begins made reaches opens stage plays =
     let there : after.stage ≡ next_stage now.stage (length next.history) = stage ∙ reaches.stage in
-    let played : (trace : TraceTables) → IsInRunOf now.stage trace → InTurns after.history × IsRoundOver trace after =
+    let played : (trace : TraceTables) → IsInRunOf now.stage trace
+    → InTurns after.history × (IsRoundOver trace after × RoundOf after.stage.settings trace (rows_begun now.stage) now.history reaches.round after.history) =
     λ trace made. plays trace (rows_begun now.stage) now.history reaches.round (begins_turn now next number (turns_now start now has begins) reaches trace made (opens trace made)) in
     record {
       ended = ended_more start now next after number has.ended reaches stage
-          (λ trace made. (played trace (subst (λ (s : Stage). IsInRunOf s trace) there made)).1);
+          (λ trace made. (played trace (subst (λ (s : Stage). IsInRunOf s trace) there made)).1.0);
       turns = λ some. (played made.0 made.1).0;
     }

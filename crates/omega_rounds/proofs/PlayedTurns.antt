@@ -18,6 +18,7 @@ use Rattle.omega_rounds.specs.Stages.{IsInRunOf, Stage, WorldState, rows_begun, 
 use Rattle.omega_rounds.specs.Taking.{Taking}
 use Rattle.omega_rounds.specs.declared.steps.Stepped.{Stepped}
 use Rattle.omega_rounds.specs.declared.steps.Stepped.TheVariants.{Synced, Committed, Idle}
+use Rattle.omega_laws.proofs.RoundGrows.{round_ends}
 use Rattle.omega_rounds.proofs.TwoPasses.{commit_last, commit_step, commits_only, idle_more, sync_first, sync_last, sync_step}
 
 -- a step in the run of each trace in whose run a stage is
@@ -193,4 +194,8 @@ pub turns_last : (old now new : WorldState) → TakesTurns old now → TakesTurn
 turns_last old now new takes turn trace before start round begins =
     let so_far = takes trace before start round begins in
     let last = turn trace before start round so_far.0 so_far.1 in
-    (last.0.taking.turns, last.1 refl)
+    let over : IsRoundOver trace new = last.1 refl in
+    let idle : NobodyHasWork new.stage.settings trace (before ++ round.rows) (length (opened trace before start round).history) new.history =
+    subst (λ (n : ℕ). NobodyHasWork new.stage.settings trace (before ++ round.rows) n new.history) last.0.now.opened
+    (subst (λ (rs : List Row). NobodyHasWork new.stage.settings trace rs new.stage.opened_at new.history) last.0.now.rows over) in
+    (last.0.taking.turns, (over, round_ends new.stage.settings trace before start round new.history last.0.taking.so_far idle))

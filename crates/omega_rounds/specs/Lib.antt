@@ -15,3 +15,4 @@ pub mod Players
 pub mod PlayingOn
 pub mod Closed
 pub mod Reopening
+pub mod Resuming

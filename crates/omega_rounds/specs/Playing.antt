@@ -1,6 +1,6 @@
 -- A world in which the schedulers take turns.
 use Rattle.std.specs.Prelude.{◌≡◌, ◌+◌, ℕ, Bool, true, false, List, [], ◌++◌, length}
-use Rattle.omega_model.specs.Lawful.{opened}
+use Rattle.omega_model.specs.Lawful.{RoundOf, opened}
 use Rattle.omega_model.specs.Policy.{schedulers}
 use Rattle.omega_model.specs.Turns.{InTurns}
 use Rattle.omega_model.specs.World.{NobodySynced}
@@ -71,9 +71,10 @@ TakesTurnFrom old new committed =
     → BeginsTurn trace before start round new (turn + 1)
     × (committed ≡ false → IsRoundOver trace new)
 
--- whenever a round's first turn begins in one world, the other's history is in turns and its round over
+-- whenever a round's first turn begins in one world, the other's history is in turns, its round is over, and
+-- its history is that of the whole round
 abbrev pub PlaysRound : WorldState → WorldState → Type 0
 PlaysRound old new =
     (trace : TraceTables) (before : List Row) (start : List Entry) (round : Round)
     → BeginsTurn trace before start round old 0
-    → InTurns new.history × IsRoundOver trace new
+    → InTurns new.history × (IsRoundOver trace new × RoundOf new.stage.settings trace before start round new.history)

@@ -3,16 +3,18 @@
 //! A world is a cell that schedulers share, with a desk for each of them. Where they take steps of the
 //! world, each plans on the cell's own board when it syncs; on a thread of its own it has a private copy of
 //! the cell. Whatever steps they do in whatever order, its history is lawful so far; `in_turns` runs it
-//! to the end with the schedulers in turns, `in_time` by a virtual clock, `on_threads` with a thread for
-//! each.
+//! to the end with the schedulers in turns, `resume_turns` does so and keeps the lines of the history,
+//! `in_time` runs it by a virtual clock, `on_threads` with a thread for each.
 #![tactic(auto)]
 
 mod clock;
+mod kept;
 mod opening;
 mod planned;
 mod plans;
 mod player;
 mod reopening;
+mod resume;
 mod seat;
 mod steps;
 mod threads;
@@ -21,6 +23,8 @@ mod turns;
 mod world;
 
 pub use clock::in_time;
+pub use kept::ResumeRefusal;
+pub use resume::resume_turns;
 pub use steps::{RoundStep, Stepped};
 pub use threads::on_threads;
 pub use turns::in_turns;

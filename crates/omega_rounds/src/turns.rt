@@ -39,8 +39,8 @@ pub fn in_turns(world: World) -> Result<World, NoMemory>
     }
 }
 
-// Plays the round that is under way to its end.
-fn play_round(world: World) -> Result<World, NoMemory>
+/// Plays the round that is under way to its end. Where memory runs out the world is gone. Costs its attempts.
+pub(crate) fn play_round(world: World) -> Result<World, NoMemory>
     ensures stage { IfOk result (λ after. after.stage ≡ world.stage) }
     ensures plays { IfOk result (λ after. PlaysRound world after) }
 {

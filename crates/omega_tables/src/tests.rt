@@ -1,5 +1,5 @@
 //! Tables that are read in pieces of any size and that fail. What each column may hold, the limits and
-//! all other cases are lines of `crates/omega_cases/stdin`.
+//! all other cases are lines of `crates/omega_table_cases/stdin`.
 ghost use Rattle.std.specs.Prelude.{◌<◌};
 
 use crate::{ReadRefusal, read_tables};

@@ -10,3 +10,5 @@ pub mod Ordering
 pub mod Unread
 pub mod Timing
 pub mod Written
+pub mod GoneOn
+pub mod NewWorlds

@@ -7,7 +7,7 @@ use Rattle.omega_model.specs.declared.rows.Table.{Table}
 use Rattle.omega_model.specs.declared.settings.Command.{Command}
 use Rattle.omega_model.specs.declared.settings.Command.TheVariants.{Audit, Generate, Replay, Resume, Run, Simulate}
 use Rattle.omega_model.specs.declared.settings.Settings.{Settings}
-use Rattle.omega_top.specs.Commands.{makes_tables, reads_tables}
+use Rattle.omega_top.specs.Commands.{makes_tables, reads_tables, uses_keeper}
 use Rattle.omega_top.specs.Reads.{Reads, ReadsBy, left_by}
 
 entered_by : (command : Command) (made : Table → List ℕ) (rest rest_now : Table → Option (List ℕ)) (bytes : Table → List ℕ)
@@ -52,6 +52,20 @@ module _ (settings : Settings) (rest : Table → Option (List ℕ)) (bytes : Tab
 
   pub audit_reads_none : settings.command ≡ Audit → ⊥
   audit_reads_none is = subst (λ (command : Command). ReadsBy command (generated settings.seed settings.machines settings.jobs) rest bytes) is reads
+
+alone_by : (command : Command) (made : Table → List ℕ) (rest : Table → Option (List ℕ)) (bytes : Table → List ℕ)
+    → (command ≡ Resume → ⊥) → ReadsBy command made rest bytes → uses_keeper command ≡ false
+alone_by Generate made rest bytes other reads = refl
+alone_by Audit made rest bytes other reads = absurd reads
+alone_by Replay made rest bytes other reads = refl
+alone_by Run made rest bytes other reads = refl
+alone_by Simulate made rest bytes other reads = refl
+alone_by Resume made rest bytes other reads = absurd (other refl)
+
+-- a command that reads tables uses no keeper, but for `resume`
+pub reads_alone : (settings : Settings) (rest : Table → Option (List ℕ)) (bytes : Table → List ℕ) → (settings.command ≡ Resume → ⊥)
+    → Reads settings rest bytes → uses_keeper settings.command ≡ false
+reads_alone settings = alone_by settings.command (generated settings.seed settings.machines settings.jobs)
 
 -- a command that neither makes its tables nor is an audit reads those that it is handed
 pub must_read : (command : Command) → makes_tables command ≡ false → (command ≡ Audit → ⊥) → reads_tables command ≡ true

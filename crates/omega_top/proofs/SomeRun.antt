@@ -28,7 +28,7 @@ whole_commits settings trace history (BadKept number) whole = tt
 whole_commits settings trace history KeepFault whole = tt
 
 -- a trace without rows is within the limits
-no_rows-within : IsWithinLimits no_rows
+pub no_rows-within : IsWithinLimits no_rows
 no_rows-within = record { rows = omega arith; machines = omega arith }
 
 -- a run that a refusal of the reading ends is one of a trace without rows

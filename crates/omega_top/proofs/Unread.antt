@@ -5,10 +5,11 @@ use Rattle.omega_model.specs.Trace.{place_of}
 use Rattle.omega_model.specs.declared.results.Status.{Status}
 use Rattle.omega_model.specs.declared.results.Status.TheVariants as status
 use Rattle.omega_model.specs.declared.rows.Table.{Table}
+use Rattle.omega_model.specs.declared.settings.Command.{Command}
 use Rattle.omega_tables.specs.Reading.{CameTo, StoppedIn, status_of}
 use Rattle.omega_tables.specs.declared.refusal.ReadRefusal.{ReadRefusal}
 use Rattle.omega_tables.specs.declared.refusal.ReadRefusal.TheVariants.{Fault, TooLong, BadRow, TooMany, NoMemory}
-use Rattle.omega_top.specs.Answers.{EndsRun}
+use Rattle.omega_top.specs.Resumes.{EndsBy}
 use Rattle.omega_top.specs.Unread.{AreUntouched, ReadsNoFurther}
 
 -- tables of which nothing is done are untouched
@@ -35,17 +36,17 @@ module _ (rest rest_now : Table → Option (List ℕ)) (count count_now : Table 
   stops_there NoMemory came = tt
 
   -- a run whose tables were read refuses none of them
-  pub ends_no_further : (status : Status) → EndsRun status → ReadsNoFurther rest rest_now count count_now status
-  ends_no_further status.Done ends = tt
-  ends_no_further status.WriteFault ends = tt
-  ends_no_further status.NoMemory ends = tt
-  ends_no_further status.Usage ends = absurd ends
-  ends_no_further (status.ReadFault table) ends = absurd ends
-  ends_no_further (status.TooLong table) ends = absurd ends
-  ends_no_further (status.BadRow table row column cause) ends = absurd ends
-  ends_no_further (status.TooMany kind number) ends = absurd ends
-  ends_no_further (status.BadKept number) ends = absurd ends
-  ends_no_further status.KeepFault ends = absurd ends
+  pub ends_no_further : (command : Command) (status : Status) → EndsBy command status → ReadsNoFurther rest rest_now count count_now status
+  ends_no_further command status.Done ends = tt
+  ends_no_further command status.WriteFault ends = tt
+  ends_no_further command status.NoMemory ends = tt
+  ends_no_further command (status.BadKept number) ends = tt
+  ends_no_further command status.KeepFault ends = tt
+  ends_no_further command status.Usage ends = absurd ends
+  ends_no_further command (status.ReadFault table) ends = absurd ends
+  ends_no_further command (status.TooLong table) ends = absurd ends
+  ends_no_further command (status.BadRow table row column cause) ends = absurd ends
+  ends_no_further command (status.TooMany kind number) ends = absurd ends
 
 -- entering a folder leaves what is told of the tables, and so how far the reading came
 module _ (rest rest_then rest_now : Table → Option (List ℕ)) (count count_then count_now : Table → ℕ)

@@ -22,7 +22,7 @@ abbrev pub NeverOvercommits : List Entry → Type 0
 NeverOvercommits history = (n : ℕ) → Sound (state (take n history))
 
 -- what may be answered of tables that tell these bytes: the first refusal of theirs, a read that
--- fails before any of them, or, where there is none, how the run ended; and want of memory at any time
+-- fails before any of them, or, where there is none, how the run ended, also for what is kept; and want of memory at any time
 abbrev pub Answers : (Table → List ℕ) → Status → Type 0
 Answers bytes Done = first_refusal bytes ≡ None
 Answers bytes WriteFault = first_refusal bytes ≡ None
@@ -32,8 +32,8 @@ Answers bytes (ReadFault table) = refusal_before table bytes ≡ None
 Answers bytes (TooLong table) = first_refusal bytes ≡ Some (TooLong table)
 Answers bytes (BadRow table row column cause) = first_refusal bytes ≡ Some (BadRow table row column cause)
 Answers bytes (TooMany kind number) = first_refusal bytes ≡ Some (TooMany kind number)
-Answers bytes (BadKept number) = ⊥
-Answers bytes KeepFault = ⊥
+Answers bytes (BadKept number) = first_refusal bytes ≡ None
+Answers bytes KeepFault = first_refusal bytes ≡ None
 
 -- a fault of reading is answered only where the count of its table rose
 abbrev pub HasReadCause : (Table → ℕ) → (Table → ℕ) → Status → Type 0

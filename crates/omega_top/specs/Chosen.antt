@@ -3,7 +3,7 @@ use Rattle.std.specs.Prelude.{◌≡◌, ◌⊎◌, ℕ, true, List, Option}
 use Rattle.omega_io.specs.Edge.{Enters}
 use Rattle.omega_model.specs.PlainWords.{is_plain}
 use Rattle.omega_model.specs.WordSettings.{folder_of, settings_of}
-use Rattle.omega_model.specs.declared.settings.Command.TheVariants.{Audit}
+use Rattle.omega_model.specs.declared.settings.Command.TheVariants.{Audit, Resume}
 use Rattle.omega_model.specs.declared.settings.Settings.{Settings}
 use Rattle.omega_top.specs.Commands.{makes_tables}
 use Rattle.omega_words.specs.Built.{built_words}
@@ -34,3 +34,7 @@ MakesTables words = makes_tables (settings_in built_words words).command ≡ tru
 -- the words are those of an audit
 abbrev pub Audits : List (List ℕ) → Type 0
 Audits words = (settings_in built_words words).command ≡ Audit
+
+-- the words are those of a run that goes on from what is kept
+abbrev pub Resumes : List (List ℕ) → Type 0
+Resumes words = (settings_in built_words words).command ≡ Resume

@@ -26,6 +26,15 @@ reads_tables Resume = true
 reads_tables Generate = false
 reads_tables Audit = false
 
+-- whether a command uses what a keeper has
+abbrev pub uses_keeper : Command → Bool
+uses_keeper Resume = true
+uses_keeper Audit = true
+uses_keeper Replay = false
+uses_keeper Run = false
+uses_keeper Generate = false
+uses_keeper Simulate = false
+
 -- whether the schedulers of a command take turns
 abbrev pub takes_turns : Command → Bool
 takes_turns Replay = true

@@ -7,3 +7,4 @@ pub mod Chosen
 pub mod Reads
 pub mod Unread
 pub mod SoundHistory
+pub mod Resumes

@@ -4,6 +4,7 @@ ghost use Rattle.omega_keep.specs.Audited.{IsAudited};
 ghost use Rattle.omega_keep.specs.Keeping.{Rose};
 ghost use Rattle.omega_model.specs.declared.results.Status.TheVariants.{KeepFault, NoMemory as WantOfMemory};
 ghost use Rattle.omega_top.specs.Audits.{AuditStops, IsAuditOf, StopsAudit};
+ghost use Rattle.omega_top.specs.Resumes.{StopsLoading};
 ghost use Rattle.omega_top.specs.SoundHistory.{IsSoundHistory};
 
 use omega_cell::Cell;
@@ -40,10 +41,11 @@ pub fn audit_kept<P: Keeper>(alloc: Global, format: Format, keeper: &mut P) -> R
     }
 }
 
-// The lines that a keeper hands out.
-fn load<P: Keeper>(keeper: &mut P) -> Result<Lines, Status>
+/// The lines that a keeper hands out. Its list and path stay.
+pub fn load<P: Keeper>(keeper: &mut P) -> Result<Lines, Status>
     ensures lines { IfOk result (λ lines. IfSome (P.kept keeper.old) (λ list. lines ≡ list)) }
     ensures stops { IfErr result (StopsAudit (P.kept keeper.old)) }
+    ensures loading { IfErr result StopsLoading }
     ensures cause { IfErr result (λ status. status ≡ KeepFault → Rose (P.faults keeper.old) (P.faults keeper.new)) }
     ensures list { P.kept keeper.new ≡ P.kept keeper.old }
     ensures path { P.entered keeper.new ≡ P.entered keeper.old }

@@ -4,6 +4,7 @@
 mod auditing;
 mod replay;
 mod report;
+mod resuming;
 mod status;
 mod top;
 mod trace;

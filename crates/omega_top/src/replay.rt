@@ -70,6 +70,18 @@ pub fn replayed<R: Threads + Wait + Sync, G: Gate + Sync>(
     let world = World::new(alloc, settings, trace)?;
     let (world, times) = run_to_end(rt, settings.command, world, gate)?;
     let time = lines_of_time(alloc, settings, trace, &world, times)?;
+    Ok(whole_run(world, time)?)
+}
+
+/// The history of a world whose rounds are all over, what its entries did, and what waits at its end.
+pub fn whole_run(world: World, time: Option<Bytes>) -> Result<WholeRun, NoMemory>
+    ensures history { IfOk result (λ run. run.history ≡ world.history) }
+    ensures time { IfOk result (λ run. run.time ≡ time) }
+    ensures effects { IfOk result (λ run. AreEffects run.history run.effects) }
+    ensures sound { IfOk result (λ run. IsSoundHistory run.history) }
+    ensures left { (trace : TraceTables) → IsInRunOf world.stage trace → AllHaveBegun world.stage
+        → IfOk result (λ run. IsLeft trace (state run.history) run.left) }
+{
     let left = world.waiting()?;
     let (history, effects) = world.into_run();
     Ok(WholeRun {

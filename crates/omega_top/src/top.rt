@@ -10,20 +10,21 @@ ghost use Rattle.omega_model.specs.Trace.{trace_of};
 ghost use Rattle.omega_model.specs.Turns.{InTurns};
 ghost use Rattle.omega_model.specs.declared.results.Status.TheVariants.{KeepFault, Usage, WriteFault, NoMemory};
 ghost use Rattle.omega_model.specs.declared.rows.Table.{Table};
-ghost use Rattle.omega_model.specs.declared.settings.Command.TheVariants.{Audit, Run};
+ghost use Rattle.omega_model.specs.declared.settings.Command.TheVariants.{Audit, Resume, Run};
 ghost use Rattle.omega_top.specs.Answers.{Answers, EndsRun, HasHistory, HasReadCause, HasWholeCommits, IsOnlyRun, IsOrderedRun, IsSomeRun, IsWholeRun, IsWritten, NoneRose, Writes, WritesNothing};
 ghost use Rattle.omega_top.specs.Audits.{EntersKept, IsAudit, IsNotOfKept, IsUntouched, KeepsAudited};
-ghost use Rattle.omega_top.specs.Commands.{makes_tables, reads_tables, takes_turns};
-ghost use Rattle.omega_top.specs.Chosen.{AreChosenBy, AreTaken, Audits, EntersChosen, MakesTables};
+ghost use Rattle.omega_top.specs.Commands.{makes_tables, reads_tables, takes_turns, uses_keeper};
+ghost use Rattle.omega_top.specs.Chosen.{AreChosenBy, AreTaken, Audits, EntersChosen, MakesTables, Resumes};
 ghost use Rattle.omega_top.specs.Reads.{Reads, StayUnread, left_by};
+ghost use Rattle.omega_top.specs.Resumes.{EndsBy, IsResume, IsSomeResume, KeepsRounds, StaysAtKeeper};
 ghost use Rattle.omega_top.specs.SoundHistory.{IsSoundHistory};
 ghost use Rattle.omega_top.specs.Unread.{AreUntouched, ReadsNoFurther};
 ghost use Rattle.omega_words.specs.Built.{built_words};
 ghost use Rattle.omega_words.specs.Taken.{settings_in};
 
 use crate::auditing::audit_kept;
-use crate::replay::replayed;
 use crate::report::report_of_run;
+use crate::resuming::run_of;
 use crate::trace::trace_of_run;
 use omega_io::{Gate, Sink, Tables, write_all};
 use omega_keep::{Keeper, audited_lines_are_not_refused};
@@ -77,6 +78,7 @@ pub fn omega<R: Threads + Wait + Sync, T: Tables, K: Sink, G: Gate + Sync, P: Ke
     ensures write_fault { result.status ≡ WriteFault → Rose (K.faults out.old) (K.faults out.new) }
     ensures complete { (bytes : Table → List ℕ) → Reads (settings_in built_words (map (λ word. word.now) words.now)) (T.rest tables.old) bytes
         → first_refusal bytes ≡ None → NoneRose (T.faults tables.old) (T.faults tables.new) (K.faults out.old) (K.faults out.new)
+        → ¬ Resumes (map (λ word. word.now) words.now)
         → AreTaken (map (λ word. word.now) words.now) → (result.status ≡ Status.Done) ⊎ (result.status ≡ NoMemory) }
     ensures complete_made { MakesTables (map (λ word. word.now) words.now) → ¬ Rose (K.faults out.old) (K.faults out.new)
         → AreTaken (map (λ word. word.now) words.now) → (result.status ≡ Status.Done) ⊎ (result.status ≡ NoMemory) }
@@ -105,14 +107,26 @@ pub fn omega<R: Threads + Wait + Sync, T: Tables, K: Sink, G: Gate + Sync, P: Ke
     ensures complete_audit { Audits (map (λ word. word.now) words.now) → KeepsAudited (P.kept keeper.old)
         → ¬ RoseOfKeeper (P.faults keeper.old) (P.faults keeper.new) → ¬ Rose (K.faults out.old) (K.faults out.new)
         → AreTaken (map (λ word. word.now) words.now) → (result.status ≡ Status.Done) ⊎ (result.status ≡ NoMemory) }
-    ensures not_kept { IfSome result.settings (λ settings. settings.command ≢ Audit → IsNotOfKept result.status) }
+    ensures resume { (bytes : Table → List ℕ) → IfSome result.settings
+        (λ settings. settings.command ≡ Resume → Reads settings (T.rest tables.old) bytes
+        → IsResume settings (trace_of bytes) (P.kept keeper.old) (P.kept keeper.new) result.history result.status) }
+    ensures some_resume { IfSome result.settings (λ settings. settings.command ≡ Resume
+        → IsSomeResume settings (P.kept keeper.old) (P.kept keeper.new) result.history result.status) }
+    ensures complete_resume { (bytes : Table → List ℕ) → Resumes (map (λ word. word.now) words.now)
+        → Reads (settings_in built_words (map (λ word. word.now) words.now)) (T.rest tables.old) bytes
+        → first_refusal bytes ≡ None → KeepsRounds (settings_in built_words (map (λ word. word.now) words.now)) (trace_of bytes) (P.kept keeper.old)
+        → ¬ RoseOfKeeper (P.faults keeper.old) (P.faults keeper.new)
+        → NoneRose (T.faults tables.old) (T.faults tables.new) (K.faults out.old) (K.faults out.new)
+        → AreTaken (map (λ word. word.now) words.now) → (result.status ≡ Status.Done) ⊎ (result.status ≡ NoMemory) }
+    ensures not_kept { IfSome result.settings (λ settings. uses_keeper settings.command ≡ false → IsNotOfKept result.status) }
     ensures keep_fault { result.status ≡ KeepFault → RoseOfKeeper (P.faults keeper.old) (P.faults keeper.new) }
-    ensures kept { P.kept keeper.new ≡ P.kept keeper.old }
+    ensures kept { result.settings ≡ None → P.kept keeper.new ≡ P.kept keeper.old }
+    ensures kept_list { IfSome result.settings (λ settings. settings.command ≢ Resume → P.kept keeper.new ≡ P.kept keeper.old) }
     ensures kept_path { result.settings ≢ None → result.status ≢ NoMemory
         → EntersKept (map (λ word. word.now) words.now) (P.entered keeper.old) (P.entered keeper.new) }
     ensures kept_untouched { result.settings ≡ None
         → IsUntouched (P.entered keeper.old) (P.entered keeper.new) (P.faults keeper.old) (P.faults keeper.new) }
-    ensures kept_faults { IfSome result.settings (λ settings. settings.command ≢ Audit → P.faults keeper.new ≡ P.faults keeper.old) }
+    ensures kept_faults { IfSome result.settings (λ settings. uses_keeper settings.command ≡ false → P.faults keeper.new ≡ P.faults keeper.old) }
     ensures kept_later { P.faults keeper.old ≤ P.faults keeper.new }
 {
     let parsed = match read_words(alloc, words) {
@@ -174,27 +188,32 @@ pub fn omega_with<R: Threads + Wait + Sync, T: Tables, K: Sink, G: Gate + Sync, 
 
     ensures audit { settings.now.command ≡ Audit
         → IsAudit settings.now.format (P.kept keeper.old) result.history result.status (K.written out.old) (K.written out.new) }
-    ensures not_kept { settings.now.command ≢ Audit → IsNotOfKept result.status }
+    ensures resume { settings.now.command ≡ Resume → (bytes : Table → List ℕ) → Reads settings.now (T.rest tables.old) bytes
+        → IsResume settings.now (trace_of bytes) (P.kept keeper.old) (P.kept keeper.new) result.history result.status }
+    ensures some_resume { settings.now.command ≡ Resume
+        → IsSomeResume settings.now (P.kept keeper.old) (P.kept keeper.new) result.history result.status }
+    ensures not_kept { uses_keeper settings.now.command ≡ false → IsNotOfKept result.status }
     ensures keep_fault { result.status ≡ KeepFault → RoseOfKeeper (P.faults keeper.old) (P.faults keeper.new) }
-    ensures kept { P.kept keeper.new ≡ P.kept keeper.old }
+    ensures kept { settings.now.command ≢ Resume → P.kept keeper.new ≡ P.kept keeper.old }
     ensures kept_path { P.entered keeper.new ≡ P.entered keeper.old }
-    ensures kept_faults { settings.now.command ≢ Audit → P.faults keeper.new ≡ P.faults keeper.old }
+    ensures kept_faults { uses_keeper settings.now.command ≡ false → P.faults keeper.new ≡ P.faults keeper.old }
     ensures kept_later { P.faults keeper.old ≤ P.faults keeper.new }
 {
     match settings.command {
         Command::Audit => audit_and_write(alloc, settings, out, keeper),
-        _ => run_and_write(rt, alloc, settings, tables, out, gate),
+        _ => run_and_write(rt, alloc, settings, tables, out, gate, keeper),
     }
 }
 
 // Reads the tables of a run, replays them and writes the report.
-fn run_and_write<R: Threads + Wait + Sync, T: Tables, K: Sink, G: Gate + Sync>(
+fn run_and_write<R: Threads + Wait + Sync, T: Tables, K: Sink, G: Gate + Sync, P: Keeper>(
     rt: &R,
     alloc: Global,
     settings: &Settings,
     tables: &mut T,
     out: &mut K,
     gate: &G,
+    keeper: &mut P,
 ) -> Done
     requires range { IsInRange settings.now }
     requires run { settings.now.command ≢ Audit }
@@ -204,7 +223,16 @@ fn run_and_write<R: Threads + Wait + Sync, T: Tables, K: Sink, G: Gate + Sync>(
 
     ensures first { (bytes : Table → List ℕ) → Reads settings.now (T.rest tables.old) bytes → Answers bytes result.status }
     ensures not_usage { result.status ≢ Usage }
-    ensures not_kept { IsNotOfKept result.status }
+    ensures not_kept { settings.now.command ≢ Resume → IsNotOfKept result.status }
+    ensures resume { settings.now.command ≡ Resume → (bytes : Table → List ℕ) → Reads settings.now (T.rest tables.old) bytes
+        → IsResume settings.now (trace_of bytes) (P.kept keeper.old) (P.kept keeper.new) result.history result.status }
+    ensures some_resume { settings.now.command ≡ Resume
+        → IsSomeResume settings.now (P.kept keeper.old) (P.kept keeper.new) result.history result.status }
+    ensures keeper { settings.now.command ≢ Resume
+        → StaysAtKeeper (P.kept keeper.old) (P.kept keeper.new) (P.faults keeper.old) (P.faults keeper.new) }
+    ensures keep_fault { result.status ≡ KeepFault → RoseOfKeeper (P.faults keeper.old) (P.faults keeper.new) }
+    ensures kept_path { P.entered keeper.new ≡ P.entered keeper.old }
+    ensures kept_later { P.faults keeper.old ≤ P.faults keeper.new }
     ensures made { makes_tables settings.now.command ≡ true → EndsRun result.status }
     ensures unread { reads_tables settings.now.command ≡ false
         → StayUnread (T.rest tables.old) (T.rest tables.new) (T.faults tables.old) (T.faults tables.new) }
@@ -231,7 +259,7 @@ fn run_and_write<R: Threads + Wait + Sync, T: Tables, K: Sink, G: Gate + Sync>(
         → Tells (T.rest tables.new) (left_by settings.now.command bytes) }
 {
     match trace_of_run(alloc, settings, tables) {
-        Ok(trace) => replay_and_write(rt, alloc, settings, &trace, out, gate),
+        Ok(trace) => replay_and_write(rt, alloc, settings, &trace, out, gate, keeper),
         Err(refusal) => refused(alloc, Status::from(refusal), Some(*settings)),
     }
 }
@@ -250,19 +278,27 @@ fn refused(alloc: Global, status: Status, settings: Option<Settings>) -> Done
 }
 
 // Replays the tables and writes the report.
-fn replay_and_write<R: Threads + Wait + Sync, K: Sink, G: Gate + Sync>(
+fn replay_and_write<R: Threads + Wait + Sync, K: Sink, G: Gate + Sync, P: Keeper>(
     rt: &R,
     alloc: Global,
     settings: &Settings,
     trace: &TraceTables,
     out: &mut K,
     gate: &G,
+    keeper: &mut P,
 ) -> Done
     requires range { IsInRange settings.now }
     requires within { IsWithinLimits trace.now }
     requires sync { IsSync R.row × IsSync G.row }
     ensures settings { result.settings ≡ Some settings.now }
-    ensures ends { EndsRun result.status }
+    ensures ends { EndsBy settings.now.command result.status }
+    ensures resume { settings.now.command ≡ Resume
+        → IsResume settings.now trace.now (P.kept keeper.old) (P.kept keeper.new) result.history result.status }
+    ensures keeper { settings.now.command ≢ Resume
+        → StaysAtKeeper (P.kept keeper.old) (P.kept keeper.new) (P.faults keeper.old) (P.faults keeper.new) }
+    ensures keep_fault { result.status ≡ KeepFault → RoseOfKeeper (P.faults keeper.old) (P.faults keeper.new) }
+    ensures kept_path { P.entered keeper.new ≡ P.entered keeper.old }
+    ensures kept_later { P.faults keeper.old ≤ P.faults keeper.new }
     ensures cause { result.status ≡ WriteFault → Rose (K.faults out.old) (K.faults out.new) }
     ensures lawful { IsWholeRun settings.now trace.now result.history result.status }
     ensures only { settings.now.command ≢ Run → IsOnlyRun settings.now trace.now result.history result.status }
@@ -272,8 +308,9 @@ fn replay_and_write<R: Threads + Wait + Sync, K: Sink, G: Gate + Sync>(
     ensures history { HasHistory result.history result.status }
     ensures written { IsWritten settings.now trace.now result.history result.status (K.written out.old) (K.written out.new) }
 {
-    let Ok(whole) = replayed(rt, alloc, settings, trace, gate) else {
-        return refused(alloc, Status::NoMemory, Some(*settings));
+    let whole = match run_of(rt, alloc, settings, trace, gate, keeper) {
+        Ok(whole) => whole,
+        Err(status) => return refused(alloc, status, Some(*settings)),
     };
     let Ok(bytes) = report_of_run(alloc, settings, &whole) else {
         return refused(alloc, Status::NoMemory, Some(*settings));

@@ -5,7 +5,7 @@ use Rattle.omega_model.specs.Options.{whole_table}
 use Rattle.omega_model.specs.PlainWords.{is_plain}
 use Rattle.omega_model.specs.WordSettings.{default_settings}
 use Rattle.omega_model.specs.declared.claims.Rule.TheVariants.{Coarse}
-use Rattle.omega_model.specs.declared.settings.Command.TheVariants.{Audit, Generate, Run, Simulate}
+use Rattle.omega_model.specs.declared.settings.Command.TheVariants.{Audit, Generate, Resume, Run, Simulate}
 use Rattle.omega_words.specs.Built.{built_words}
 use Rattle.omega_words.specs.Taken.{folder_in, is_taken, kept_in, settings_in}
 use Rattle.omega_words.proofs.Sound.{is_sound}
@@ -23,7 +23,11 @@ of_run : settings_in built_words (codes "run" ∷ codes "--rule=coarse" ∷ []) 
 unfolding built_words clap_on_literals
 of_run = refl
 
-other_command : is_taken built_words (codes "resume" ∷ []) ≡ false
+of_resume : settings_in built_words (codes "resume" ∷ codes "--rule" ∷ codes "coarse" ∷ []) ≡ record default_settings { command = Resume; rule = Coarse }
+unfolding built_words clap_on_literals
+of_resume = refl
+
+other_command : is_taken built_words (codes "resumed" ∷ []) ≡ false
 unfolding built_words clap_on_literals
 other_command = refl
 

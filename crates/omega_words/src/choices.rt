@@ -75,10 +75,10 @@ fn make_choice<'a>(name: &'a str, values: Values<'a>) -> Choice<'a>
 }
 
 /// The commands of the table.
-pub fn commands() -> [&'static str; 5]
+pub fn commands() -> [&'static str; 6]
     ensures { map (λ name. name.now) result ≡ built_words.commands }
 {
-    ["replay", "run", "generate", "simulate", "audit"]
+    ["replay", "run", "generate", "simulate", "resume", "audit"]
 }
 
 /// The options of the table.

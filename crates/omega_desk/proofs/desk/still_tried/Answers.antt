@@ -7,6 +7,6 @@ use Rattle.omega_desk.proofs.desk.still_tried.Goals as goal
 
 pub returns : goal.returns
 returns c =
-    let keeps : Request → Bool = λ request. not (nat_le c.args.settings.now.give_up (count_of c.args.failures.now.counts.entries request.job)) in
+    let keeps : Request → Bool = λ request. not (nat_le c.args.settings.now.give_up (count_of c.args.failures.now request.job)) in
     filter_same _ keeps _ (λ request kept f' k. search rules) _ _ c.retain.ensures.filtered
     ∙ ap (λ requests. filter keeps requests) c.into_items-open.ensures

@@ -1,6 +1,6 @@
 use Rattle.std.proofs.Common.{◌∷◌, ◌++◌, [], length, refl, ap, ◌∙◌}
 use Rattle.omega_cell.specs.declared.effects.Usage.{Usage}
-use Rattle.omega_report.specs.Failing.{count_of}
+use Rattle.omega_desk.specs.Counts.{count_of}
 use Rattle.omega_report.specs.Lines.{sizes_line}
 use Rattle.omega_report.proofs.RoundsCounted.{rounds_counted}
 use Rattle.omega_report.proofs.Summed.{abandoned_is, summed_is, Sums}

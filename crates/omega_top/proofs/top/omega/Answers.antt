@@ -1,12 +1,15 @@
-use Rattle.std.proofs.Common.{◌∙◌, ℕ, ap, refl, subst, sym}
+use Rattle.std.proofs.Common.{◌∙◌, ℕ, List, Option, ap, refl, subst, sym}
 use Rattle.omega_keep.specs.Keeping.{Rose as RoseOfKeeper}
+use Rattle.omega_model.specs.Trace.{trace_of}
 use Rattle.omega_model.specs.declared.settings.Settings.{Settings}
 use Rattle.omega_top.specs.Audits.{KeepsAudited}
 use Rattle.omega_top.specs.Commands.{makes_tables}
 use Rattle.omega_top.specs.Reads.{Reads}
+use Rattle.omega_top.specs.Resumes.{IsResume, KeepsRounds}
 use Rattle.omega_top.proofs.AuditedLines.{audit_completes, no_memory_audit}
-use Rattle.omega_top.proofs.Completing.{completes, ends_well}
-use Rattle.omega_top.proofs.Reading.{entered_reads}
+use Rattle.omega_top.proofs.Completing.{completes, completes_resume, ends_well}
+use Rattle.omega_top.proofs.GoneOn.{no_memory_resume, no_memory_some_resume}
+use Rattle.omega_top.proofs.Reading.{entered_reads, reads_alone}
 use Rattle.omega_top.proofs.SomeRun.{no_memory_run}
 use Rattle.omega_top.proofs.Unread.{entered_no_further, untouched}
 use Rattle.omega_top.proofs.top.omega.Goals as goal
@@ -56,11 +59,53 @@ returns-clause-unread g c =
     })
 
 pub returns-clause-complete : goal.returns-clause-complete
-returns-clause-complete g c bytes reads clean none taken =
+returns-clause-complete g c bytes reads clean none alone taken =
     let chosen = subst (λ (settings : Settings). Reads settings (g.T.Tables.rest c.args.tables.now) bytes) (sym c.in-Ok.ensures.settings) reads in
-    completes bytes _ _ _ _ _ _ clean none c.enter.ensures.counts
+    completes bytes _ _ _ _ _ clean none c.enter.ensures.counts c.omega_with.result.status
+    (c.omega_with.ensures.not_kept (reads_alone c.in-Ok.parsed.settings _ bytes
+    (λ is. alone (ap (λ (settings : Settings). settings.command) (sym c.in-Ok.ensures.settings) ∙ is)) chosen))
     (c.omega_with.ensures.first bytes (entered_reads c.in-Ok.parsed.settings _ _ bytes c.enter.ensures.rests chosen))
     c.omega_with.ensures.read_fault c.omega_with.ensures.write_fault
+
+pub returns-clause-complete_resume : goal.returns-clause-complete_resume
+returns-clause-complete_resume g c bytes resumes reads clean keeps stays none taken =
+    let settings = c.in-Ok.parsed.settings in
+    let chosen = subst (λ (settings : Settings). Reads settings (g.T.Tables.rest c.args.tables.now) bytes) (sym c.in-Ok.ensures.settings) reads in
+    let entered = entered_reads settings _ _ bytes c.enter.ensures.rests chosen in
+    let is = ap (λ (settings : Settings). settings.command) c.in-Ok.ensures.settings ∙ resumes in
+    completes_resume bytes _ _ _ _ _ clean none c.enter.ensures.counts settings (trace_of bytes) _ _ c.omega_with.result.history c.omega_with.result.status _ _
+    (c.omega_with.ensures.resume is bytes entered)
+    (subst (KeepsRounds settings (trace_of bytes)) (sym c.enter-2.ensures.list)
+    (subst (λ (settings : Settings). KeepsRounds settings (trace_of bytes) (g.P.Keeper.kept c.args.keeper.now)) (sym c.in-Ok.ensures.settings) keeps))
+    stays
+    (λ fault. subst (λ (count : ℕ). RoseOfKeeper count (g.P.Keeper.faults c.omega_with.new.keeper)) c.enter-2.ensures.count (c.omega_with.ensures.keep_fault fault))
+    (c.omega_with.ensures.first bytes entered)
+    c.omega_with.ensures.read_fault c.omega_with.ensures.write_fault
+
+pub returns-clause-resume : goal.returns-clause-resume
+returns-clause-resume g c bytes =
+    let settings = c.in-Ok.parsed.settings in
+    let done = c.omega_with.result in
+    rw c.omega_with.ensures.settings
+    (λ is reads. subst (λ (list : Option (List (List ℕ))). IsResume settings (trace_of bytes) list (g.P.Keeper.kept c.omega_with.new.keeper) done.history done.status)
+    c.enter-2.ensures.list
+    (c.omega_with.ensures.resume is bytes (entered_reads settings _ _ bytes c.enter.ensures.rests reads)))
+
+pub returns-then-is_err-clause-resume : goal.returns-then-is_err-clause-resume
+returns-then-is_err-clause-resume g c bytes =
+    rw c.refused-then-is_err.ensures.answer (λ is reads. no_memory_resume c.in-Ok.parsed.settings (trace_of bytes) _ _ refl)
+
+pub returns-then-is_err-2-clause-resume : goal.returns-then-is_err-2-clause-resume
+returns-then-is_err-2-clause-resume g c bytes =
+    rw c.refused-then-is_err-2.ensures.answer (λ is reads. no_memory_resume c.in-Ok.parsed.settings (trace_of bytes) _ _ c.enter-2.ensures.list)
+
+pub returns-then-is_err-clause-some_resume : goal.returns-then-is_err-clause-some_resume
+returns-then-is_err-clause-some_resume g c =
+    rw c.refused-then-is_err.ensures.answer (λ is. no_memory_some_resume c.in-Ok.parsed.settings _ _ refl)
+
+pub returns-then-is_err-2-clause-some_resume : goal.returns-then-is_err-2-clause-some_resume
+returns-then-is_err-2-clause-some_resume g c =
+    rw c.refused-then-is_err-2.ensures.answer (λ is. no_memory_some_resume c.in-Ok.parsed.settings _ _ c.enter-2.ensures.list)
 
 pub returns-clause-complete_made : goal.returns-clause-complete_made
 returns-clause-complete_made g c makes stays taken =

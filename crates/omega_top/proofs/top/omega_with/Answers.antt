@@ -1,8 +1,7 @@
 use Rattle.std.proofs.Common.{◌∙◌, ap, refl, subst, sym, true≢false}
 use Rattle.omega_io.specs.Edge.{Tells}
 use Rattle.omega_model.specs.declared.settings.Command.{Command}
-use Rattle.omega_top.specs.Audits.{IsNotOfKept}
-use Rattle.omega_top.specs.Commands.{makes_tables, takes_turns}
+use Rattle.omega_top.specs.Commands.{makes_tables, takes_turns, uses_keeper}
 use Rattle.omega_top.specs.Reads.{left_by}
 use Rattle.omega_top.proofs.AuditEnds.{audit_no_further, audit_not_usage, audit_read_cause, audit_writes_nothing}
 use Rattle.omega_top.proofs.Reading.{audit_reads_none}
@@ -36,10 +35,10 @@ pub returns-in-Audit-clause-some_run : goal.returns-in-Audit-clause-some_run
 returns-in-Audit-clause-some_run g c other = absurd (other c.in-Audit.is)
 
 pub returns-in-Audit-clause-not_kept : goal.returns-in-Audit-clause-not_kept
-returns-in-Audit-clause-not_kept g c other = absurd (other c.in-Audit.is)
+returns-in-Audit-clause-not_kept g c none = absurd (true≢false (sym (ap uses_keeper c.in-Audit.is) ∙ none))
 
 pub returns-in-Audit-clause-kept_faults : goal.returns-in-Audit-clause-kept_faults
-returns-in-Audit-clause-kept_faults g c other = absurd (other c.in-Audit.is)
+returns-in-Audit-clause-kept_faults g c none = absurd (true≢false (sym (ap uses_keeper c.in-Audit.is) ∙ none))
 
 pub returns-in-Audit-clause-unread : goal.returns-in-Audit-clause-unread
 returns-in-Audit-clause-unread g c none = record { rests = λ table. refl; counts = λ table. refl }
@@ -63,6 +62,3 @@ returns-in-Audit-clause-nothing g c =
 pub returns-in-Audit-clause-to_end : goal.returns-in-Audit-clause-to_end
 returns-in-Audit-clause-to_end g c bytes told done =
     subst (λ (command : Command). Tells (g.T.Tables.rest c.args.tables.now) (left_by command bytes)) (sym c.in-Audit.is) told
-
-pub returns-in_default-clause-keep_fault : goal.returns-in_default-clause-keep_fault
-returns-in_default-clause-keep_fault g c is = absurd (subst IsNotOfKept is c.run_and_write.ensures.not_kept)

@@ -1,5 +1,10 @@
-use Rattle.std.proofs.Common.{List, ℕ, subst}
+use Rattle.std.proofs.Common.{◌≡◌, ◌∙◌, List, ℕ, ap, subst, sym}
+use Rattle.omega_model.specs.declared.results.Status.TheVariants.{NoMemory}
+use Rattle.omega_model.specs.declared.settings.Command.{Command}
+use Rattle.omega_model.specs.declared.settings.Command.TheVariants.{Resume, Run}
 use Rattle.omega_top.specs.Answers.{Writes}
+use Rattle.omega_top.specs.Commands.{OrderedBy, takes_turns}
+use Rattle.omega_top.proofs.GoneOn.{stopped_resume, stops_whole}
 use Rattle.omega_top.proofs.Written.{written_if}
 use Rattle.omega_top.proofs.top.replay_and_write.Goals as goal
 
@@ -13,3 +18,16 @@ returns-clause-written g c =
     let said = c.in-Ok-report_of_run.ensures trace c.in-Ok.ensures.lawful c.in-Ok.ensures.left c.in-Ok.ensures.timed in
     written_if settings trace run.history c.write-status.result before now c.in-Ok-report_of_run.bytes said
     (subst (λ (bytes : List ℕ). Writes bytes before now c.write-status.result) c.as_slice.ensures c.write-status.ensures.written)
+
+pub returns-in_default-clause-resume : goal.returns-in_default-clause-resume
+returns-in_default-clause-resume g c =
+    let settings = c.args.settings.now in
+    let trace = c.args.trace.now in
+    let before = g.P.Keeper.kept c.args.keeper.now in
+    let now = g.P.Keeper.kept c.run_of.new.keeper in
+    let run = c.in-Ok.whole in
+    rw c.refused-in_default.ensures.answer
+    (λ is. stopped_resume settings trace before now NoMemory (stops_whole settings trace before now run.history (c.in-Ok.ensures.kept is) c.in-Ok.ensures.lawful
+    (c.in-Ok.ensures.turns (ap takes_turns is))
+    (λ other lawful turns. c.in-Ok.ensures.only (λ threads. let clash : Resume ≡ Run = sym is ∙ threads in absurd (cc)) other lawful
+    (subst (λ (command : Command). OrderedBy command settings trace other) (sym is) turns))))

@@ -2,12 +2,12 @@ use Rattle.std.proofs.Common.{◌∙◌, subst}
 use Rattle.std.proofs.lemmas.List.Elements.{All-more}
 use Rattle.omega_model.specs.declared.wishes.Request.{Request}
 use Rattle.omega_desk.specs.Counts.{IsCounted}
-use Rattle.omega_desk.proofs.failures.Failures.reserve.Goals as goal
+use Rattle.omega_desk.proofs.desk.reserve.Goals as goal
 
 pub loop-request-preserved : goal.loop-request-preserved
 loop-request-preserved c =
-    let ensures = c.in_ok-reserve_one.ensures in
-    let IsCountedNow : Request → Type 0 = λ request. IsCounted c.reserve_one.new.self.counts.entries request.job in (
+    let ensures = c.in_ok-reserve.ensures in
+    let IsCountedNow : Request → Type 0 = λ request. IsCounted c.reserve.new.self request.job in (
       λ job. ensures.counts job ∙ c.loop-request.invariant.0 job,
       All-more IsCountedNow c.args.requests.now c.loop-request.request-index c.request-item.result
           c.loop-request-test.true

@@ -1,0 +1,101 @@
+//! A run in turns that goes on from the lines that are kept of it.
+ghost use Rattle.std.specs.Prelude.{◌≡◌, ◌≤◌, None, List, IfErr, IfOk, OnErr, OnOk, length};
+ghost use Rattle.omega_keep.specs.Keeping.{Adds, Rose};
+ghost use Rattle.omega_keep.specs.Resumed.{refused_for};
+ghost use Rattle.omega_model.specs.Lawful.{Lawful};
+ghost use Rattle.omega_model.specs.Turns.{InTurns};
+ghost use Rattle.omega_model.specs.declared.entries.Entry.{Entry};
+ghost use Rattle.omega_model.specs.declared.rows.TraceTables.{TraceTables};
+ghost use Rattle.omega_rounds.specs.Playing.{PlaysRound};
+ghost use Rattle.omega_rounds.specs.Resuming.{BeginsAgreed, IsPastEnd, LeavesKept, RefusesKept, StopsRound, TakesRound, lines_behind};
+ghost use Rattle.omega_rounds.specs.Stages.{AllHaveBegun, IsInRunOf};
+ghost use Rattle.omega_rounds.specs.declared.kept.ResumeRefusal.TheVariants.{KeepFault};
+
+use crate::kept::{ResumeRefusal, take_round};
+use crate::steps::RoundStep;
+use crate::turns::play_round;
+use crate::world::World;
+use omega_keep::{Keeper, Lines};
+
+/// Runs all rounds of a new world to their end as `in_turns` does, and keeps the lines of its history: the
+/// first of them are kept already, up to the end of a round, and are compared with those of the run, round by
+/// round. Behind them the lines of each round are appended to the keeper's list once it is over, in one call.
+/// Nothing is appended before all kept lines are compared.
+///
+/// The history is the only one that is lawful and in turns for the settings and the trace. `BadKept` names the
+/// first kept line that isn't the history's line at its place; or, where each is, the number of kept lines, if
+/// they end in the middle of a round. `KeepFault` comes only where the keeper's count rose. After a refusal the
+/// world is gone, and the keeper's list has grown by the lines of whole rounds, by none where the kept lines
+/// are refused. Costs what `in_turns` costs and the lines of all entries, of which those of one round are held
+/// in memory.
+pub fn resume_turns<P: Keeper>(
+    world: World,
+    kept: &Lines,
+    keeper: &mut P,
+) -> Result<World, ResumeRefusal>
+    requires { world.stage.begun ≡ 0 }
+    ensures source { IfOk result (λ after. after.stage.source ≡ world.stage.source) }
+    ensures settings { IfOk result (λ after. after.stage.settings ≡ world.stage.settings) }
+    ensures last { IfOk result (λ after. AllHaveBegun after.stage) }
+    ensures lawful { IfOk result (λ after. (trace : TraceTables) → IsInRunOf world.stage trace
+        → Lawful world.stage.settings trace after.history) }
+    ensures turns { IfOk result (λ after. InTurns after.history) }
+    ensures only { IfOk result (λ after. (trace : TraceTables) → IsInRunOf world.stage trace
+        → (other : List Entry) → Lawful world.stage.settings trace other → InTurns other
+        → other ≡ after.history) }
+    ensures agreed { IfOk result (λ after. refused_for after.history kept.now ≡ None) }
+    ensures kept { IfOk result (λ after. Adds (lines_behind kept.now after.history) (P.kept keeper.old) (P.kept keeper.new)) }
+    ensures refused { IfErr result (RefusesKept world.stage kept.now) }
+    ensures rounds { IfErr result (LeavesKept world.stage kept.now (P.kept keeper.old) (P.kept keeper.new)) }
+    ensures cause { IfErr result (λ refusal. refusal ≡ KeepFault → Rose (P.faults keeper.old) (P.faults keeper.new)) }
+    ensures path { P.entered keeper.new ≡ P.entered keeper.old }
+    ensures later { P.faults keeper.old ≤ P.faults keeper.new }
+{
+    let mut world = world;
+    loop {
+        let from = world.history().len();
+        let (next, step) = world.next_round()?;
+        match step {
+            RoundStep::Begun(_) => world = resume_round(next, from, kept, keeper)?,
+            RoundStep::Unfinished(_) => unreachable!(),
+            RoundStep::Over => {
+                end_kept(&next, kept)?;
+                return Ok(next);
+            }
+        }
+    }
+}
+
+// Plays the round that is under way to its end and takes it. The history before it has so many entries.
+fn resume_round<P: Keeper>(
+    world: World,
+    from: usize,
+    kept: &Lines,
+    keeper: &mut P,
+) -> Result<World, ResumeRefusal>
+    requires { BeginsAgreed kept.now from world }
+    ensures stage { IfOk result (λ after. after.stage ≡ world.stage) }
+    ensures plays { IfOk result (λ after. PlaysRound world after) }
+    ensures takes { IfOk result (λ after. TakesRound kept.now from after.history (P.kept keeper.old) (P.kept keeper.new)) }
+    ensures stops { IfErr result (StopsRound world kept.now from) }
+    ensures stays { OnErr result (P.kept keeper.new ≡ P.kept keeper.old) }
+    ensures cause { IfErr result (λ refusal. refusal ≡ KeepFault → Rose (P.faults keeper.old) (P.faults keeper.new)) }
+    ensures path { P.entered keeper.new ≡ P.entered keeper.old }
+    ensures later { P.faults keeper.old ≤ P.faults keeper.new }
+{
+    let world = play_round(world)?;
+    take_round(world.alloc(), world.history(), from, kept, keeper)?;
+    Ok(world)
+}
+
+// Refuses kept lines of which there are more than entries in the whole history of a world.
+fn end_kept(world: &World, kept: &Lines) -> Result<(), ResumeRefusal>
+    ensures all { OnOk result (length kept.now ≤ length world.now.history) }
+    ensures refused { IfErr result (IsPastEnd world.now kept.now) }
+{
+    let count = world.history().len();
+    if count < kept.as_slice().len() {
+        return Err(ResumeRefusal::BadKept(count as u64));
+    }
+    Ok(())
+}

@@ -1,0 +1,47 @@
+//! Cases of the calls that read tables: reads lines of calls, and prints the answer of each.
+//!
+//! A line is words: a subject, a call of it, and what the call is given. A line that begins with `#`
+//! and one without a byte are printed as they are, so that cases can have headings.
+#![tactic(auto)]
+
+mod tables;
+
+use omega_calls::{Fault, is_heading, text, words_of};
+use omega_model::Bytes;
+use std::alloc::Global;
+use std::io;
+use std::io::{BufRead, BufReader};
+
+fn main(rt: HostRuntime) -> io::Result<()> {
+    let alloc = rt.alloc();
+    for line in BufReader::new(alloc, rt.reader())?.lines(alloc) {
+        let line = line?;
+        if is_heading(line.as_str()) {
+            println!(rt; "{line}")?;
+            continue;
+        }
+        match answer(alloc, line.as_str()) {
+            Ok(answer) => println!(rt; "{answer}")?,
+            Err(fault) => println!(rt; "{fault}")?,
+        }
+    }
+    Ok(())
+}
+
+/// The answer of a line's call.
+fn answer(alloc: Global, line: &str) -> Result<String, Fault> {
+    let words = words_of(alloc, line)?;
+    answer_words(alloc, words.as_slice())
+}
+
+/// The answer of a call of these words: a subject, a call of it, and what the call is given.
+fn answer_words(alloc: Global, words: &[Bytes]) -> Result<String, Fault> {
+    let [subject, call, rest @ ..] = words else {
+        return Err(Fault::UnknownCall);
+    };
+    let call = text(call)?;
+    match text(subject)? {
+        "tables" => tables::answer(alloc, call, rest),
+        _ => Err(Fault::UnknownCall),
+    }
+}

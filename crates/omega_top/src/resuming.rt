@@ -1,0 +1,101 @@
+//! A run that goes on from kept lines, and one that keeps none.
+ghost use Rattle.std.specs.Prelude.{◌≡◌, ◌≢◌, ◌≤◌, IfErr, IfOk, true};
+ghost use Rattle.std.specs.Thread.{IsSync};
+ghost use Rattle.omega_cell.specs.Effects.{AreEffects};
+ghost use Rattle.omega_feed.specs.Left.{IsLeft};
+ghost use Rattle.omega_keep.specs.Keeping.{Rose};
+ghost use Rattle.omega_model.specs.Lawful.{Lawful};
+ghost use Rattle.omega_model.specs.Limits.{IsWithinLimits};
+ghost use Rattle.omega_model.specs.Ranges.{IsInRange};
+ghost use Rattle.omega_model.specs.State.{state};
+ghost use Rattle.omega_model.specs.Turns.{InTurns};
+ghost use Rattle.omega_model.specs.declared.results.Status.TheVariants.{KeepFault};
+ghost use Rattle.omega_model.specs.declared.settings.Command.TheVariants.{Resume, Run};
+ghost use Rattle.omega_top.specs.Answers.{IsTheOnly};
+ghost use Rattle.omega_top.specs.Commands.{IsOrdered, takes_turns};
+ghost use Rattle.omega_top.specs.Reports.{IsTimedBy};
+ghost use Rattle.omega_top.specs.Resumes.{KeepsWhole, StaysAtKeeper, StopsBy, StopsFrom};
+ghost use Rattle.omega_top.specs.SoundHistory.{IsSoundHistory};
+
+use crate::auditing::load;
+use crate::replay::{WholeRun, replayed, whole_run};
+use omega_io::Gate;
+use omega_keep::Keeper;
+use omega_model::{Command, Settings, Status, TraceTables};
+use omega_rounds::{World, resume_turns};
+use std::alloc::Global;
+use std::sync::Wait;
+use std::thread::Threads;
+
+/// The history of a trace under these settings, what its entries did, and what waits at its end: on `resume`
+/// its first lines are those that a keeper has, and the others are appended to the keeper's list, round by
+/// round; on every other command the keeper isn't used. Else the status with which the run ends. On `run` it
+/// may wait.
+pub fn run_of<R: Threads + Wait + Sync, G: Gate + Sync, P: Keeper>(
+    rt: &R,
+    alloc: Global,
+    settings: &Settings,
+    trace: &TraceTables,
+    gate: &G,
+    keeper: &mut P,
+) -> Result<WholeRun, Status>
+    requires range { IsInRange settings.now }
+    requires within { IsWithinLimits trace.now }
+    requires sync { IsSync R.row × IsSync G.row }
+    ensures lawful { IfOk result (λ run. Lawful settings.now trace.now run.history) }
+    ensures ordered { IfOk result (λ run. IsOrdered settings.now trace.now run.history) }
+    ensures timed { IfOk result (λ run. IsTimedBy settings.now.command settings.now trace.now run.history run.time) }
+    ensures turns { takes_turns settings.now.command ≡ true → IfOk result (λ run. InTurns run.history) }
+    ensures only { settings.now.command ≢ Run → IfOk result (λ run. IsTheOnly settings.now trace.now run.history) }
+    ensures effects { IfOk result (λ run. AreEffects run.history run.effects) }
+    ensures sound { IfOk result (λ run. IsSoundHistory run.history) }
+    ensures left { IfOk result (λ run. IsLeft trace.now (state run.history) run.left) }
+    ensures stops { IfErr result (StopsBy settings.now.command) }
+    ensures kept { settings.now.command ≡ Resume → IfOk result (λ run. KeepsWhole (P.kept keeper.old) (P.kept keeper.new) run.history) }
+    ensures refused { settings.now.command ≡ Resume → IfErr result (StopsFrom settings.now trace.now (P.kept keeper.old) (P.kept keeper.new)) }
+    ensures stays { settings.now.command ≢ Resume → StaysAtKeeper (P.kept keeper.old) (P.kept keeper.new) (P.faults keeper.old) (P.faults keeper.new) }
+    ensures cause { IfErr result (λ status. status ≡ KeepFault → Rose (P.faults keeper.old) (P.faults keeper.new)) }
+    ensures path { P.entered keeper.new ≡ P.entered keeper.old }
+    ensures later { P.faults keeper.old ≤ P.faults keeper.new }
+{
+    match settings.command {
+        Command::Resume => resumed(alloc, settings, trace, keeper),
+        _ => match replayed(rt, alloc, settings, trace, gate) {
+            Ok(run) => Ok(run),
+            Err(_) => Err(Status::NoMemory),
+        },
+    }
+}
+
+// The run of a trace with the schedulers taking turns, which goes on from what a keeper has.
+fn resumed<P: Keeper>(
+    alloc: Global,
+    settings: &Settings,
+    trace: &TraceTables,
+    keeper: &mut P,
+) -> Result<WholeRun, Status>
+    requires range { IsInRange settings.now }
+    requires command { settings.now.command ≡ Resume }
+    ensures lawful { IfOk result (λ run. Lawful settings.now trace.now run.history) }
+    ensures timed { IfOk result (λ run. IsTimedBy settings.now.command settings.now trace.now run.history run.time) }
+    ensures turns { IfOk result (λ run. InTurns run.history) }
+    ensures only { IfOk result (λ run. IsTheOnly settings.now trace.now run.history) }
+    ensures effects { IfOk result (λ run. AreEffects run.history run.effects) }
+    ensures sound { IfOk result (λ run. IsSoundHistory run.history) }
+    ensures left { IfOk result (λ run. IsLeft trace.now (state run.history) run.left) }
+    ensures kept { IfOk result (λ run. KeepsWhole (P.kept keeper.old) (P.kept keeper.new) run.history) }
+    ensures refused { IfErr result (StopsFrom settings.now trace.now (P.kept keeper.old) (P.kept keeper.new)) }
+    ensures cause { IfErr result (λ status. status ≡ KeepFault → Rose (P.faults keeper.old) (P.faults keeper.new)) }
+    ensures path { P.entered keeper.new ≡ P.entered keeper.old }
+    ensures later { P.faults keeper.old ≤ P.faults keeper.new }
+{
+    let kept = load(keeper)?;
+    let Ok(world) = World::new(alloc, settings, trace) else {
+        return Err(Status::NoMemory);
+    };
+    let world = resume_turns(world, &kept, keeper)?;
+    match whole_run(world, None) {
+        Ok(run) => Ok(run),
+        Err(_) => Err(Status::NoMemory),
+    }
+}
