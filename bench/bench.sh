@@ -188,6 +188,7 @@ chosen() {
     shape shrinking 2000 replay
     shape crowded 5000 replay --preempt all
     shape taking_over 2000 run
+    shape same_tree 100000 replay
     shape constraints 5000 replay
     shape matched 5000 replay
     shape nowhere 5000 replay

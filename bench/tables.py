@@ -344,6 +344,14 @@ def taking_over(files, size):
         files.task(0, job, 0, 0, 0)
 
 
+def same_tree(files, size):
+    """Jobs of one task whose numbers are equal modulo 65,536, on 2,000 machines"""
+    for number in range(1, 2001):
+        files.machine(number)
+    for job in range(size):
+        files.task(0, job * 65_536, 0, 0, 0)
+
+
 def constraints(files, size):
     """One task with many constraints that waits on 100 machines in 20 rounds"""
     for number in range(1, 101):
@@ -512,7 +520,7 @@ def too_little(files, size):
 
 SHAPES = {shape.__name__: shape for shape in (
     one_job, apart, never_fits, one_machine, long_runs, attributes, scarce, map_reduce, half_full, full, evicting,
-    too_little, victims, updates, shrinking, crowded, taking_over, constraints, matched, nowhere, lopsided,
+    too_little, victims, updates, shrinking, crowded, taking_over, same_tree, constraints, matched, nowhere, lopsided,
     many_rounds, given_up, large_job, one_waits, restarts, short_rounds, extras, extras_alike, commas, quotes, long_text)}
 
 
