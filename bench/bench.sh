@@ -184,6 +184,7 @@ shapes() {
 chosen() {
     header '| Shape | Size | Words'
     shape victims 20000 replay --preempt all
+    shape one_by_one 2000 replay --preempt all
     shape updates 2000 replay
     shape shrinking 2000 replay
     shape crowded 5000 replay --preempt all
