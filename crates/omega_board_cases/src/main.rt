@@ -12,26 +12,14 @@ mod running;
 mod script;
 mod telling;
 
-use omega_calls::{Fault, is_heading, text, words_of};
+use omega_calls::{Fault, answer_lines, text, words_of};
 use omega_model::Bytes;
 use std::alloc::Global;
 use std::io;
-use std::io::{BufRead, BufReader};
 
 fn main(rt: HostRuntime) -> io::Result<()> {
     let alloc = rt.alloc();
-    for line in BufReader::new(alloc, rt.reader())?.lines(alloc) {
-        let line = line?;
-        if is_heading(line.as_str()) {
-            println!(rt; "{line}")?;
-            continue;
-        }
-        match answer(alloc, line.as_str()) {
-            Ok(answer) => println!(rt; "{answer}")?,
-            Err(fault) => println!(rt; "{fault}")?,
-        }
-    }
-    Ok(())
+    answer_lines(&rt, alloc, |line| answer(alloc, line))
 }
 
 /// The answer of a line's call.

@@ -2,12 +2,14 @@
 //! board that the programs of cases have in common.
 #![tactic(auto)]
 
+mod answering;
 mod entries;
 mod fault;
 mod line;
 mod telling;
 mod values;
 
+pub use answering::answer_lines;
 pub use entries::{add, apply, commit_claim, end};
 pub use fault::Fault;
 pub use line::{is_heading, words_of};

@@ -1,7 +1,9 @@
 //! What words say: texts, numbers, amounts.
-ghost use Rattle.std.specs.Prelude.{◌≡◌, ◌∷◌, ◌↔◌, true, [], Some, IfOk, IfErr, IsTrue};
+ghost use Rattle.std.specs.Prelude.{◌≡◌, ◌∷◌, ◌↔◌, true, [], Some, IfOk, IfErr, IsTrue, codes, if◌then◌else◌};
+ghost use Rattle.std.specs.List.{after_first, before_first};
 ghost use Rattle.omega_model.specs.Numbers.{whole};
 ghost use Rattle.omega_calls.specs.Refusals.{is_of_words};
+ghost use Rattle.omega_calls.specs.Words.{IsClaim, IsKey, IsNeed, IsSpec, is_comma, is_slash};
 
 use crate::fault::Fault;
 use omega_model::{
@@ -91,19 +93,28 @@ pub fn place(word: &Bytes) -> Result<usize, Fault>
 
 /// An amount, as `CPU,MEMORY,DISK` in whole units.
 pub fn need(word: &Bytes) -> Result<Need, Fault>
+    ensures value { IfOk result (λ need. IsNeed word.now need) }
     ensures refusals { IfErr result (λ fault. is_of_words fault ≡ true) }
 {
-    let Some((cpu, rest)) = text(word)?.split_once(',') else {
-        return Err(Fault::UnknownCall);
-    };
-    let Some((mem, disk)) = rest.split_once(',') else {
-        return Err(Fault::UnknownCall);
-    };
+    let (cpu, rest) = parted(text(word)?)?;
+    let (mem, disk) = parted(rest)?;
     Ok(Need {
         cpu: units(cpu)?,
         mem: units(mem)?,
         disk: units(disk)?,
     })
+}
+
+/// What stands before the first comma of a text, and what stands behind it.
+fn parted(text: &str) -> Result<(&str, &str), Fault>
+    ensures before { IfOk result (λ parts. parts.0.now ≡ before_first is_comma text.now) }
+    ensures behind { IfOk result (λ parts. parts.1.now ≡ after_first is_comma text.now) }
+    ensures refusals { IfErr result (λ fault. is_of_words fault ≡ true) }
+{
+    match text.split_once(',') {
+        Some(parts) => Ok(parts),
+        None => Err(Fault::UnknownCall),
+    }
 }
 
 /// One component of an amount.
@@ -126,6 +137,7 @@ pub fn is_colon(word: &Bytes) -> bool
 
 /// The name of a task, as `JOB.INDEX`.
 pub fn task(word: &Bytes) -> Result<TaskKey, Fault>
+    ensures value { IfOk result (λ key. IsKey word.now key) }
     ensures refusals { IfErr result (λ fault. is_of_words fault ≡ true) }
 {
     task_of(text(word)?)
@@ -133,6 +145,7 @@ pub fn task(word: &Bytes) -> Result<TaskKey, Fault>
 
 /// The name of a task in a text.
 fn task_of(text: &str) -> Result<TaskKey, Fault>
+    ensures value { IfOk result (λ key. IsKey text.now key) }
     ensures refusals { IfErr result (λ fault. is_of_words fault ≡ true) }
 {
     let Some((job, index)) = text.split_once('.') else {
@@ -162,15 +175,11 @@ pub fn tasks(alloc: Global, word: &Bytes) -> Result<Keys, Fault>
 /// What a task asks for, of two words: an amount, and the precedence, which has `/differ` behind it
 /// where no other task of the job may share the machine.
 pub fn spec(amount: &Bytes, prec: &Bytes) -> Result<Spec, Fault>
+    ensures value { IfOk result (λ spec. IsSpec amount.now prec.now spec) }
     ensures refusals { IfErr result (λ fault. is_of_words fault ≡ true) }
 {
     let need = need(amount)?;
-    let prec = text(prec)?;
-    let (prec, differ) = match prec.split_once('/') {
-        Some((prec, "differ")) => (prec, true),
-        Some(_) => return Err(Fault::UnknownCall),
-        None => (prec, false),
-    };
+    let (prec, differ) = marked(text(prec)?)?;
     Ok(Spec {
         need,
         prec: byte_of(prec)?,
@@ -178,8 +187,22 @@ pub fn spec(amount: &Bytes, prec: &Bytes) -> Result<Spec, Fault>
     })
 }
 
+/// A text without the `/differ` behind it, and whether it has one.
+fn marked(text: &str) -> Result<(&str, bool), Fault>
+    ensures before { IfOk result (λ parts. parts.0.now ≡ before_first is_slash text.now) }
+    ensures behind { IfOk result (λ parts. after_first is_slash text.now ≡ (if parts.1 then codes "differ" else [])) }
+    ensures refusals { IfErr result (λ fault. is_of_words fault ≡ true) }
+{
+    match text.split_once('/') {
+        Some((text, "differ")) => Ok((text, true)),
+        Some(_) => Err(Fault::UnknownCall),
+        None => Ok((text, false)),
+    }
+}
+
 /// A claim of five words: the task's name, the machine, the amount, the precedence and the victims.
 pub fn claim(alloc: Global, words: &[Bytes]) -> Result<Claim, Fault>
+    ensures value { IfOk result (λ claim. IsClaim words.now claim) }
     ensures refusals { IfErr result (λ fault. is_of_words fault ≡ true) }
 {
     let [key, machine, amount, prec, victims] = words else {
