@@ -184,10 +184,12 @@ shapes() {
 chosen() {
     header '| Shape | Size | Words'
     shape victims 20000 replay --preempt all
+    shape one_by_one 2000 replay --preempt all
     shape updates 2000 replay
     shape shrinking 2000 replay
     shape crowded 5000 replay --preempt all
     shape taking_over 2000 run
+    shape same_tree 100000 replay
     shape constraints 5000 replay
     shape matched 5000 replay
     shape nowhere 5000 replay

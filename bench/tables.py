@@ -311,6 +311,15 @@ def victims(files, size):
     files.task(ROUND, 11, 0, 0, 1, prio=9)
 
 
+def one_by_one(files, size):
+    """Jobs each of which evicts one task of as many on one machine"""
+    files.machine(1)
+    for index in range(size):
+        files.task(0, 10, index, 0, 1 / size)
+    for job in range(size):
+        files.task(ROUND, 11 + job, 0, 0, 1 / size, prio=9)
+
+
 def updates(files, size):
     """One machine with many tasks, and as many updates that leave it as it is"""
     files.machine(1)
@@ -342,6 +351,14 @@ def taking_over(files, size):
     files.machine(1)
     for job in range(size):
         files.task(0, job, 0, 0, 0)
+
+
+def same_tree(files, size):
+    """Jobs of one task whose numbers are equal modulo 65,536, on 2,000 machines"""
+    for number in range(1, 2001):
+        files.machine(number)
+    for job in range(size):
+        files.task(0, job * 65_536, 0, 0, 0)
 
 
 def constraints(files, size):
@@ -512,8 +529,9 @@ def too_little(files, size):
 
 SHAPES = {shape.__name__: shape for shape in (
     one_job, apart, never_fits, one_machine, long_runs, attributes, scarce, map_reduce, half_full, full, evicting,
-    too_little, victims, updates, shrinking, crowded, taking_over, constraints, matched, nowhere, lopsided,
-    many_rounds, given_up, large_job, one_waits, restarts, short_rounds, extras, extras_alike, commas, quotes, long_text)}
+    too_little, victims, one_by_one, updates, shrinking, crowded, taking_over, same_tree, constraints, matched,
+    nowhere, lopsided, many_rounds, given_up, large_job, one_waits, restarts, short_rounds, extras, extras_alike,
+    commas, quotes, long_text)}
 
 
 def main(words):

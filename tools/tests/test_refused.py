@@ -7,6 +7,10 @@ from pathlib import Path
 
 from called import ROOT
 
+sys.path.insert(0, str(ROOT / 'bench'))
+
+import tables  # noqa: E402
+
 
 class Refused(unittest.TestCase):
     def answer(self, *words: str) -> 'subprocess.CompletedProcess[str]':
@@ -25,18 +29,17 @@ class Refused(unittest.TestCase):
 
 
 class Shapes(unittest.TestCase):
-    # Each is of a size, and its rows, or the bytes of its longest one, about double with it.
+    # Each is of a size, and its bytes about double with it.
     def test_they_grow_with_their_size(self) -> None:
-        tables = str(ROOT / 'bench' / 'tables.py')
-        listed = subprocess.run([sys.executable, tables], capture_output=True, text=True, check=True).stdout
-        shapes = [line.split(':')[0] for line in listed.splitlines()]
-        for shape in shapes[12:]:
+        for name in list(tables.SHAPES)[12:]:
             lengths = []
             for size in (300, 600):
                 with tempfile.TemporaryDirectory() as folder:
-                    subprocess.run([sys.executable, tables, shape, folder, str(size)], check=True)
+                    files = tables.Files(folder)
+                    tables.SHAPES[name](files, size)
+                    files.close()
                     lengths.append(sum(file.stat().st_size for file in Path(folder).glob('*.csv')))
-            self.assertTrue(1.2 < lengths[1] / lengths[0] < 3, (shape, lengths))
+            self.assertTrue(1.2 < lengths[1] / lengths[0] < 3, (name, lengths))
 
 
 if __name__ == '__main__':
