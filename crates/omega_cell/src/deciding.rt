@@ -38,11 +38,11 @@ pub fn decide(
     ensures numbers { (id : ℕ) → seq_at board.new.table id ≡ seq_at board.old.table id }
 {
     let claims = txn.claims.as_slice();
-    let mut told = judge_all(board, txn.rule, claims, seqs, &mut undo, room);
+    let mut answered = judge_all(board, txn.rule, claims, seqs, &mut undo, room);
     if let Mode::Gang = txn.mode {
-        keep_all_or_nothing(board, &mut undo, &mut told);
+        keep_all_or_nothing(board, &mut undo, &mut answered);
     }
-    Seq::of(told)
+    Seq::of(answered)
 }
 
 // Judges claims in order, each on the board after those before it, and applies those that are placed.
@@ -67,7 +67,7 @@ fn judge_all(
     ensures content { at_reserve undo.new board.new ≡ at_reserve undo.old board.old }
 {
     let AnswerRoom {
-        answers: mut told,
+        answers: mut answered,
         rooms,
     } = room;
     let mut rooms = rooms.into_iter();
@@ -75,9 +75,9 @@ fn judge_all(
         let copy = known_of(rule, seqs[i]);
         let room = rooms.next().unwrap();
         let judgement = judge_one(board, claim, copy, undo, room);
-        told.push_reserved(judgement);
+        answered.push_reserved(judgement);
     }
-    told
+    answered
 }
 
 // What a rule hands in of the copy, in which a machine has this sequence number.
@@ -123,16 +123,16 @@ fn judge_one(
 
 // A gang with a refusal keeps no claim: the board is as it was at the reserve, and what would have
 // been placed is withdrawn for the first refusal.
-fn keep_all_or_nothing(board: &mut Board, undo: &mut Undo, told: &mut Vec<Judgement>)
-    requires few { length told.old.items < 2 ^ 32 }
+fn keep_all_or_nothing(board: &mut Board, undo: &mut Undo, answered: &mut Vec<Judgement>)
+    requires few { length answered.old.items < 2 ^ 32 }
     requires undo { IsUndoOf board.old undo.old }
-    ensures told { told.new.items ≡ all_or_nothing told.old.items }
-    ensures board { board.new ≡ (if first_refused told.old.items == length told.old.items then board.old else at_reserve undo.old board.old) }
+    ensures answered { answered.new.items ≡ all_or_nothing answered.old.items }
+    ensures board { board.new ≡ (if first_refused answered.old.items == length answered.old.items then board.old else at_reserve undo.old board.old) }
 {
-    let place = first_refused(told.as_slice());
-    if place < told.len() {
+    let place = first_refused(answered.as_slice());
+    if place < answered.len() {
         board.undo(undo);
-        withdraw(*told.allocator(), place as u32, told);
+        withdraw(*answered.allocator(), place as u32, answered);
     }
 }
 

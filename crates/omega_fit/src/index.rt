@@ -4,7 +4,7 @@ ghost use Rattle.omega_fit.specs.Needs.{IsFirstWithRoom};
 ghost use Rattle.omega_fit.specs.Tree.{frees};
 
 use crate::nodes::{Slot, put_in, settle, settle_last};
-use crate::searching::search_round;
+use crate::searching::search_wrapped;
 use omega_model::{Need, NoMemory};
 use std::alloc::Global;
 use std::marker::Model;
@@ -101,7 +101,7 @@ impl FitIndex {
         ensures first { IsFirstWithRoom self.now.free need (F.post test) start result }
         ensures below { IfSome result (λ position. position < length self.now.free) }
     {
-        search_round(&self.slots, start, need, &test)
+        search_wrapped(&self.slots, start, need, &test)
     }
 }
 

@@ -20,7 +20,7 @@ use Rattle.omega_model.specs.declared.rows.Row.{Row}
 use Rattle.omega_model.specs.declared.rows.Row.TheVariants.{Machine as MachineEvent, Attr as AttrEvent, Task as TaskEvent}
 use Rattle.omega_model.specs.declared.rows.TraceTables.{TraceTables}
 use Rattle.omega_model.specs.declared.settings.Settings.{Settings}
-use Rattle.omega_report.specs.Passing.{begins_round}
+use Rattle.omega_report.specs.Walking.{begins_round}
 
 -- how many rounds some entries begin
 abbrev begun : List Entry → ℕ

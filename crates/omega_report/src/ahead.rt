@@ -1,4 +1,4 @@
-//! What is noted of the entries that a pass has before it.
+//! What is noted of the entries that a walk has before it.
 ghost use Rattle.std.specs.Prelude.{◌≡◌, ◌∷◌, List, IsTrue, slice_get};
 ghost use Rattle.omega_cell.specs.Effects.{AreEffects, usage_in};
 ghost use Rattle.omega_model.specs.Cell.{Cell, empty_cell, keys_of};

@@ -3,7 +3,7 @@ ghost use Rattle.std.specs.Prelude.{◌≡◌, ◌++◌, OnOk};
 ghost use Rattle.omega_model.specs.Cell.{Cell, keys_of};
 ghost use Rattle.omega_model.specs.ReportLines.{lines_on};
 ghost use Rattle.omega_model.specs.State.{displaced};
-ghost use Rattle.omega_report.specs.Passing.{if_printed};
+ghost use Rattle.omega_report.specs.Walking.{if_printed};
 
 use crate::page::Page;
 use omega_model::{Entry, NoMemory, TaskKey};

@@ -15,7 +15,7 @@ ghost use Rattle.omega_rounds.specs.Keeping.{WereQuiet};
 ghost use Rattle.omega_rounds.specs.Opening.{BeginAll, HaveNoWork, IsAsked, MayFeed, MayFeedAll, has_work};
 
 use crate::reopening::{reopen_since, reopen_stopped};
-use crate::seat::Seat;
+use crate::worker::Worker;
 use omega_board::Board;
 use omega_cell::Cell;
 use omega_feed::{OpenJobs, Wanted};
@@ -34,26 +34,26 @@ pub(crate) fn open_round(
     wanted: &mut Wanted,
     open_jobs: &mut OpenJobs,
     cell: &mut Cell,
-    seats: &mut Vec<Seat>,
+    workers: &mut Vec<Worker>,
 ) -> Result<(), NoMemory>
     requires within { opened_at ≤ length cell.old.history }
     requires commits { All (λ entry. is_commit entry ≡ true) (drop opened_at cell.old.history) }
     requires quiet { WereQuiet open_jobs.old wanted.old opened_at cell.old.history }
     requires asked { IsAsked (record wanted.old { tasks = fold wanted_after wanted.old.tasks round.now.rows }) }
-    requires few { length seats.old.items < 2 ^ 32 }
-    requires no_work { HaveNoWork seats.old.items }
+    requires few { length workers.old.items < 2 ^ 32 }
+    requires no_work { HaveNoWork workers.old.items }
     ensures history { (trace : TraceTables) (rows : List Row) → wanted.old.disks ≡ trace.disks
         → wanted.old.tasks ≡ wanted_tasks rows
         → OnOk result (cell.new.history ≡ (opened trace rows cell.old.history round.now).history) }
     ensures wanted { OnOk result (wanted.new
         ≡ record wanted.old { tasks = fold wanted_after wanted.old.tasks round.now.rows }) }
     ensures quiet { OnOk result (OthersAreQuiet open_jobs.new wanted.new (state cell.new.history).tasks) }
-    ensures seats { OnOk result (BeginAll wanted.new cell.new.history seats.old.items seats.new.items) }
+    ensures workers { OnOk result (BeginAll wanted.new cell.new.history workers.old.items workers.new.items) }
 {
     reopen_since(open_jobs, wanted, cell, opened_at)?;
     open(alloc, cell, wanted, open_jobs, round)?;
     open_jobs.settle(alloc, wanted, cell.board())?;
-    begin_all(alloc, seats, wanted, open_jobs, cell)?;
+    begin_all(alloc, workers, wanted, open_jobs, cell)?;
     Ok(())
 }
 
@@ -183,27 +183,29 @@ fn has_room_for(board: &Board, machine: u64) -> bool
 // also those that run, the extra tasks, and for each scheduler a look at the open jobs.
 fn begin_all(
     alloc: Global,
-    seats: &mut Vec<Seat>,
+    workers: &mut Vec<Worker>,
     wanted: &Wanted,
     open_jobs: &OpenJobs,
     cell: &Cell,
 ) -> Result<(), NoMemory>
     requires asked { IsAsked wanted.now }
     requires quiet { OthersAreQuiet open_jobs.now wanted.now (state cell.now.history).tasks }
-    requires few { length seats.old.items < 2 ^ 32 }
-    requires no_work { HaveNoWork seats.old.items }
-    ensures { OnOk result (BeginAll wanted.now cell.now.history seats.old.items seats.new.items) }
+    requires few { length workers.old.items < 2 ^ 32 }
+    requires no_work { HaveNoWork workers.old.items }
+    ensures { OnOk result (BeginAll wanted.now cell.now.history workers.old.items workers.new.items) }
 {
-    for i in 0..seats.len() {
+    for i in 0..workers.len() {
         let requests = wanted.requests(alloc, i as u32, cell.board(), open_jobs)?;
-        seats[i].begin(requests)?;
+        workers[i].begin(requests)?;
     }
     Ok(())
 }
 
 /// The first scheduler that has work.
-pub(crate) fn first_at_work(seats: &[Seat]) -> Option<usize>
-    ensures { result ≡ position has_work seats.now }
+pub(crate) fn first_at_work(workers: &[Worker]) -> Option<usize>
+    ensures { result ≡ position has_work workers.now }
 {
-    seats.iter().position(|seat| seat.desk.present().is_some())
+    workers
+        .iter()
+        .position(|worker| worker.desk.present().is_some())
 }

@@ -9,7 +9,7 @@ ghost use Rattle.omega_model.specs.declared.entries.Entry.{Entry};
 ghost use Rattle.omega_rounds.specs.Plans.{IsAtDesk, IsPlan};
 
 use crate::planned::planned;
-use crate::seat::start_on;
+use crate::worker::start_on;
 use omega_board::touched;
 use omega_cell::Cell;
 use omega_copy::{Indexes, PrivateCopy};

@@ -63,7 +63,7 @@ fn take_turn(world: &mut World) -> Result<bool, NoMemory>
     Ok(committed)
 }
 
-// The first pass of a turn: a step of each scheduler, none of which has synced.
+// The first half of a turn: a step of each scheduler, none of which has synced.
 fn sync_all(world: &mut World) -> Result<(), NoMemory>
     ensures stage { OnOk result (world.new.stage ≡ world.old.stage) }
     ensures synced { OnOk result (SyncsTurn world.old world.new) }
@@ -75,7 +75,7 @@ fn sync_all(world: &mut World) -> Result<(), NoMemory>
     Ok(())
 }
 
-// The second pass of a turn: a step of each scheduler, in order. Answers whether anybody has
+// The second half of a turn: a step of each scheduler, in order. Answers whether anybody has
 // committed.
 fn commit_all(world: &mut World) -> Result<bool, NoMemory>
     ensures stage { OnOk result (world.new.stage ≡ world.old.stage) }

@@ -16,14 +16,14 @@ ghost use Rattle.omega_rounds.specs.Closed.{IsDone};
 ghost use Rattle.omega_rounds.specs.Going.{GoesOn, IsOverAtLast, LeavesToDo, MovesOn, OpensRound, ReachesRound, StepsOn};
 ghost use Rattle.omega_rounds.specs.InTime.{HasWishesLeft, IsNoneWithoutWork, rows_time};
 ghost use Rattle.omega_rounds.specs.Keeping.{IsNew, LawfulWorld};
-ghost use Rattle.omega_rounds.specs.Opening.{AreNewSeats};
+ghost use Rattle.omega_rounds.specs.Opening.{AreNewWorkers};
 ghost use Rattle.omega_rounds.specs.Playing.{IsAtStart, IsInSomeRun};
 ghost use Rattle.omega_rounds.specs.Stages.{AllHaveBegun, IsInRunOf, first_stage, rows_begun, world_of};
 
 use crate::opening::{first_at_work, open_round};
-use crate::seat::Seat;
 use crate::steps::{RoundStep, Stepped};
 use crate::threads::play_shared;
+use crate::worker::Worker;
 use omega_cell::{Cell, Effects};
 use omega_copy::Indexes;
 use omega_feed::{OpenJobs, WaitingTasks, Wanted, feed, rounds};
@@ -54,7 +54,7 @@ pub struct World {
     /// The jobs of which something may have to be placed. All others were quiet at that place.
     open_jobs: OpenJobs,
     cell: Cell,
-    seats: Vec<Seat>,
+    workers: Vec<Worker>,
     /// What a plan needs beside the cell's board.
     indexes: Indexes,
 }
@@ -64,14 +64,14 @@ impl Model for World {
     ghost use Rattle.std.specs.List.{sum_by};
     ghost use Rattle.omega_copy.specs.Indexes.{AreIndexesOf};
     ghost use Rattle.omega_rounds.specs.Keeping.{IsWorld, WereQuiet};
-    ghost use Rattle.omega_rounds.specs.Seats.{synced_of, to_do_of};
+    ghost use Rattle.omega_rounds.specs.Workers.{synced_of, to_do_of};
     ghost use Rattle.omega_rounds.specs.Stages.{WorldState, stage_of};
 
     ghost Value = { WorldState };
 
-    ghost view = { λ w. record { stage = stage_of w.settings w.rounds w.wanted w.begun w.opened_at; history = w.cell.history; synced = map synced_of w.seats.items; to_do = sum_by to_do_of w.seats.items } };
+    ghost view = { λ w. record { stage = stage_of w.settings w.rounds w.wanted w.begun w.opened_at; history = w.cell.history; synced = map synced_of w.workers.items; to_do = sum_by to_do_of w.workers.items } };
 
-    ghost invariant = { λ w. IsWorld (stage_of w.settings w.rounds w.wanted w.begun w.opened_at) w.wanted.tasks w.cell.history w.seats.items
+    ghost invariant = { λ w. IsWorld (stage_of w.settings w.rounds w.wanted w.begun w.opened_at) w.wanted.tasks w.cell.history w.workers.items
         × WereQuiet w.open_jobs w.wanted w.opened_at w.cell.history
         × AreIndexesOf w.cell.history w.indexes };
 }
@@ -88,7 +88,7 @@ impl World {
         let rows = feed(alloc, tables)?;
         let wanted = Wanted::new(alloc, tables, &rows, settings)?;
         let rounds = rounds(alloc, rows, settings.window)?;
-        let seats = new_seats(alloc, settings)?;
+        let workers = new_workers(alloc, settings)?;
         Ok(World {
             alloc,
             settings: *settings,
@@ -98,7 +98,7 @@ impl World {
             wanted,
             open_jobs: OpenJobs::new(alloc),
             cell: Cell::new(alloc),
-            seats,
+            workers,
             indexes: Indexes::new(alloc),
         })
     }
@@ -169,7 +169,7 @@ impl World {
         ensures made { IsInSomeRun self.stage }
         ensures start { self.stage.begun ≡ 0 → IsAtStart self }
     {
-        if let Some(scheduler) = first_at_work(self.seats.as_slice()) {
+        if let Some(scheduler) = first_at_work(self.workers.as_slice()) {
             return Ok((self, RoundStep::Unfinished(scheduler as u32)));
         }
         if self.begun == self.rounds.len() {
@@ -196,7 +196,7 @@ impl World {
             mut wanted,
             mut open_jobs,
             mut cell,
-            mut seats,
+            mut workers,
             indexes,
         } = self;
         let Some(round) = rounds.get(begun) else {
@@ -210,7 +210,7 @@ impl World {
             &mut wanted,
             &mut open_jobs,
             &mut cell,
-            &mut seats,
+            &mut workers,
         )?;
         let opened_at = cell.history().len();
         let world = World {
@@ -222,7 +222,7 @@ impl World {
             wanted,
             open_jobs,
             cell,
-            seats,
+            workers,
             indexes,
         };
         Ok((world, number))
@@ -243,8 +243,8 @@ impl World {
     {
         let alloc = self.alloc;
         let settings = self.settings;
-        let seat = &mut self.seats[scheduler as usize];
-        let stepped = seat.step(
+        let worker = &mut self.workers[scheduler as usize];
+        let stepped = worker.step(
             alloc,
             &settings,
             scheduler,
@@ -268,7 +268,7 @@ impl World {
         ensures stage { IfOk result (λ after. after.stage ≡ self.stage) }
         ensures done { IfOk result IsDone }
     {
-        if first_at_work(self.seats.as_slice()).is_none() {
+        if first_at_work(self.workers.as_slice()).is_none() {
             return Ok(self);
         }
         if self.cell.history().len() as u64 >= 1 << 63 {
@@ -283,10 +283,10 @@ impl World {
             wanted,
             open_jobs,
             cell,
-            seats,
+            workers,
             indexes,
         } = self;
-        let (cell, seats) = play_shared(rt, alloc, &settings, cell, seats, gate)?;
+        let (cell, workers) = play_shared(rt, alloc, &settings, cell, workers, gate)?;
         Ok(World {
             alloc,
             settings,
@@ -296,7 +296,7 @@ impl World {
             wanted,
             open_jobs,
             cell,
-            seats,
+            workers,
             indexes,
         })
     }
@@ -308,7 +308,7 @@ impl World {
         ensures wishes { HasWishesLeft self.now scheduler result }
         ensures idle { IsNoneWithoutWork self.now scheduler result }
     {
-        self.seats[scheduler as usize].left()
+        self.workers[scheduler as usize].left()
     }
 
     /// The greatest time of the rows of the round that is under way, in microseconds. `None` exactly before
@@ -349,14 +349,14 @@ impl World {
     }
 }
 
-// A seat for each scheduler.
-fn new_seats(alloc: Global, settings: &Settings) -> Result<Vec<Seat>, NoMemory>
+// A worker for each scheduler.
+fn new_workers(alloc: Global, settings: &Settings) -> Result<Vec<Worker>, NoMemory>
     requires { IsInRange settings.now }
-    ensures { IfOk result (λ seats. AreNewSeats settings.now (schedulers settings.now) seats.items) }
+    ensures { IfOk result (λ workers. AreNewWorkers settings.now (schedulers settings.now) workers.items) }
 {
-    let mut seats = Vec::new(alloc);
+    let mut workers = Vec::new(alloc);
     for scheduler in 0..settings.schedulers() {
-        seats.push(Seat::new(alloc, settings, scheduler))?;
+        workers.push(Worker::new(alloc, settings, scheduler))?;
     }
-    Ok(seats)
+    Ok(workers)
 }

@@ -4,7 +4,7 @@ ghost use Rattle.std.specs.List.{filter};
 ghost use Rattle.omega_model.specs.Cell.{task_at, with_task, without, is_on, by_rank, keys_of};
 ghost use Rattle.omega_model.specs.Jobs.{is_of_job, other_of_job};
 ghost use Rattle.omega_model.specs.Need.{minus};
-ghost use Rattle.omega_running.specs.Held.{held_on};
+ghost use Rattle.omega_running.specs.Staying.{staying_on};
 ghost use Rattle.omega_running.specs.Kept.{KeysRise};
 ghost use Rattle.omega_running.specs.Standing.{stands_in};
 
@@ -165,7 +165,7 @@ impl Running {
     /// need; a component stops at 0. Takes no memory, and the time of what the machine has, and
     /// logarithmic in the number of tasks.
     pub fn left_on(&self, machine: u64, prec: u8, amount: Need) -> Need
-        ensures { result ≡ minus amount (held_on prec self.now.tasks machine) }
+        ensures { result ≡ minus amount (staying_on prec self.now.tasks machine) }
     {
         self.by_machine.left_on(machine, prec, amount)
     }
