@@ -18,7 +18,7 @@ use omega_model::{Claim, Judgement, Judgements, Mode, Outcome, Outcomes, Rule, S
 use std::alloc::Global;
 
 /// The reply to a transaction, whose placed claims are then on the board. The sequence numbers
-/// stay. Takes no memory.
+/// stay.
 pub fn decide(
     board: &mut Board,
     txn: &Txn,
@@ -169,7 +169,7 @@ fn first_refused(judgements: &[Judgement]) -> usize
     judgements.len()
 }
 
-/// The tasks of some claims, each with what was answered to it. Takes no memory.
+/// The tasks of some claims, each with what was answered to it.
 pub fn outcomes_of(claims: &[Claim], reply: &[Judgement], room: AnswerRoom<Outcome>) -> Outcomes
     requires reply { EvictWithin claims.now reply.now }
     requires room { room ≡ victim_counts claims.now }

@@ -31,7 +31,7 @@ impl KeyRoom {
         Ok(KeyRoom { keys })
     }
 
-    /// The vector, in which there is no name yet. Takes no memory.
+    /// The vector, in which there is no name yet.
     pub fn into_keys(self) -> Vec<TaskKey>
         ensures none { result.items ≡ [] }
         ensures room { vec_capacity result ≡ self }
@@ -40,7 +40,7 @@ impl KeyRoom {
         keys
     }
 
-    /// A list of these names, for which there is room. Takes no memory.
+    /// A list of these names, for which there is room.
     pub fn fill(self, names: &[TaskKey]) -> Keys
         requires { length names.now ≤ self }
         ensures { result ≡ names.now }

@@ -45,7 +45,7 @@ impl Model for Desk {
 }
 
 impl Desk {
-    /// The desk of a scheduler that has no work and has taken no attempts. Takes no memory.
+    /// The desk of a scheduler that has no work and has taken no attempts.
     pub fn new(alloc: Global, settings: &Settings, scheduler: u32) -> Desk
         ensures settings { result.settings ≡ settings.now }
         ensures scheduler { result.scheduler ≡ scheduler }
@@ -84,22 +84,22 @@ impl Desk {
     }
 
     /// The present request with the wishes that aren't placed yet. `None` exactly where nothing is
-    /// left of the round's work. Takes no memory.
+    /// left of the round's work.
     pub fn present(&self) -> Option<&Request>
         ensures { option_map (λ request. request.now) result ≡ slice_get self.now.requests 0 }
     {
         self.present.as_ref()
     }
 
-    /// How many requests are left of the round's work. Takes no memory.
+    /// How many requests are left of the round's work.
     pub fn request_count(&self) -> u128
         ensures { result ≡ length self.now.requests }
     {
         u128::from(self.present.is_some()) + self.waiting.len() as u128
     }
 
-    /// The place in a list of so many machines at which the present attempt begins: below their
-    /// number, or 0 where there are none. Takes no memory, and its cost doesn't grow with the attempts.
+    /// The place in a list of so many machines at which the present attempt begins: below their number,
+    /// or 0 where there are none. Its cost doesn't grow with the attempts.
     pub fn start(&self, machines: usize) -> usize
         ensures drawn { result ≡ drawn_start self.now.settings self.now.scheduler self.now.attempts machines }
         ensures below { 0 < machines → result < machines }
@@ -114,7 +114,7 @@ impl Desk {
 
     /// Counts an attempt on the present request and moves on by what was answered to its commit. Its
     /// outcomes are for wishes of the request, in the order of the wishes. Costs the request, and the
-    /// logarithm of the jobs that the desk has seen. Takes no memory.
+    /// logarithm of the jobs that the desk has seen.
     pub fn take(&mut self, reply: &Reply)
         requires answers { AnswersFirst self.old.requests reply.now.outcomes }
         requires few { self.old.attempts + 1 < 2 ^ 64 }

@@ -7,7 +7,7 @@ ghost use Rattle.omega_desk.specs.Walks.{are_wished, HasDistinctWishes, stays, m
 
 use omega_model::{Outcome, Request, Seq, Settings, TaskKey, Wish};
 
-/// The request with the wishes that the outcomes leave. Costs the wishes. Takes no memory.
+/// The request with the wishes that the outcomes leave. Costs the wishes.
 pub(crate) fn rest_of(request: Request, outcomes: &[Outcome]) -> Request
     requires distinct { HasDistinctWishes request }
     requires answers { are_wished outcomes.now request.wishes ≡ true }

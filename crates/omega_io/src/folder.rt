@@ -90,7 +90,7 @@ pub struct FolderTables<'a> {
 }
 
 impl<'a> FolderTables<'a> {
-    /// No folder yet, and no fault. Takes no memory.
+    /// No folder yet, and no fault.
     pub fn new(rt: &'a HostRuntime) -> FolderTables<'a>
         ensures { (t : Table) → ⟦<FolderTables<'a> as Tables>⟧.faults result t ≡ 0 }
     {

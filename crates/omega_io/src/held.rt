@@ -104,7 +104,7 @@ impl HeldGate {
         })
     }
 
-    /// Whether a hold has ended by its bound. Takes no memory.
+    /// Whether a hold has ended by its bound.
     pub fn ran_out(&self) -> bool {
         self.ran_out.load(Ordering::SeqCst)
     }

@@ -53,7 +53,7 @@ pub struct MemoryKeeper {
 }
 
 impl MemoryKeeper {
-    /// A keeper of no lines. No path is entered and no call fails. Takes no memory.
+    /// A keeper of no lines. No path is entered and no call fails.
     pub fn new(alloc: Global) -> MemoryKeeper
         ensures list { ⟦<MemoryKeeper as Keeper>⟧.kept result ≡ Some [] }
         ensures path { ⟦<MemoryKeeper as Keeper>⟧.entered result ≡ Some None }
@@ -62,7 +62,7 @@ impl MemoryKeeper {
         MemoryKeeper::holding(alloc, Seq::new(alloc))
     }
 
-    /// A keeper of these lines. No path is entered and no call fails. Takes no memory.
+    /// A keeper of these lines. No path is entered and no call fails.
     pub fn holding(alloc: Global, lines: Lines) -> MemoryKeeper
         ensures list { ⟦<MemoryKeeper as Keeper>⟧.kept result ≡ Some lines }
         ensures path { ⟦<MemoryKeeper as Keeper>⟧.entered result ≡ Some None }

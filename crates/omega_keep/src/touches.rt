@@ -20,7 +20,7 @@ pub struct Touches {
 }
 
 impl Touches {
-    /// Those of the empty history. Takes no memory.
+    /// Those of the empty history.
     pub fn new(alloc: Global) -> Touches
         ensures { AreTouches result.places [] }
     {

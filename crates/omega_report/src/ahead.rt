@@ -22,7 +22,7 @@ pub struct Ahead<'a> {
 }
 
 impl<'a> Ahead<'a> {
-    /// What is noted of a whole history with these effects. Takes no memory.
+    /// What is noted of a whole history with these effects.
     pub fn of(effects: &'a Effects) -> Ahead<'a>
         ensures { (history : List Entry) → AreEffects history effects.now → IsAhead empty_cell history result }
     {
@@ -33,7 +33,7 @@ impl<'a> Ahead<'a> {
         }
     }
 
-    /// The usage before the next entry, where a round ends there. Takes no memory.
+    /// The usage before the next entry, where a round ends there.
     pub fn usage(self) -> Usage
         ensures { (cell : Cell) (later : List Entry) → IsAhead cell later self.entry → IsTrue (is_round_end (slice_get later 0)) → result ≡ usage_in cell }
     {
@@ -44,7 +44,7 @@ impl<'a> Ahead<'a> {
     }
 
     /// The names of the tasks that the next entry displaces, in order of eviction, and what is noted of
-    /// the entries behind it. Takes no memory.
+    /// the entries behind it.
     pub fn past(self, entry: &Entry) -> (&'a [TaskKey], Ahead<'a>)
         ensures stopped { (cell : Cell) (later : List Entry) → IsAhead cell (entry.now ∷ later) self.entry → result.0.now ≡ keys_of (displaced cell.tasks entry.now) }
         ensures ahead { (cell : Cell) (later : List Entry) → IsAhead cell (entry.now ∷ later) self.entry → IsAhead (step cell entry.now) later result.1 }

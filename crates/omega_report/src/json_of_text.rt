@@ -56,7 +56,7 @@ impl Model for Writing {
 }
 
 impl Writing {
-    // Nothing is read yet. Takes no memory.
+    // Nothing is read yet.
     fn new(alloc: Global) -> Writing
         ensures { result ≡ record { json = []; word = []; position = Beginning } }
     {

@@ -39,7 +39,7 @@ impl Model for Page {
 }
 
 impl Page {
-    /// A page without a line. Takes no memory.
+    /// A page without a line.
     pub fn new(alloc: Global, format: Format) -> Page
         ensures format { result.format ≡ format }
         ensures lines { result.lines ≡ [] }

@@ -34,7 +34,7 @@ impl Tally {
         Ok(Tally { counts })
     }
 
-    /// The counts in order. Takes no memory.
+    /// The counts in order.
     pub fn counts(&self) -> &[Counts]
         ensures { map counts_in result.now ≡ self.now }
     {

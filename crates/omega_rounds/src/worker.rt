@@ -34,7 +34,7 @@ pub(crate) struct Worker {
 }
 
 impl Worker {
-    /// The worker of a scheduler that has no work and has seen nothing. Takes no memory.
+    /// The worker of a scheduler that has no work and has seen nothing.
     pub fn new(alloc: Global, settings: &Settings, scheduler: u32) -> Worker
         requires { IsInRange settings.now }
         ensures worker { IsWorker settings.now [] scheduler result }
@@ -66,7 +66,7 @@ impl Worker {
         Ok(())
     }
 
-    /// How many wishes of its first request are left, 0 where no request is. Takes no memory.
+    /// How many wishes of its first request are left, 0 where no request is.
     pub fn left(&self) -> usize
         ensures { result ≡ first_wishes (Some self.now.desk.requests) }
     {
@@ -179,7 +179,7 @@ impl Worker {
     }
 }
 
-/// The place in a copy's list of machines at which a desk's present attempt begins. Takes no memory.
+/// The place in a copy's list of machines at which a desk's present attempt begins.
 pub(crate) fn start_on(desk: &Desk, copy: &PrivateCopy) -> usize
     ensures drawn { result ≡ drawn_start desk.now.settings desk.now.scheduler desk.now.attempts (length copy.now.board.table) }
     ensures within { result ≤ length copy.now.board.table }

@@ -104,8 +104,7 @@ impl World {
     }
 
     /// The history: lawful so far for each trace in whose run the world is, with each copy that has
-    /// synced within its bounds; legal, and with no state on the way that is overcommitted. Takes no
-    /// memory.
+    /// synced within its bounds; legal, and with no state on the way that is overcommitted.
     pub fn history(&self) -> &[Entry]
         ensures history { result.now ≡ self.now.history }
         ensures lawful { (trace : TraceTables) → IsInRunOf self.now.stage trace
@@ -127,7 +126,7 @@ impl World {
         self.wanted.left(self.alloc, self.cell.board())
     }
 
-    /// The history itself. Takes no memory.
+    /// The history itself.
     pub fn into_history(self) -> Entries
         ensures history { result ≡ self.history }
         ensures lawful { (trace : TraceTables) → IsInRunOf self.stage trace
@@ -140,7 +139,7 @@ impl World {
         cell.into_history()
     }
 
-    /// The history itself, and what its entries did. Takes no memory.
+    /// The history itself, and what its entries did.
     pub fn into_run(self) -> (Entries, Effects)
         ensures history { result.0 ≡ self.history }
         ensures effects { AreEffects self.history result.1 }
@@ -301,8 +300,7 @@ impl World {
         })
     }
 
-    /// How many wishes of its first request a scheduler has left, 0 exactly where it has no work. Takes no
-    /// memory.
+    /// How many wishes of its first request a scheduler has left, 0 exactly where it has no work.
     pub fn left(&self, scheduler: u32) -> usize
         requires { scheduler < schedulers self.now.stage.settings }
         ensures wishes { HasWishesLeft self.now scheduler result }
@@ -322,14 +320,14 @@ impl World {
         Some(greatest_time(round.rows.as_slice()))
     }
 
-    /// All rounds of the trace, also those that haven't begun. Takes no memory.
+    /// All rounds of the trace, also those that haven't begun.
     pub fn rounds(&self) -> &[Round]
         ensures { result.now ≡ self.now.stage.source.rounds }
     {
         self.rounds.as_slice()
     }
 
-    /// The settings of the run. Takes no memory.
+    /// The settings of the run.
     pub(crate) fn settings(&self) -> Settings
         ensures is { result ≡ self.now.stage.settings }
     {
@@ -341,7 +339,7 @@ impl World {
         self.alloc
     }
 
-    /// How many schedulers there are. Takes no memory.
+    /// How many schedulers there are.
     pub fn schedulers(&self) -> u32
         ensures { result ≡ schedulers self.now.stage.settings }
     {

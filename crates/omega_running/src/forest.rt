@@ -44,7 +44,7 @@ impl Model for Forest {
 }
 
 impl Forest {
-    /// No task, and no tree. Takes no memory.
+    /// No task, and no tree.
     pub fn bare(alloc: Global, order: Order) -> Forest
         ensures order { result.order ≡ order }
         ensures tasks { result.tasks ≡ [] }

@@ -7,8 +7,8 @@ ghost use Rattle.omega_running.specs.Standing.{same_task, stands_in};
 use crate::orders::key_lt;
 use omega_model::{Task, TaskKey};
 
-/// Whether a task is among tasks in order of key, the same in all. Takes no memory, and time
-/// logarithmic in their number.
+/// Whether a task is among tasks in order of key, the same in all. Takes time logarithmic in their
+/// number.
 pub fn stands_in(tasks: &[Task], task: &Task) -> bool
     requires { KeysRise tasks.now }
     ensures { result ≡ stands_in tasks.now task.now }

@@ -27,7 +27,7 @@ impl Model for Pass {
 }
 
 impl Pass {
-    /// Its number, counted from 0: that of the scheduler whose commits it makes. Takes no memory.
+    /// Its number, counted from 0: that of the scheduler whose commits it makes.
     pub fn number(&self) -> u32
         ensures number { result ≡ self.now.number }
         ensures own { OwnIsSeen self.now }
@@ -36,7 +36,7 @@ impl Pass {
         self.seat.number()
     }
 
-    /// How many turns it has left. Takes no memory.
+    /// How many turns it has left.
     pub fn turns_left(&self) -> u32
         ensures { result ≡ self.now.turns }
     {

@@ -138,7 +138,7 @@ impl SharedCell {
 
     /// Takes all passes back, and hands out the cell. Its history goes on from what each pass had seen,
     /// with no commit of its number. Every entry since the cell was shared is a commit of one of the
-    /// passes, and the commits of a pass's number are its own, in order. Takes no memory.
+    /// passes, and the commits of a pass's number are its own, in order.
     pub fn close(self, passes: Vec<Pass>) -> Cell
         requires all { length passes.items ≡ self.callers }
         requires of { All (λ pass. pass.of ≡ self.of) passes.items }

@@ -115,7 +115,7 @@ pub struct FileKeeper<'a> {
 impl<'a> FileKeeper<'a> {
     ghost use Rattle.omega_sqlkeep.specs.Connections.{HasOpened};
 
-    /// No path yet, and no fault. Takes no memory.
+    /// No path yet, and no fault.
     pub fn new(rt: &'a HostRuntime) -> FileKeeper<'a>
         ensures path { ⟦<FileKeeper<'a> as Keeper>⟧.entered result ≡ Some None }
         ensures count { ⟦<FileKeeper<'a> as Keeper>⟧.faults result ≡ 0 }
