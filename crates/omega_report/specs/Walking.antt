@@ -6,7 +6,6 @@ use Rattle.omega_model.specs.Report.{Line}
 use Rattle.omega_model.specs.ReportLines.{counts_line, lines_at, use_line}
 use Rattle.omega_model.specs.Requests.{failed}
 use Rattle.omega_model.specs.declared.entries.Entry.{Entry}
-use Rattle.omega_model.specs.declared.entries.Entry.TheVariants.{Round}
 use Rattle.omega_model.specs.declared.settings.Command.{Command}
 use Rattle.omega_model.specs.declared.settings.Command.TheVariants.{Replay, Run, Generate, Simulate, Resume, Audit}
 use Rattle.omega_model.specs.declared.settings.Format.{Format}
@@ -24,11 +23,6 @@ prints_rounds Simulate = true
 prints_rounds Resume = true
 prints_rounds Generate = false
 prints_rounds Audit = false
-
--- whether an entry begins a round
-abbrev pub begins_round : Entry → Bool
-begins_round (Round number) = true
-begins_round _ = false
 
 -- lines, if they are printed
 abbrev pub if_printed : Bool → List Line → List Line

@@ -3,7 +3,7 @@ ghost use Rattle.std.specs.Prelude.{◌≡◌, ◌++◌, ◌<◌, ◌≤◌, ◌
 ghost use Rattle.omega_cell.specs.Effects.{AreEffects, usage_in};
 ghost use Rattle.omega_desk.specs.Counts.{count_of};
 ghost use Rattle.omega_feed.specs.Left.{IsLeft};
-ghost use Rattle.omega_model.specs.Lawful.{Lawful};
+ghost use Rattle.omega_model.specs.Lawful.{Lawful, begins_round};
 ghost use Rattle.omega_model.specs.Policy.{schedulers};
 ghost use Rattle.omega_model.specs.Report.{Line};
 ghost use Rattle.omega_model.specs.ReportForms.{in_format, printed_report};
@@ -12,7 +12,7 @@ ghost use Rattle.omega_model.specs.State.{state};
 ghost use Rattle.omega_model.specs.declared.entries.Entry.{Entry};
 ghost use Rattle.omega_model.specs.declared.rows.TraceTables.{TraceTables};
 ghost use Rattle.omega_model.specs.declared.settings.Format.{Format as Form};
-ghost use Rattle.omega_report.specs.Walking.{begins_round, lines_of_all, IsAfter};
+ghost use Rattle.omega_report.specs.Walking.{lines_of_all, IsAfter};
 
 use crate::counts::Counts;
 use crate::page::Page;
