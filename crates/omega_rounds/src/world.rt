@@ -178,7 +178,7 @@ impl World {
         Ok((world, RoundStep::Begun(number)))
     }
 
-    // The next round begins. Answers its number.
+    /// The next round begins. Answers its number.
     fn begin_round(self) -> Result<(World, u64), NoMemory>
         requires no_work { self.to_do ≡ 0 }
         requires more { self.stage.begun < length self.stage.source.rounds }
@@ -347,7 +347,7 @@ impl World {
     }
 }
 
-// A worker for each scheduler.
+/// A worker for each scheduler.
 fn new_workers(alloc: Global, settings: &Settings) -> Result<Vec<Worker>, NoMemory>
     requires { IsInRange settings.now }
     ensures { IfOk result (λ workers. AreNewWorkers settings.now (schedulers settings.now) workers.items) }
