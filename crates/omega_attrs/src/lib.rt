@@ -13,7 +13,7 @@ use omega_units::read_u64;
 ///
 /// An attribute that is unset is equal to the empty value alone. `Less` and `Greater` compare whole
 /// numbers, and never hold where the attribute or the value isn't one. Of several attributes of one
-/// name the first counts. One pass over the attributes, takes no memory.
+/// name the first counts. One pass over the attributes.
 pub fn holds(constraint: &Constraint, attrs: &Attrs) -> bool
     ensures { result ≡ holds constraint.now attrs.now }
 {
@@ -28,7 +28,7 @@ pub fn holds(constraint: &Constraint, attrs: &Attrs) -> bool
 }
 
 /// Whether each constraint holds of the attributes of a machine. One pass over the attributes for
-/// each constraint, up to the first that doesn't hold; takes no memory.
+/// each constraint, up to the first that doesn't hold.
 pub fn eligible(constraints: &Constraints, attrs: &Attrs) -> bool
     ensures { result ≡ eligible constraints.now attrs.now }
 {

@@ -32,7 +32,7 @@ impl Model for Board {
 }
 
 impl Board {
-    /// The board without machines and tasks. Takes no memory.
+    /// The board without machines and tasks.
     pub fn new(alloc: Global) -> Board
         ensures { result ≡ record { table = []; tasks = []; spare = 0 } }
     {
@@ -42,7 +42,7 @@ impl Board {
         }
     }
 
-    /// The machines, with what is free on each and how often each was touched. Takes no memory.
+    /// The machines, with what is free on each and how often each was touched.
     pub fn machines(&self) -> &MachineTable
         ensures table { result.now ≡ self.now.table }
         ensures sound { Sound (cell_of self.now) }
@@ -51,7 +51,7 @@ impl Board {
         &self.table
     }
 
-    /// The running tasks, and for how many more there is room. Takes no memory.
+    /// The running tasks, and for how many more there is room.
     pub fn running(&self) -> &Running
         ensures tasks { result.now.tasks ≡ self.now.tasks }
         ensures spare { result.now.spare ≡ self.now.spare }

@@ -25,7 +25,7 @@ impl Board {
     /// run.
     ///
     /// Costs the claim's victims, each looked up among those before it, and with the
-    /// different-machines flag the tasks of the job on the machine. Takes no memory.
+    /// different-machines flag the tasks of the job on the machine.
     pub fn judge(&self, claim: &Claim, copy_seq: Option<u64>, evicted: &mut Vec<TaskKey>) -> Verdict
         requires empty { evicted.old.items ≡ [] }
         requires room { length claim.now.victims ≤ vec_capacity evicted.old }

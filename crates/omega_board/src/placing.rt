@@ -53,7 +53,7 @@ impl Board {
     /// Places a claim that is judged `Placed` without a number of a copy, and to evict these tasks:
     /// they stop and its task runs. Sequence numbers stay. The undo has room for the claim and all
     /// its victims, which is used up, and it still takes the board back to its reserve. Costs the
-    /// tasks that stop. Takes no memory.
+    /// tasks that stop.
     pub fn apply_placed(&mut self, claim: &Claim, evicted: &[TaskKey], undo: &mut Undo)
         requires placed { judge_fine (cell_of self.old) claim.now ≡ record { verdict = Placed; evicted = evicted.now } }
         requires undo { IsUndoOf self.old undo.old }
@@ -80,8 +80,7 @@ impl Board {
     }
 
     /// Takes back all that was placed with this undo since the reserve that gave it. The undo keeps
-    /// the room that is left, with which more can be placed and taken back. Costs what changes. Takes
-    /// no memory.
+    /// the room that is left, with which more can be placed and taken back. Costs what changes.
     pub fn undo(&mut self, undo: &mut Undo)
         requires { IsUndoOf self.old undo.old }
         ensures board { self.new ≡ at_reserve undo.old self.old }

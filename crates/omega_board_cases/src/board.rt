@@ -4,10 +4,10 @@ ghost use Rattle.omega_board.specs.Undo.{IsUndoOf};
 
 use crate::crowd::many;
 use crate::script::{Steps, take_all};
-use crate::telling::{tell_attribute, tell_free, tell_judged, tell_part, tell_tasks};
+use crate::showing::{show_attribute, show_free, show_judged, show_part, show_tasks};
 use omega_board::{Board, Undo};
 use omega_calls::{
-    Fault, apply, claim, commit_claim, need, number, place, small, tell_need, tell_place, text,
+    Fault, apply, claim, commit_claim, need, number, place, show_need, show_place, small, text,
 };
 use omega_machines::MachineTable;
 use omega_model::{Bytes, Claim, Claims, Copied, Verdict};
@@ -65,13 +65,13 @@ impl Steps for Board {
             "trial" => trial(self, alloc, words, answers),
             "copy" => copy(self, alloc, words, answers),
             _ if is_question(call) => ask(self, alloc, call, words, answers),
-            _ => tell_applied(self, alloc, call, words, answers),
+            _ => show_applied(self, alloc, call, words, answers),
         }
     }
 }
 
 /// Applies an entry, and appends the tasks that it stops.
-fn tell_applied(
+fn show_applied(
     board: &mut Board,
     alloc: Global,
     call: &str,
@@ -79,7 +79,7 @@ fn tell_applied(
     answers: &mut String,
 ) -> Result<(), Fault> {
     let stopped = apply(board, alloc, call, words)?;
-    tell_tasks(answers, stopped.as_slice())
+    show_tasks(answers, stopped.as_slice())
 }
 
 /// A copy takes the place of the board.
@@ -118,8 +118,8 @@ pub(crate) fn ask(
             judge(board, alloc, claim, Some(number(seq)?), answers)
         }
         ("judge", _) => judge(board, alloc, words, None, answers),
-        ("at", [machine]) => tell_at(board, number(machine)?, answers),
-        ("part", [position]) => tell_position(board, alloc, place(position)?, answers),
+        ("at", [machine]) => show_at(board, number(machine)?, answers),
+        ("part", [position]) => show_position(board, alloc, place(position)?, answers),
         _ => ask_machines(board.machines(), call, words, answers),
     }
 }
@@ -132,13 +132,13 @@ fn ask_machines(
     answers: &mut String,
 ) -> Result<(), Fault> {
     match (call, words) {
-        ("attributes", [position]) => tell_attributes(machines, place(position)?, answers),
-        ("position", [machine]) => tell_place(answers, machines.position(number(machine)?)),
+        ("attributes", [position]) => show_attributes(machines, place(position)?, answers),
+        ("position", [machine]) => show_place(answers, machines.position(number(machine)?)),
         ("machines", []) => {
             write!(answers, "{}", machines.len())?;
             Ok(())
         }
-        ("load", []) => tell_load(machines, answers),
+        ("load", []) => show_load(machines, answers),
         _ => Err(Fault::UnknownCall),
     }
 }
@@ -154,7 +154,7 @@ fn judge(
     let claim = claim(alloc, words)?;
     let mut evicted = Vec::with_capacity(alloc, claim.victims.len())?;
     let verdict = board.judge(&claim, copy_seq, &mut evicted);
-    tell_judged(answers, verdict, evicted.as_slice())
+    show_judged(answers, verdict, evicted.as_slice())
 }
 
 /// Judges a claim, and applies a commit of it where it is placed.
@@ -166,7 +166,7 @@ fn commit(
 ) -> Result<(), Fault> {
     let claim = claim(alloc, words)?;
     let judgement = commit_claim(board, alloc, claim)?;
-    tell_judged(answers, judgement.verdict, judgement.evicted.as_slice())
+    show_judged(answers, judgement.verdict, judgement.evicted.as_slice())
 }
 
 /// Places a claim and takes it back, with room that is made for the list of it.
@@ -218,27 +218,27 @@ fn place_and_take_back(
 {
     let mut evicted = Vec::with_capacity(alloc, claim.victims.len())?;
     let verdict = board.judge(claim, None, &mut evicted);
-    tell_judged(answers, verdict, evicted.as_slice())?;
+    show_judged(answers, verdict, evicted.as_slice())?;
     if verdict != Verdict::Placed {
         return Ok(());
     }
     board.apply_placed(claim, evicted.as_slice(), undo);
     answers.push(' ')?;
-    tell_at(board, claim.machine, answers)?;
+    show_at(board, claim.machine, answers)?;
     board.undo(undo);
     Ok(())
 }
 
 /// Appends how many entries touched a machine, how many tasks run and what is free on the machine.
-pub(crate) fn tell_at(board: &Board, machine: u64, answers: &mut String) -> Result<(), Fault> {
+pub(crate) fn show_at(board: &Board, machine: u64, answers: &mut String) -> Result<(), Fault> {
     let machines = board.machines();
     write!(answers, "{} ", machines.seq(machine))?;
     write!(answers, "{} ", board.running().count())?;
-    tell_free(answers, machines.free(machine))
+    show_free(answers, machines.free(machine))
 }
 
 /// Appends the machine at a position and its tasks, or `-` where there is none.
-fn tell_position(
+fn show_position(
     board: &Board,
     alloc: Global,
     position: usize,
@@ -249,11 +249,11 @@ fn tell_position(
         return Ok(());
     }
     let found = board.part(alloc, position)?;
-    tell_part(answers, &found)
+    show_part(answers, &found)
 }
 
 /// Appends the number of the machine at a position and its attributes, or `-` where there is none.
-fn tell_attributes(
+fn show_attributes(
     machines: &MachineTable,
     position: usize,
     answers: &mut String,
@@ -264,14 +264,14 @@ fn tell_attributes(
     };
     write!(answers, "{}", machine.id)?;
     for attr in machine.attrs.as_slice() {
-        tell_attribute(answers, attr)?;
+        show_attribute(answers, attr)?;
     }
     Ok(())
 }
 
 /// Appends what is used on all machines that are up, and their capacity.
-pub(crate) fn tell_load(machines: &MachineTable, answers: &mut String) -> Result<(), Fault> {
-    tell_need(answers, machines.used())?;
+pub(crate) fn show_load(machines: &MachineTable, answers: &mut String) -> Result<(), Fault> {
+    show_need(answers, machines.used())?;
     answers.push(' ')?;
-    tell_need(answers, machines.capacity())
+    show_need(answers, machines.capacity())
 }

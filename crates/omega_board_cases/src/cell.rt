@@ -10,8 +10,8 @@ ghost use Rattle.omega_model.specs.declared.entries.Entry.{Entry};
 ghost use Rattle.omega_board_cases.specs.Copies.{StillStand};
 
 use crate::board::{ask, is_question};
-use crate::planning::{ask_copy, following, mode, tell_plan, tell_trial};
-use crate::telling::{tell_judged, tell_part};
+use crate::planning::{ask_copy, following, mode, show_plan, show_trial};
+use crate::showing::{show_judged, show_part};
 use omega_calls::{Fault, GREATEST, claim, is_colon, need, number, part, task, text};
 use omega_cell::Cell;
 use omega_copy::PrivateCopy;
@@ -94,18 +94,18 @@ fn take(
     match call {
         "sync" if words.is_empty() => sync(copy, cell, alloc, answers),
         "follow" if words.is_empty() => follow(copy, cell, alloc, answers),
-        "plan" => tell_plan(copy, alloc, words, answers),
-        "trial" => tell_trial(cell, alloc, words, answers),
+        "plan" => show_plan(copy, alloc, words, answers),
+        "trial" => show_trial(cell, alloc, words, answers),
         "commit" => commit(cell, copy, alloc, words, answers),
-        "since" => tell_since(cell, alloc, words, answers),
+        "since" => show_since(cell, alloc, words, answers),
         "copy" => ask_copy(copy, alloc, words, answers),
         _ if is_question(call) => ask(cell.board(), alloc, call, words, answers),
-        _ => tell_fed(cell, alloc, call, words, answers),
+        _ => show_fed(cell, alloc, call, words, answers),
     }
 }
 
 /// Feeds an entry, and appends its place.
-fn tell_fed(
+fn show_fed(
     cell: &mut Cell,
     alloc: Global,
     call: &str,
@@ -259,7 +259,7 @@ fn follow(
 }
 
 /// Appends what changed since the first so many entries.
-fn tell_since(
+fn show_since(
     cell: &Cell,
     alloc: Global,
     words: &[Bytes],
@@ -273,16 +273,16 @@ fn tell_since(
         return Err(Fault::MayNot);
     }
     let delta = cell.since(alloc, seen)?;
-    tell_delta(answers, &delta)
+    show_delta(answers, &delta)
 }
 
 /// Appends up to which entry a delta leads, and its machines.
-fn tell_delta(answers: &mut String, delta: &Delta) -> Result<(), Fault> {
+fn show_delta(answers: &mut String, delta: &Delta) -> Result<(), Fault> {
     write!(answers, "{}", delta.to())?;
     for place in 0..delta.touched() {
         if let Some(part) = delta.part(place) {
             answers.push(' ')?;
-            tell_part(answers, part)?;
+            show_part(answers, part)?;
         }
     }
     Ok(())
@@ -309,7 +309,7 @@ fn commit(
         claims: claims_of(alloc, claims)?,
     };
     let reply = commit_txn(cell, copy, alloc, txn)?;
-    tell_reply(answers, &reply)
+    show_reply(answers, &reply)
 }
 
 /// The rule of a word.
@@ -346,16 +346,16 @@ fn commit_txn(cell: &mut Cell, copy: &PrivateCopy, alloc: Global, txn: Txn) -> R
 }
 
 /// Appends the place of a commit, and what is answered to each claim.
-fn tell_reply(answers: &mut String, reply: &Reply) -> Result<(), Fault> {
+fn show_reply(answers: &mut String, reply: &Reply) -> Result<(), Fault> {
     write!(answers, "{}", reply.place)?;
     for outcome in reply.outcomes.as_slice() {
         answers.push(' ')?;
-        tell_outcome(answers, outcome)?;
+        show_outcome(answers, outcome)?;
     }
     Ok(())
 }
 
 /// Appends what is answered to a claim.
-fn tell_outcome(answers: &mut String, outcome: &Outcome) -> Result<(), Fault> {
-    tell_judged(answers, outcome.verdict, outcome.evicted.as_slice())
+fn show_outcome(answers: &mut String, outcome: &Outcome) -> Result<(), Fault> {
+    show_judged(answers, outcome.verdict, outcome.evicted.as_slice())
 }

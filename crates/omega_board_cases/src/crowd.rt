@@ -1,5 +1,5 @@
 //! Many tasks on the machines of a board.
-use crate::board::{tell_at, tell_load};
+use crate::board::{show_at, show_load};
 use omega_board::Board;
 use omega_calls::{Fault, GREATEST, add, commit_claim, end};
 use omega_model::{Claim, Keys, Need, Spec, TaskKey, Verdict};
@@ -17,9 +17,9 @@ pub(crate) fn many(
     bring_up(board, alloc, machines)?;
     let placed = place_by_turns(board, alloc, machines, tasks, amount)?;
     write!(answers, "{} {} ", board.machines().len(), placed.len())?;
-    tell_load(board.machines(), answers)?;
+    show_load(board.machines(), answers)?;
     end_all(board, alloc, placed.as_slice())?;
-    tell_left(board, machines.saturating_sub(1), answers)
+    show_left(board, machines.saturating_sub(1), answers)
 }
 
 /// Brings machines up, each with the greatest amount.
@@ -96,9 +96,9 @@ fn end_all(board: &mut Board, alloc: Global, keys: &[TaskKey]) -> Result<(), Fau
 }
 
 /// Appends the load behind a blank, and what the last machine has.
-fn tell_left(board: &Board, last: u64, answers: &mut String) -> Result<(), Fault> {
+fn show_left(board: &Board, last: u64, answers: &mut String) -> Result<(), Fault> {
     answers.push(' ')?;
-    tell_load(board.machines(), answers)?;
+    show_load(board.machines(), answers)?;
     answers.push(' ')?;
-    tell_at(board, last, answers)
+    show_at(board, last, answers)
 }

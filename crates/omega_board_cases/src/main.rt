@@ -10,7 +10,7 @@ mod crowd;
 mod planning;
 mod running;
 mod script;
-mod telling;
+mod showing;
 
 use omega_calls::{Fault, answer_lines, text, words_of};
 use omega_model::Bytes;

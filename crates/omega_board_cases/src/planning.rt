@@ -3,8 +3,8 @@ ghost use Rattle.std.specs.Prelude.{◌≡◌, ◌<◌, None, length, IfOk, OnOk
 ghost use Rattle.omega_copy.specs.Copies.{CopyOf};
 
 use crate::board::ask;
-use crate::telling::{tell_free, tell_judged, tell_tasks};
-use omega_calls::{Fault, claim, need, number, place, small, spec, tell_place, tell_task, text};
+use crate::showing::{show_free, show_judged, show_tasks};
+use omega_calls::{Fault, claim, need, number, place, show_place, show_task, small, spec, text};
 use omega_cell::Cell;
 use omega_copy::PrivateCopy;
 use omega_model::{
@@ -34,14 +34,14 @@ pub(crate) fn ask_copy(
         return Err(Fault::UnknownCall);
     };
     match (text(call)?, words) {
-        ("first", [start, amount]) => tell_first(copy, start, amount, answers),
-        ("victims", [machine, wish @ ..]) => tell_victims(copy, alloc, machine, wish, answers),
+        ("first", [start, amount]) => show_first(copy, start, amount, answers),
+        ("victims", [machine, wish @ ..]) => show_victims(copy, alloc, machine, wish, answers),
         (call, _) => ask(copy.board(), alloc, call, words, answers),
     }
 }
 
 /// Appends the first position with room for an amount, round from a start.
-fn tell_first(
+fn show_first(
     copy: &PrivateCopy,
     start: &Bytes,
     amount: &Bytes,
@@ -51,11 +51,11 @@ fn tell_first(
     if start > copy.free().len() {
         return Err(Fault::MayNot);
     }
-    tell_place(answers, copy.free().first(start, amount, |_| true))
+    show_place(answers, copy.free().first(start, amount, |_| true))
 }
 
 /// Appends the tasks that must go for a wish, or `none` where no evictions make room.
-fn tell_victims(
+fn show_victims(
     copy: &PrivateCopy,
     alloc: Global,
     machine: &Bytes,
@@ -67,7 +67,7 @@ fn tell_victims(
     };
     let wish = wish(alloc, number(job)?, words)?;
     match victims(alloc, copy.board(), &wish, number(machine)?)? {
-        Some(keys) => tell_tasks(answers, keys.as_slice()),
+        Some(keys) => show_tasks(answers, keys.as_slice()),
         None => Ok(answers.push_str("none")?),
     }
 }
@@ -96,7 +96,7 @@ fn wishes(alloc: Global, job: u64, words: &[Bytes]) -> Result<Wishes, Fault> {
 
 /// Plans a request on a copy, which is as it was then, and appends the claims: each the task, its
 /// machine and the tasks that it evicts; `-` where there is none.
-pub(crate) fn tell_plan(
+pub(crate) fn show_plan(
     copy: &mut PrivateCopy,
     alloc: Global,
     words: &[Bytes],
@@ -115,7 +115,7 @@ pub(crate) fn tell_plan(
     };
     let job = number(job)?;
     let wishes = wishes(alloc, job, words)?;
-    tell_planned(
+    show_planned(
         copy,
         alloc,
         &Request { job, wishes },
@@ -144,7 +144,7 @@ fn preempts(word: &Bytes) -> Result<bool, Fault> {
 }
 
 /// Appends the claims of a plan that begins to look at a position of the list of machines.
-fn tell_planned(
+fn show_planned(
     copy: &mut PrivateCopy,
     alloc: Global,
     request: &Request,
@@ -159,11 +159,11 @@ fn tell_planned(
         return Err(Fault::MayNot);
     }
     let txn = plan(alloc, copy, request, start, policy)?;
-    tell_claims(answers, txn.claims.as_slice())
+    show_claims(answers, txn.claims.as_slice())
 }
 
 /// Appends claims, parted by blanks; `-` where there is none.
-fn tell_claims(answers: &mut String, claims: &[Claim]) -> Result<(), Fault> {
+fn show_claims(answers: &mut String, claims: &[Claim]) -> Result<(), Fault> {
     if claims.is_empty() {
         answers.push('-')?;
     }
@@ -171,44 +171,44 @@ fn tell_claims(answers: &mut String, claims: &[Claim]) -> Result<(), Fault> {
         if place > 0 {
             answers.push(' ')?;
         }
-        tell_claim(answers, claim)?;
+        show_claim(answers, claim)?;
     }
     Ok(())
 }
 
 /// Appends a claim's task, its machine and the tasks that it evicts.
-fn tell_claim(answers: &mut String, claim: &Claim) -> Result<(), Fault> {
-    tell_task(answers, claim.key)?;
+fn show_claim(answers: &mut String, claim: &Claim) -> Result<(), Fault> {
+    show_task(answers, claim.key)?;
     write!(answers, " {} ", claim.machine)?;
-    tell_tasks(answers, claim.victims.as_slice())
+    show_tasks(answers, claim.victims.as_slice())
 }
 
 /// Places a claim on trial, on a new copy that has followed the history, and takes it back. Appends the
 /// verdict and what is evicted, and where the claim is placed what the copy tells before, meanwhile and
 /// after that.
-pub(crate) fn tell_trial(
+pub(crate) fn show_trial(
     cell: &Cell,
     alloc: Global,
     words: &[Bytes],
     answers: &mut String,
 ) -> Result<(), Fault> {
     let claim = claim(alloc, words)?;
-    tell_trial_of(cell, alloc, &claim, answers)
+    show_trial_of(cell, alloc, &claim, answers)
 }
 
 /// The same with this claim.
-fn tell_trial_of(
+fn show_trial_of(
     cell: &Cell,
     alloc: Global,
     claim: &Claim,
     answers: &mut String,
 ) -> Result<(), Fault> {
     let mut copy = following(alloc, cell)?;
-    tell_trial_on(&mut copy, alloc, claim, answers)
+    show_trial_on(&mut copy, alloc, claim, answers)
 }
 
 /// The same on this copy.
-fn tell_trial_on(
+fn show_trial_on(
     copy: &mut PrivateCopy,
     alloc: Global,
     claim: &Claim,
@@ -219,9 +219,9 @@ fn tell_trial_on(
     if judged(copy, alloc, claim, answers)? != Verdict::Placed {
         return Ok(());
     }
-    tell_around(copy, claim, answers)?;
+    show_around(copy, claim, answers)?;
     place_on_trial(copy, alloc, claim, answers)?;
-    tell_around(copy, claim, answers)
+    show_around(copy, claim, answers)
 }
 
 /// Appends the verdict on a claim and what is evicted for it, and answers the verdict.
@@ -233,7 +233,7 @@ fn judged(
 ) -> Result<Verdict, Fault> {
     let mut evicted = Vec::with_capacity(alloc, claim.victims.len())?;
     let verdict = copy.board().judge(claim, None, &mut evicted);
-    tell_judged(answers, verdict, evicted.as_slice())?;
+    show_judged(answers, verdict, evicted.as_slice())?;
     Ok(verdict)
 }
 
@@ -248,7 +248,7 @@ fn place_on_trial(
 {
     make_room(copy, alloc, claim)?;
     place_there(copy, alloc, claim)?;
-    let told = tell_around(copy, claim, answers);
+    let told = show_around(copy, claim, answers);
     copy.end_trial();
     told
 }
@@ -293,11 +293,11 @@ fn place_there(copy: &mut PrivateCopy, alloc: Global, claim: &Claim) -> Result<(
 
 /// Appends, of a copy, what the machine of a claim has free, whether the claim's task runs, and the
 /// first position with room for it.
-fn tell_around(copy: &PrivateCopy, claim: &Claim, answers: &mut String) -> Result<(), Fault> {
+fn show_around(copy: &PrivateCopy, claim: &Claim, answers: &mut String) -> Result<(), Fault> {
     let runs = copy.board().running().get(claim.key).is_some();
     let state = if runs { "runs" } else { "waits" };
     write!(answers, ", {state} ")?;
-    tell_free(answers, copy.board().machines().free(claim.machine))?;
+    show_free(answers, copy.board().machines().free(claim.machine))?;
     answers.push(' ')?;
-    tell_place(answers, copy.free().first(0, claim.spec.need, |_| true))
+    show_place(answers, copy.free().first(0, claim.spec.need, |_| true))
 }

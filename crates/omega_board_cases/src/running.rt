@@ -2,9 +2,9 @@
 ghost use Rattle.std.specs.Prelude.{◌<◌};
 
 use crate::script::{Steps, take_all};
-use crate::telling::{tell_found, tell_names, tell_running, tell_tasks};
+use crate::showing::{show_found, show_names, show_running, show_tasks};
 use omega_calls::{
-    Fault, byte, need, number, small, spec, task, tasks, tell_need, tell_task, text,
+    Fault, byte, need, number, show_need, show_task, small, spec, task, tasks, text,
 };
 use omega_model::{Bytes, Need, Spec, Task, TaskKey};
 use omega_running::Running;
@@ -62,8 +62,8 @@ impl Steps for Running {
             return Err(Fault::UnknownCall);
         };
         match (text(call)?, words) {
-            ("put", _) => tell_put(self, alloc, running_task(words)?, answers),
-            ("remove", [name]) => tell_removed(self, task(name)?, answers),
+            ("put", _) => show_put(self, alloc, running_task(words)?, answers),
+            ("remove", [name]) => show_removed(self, task(name)?, answers),
             (call, _) => ask(self, alloc, call, words, answers),
         }
     }
@@ -82,7 +82,7 @@ fn running_task(words: &[Bytes]) -> Result<Task, Fault> {
 }
 
 /// Puts a task in unless its name is there, and appends whether it does.
-fn tell_put(
+fn show_put(
     running: &mut Running,
     alloc: Global,
     task: Task,
@@ -104,13 +104,13 @@ fn put(running: &mut Running, alloc: Global, task: Task) -> Result<bool, Fault> 
 }
 
 /// Takes a task out, and appends it.
-fn tell_removed(running: &mut Running, key: TaskKey, answers: &mut String) -> Result<(), Fault> {
+fn show_removed(running: &mut Running, key: TaskKey, answers: &mut String) -> Result<(), Fault> {
     let removed = running.remove(key);
-    tell_found(answers, removed.as_ref())
+    show_found(answers, removed.as_ref())
 }
 
 /// Appends how many tasks there are.
-fn tell_count(running: &Running, answers: &mut String) -> Result<(), Fault> {
+fn show_count(running: &Running, answers: &mut String) -> Result<(), Fault> {
     write!(answers, "{}", running.count())?;
     Ok(())
 }
@@ -124,15 +124,15 @@ fn ask(
     answers: &mut String,
 ) -> Result<(), Fault> {
     match (call, words) {
-        ("count", []) => tell_count(running, answers),
-        ("get", [name]) => tell_found(answers, running.get(task(name)?)),
-        ("has", _) => tell_has(running, &running_task(words)?, answers),
+        ("count", []) => show_count(running, answers),
+        ("get", [name]) => show_found(answers, running.get(task(name)?)),
+        ("has", _) => show_has(running, &running_task(words)?, answers),
         ("left_on", [machine, prec, amount]) => {
             let (machine, prec) = (number(machine)?, byte(prec)?);
-            tell_need(answers, running.left_on(machine, prec, need(amount)?))
+            show_need(answers, running.left_on(machine, prec, need(amount)?))
         }
         ("other_of_job", [job, machine, gone]) => {
-            tell_other(
+            show_other(
                 running,
                 alloc,
                 number(job)?,
@@ -147,13 +147,13 @@ fn ask(
 }
 
 /// Appends whether a task is there, the same in all.
-fn tell_has(running: &Running, task: &Task, answers: &mut String) -> Result<(), Fault> {
+fn show_has(running: &Running, task: &Task, answers: &mut String) -> Result<(), Fault> {
     write!(answers, "{}", running.has(task))?;
     Ok(())
 }
 
 /// Appends the first of a job's tasks on a machine that isn't among these.
-fn tell_other(
+fn show_other(
     running: &Running,
     alloc: Global,
     job: u64,
@@ -163,7 +163,7 @@ fn tell_other(
 ) -> Result<(), Fault> {
     let gone = tasks(alloc, gone)?;
     match running.other_of_job(job, machine, &gone) {
-        Some(key) => tell_task(answers, key),
+        Some(key) => show_task(answers, key),
         None => {
             answers.push('-')?;
             Ok(())
@@ -180,10 +180,10 @@ fn list(
     answers: &mut String,
 ) -> Result<(), Fault> {
     match call {
-        "on_machine" => tell_tasks(answers, running.on_machine(alloc, number)?.as_slice()),
-        "of_job" => tell_names(answers, running.tasks_of_job(alloc, number)?.as_slice()),
-        "tasks_on" => tell_running(answers, running.tasks_on(alloc, number)?.as_slice()),
-        "tasks_of_job" => tell_running(answers, running.tasks_of_job(alloc, number)?.as_slice()),
+        "on_machine" => show_tasks(answers, running.on_machine(alloc, number)?.as_slice()),
+        "of_job" => show_names(answers, running.tasks_of_job(alloc, number)?.as_slice()),
+        "tasks_on" => show_running(answers, running.tasks_on(alloc, number)?.as_slice()),
+        "tasks_of_job" => show_running(answers, running.tasks_of_job(alloc, number)?.as_slice()),
         _ => Err(Fault::UnknownCall),
     }
 }
@@ -202,7 +202,7 @@ fn many(
     }
     let crowd = crowd(alloc, jobs, tasks, machines)?;
     write!(answers, "{} ", come(running, alloc, crowd.as_slice())?)?;
-    tell_spread(running, alloc, machines, answers)?;
+    show_spread(running, alloc, machines, answers)?;
     let gone = go(running, crowd.as_slice());
     write!(answers, " {gone} {}", running.count())?;
     Ok(())
@@ -245,7 +245,7 @@ fn come(running: &mut Running, alloc: Global, crowd: &[Task]) -> Result<u64, Fau
 }
 
 /// Appends how many tasks the machine with the fewest has, and the one with the most.
-fn tell_spread(
+fn show_spread(
     running: &Running,
     alloc: Global,
     machines: u64,

@@ -1,3 +1,3 @@
 pub mod Refusals
-pub mod Told
+pub mod Shown
 pub mod Words

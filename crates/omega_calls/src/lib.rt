@@ -6,14 +6,14 @@ mod answering;
 mod entries;
 mod fault;
 mod line;
-mod telling;
+mod showing;
 mod values;
 
 pub use answering::answer_lines;
 pub use entries::{add, apply, commit_claim, end};
 pub use fault::Fault;
 pub use line::{is_heading, words_of};
-pub use telling::{part, tell_need, tell_place, tell_spec, tell_task};
+pub use showing::{part, show_need, show_place, show_spec, show_task};
 pub use values::{
     GREATEST, byte, claim, constraint_of, is_colon, need, number, place, policy_of, small, spec,
     task, tasks, text,

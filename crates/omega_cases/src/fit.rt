@@ -1,5 +1,5 @@
 //! The first position that has room: the calls of `omega_fit`.
-use omega_calls::{Fault, is_colon, need, place, tell_place, text};
+use omega_calls::{Fault, is_colon, need, place, show_place, text};
 use omega_fit::{FitIndex, first_fit};
 use omega_model::{Bytes, Need};
 use std::alloc::Global;
@@ -117,10 +117,10 @@ impl Both {
         if !answers.is_empty() {
             answers.push(' ')?;
         }
-        tell_place(answers, found)?;
+        show_place(answers, found)?;
         if found != asked {
             answers.push('!')?;
-            tell_place(answers, asked)?;
+            show_place(answers, asked)?;
         }
         Ok(())
     }

@@ -106,14 +106,14 @@ fn append<K: Keeper>(
 /// Loads all lines, and tells them.
 fn load<K: Keeper>(keeper: &mut K, answers: &mut String) -> Result<(), Fault> {
     match keeper.load() {
-        Ok(lines) => tell_lines(answers, &lines),
+        Ok(lines) => show_lines(answers, &lines),
         Err(KeepRefusal::Failed) => Ok(write!(answers, "load failed")?),
         Err(KeepRefusal::NoMemory) => Err(Fault::NoMemory),
     }
 }
 
 /// Tells lines.
-fn tell_lines(answers: &mut String, lines: &Lines) -> Result<(), Fault> {
+fn show_lines(answers: &mut String, lines: &Lines) -> Result<(), Fault> {
     write!(answers, "load")?;
     for line in lines.as_slice() {
         let line = text(line)?;

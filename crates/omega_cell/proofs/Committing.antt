@@ -52,10 +52,10 @@ module _ (board next : BoardState) (held shown : List Entry) (txn prepared : Txn
 
   -- no more is evicted for a claim than it has victims
   pub reply_fits : EvictWithin txn.claims reply
-  reply_fits = subst (λ (told : List Judgement). EvictWithin txn.claims told) (sym on_board) (reply_within held (cell_of board) seen txn)
+  reply_fits = subst (λ (answered : List Judgement). EvictWithin txn.claims answered) (sym on_board) (reply_within held (cell_of board) seen txn)
 
   places : MayPlaceAll (cell_of board) (zip txn.claims reply)
-  places = subst (λ (told : List Judgement). MayPlaceAll (cell_of board) (zip txn.claims told)) (sym on_board) (reply_may held (cell_of board) seen txn)
+  places = subst (λ (answered : List Judgement). MayPlaceAll (cell_of board) (zip txn.claims answered)) (sym on_board) (reply_may held (cell_of board) seen txn)
 
   -- the machines of placed claims are listed
   pub placed_are_listed : (id : ℕ) → IsTrue (list_any (places_on id) (zip txn.claims reply)) → IsTrue (is_listed id (machines_of next.table))

@@ -65,7 +65,7 @@ parts_passing test board front (row ∷ rows) n parted long =
 pub delivered : (board : BoardState) (history : List Entry) (n : ℕ) (later : List Entry) (places : List ℕ) (parts : List Part) (delta : DeltaState) → IsBoardOf board history → n ≤ length history
     → later ≡ drop n history → places ≡ touched_places (machines_of board.table) later → map Some parts ≡ map (part_at board) places
     → delta ≡ record { from = n; to = length history; parts = parts } → Carries delta history n (length history)
-delivered board history n later places parts delta is_board within rest are told is = record {
+delivered board history n later places parts delta is_board within rest are answered is = record {
   order = within;
   within = omega arith;
   begins = ap (λ (d : DeltaState). d.from) is;
@@ -79,7 +79,7 @@ delivered board history n later places parts delta is_board within rest are told
     brought : parts ≡ map (part_in (cell_of board) (seq_at board.table)) (filter (λ (place, row). is_touched later row.id) (enumerate_from 0 (machines_of board.table)))
     brought =
         same_items parts _
-        (told ∙ ap (map (part_at board)) are ∙ parts_passing (is_touched later) board [] (machines_of board.table) 0 refl refl)
+        (answered ∙ ap (map (part_at board)) are ∙ parts_passing (is_touched later) board [] (machines_of board.table) 0 refl refl)
 
     as_history : map (part_in (cell_of board) (seq_at board.table)) (filter (λ (place, row). is_touched later row.id) (enumerate_from 0 (machines_of board.table)))
         ≡ map (part_in (state history) (seq history)) (filter (λ (place, row). is_touched (drop n history) row.id) (enumerate_from 0 (state history).machines))

@@ -219,25 +219,25 @@ judgements_none history seen cell rule (claim ∷ claims) =
 withdrawn_go : (place : ℕ) (cell : Cell) (claims : List Claim) (reply : List Judgement) → RefusesEvictNone reply → EvictInOrder cell (zip claims (map (withdrawn_for place) reply))
 withdrawn_go place cell [] reply none at claim judgement is = absurd (none-some _ is)
 withdrawn_go place cell (first ∷ claims) [] none at claim judgement is = absurd (none-some _ is)
-withdrawn_go place cell (first ∷ claims) (told ∷ reply) none zero claim judgement is =
-    let here : (first, withdrawn_for place told) ≡ (claim, judgement) = same_Some _ _ is in
+withdrawn_go place cell (first ∷ claims) (answered ∷ reply) none zero claim judgement is =
+    let here : (first, withdrawn_for place answered) ≡ (claim, judgement) = same_Some _ _ is in
     none_goes cell claim judgement.evicted
-    (sym (ap (λ (d : Claim × Judgement). d.1.evicted) here) ∙ by_answer (admits told) (λ t. rw t refl) (λ f. rw f (none.0 f)))
-withdrawn_go place cell (first ∷ claims) (told ∷ reply) none (suc at) claim judgement is =
-    withdrawn_go place (after_claim cell (first, withdrawn_for place told)) claims reply none.1 at claim judgement is
+    (sym (ap (λ (d : Claim × Judgement). d.1.evicted) here) ∙ by_answer (admits answered) (λ t. rw t refl) (λ f. rw f (none.0 f)))
+withdrawn_go place cell (first ∷ claims) (answered ∷ reply) none (suc at) claim judgement is =
+    withdrawn_go place (after_claim cell (first, withdrawn_for place answered)) claims reply none.1 at claim judgement is
 
 reply_go : (history : List Entry) (seen : ℕ) (cell : Cell) (txn : Txn) → IsInOrder ByKey cell.tasks → EvictInOrder cell (zip txn.claims (reply_on history cell seen txn))
 reply_go history seen cell txn order = by txn.mode
   where
-    told : List Judgement
-    told = judgements history seen cell txn.rule txn.claims
+    answered : List Judgement
+    answered = judgements history seen cell txn.rule txn.claims
 
-    by : (mode : Mode) → EvictInOrder cell (zip txn.claims (by_mode mode told))
+    by : (mode : Mode) → EvictInOrder cell (zip txn.claims (by_mode mode answered))
     by Incremental = judgements_go history seen cell txn.rule txn.claims order
     by Gang =
-        by_answer (first_refused told == length told)
+        by_answer (first_refused answered == length answered)
         (λ t. rw t (judgements_go history seen cell txn.rule txn.claims order))
-        (λ f. rw f (withdrawn_go (first_refused told) cell txn.claims told (judgements_none history seen cell txn.rule txn.claims)))
+        (λ f. rw f (withdrawn_go (first_refused answered) cell txn.claims answered (judgements_none history seen cell txn.rule txn.claims)))
 
 commit_evicts : (before : List Entry) (entry : Entry) → Follows before entry → EvictsWhatHasToGo before entry
 commit_evicts before (Round number) follows = tt
@@ -248,7 +248,7 @@ commit_evicts before (AttrSet machine name value) follows = tt
 commit_evicts before (AttrDelete machine name) follows = tt
 commit_evicts before (End key machine) follows = tt
 commit_evicts before (Commit scheduler seen txn reply) follows =
-    subst (λ (told : List Judgement). EvictInOrder (state before) (zip txn.claims told)) (sym follows.1) (reply_go before seen (state before) txn (state_ordered before))
+    subst (λ (answered : List Judgement). EvictInOrder (state before) (zip txn.claims answered)) (sym follows.1) (reply_go before seen (state before) txn (state_ordered before))
 
 pub evictions_go_down : (history : List Entry) → Legal history → EvictionsGoDown history
 evictions_go_down history legal place entry is = commit_evicts (take place history) entry (legal place entry is)

@@ -90,7 +90,7 @@ split whole = elim whole.together [
 -- nor are two claims with one answer
 untold : IsWhole (claim 1 2 1 1 [] ∷ claim 2 3 1 1 [] ∷ []) (plain Placed ∷ []) → ⊥
 unfolding amount key claim plain
-untold whole = omega (arith, whole.told)
+untold whole = omega (arith, whole.answered)
 
 -- a claim with a victim has room for one that is evicted, and one without for none
 one_within : EvictWithin (claim 1 2 5 5 (key 1 0 ∷ []) ∷ []) (evicts ∷ [])

@@ -36,8 +36,8 @@ none_placed place (judgement ∷ reply) (suc k) d below = none_placed place repl
 whole : (claims : List Claim) (reply : List Judgement) → length reply ≡ length claims → IsWhole claims (all_or_nothing reply)
 whole claims reply long =
     by_answer (first_refused reply == length reply)
-    (λ t. rw t (record { told = long; together = inl (all_placed reply (eqb-true _ _ t)) }))
-    (λ f. rw f (record { told = sym (ap length (rw f refl)) ∙ length-all_or_nothing reply ∙ long; together = inr (none_placed (first_refused reply) reply) }))
+    (λ t. rw t (record { answered = long; together = inl (all_placed reply (eqb-true _ _ t)) }))
+    (λ f. rw f (record { answered = sym (ap length (rw f refl)) ∙ length-all_or_nothing reply ∙ long; together = inr (none_placed (first_refused reply) reply) }))
 
 unsplit : (before : List Entry) (entry : Entry) → Follows before entry → IsUnsplit entry
 unsplit before (Round number) follows = tt
@@ -48,9 +48,9 @@ unsplit before (AttrSet machine name value) follows = tt
 unsplit before (AttrDelete machine name) follows = tt
 unsplit before (End key machine) follows = tt
 unsplit before (Commit scheduler seen txn reply) follows = λ gang.
-    let told = judgements before seen (state before) txn.rule txn.claims in
-    let due : reply ≡ all_or_nothing told = follows.1 ∙ ap (λ (mode : Mode). by_mode mode told) gang in
-    subst (IsWhole txn.claims) (sym due) (whole txn.claims told (length-judgements before seen (state before) txn.rule txn.claims))
+    let answered = judgements before seen (state before) txn.rule txn.claims in
+    let due : reply ≡ all_or_nothing answered = follows.1 ∙ ap (λ (mode : Mode). by_mode mode answered) gang in
+    subst (IsWhole txn.claims) (sym due) (whole txn.claims answered (length-judgements before seen (state before) txn.rule txn.claims))
 
 pub no_gang_is_split : (history : List Entry) → Legal history → NoGangIsSplit history
 no_gang_is_split history legal place entry is = unsplit (take place history) entry (legal place entry is)

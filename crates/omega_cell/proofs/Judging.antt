@@ -23,11 +23,11 @@ use Rattle.omega_model.proofs.Lists.{by_answer}
 use Rattle.omega_model.proofs.Soundness.{withdrawn_same}
 
 -- the claims before a place are judged
-pub record IsJudging (start board : BoardState) (first undo : UndoState) (rule : Rule) (claims : List Claim) (seqs : List ℕ) (told : List Judgement) (i : ℕ) : Type 0 where
+pub record IsJudging (start board : BoardState) (first undo : UndoState) (rule : Rule) (claims : List Claim) (seqs : List ℕ) (answered : List Judgement) (i : ℕ) : Type 0 where
   pub judged : (history : List Entry) (seen : ℕ) → AreNumbered start seqs claims history seen
-      → told ++ judgements history seen (cell_of board) rule (drop i claims) ≡ judgements history seen (cell_of start) rule claims
-  pub long : length told ≡ i
-  pub tasks : board.tasks ≡ fold tasks_after_claim start.tasks (zip (take i claims) told)
+      → answered ++ judgements history seen (cell_of board) rule (drop i claims) ≡ judgements history seen (cell_of start) rule claims
+  pub long : length answered ≡ i
+  pub tasks : board.tasks ≡ fold tasks_after_claim start.tasks (zip (take i claims) answered)
   pub machines : machines_of board.table ≡ machines_of start.table
   pub numbers : (id : ℕ) → seq_at board.table id ≡ seq_at start.table id
   pub undone : IsUndoOf board undo
@@ -54,17 +54,17 @@ zip_push (a ∷ xs) [] x y same = absurd (omega (arith, same))
 zip_push (a ∷ xs) (b ∷ ys) x y same = ap (λ pairs. (a, b) ∷ pairs) (zip_push xs ys x y (omega (arith, same)))
 
 -- once the claim at a place is judged, those before the next place are
-pub judge_next : (start board next : BoardState) (first undo noted : UndoState) (rule : Rule) (claims : List Claim) (seqs : List ℕ) (told : List Judgement) (i : ℕ) (claim : Claim) (number : ℕ) (copy : Option ℕ) (judgement : Judgement)
+pub judge_next : (start board next : BoardState) (first undo noted : UndoState) (rule : Rule) (claims : List Claim) (seqs : List ℕ) (answered : List Judgement) (i : ℕ) (claim : Claim) (number : ℕ) (copy : Option ℕ) (judgement : Judgement)
     → i < length claims → claim ≡ get_or claims i claim → number ≡ get_or seqs i number
     → ((history : List Entry) (seen machine : ℕ) → number ≡ seq (take seen history) machine → copy ≡ known_of history seen rule machine)
     → IsJudged board next undo noted claim copy judgement
-    → IsJudging start board first undo rule claims seqs told i → IsJudging start next first noted rule claims seqs (told ++ judgement ∷ []) (i + 1)
-judge_next start board next first undo noted rule claims seqs told i claim number copy judgement below here copied copy_is known so =
+    → IsJudging start board first undo rule claims seqs answered i → IsJudging start next first noted rule claims seqs (answered ++ judgement ∷ []) (i + 1)
+judge_next start board next first undo noted rule claims seqs answered i claim number copy judgement below here copied copy_is known so =
     let rest = drop (i + 1) claims in
     let split : drop i claims ≡ claim ∷ rest = drop_more claims i claim below ∙ ap (λ (c : Claim). c ∷ rest) (sym here) in
     let front : take (i + 1) claims ≡ take i claims ++ claim ∷ [] = take_more claims i claim below ∙ ap (λ (c : Claim). take i claims ++ c ∷ []) (sym here) in
     let fewer : victims_in (drop i claims) ≡ length claim.victims + victims_in rest = ap victims_in split ∙ sum_by-cons (λ (c : Claim). length c.victims) claim rest in
-    let long : length (take i claims) ≡ length told = length-take i claims ∙ omega (arith, so.long, below) in
+    let long : length (take i claims) ≡ length answered = length-take i claims ∙ omega (arith, so.long, below) in
     record {
       judged = λ history seen numbered.
           let seq_is : number ≡ seq (take seen history) claim.machine =
@@ -72,17 +72,17 @@ judge_next start board next first undo noted rule claims seqs told i claim numbe
           ∙ ap (λ (c : Claim). seq (take seen history) c.machine) (sym here) in
           let is : judgement ≡ judge history seen (cell_of board) rule claim =
           known.is history seen rule (so.numbers claim.machine ∙ numbered.now claim.machine) (copy_is history seen claim.machine seq_is) in
-          append_assoc told (judgement ∷ []) (judgements history seen (cell_of next) rule rest)
-          ∙ ap (λ (c : Cell). told ++ judgement ∷ judgements history seen c rule rest) known.cell
-          ∙ ap (λ (j : Judgement). told ++ j ∷ judgements history seen (after_claim (cell_of board) (claim, j)) rule rest) is
-          ∙ ap (λ (cs : List Claim). told ++ judgements history seen (cell_of board) rule cs) (sym split)
+          append_assoc answered (judgement ∷ []) (judgements history seen (cell_of next) rule rest)
+          ∙ ap (λ (c : Cell). answered ++ judgement ∷ judgements history seen c rule rest) known.cell
+          ∙ ap (λ (j : Judgement). answered ++ j ∷ judgements history seen (after_claim (cell_of board) (claim, j)) rule rest) is
+          ∙ ap (λ (cs : List Claim). answered ++ judgements history seen (cell_of board) rule cs) (sym split)
           ∙ so.judged history seen numbered;
-      long = length-append told (judgement ∷ []) ∙ omega (arith, so.long);
+      long = length-append answered (judgement ∷ []) ∙ omega (arith, so.long);
       tasks = ap (λ (c : Cell). c.tasks) known.cell
           ∙ ap (λ (ts : List Task). tasks_after_claim ts (claim, judgement)) so.tasks
-          ∙ sym (fold-append tasks_after_claim start.tasks (zip (take i claims) told) ((claim, judgement) ∷ []))
-          ∙ ap (fold tasks_after_claim start.tasks) (sym (zip_push (take i claims) told claim judgement long))
-          ∙ ap (λ (cs : List Claim). fold tasks_after_claim start.tasks (zip cs (told ++ judgement ∷ []))) (sym front);
+          ∙ sym (fold-append tasks_after_claim start.tasks (zip (take i claims) answered) ((claim, judgement) ∷ []))
+          ∙ ap (fold tasks_after_claim start.tasks) (sym (zip_push (take i claims) answered claim judgement long))
+          ∙ ap (λ (cs : List Claim). fold tasks_after_claim start.tasks (zip cs (answered ++ judgement ∷ []))) (sym front);
       machines = ap (λ (c : Cell). c.machines) known.cell ∙ so.machines;
       numbers = λ id. known.numbers id ∙ so.numbers id;
       undone = known.undone;
@@ -99,10 +99,10 @@ rooms_left claims i claim room before after below are split =
     cc
 
 -- at the end all are
-pub judged_all : (start board : BoardState) (first undo : UndoState) (rule : Rule) (claims : List Claim) (seqs : List ℕ) (told : List Judgement) (i : ℕ)
-    → length claims ≤ i → IsJudging start board first undo rule claims seqs told i → board.tasks ≡ fold tasks_after_claim start.tasks (zip claims told)
-judged_all start board first undo rule claims seqs told i past so =
-    so.tasks ∙ ap (λ (cs : List Claim). fold tasks_after_claim start.tasks (zip cs told)) (take_all i claims past)
+pub judged_all : (start board : BoardState) (first undo : UndoState) (rule : Rule) (claims : List Claim) (seqs : List ℕ) (answered : List Judgement) (i : ℕ)
+    → length claims ≤ i → IsJudging start board first undo rule claims seqs answered i → board.tasks ≡ fold tasks_after_claim start.tasks (zip claims answered)
+judged_all start board first undo rule claims seqs answered i past so =
+    so.tasks ∙ ap (λ (cs : List Claim). fold tasks_after_claim start.tasks (zip cs answered)) (take_all i claims past)
 
 -- the first place that passes a test is at most the length
 first_within : {X : Type 0} (p : X → Bool) (xs : List X) → position_or_len p xs ≤ length xs
@@ -119,18 +119,18 @@ no_refusal reply past =
     eq-eqb (first_refused reply) (length reply) (omega (arith, past, most))
 
 -- a gang keeps its tasks where it has no refusal, and else those of the start
-pub gang_tasks : (start board next : BoardState) (undo : UndoState) (claims : List Claim) (told kept : List Judgement)
-    → board.tasks ≡ fold tasks_after_claim start.tasks (zip claims told) → at_reserve undo board ≡ start
-    → next ≡ (if first_refused told == length told then board else at_reserve undo board) → kept ≡ all_or_nothing told
+pub gang_tasks : (start board next : BoardState) (undo : UndoState) (claims : List Claim) (answered kept : List Judgement)
+    → board.tasks ≡ fold tasks_after_claim start.tasks (zip claims answered) → at_reserve undo board ≡ start
+    → next ≡ (if first_refused answered == length answered then board else at_reserve undo board) → kept ≡ all_or_nothing answered
     → next.tasks ≡ fold tasks_after_claim start.tasks (zip claims kept)
-gang_tasks start board next undo claims told kept tasks back next_is kept_is =
-    by_answer (first_refused told == length told)
+gang_tasks start board next undo claims answered kept tasks back next_is kept_is =
+    by_answer (first_refused answered == length answered)
     (λ t.
     let board_is : next ≡ board = rw t at next_is in
-    let told_is : kept ≡ told = rw t at kept_is in
-    ap (λ (b : BoardState). b.tasks) board_is ∙ tasks ∙ ap (λ (js : List Judgement). fold tasks_after_claim start.tasks (zip claims js)) (sym told_is))
+    let answered_is : kept ≡ answered = rw t at kept_is in
+    ap (λ (b : BoardState). b.tasks) board_is ∙ tasks ∙ ap (λ (js : List Judgement). fold tasks_after_claim start.tasks (zip claims js)) (sym answered_is))
     (λ f.
     let board_is : next ≡ at_reserve undo board = rw f at next_is in
-    let told_is : kept ≡ map (withdrawn_for (first_refused told)) told = rw f at kept_is in
-    ap (λ (b : BoardState). b.tasks) (board_is ∙ back) ∙ sym (withdrawn_same (first_refused told) start.tasks claims told)
-    ∙ ap (λ (js : List Judgement). fold tasks_after_claim start.tasks (zip claims js)) (sym told_is))
+    let answered_is : kept ≡ map (withdrawn_for (first_refused answered)) answered = rw f at kept_is in
+    ap (λ (b : BoardState). b.tasks) (board_is ∙ back) ∙ sym (withdrawn_same (first_refused answered) start.tasks claims answered)
+    ∙ ap (λ (js : List Judgement). fold tasks_after_claim start.tasks (zip claims js)) (sym answered_is))

@@ -61,12 +61,12 @@ withdrawn_within place (claim ∷ claims) (judgement ∷ reply) within = (
 pub reply_within : (history : List Entry) (cell : Cell) (seen : ℕ) (txn : Txn) → EvictWithin txn.claims (reply_on history cell seen txn)
 reply_within history cell seen txn = by txn.mode
   where
-    told : List Judgement
-    told = judgements history seen cell txn.rule txn.claims
+    answered : List Judgement
+    answered = judgements history seen cell txn.rule txn.claims
 
-    by : (mode : Mode) → EvictWithin txn.claims (by_mode mode told)
+    by : (mode : Mode) → EvictWithin txn.claims (by_mode mode answered)
     by Incremental = judgements_within history seen cell txn.rule txn.claims
     by Gang =
-        by_answer (first_refused told == length told)
+        by_answer (first_refused answered == length answered)
         (λ t. rw t (judgements_within history seen cell txn.rule txn.claims))
-        (λ f. rw f (withdrawn_within (first_refused told) txn.claims told (judgements_within history seen cell txn.rule txn.claims)))
+        (λ f. rw f (withdrawn_within (first_refused answered) txn.claims answered (judgements_within history seen cell txn.rule txn.claims)))

@@ -15,6 +15,6 @@ pub record AreNumbered (board : BoardState) (seqs : List ℕ) (claims : List Cla
   pub copy : seqs ≡ copied_seqs history seen claims
 
 -- an undo has room for these claims and their victims
-pub record CanUndo (undo : UndoState) (told : List Claim) : Type 0 where
-  pub claims : length told ≤ undo.claims
-  pub victims : sum_by (λ claim. length claim.victims) told ≤ undo.victims
+pub record CanUndo (undo : UndoState) (answered : List Claim) : Type 0 where
+  pub claims : length answered ≤ undo.claims
+  pub victims : sum_by (λ claim. length claim.victims) answered ≤ undo.victims

@@ -16,7 +16,7 @@ use Rattle.omega_model.specs.declared.entries.Entry.TheVariants.{Commit}
 
 -- each claim is answered, and all of them are placed or none is
 pub record IsWhole (claims : List Claim) (reply : List Judgement) : Type 0 where
-  pub told : length reply ≡ length claims
+  pub answered : length reply ≡ length claims
   pub together : All (λ judgement. IsTrue (admits judgement)) reply ⊎ All (λ judgement. IsFalse (admits judgement)) reply
 
 -- a commit in gang mode is whole

@@ -29,7 +29,7 @@ impl Model for Log {
 }
 
 impl Log {
-    /// The history, from its first entry on. Takes no memory.
+    /// The history, from its first entry on.
     pub fn history(&self) -> &[Entry]
         ensures { result.now ≡ self.now }
     {
@@ -38,7 +38,7 @@ impl Log {
 }
 
 impl Cell {
-    /// The board, and what the cell keeps beside it, so that the board can be lent. Takes no memory.
+    /// The board, and what the cell keeps beside it, so that the board can be lent.
     pub fn apart(self) -> (Board, Log)
         ensures cell { IsCell result.0 result.1 }
         ensures history { result.1 ≡ self.history }
@@ -51,7 +51,7 @@ impl Cell {
         (board, Log { entries, notes })
     }
 
-    /// The cell of a board and of what was kept beside it. Takes no memory.
+    /// The cell of a board and of what was kept beside it.
     pub fn joined(board: Board, log: Log) -> Cell
         requires { IsCell board log }
         ensures { result.history ≡ log }

@@ -46,7 +46,7 @@ impl Model for Cell {
 }
 
 impl Cell {
-    /// The cell with the empty history. Takes no memory.
+    /// The cell with the empty history.
     pub fn new(alloc: Global) -> Cell
         ensures { result.history ≡ [] }
     {
@@ -90,7 +90,7 @@ impl Cell {
         Ok(Delta::of(n, self.entries.len() as u64, parts))
     }
 
-    /// The history itself. Takes no memory.
+    /// The history itself.
     pub fn into_history(self) -> Entries
         ensures history { result ≡ self.history }
         ensures legal { Legal self.history }
@@ -101,7 +101,7 @@ impl Cell {
         Seq::of(entries)
     }
 
-    /// The history itself, and what its entries did. Takes no memory.
+    /// The history itself, and what its entries did.
     pub fn into_run(self) -> (Entries, Effects)
         ensures history { result.0 ≡ self.history }
         ensures effects { AreEffects self.history result.1 }
@@ -190,7 +190,7 @@ impl Cell {
     /// had taken in, and `seqs` has for each claim the sequence number of its machine in that copy.
     /// Answers the place of the entry, and for each claim the verdict and the tasks that it evicts.
     ///
-    /// Costs the claims, whose machines are sorted, and their victims. Takes no memory.
+    /// Costs the claims, whose machines are sorted, and their victims.
     pub fn commit(&mut self, scheduler: u32, seen: u64, seqs: &[u64], prepared: Prepared) -> Reply
         requires room { HasRoom self.old prepared }
         requires seen { seen ≤ length self.old.history }

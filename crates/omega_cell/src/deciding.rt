@@ -18,7 +18,7 @@ use omega_model::{Claim, Judgement, Judgements, Mode, Outcome, Outcomes, Rule, S
 use std::alloc::Global;
 
 /// The reply to a transaction, whose placed claims are then on the board. The sequence numbers
-/// stay. Takes no memory.
+/// stay.
 pub fn decide(
     board: &mut Board,
     txn: &Txn,
@@ -38,14 +38,14 @@ pub fn decide(
     ensures numbers { (id : ℕ) → seq_at board.new.table id ≡ seq_at board.old.table id }
 {
     let claims = txn.claims.as_slice();
-    let mut told = judge_all(board, txn.rule, claims, seqs, &mut undo, room);
+    let mut answered = judge_all(board, txn.rule, claims, seqs, &mut undo, room);
     if let Mode::Gang = txn.mode {
-        keep_all_or_nothing(board, &mut undo, &mut told);
+        keep_all_or_nothing(board, &mut undo, &mut answered);
     }
-    Seq::of(told)
+    Seq::of(answered)
 }
 
-// Judges claims in order, each on the board after those before it, and applies those that are placed.
+/// Judges claims in order, each on the board after those before it, and applies those that are placed.
 fn judge_all(
     board: &mut Board,
     rule: Rule,
@@ -67,7 +67,7 @@ fn judge_all(
     ensures content { at_reserve undo.new board.new ≡ at_reserve undo.old board.old }
 {
     let AnswerRoom {
-        answers: mut told,
+        answers: mut answered,
         rooms,
     } = room;
     let mut rooms = rooms.into_iter();
@@ -75,12 +75,12 @@ fn judge_all(
         let copy = known_of(rule, seqs[i]);
         let room = rooms.next().unwrap();
         let judgement = judge_one(board, claim, copy, undo, room);
-        told.push_reserved(judgement);
+        answered.push_reserved(judgement);
     }
-    told
+    answered
 }
 
-// What a rule hands in of the copy, in which a machine has this sequence number.
+/// What a rule hands in of the copy, in which a machine has this sequence number.
 fn known_of(rule: Rule, copy: u64) -> Option<u64>
     ensures { (history : List Entry) (seen machine : ℕ) → copy ≡ seq (take seen history) machine → result ≡ known_of history seen rule machine }
 {
@@ -90,7 +90,7 @@ fn known_of(rule: Rule, copy: u64) -> Option<u64>
     }
 }
 
-// Judges a claim, and applies it where it is placed.
+/// Judges a claim, and applies it where it is placed.
 fn judge_one(
     board: &mut Board,
     claim: &Claim,
@@ -121,22 +121,22 @@ fn judge_one(
     }
 }
 
-// A gang with a refusal keeps no claim: the board is as it was at the reserve, and what would have
-// been placed is withdrawn for the first refusal.
-fn keep_all_or_nothing(board: &mut Board, undo: &mut Undo, told: &mut Vec<Judgement>)
-    requires few { length told.old.items < 2 ^ 32 }
+/// A gang with a refusal keeps no claim: the board is as it was at the reserve, and what would have
+/// been placed is withdrawn for the first refusal.
+fn keep_all_or_nothing(board: &mut Board, undo: &mut Undo, answered: &mut Vec<Judgement>)
+    requires few { length answered.old.items < 2 ^ 32 }
     requires undo { IsUndoOf board.old undo.old }
-    ensures told { told.new.items ≡ all_or_nothing told.old.items }
-    ensures board { board.new ≡ (if first_refused told.old.items == length told.old.items then board.old else at_reserve undo.old board.old) }
+    ensures answered { answered.new.items ≡ all_or_nothing answered.old.items }
+    ensures board { board.new ≡ (if first_refused answered.old.items == length answered.old.items then board.old else at_reserve undo.old board.old) }
 {
-    let place = first_refused(told.as_slice());
-    if place < told.len() {
+    let place = first_refused(answered.as_slice());
+    if place < answered.len() {
         board.undo(undo);
-        withdraw(*told.allocator(), place as u32, told);
+        withdraw(*answered.allocator(), place as u32, answered);
     }
 }
 
-// Withdraws the placed claims for the one at this place.
+/// Withdraws the placed claims for the one at this place.
 fn withdraw(alloc: Global, place: u32, judgements: &mut Vec<Judgement>)
     ensures { judgements.new.items ≡ map (withdrawn_for place) judgements.old.items }
 {
@@ -145,7 +145,7 @@ fn withdraw(alloc: Global, place: u32, judgements: &mut Vec<Judgement>)
     }
 }
 
-// A placed claim is withdrawn for the one at this place, and evicts nothing; a refusal stays.
+/// A placed claim is withdrawn for the one at this place, and evicts nothing; a refusal stays.
 fn withdraw_one(alloc: Global, place: u32, judgement: &mut Judgement)
     ensures { judgement.new ≡ withdrawn_for place judgement.old }
 {
@@ -157,7 +157,7 @@ fn withdraw_one(alloc: Global, place: u32, judgement: &mut Judgement)
     }
 }
 
-// The place of the first claim that is refused, or the length where there is none.
+/// The place of the first claim that is refused, or the length where there is none.
 fn first_refused(judgements: &[Judgement]) -> usize
     ensures { result ≡ first_refused judgements.now }
 {
@@ -169,7 +169,7 @@ fn first_refused(judgements: &[Judgement]) -> usize
     judgements.len()
 }
 
-/// The tasks of some claims, each with what was answered to it. Takes no memory.
+/// The tasks of some claims, each with what was answered to it.
 pub fn outcomes_of(claims: &[Claim], reply: &[Judgement], room: AnswerRoom<Outcome>) -> Outcomes
     requires reply { EvictWithin claims.now reply.now }
     requires room { room ≡ victim_counts claims.now }

@@ -18,7 +18,7 @@ pub struct Usage {
 }
 
 impl Usage {
-    /// The usage of a board. Takes no memory, and the same time for any board.
+    /// The usage of a board. Takes the same time for any board.
     pub(crate) fn of(board: &Board) -> Usage
         ensures { result ≡ usage_in (cell_of board.now) }
     {
@@ -65,7 +65,7 @@ impl Model for Notes {
 }
 
 impl Notes {
-    /// No notes. Takes no memory.
+    /// No notes.
     pub fn new(alloc: Global) -> Notes
         ensures usages { result.usages ≡ [] }
         ensures displaced { result.displaced ≡ [] }
@@ -88,7 +88,7 @@ impl Notes {
     }
 
     /// Notes what the next entry does, before which the usage is this one, and which displaces the
-    /// tasks of these names. Takes no memory.
+    /// tasks of these names.
     pub fn take_in(&mut self, entry: &Entry, usage: Usage, stopped: Keys)
         requires room { HasNoteRoom self.old }
         ensures usages { (cell : Cell) → usage ≡ usage_in cell → self.new.usages ≡ self.old.usages ++ usage_at cell entry.now }
@@ -106,7 +106,7 @@ impl Notes {
         }
     }
 
-    /// The effects of a history with these notes, at whose end the usage is this one. Takes no memory.
+    /// The effects of a history with these notes, at whose end the usage is this one.
     pub fn into_effects(self, last: Usage) -> Effects
         ensures usages { result.usages ≡ self.usages }
         ensures displaced { result.displaced ≡ self.displaced }

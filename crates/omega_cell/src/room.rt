@@ -23,7 +23,7 @@ impl Model for KeyRoom {
 }
 
 impl KeyRoom {
-    // Room for so many names.
+    /// Room for so many names.
     fn of(alloc: Global, count: usize) -> Result<KeyRoom, NoMemory>
         ensures { IfOk result (λ room. room ≡ count) }
     {
@@ -31,7 +31,7 @@ impl KeyRoom {
         Ok(KeyRoom { keys })
     }
 
-    /// The vector, in which there is no name yet. Takes no memory.
+    /// The vector, in which there is no name yet.
     pub fn into_keys(self) -> Vec<TaskKey>
         ensures none { result.items ≡ [] }
         ensures room { vec_capacity result ≡ self }
@@ -40,7 +40,7 @@ impl KeyRoom {
         keys
     }
 
-    /// A list of these names, for which there is room. Takes no memory.
+    /// A list of these names, for which there is room.
     pub fn fill(self, names: &[TaskKey]) -> Keys
         requires { length names.now ≤ self }
         ensures { result ≡ names.now }
@@ -84,7 +84,7 @@ impl<T: Drop> AnswerRoom<T> {
     }
 }
 
-// For each claim, room for as many names as it has victims.
+/// For each claim, room for as many names as it has victims.
 fn rooms_of(alloc: Global, claims: &[Claim]) -> Result<Vec<KeyRoom>, NoMemory>
     ensures { IfOk result (λ rooms. rooms.items ≡ victim_counts claims.now) }
 {

@@ -19,7 +19,7 @@ use Rattle.omega_model.specs.declared.entries.Entry.{Entry}
 use Rattle.omega_model.specs.declared.entries.Entry.TheVariants.{Round, MachineAdd, MachineUpdate, MachineRemove, AttrSet, AttrDelete, End, Commit}
 use Rattle.omega_machines.specs.declared.MachineState.{MachineState}
 use Rattle.omega_machines.specs.Table.{machines_of, free_at, free_if_up}
-use Rattle.omega_running.specs.Held.{stays_against}
+use Rattle.omega_running.specs.Staying.{stays_against}
 use Rattle.omega_running.specs.Order.{Each}
 use Rattle.omega_running.proofs.Lists.{each_of, filter_every}
 use Rattle.omega_board.specs.Board.{IsCounted}

@@ -6,7 +6,7 @@ use Rattle.omega_model.specs.Need.{minus}
 use Rattle.omega_model.specs.declared.cells.Machine.{Machine}
 use Rattle.omega_model.specs.declared.cells.Need.{Need}
 use Rattle.omega_model.specs.declared.cells.Task.{Task}
-use Rattle.omega_running.specs.Held.{held_on}
+use Rattle.omega_running.specs.Staying.{staying_on}
 
 -- what is free on a machine while these tasks run, if it is up
 abbrev pub free_on : List Task → Machine → Option Need
@@ -18,7 +18,7 @@ frees_of cell = map (free_on cell.tasks) cell.machines
 
 -- what is free on a machine, if it is up, once all tasks of a lower precedence than this one are off it
 abbrev pub freed_on : ℕ → List Task → Machine → Option Need
-freed_on prec tasks machine = if machine.up then Some (minus machine.cap (held_on prec tasks machine.id)) else None
+freed_on prec tasks machine = if machine.up then Some (minus machine.cap (staying_on prec tasks machine.id)) else None
 
 -- the same of each machine of a cell, in order of the list
 abbrev pub freed_of : ℕ → Cell → List (Option Need)

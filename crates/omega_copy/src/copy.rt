@@ -58,7 +58,7 @@ impl Model for PrivateCopy {
 }
 
 impl PrivateCopy {
-    /// The copy that has seen no entry. Takes no memory.
+    /// The copy that has seen no entry.
     pub fn new(alloc: Global) -> PrivateCopy
         ensures board { result.board ≡ record { table = []; tasks = []; spare = 0 } }
         ensures seen { result.seen ≡ 0 }
@@ -73,7 +73,7 @@ impl PrivateCopy {
         }
     }
 
-    /// How many entries of the history the copy has seen. Takes no memory.
+    /// How many entries of the history the copy has seen.
     pub fn seen(&self) -> u64
         ensures { result ≡ self.now.seen }
     {
@@ -82,7 +82,7 @@ impl PrivateCopy {
 
     /// The copy of a history that has seen it to its end, after so many entries: over the board after it,
     /// with indexes of the history, which are told of these machines, the ones that the entries touch that
-    /// they haven't seen. Costs these machines, and for each level the tasks on them. Takes no memory.
+    /// they haven't seen. Costs these machines, and for each level the tasks on them.
     pub fn over(board: Board, indexes: Indexes, seen: u64, machines: &[u64]) -> PrivateCopy
         requires places { HavePlaces (length board.table) indexes }
         requires history { MayGoOn indexes board machines.now }
@@ -106,7 +106,7 @@ impl PrivateCopy {
         }
     }
 
-    /// The board, and what the copy keeps beside it. Takes no memory.
+    /// The board, and what the copy keeps beside it.
     pub fn into_parts(self) -> (Board, Indexes)
         requires no_trial { self.trial ≡ None }
         ensures table { result.0.table ≡ self.board.table }
@@ -128,7 +128,7 @@ impl PrivateCopy {
         (board, indexes)
     }
 
-    /// How many of the entries that it has seen touched a machine. Takes no memory.
+    /// How many of the entries that it has seen touched a machine.
     pub fn seq(&self, machine: u64) -> u64
         ensures { result ≡ seq_at self.now.board.table machine }
     {
@@ -149,7 +149,7 @@ impl PrivateCopy {
         Ok(seqs)
     }
 
-    /// The board: that of the entries seen, with the claims of a trial placed. Takes no memory.
+    /// The board: that of the entries seen, with the claims of a trial placed.
     pub fn board(&self) -> &Board
         ensures table { result.now.table ≡ self.now.board.table }
         ensures tasks { result.now.tasks ≡ self.now.board.tasks }
@@ -158,7 +158,7 @@ impl PrivateCopy {
     }
 
     /// What is free on each machine of the board, in order of its list; `None` where the machine isn't
-    /// up. Takes no memory.
+    /// up.
     pub fn free(&self) -> &FitIndex
         ensures { result.now.free ≡ frees_of (cell_of self.now.board) }
     {
@@ -293,7 +293,7 @@ impl PrivateCopy {
 
     /// Ends the trial, if one has begun: the board is as it was before its claims. The indexes are told.
     /// Costs the claims and their victims, and for each level the tasks on the claims' machines, once for
-    /// claims in a row on one machine. Takes no memory.
+    /// claims in a row on one machine.
     pub fn end_trial(&mut self)
         ensures { self.new ≡ after_trial self.old self.old.trial }
     {

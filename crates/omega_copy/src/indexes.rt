@@ -20,7 +20,7 @@ pub struct Indexes {
 }
 
 impl Indexes {
-    /// The indexes of the empty board, before any entry. Takes no memory.
+    /// The indexes of the empty board, before any entry.
     pub fn new(alloc: Global) -> Indexes
         ensures { (history : List Entry) → AreIndexesOf history result }
     {
@@ -31,7 +31,7 @@ impl Indexes {
         }
     }
 
-    /// After how many entries of the history they are. Takes no memory.
+    /// After how many entries of the history they are.
     pub fn seen(&self) -> u64
         ensures { result ≡ self.now.seen }
     {

@@ -20,7 +20,7 @@ pub struct Level {
 }
 
 impl Level {
-    /// The index of that. Takes no memory.
+    /// The index of that.
     pub fn freed(&self) -> &FitIndex
         ensures { result.now ≡ self.now.index }
     {

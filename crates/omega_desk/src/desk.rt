@@ -45,7 +45,7 @@ impl Model for Desk {
 }
 
 impl Desk {
-    /// The desk of a scheduler that has no work and has taken no attempts. Takes no memory.
+    /// The desk of a scheduler that has no work and has taken no attempts.
     pub fn new(alloc: Global, settings: &Settings, scheduler: u32) -> Desk
         ensures settings { result.settings ≡ settings.now }
         ensures scheduler { result.scheduler ≡ scheduler }
@@ -84,22 +84,22 @@ impl Desk {
     }
 
     /// The present request with the wishes that aren't placed yet. `None` exactly where nothing is
-    /// left of the round's work. Takes no memory.
+    /// left of the round's work.
     pub fn present(&self) -> Option<&Request>
         ensures { option_map (λ request. request.now) result ≡ slice_get self.now.requests 0 }
     {
         self.present.as_ref()
     }
 
-    /// How many requests are left of the round's work. Takes no memory.
+    /// How many requests are left of the round's work.
     pub fn request_count(&self) -> u128
         ensures { result ≡ length self.now.requests }
     {
         u128::from(self.present.is_some()) + self.waiting.len() as u128
     }
 
-    /// The place in a list of so many machines at which the present attempt begins: below their
-    /// number, or 0 where there are none. Takes no memory, and its cost doesn't grow with the attempts.
+    /// The place in a list of so many machines at which the present attempt begins: below their number,
+    /// or 0 where there are none. Its cost doesn't grow with the attempts.
     pub fn start(&self, machines: usize) -> usize
         ensures drawn { result ≡ drawn_start self.now.settings self.now.scheduler self.now.attempts machines }
         ensures below { 0 < machines → result < machines }
@@ -114,7 +114,7 @@ impl Desk {
 
     /// Counts an attempt on the present request and moves on by what was answered to its commit. Its
     /// outcomes are for wishes of the request, in the order of the wishes. Costs the request, and the
-    /// logarithm of the jobs that the desk has seen. Takes no memory.
+    /// logarithm of the jobs that the desk has seen.
     pub fn take(&mut self, reply: &Reply)
         requires answers { AnswersFirst self.old.requests reply.now.outcomes }
         requires few { self.old.attempts + 1 < 2 ^ 64 }
@@ -140,7 +140,7 @@ impl Desk {
     }
 }
 
-// The requests of jobs that aren't given up.
+/// The requests of jobs that aren't given up.
 fn still_tried(requests: Requests, failures: &Failures, settings: &Settings) -> Vec<Request>
     ensures { result.items ≡ still_tried settings.now (count_of failures.now) requests }
 {
@@ -149,7 +149,7 @@ fn still_tried(requests: Requests, failures: &Failures, settings: &Settings) -> 
     open
 }
 
-// Makes room for the counts of the jobs of these requests.
+/// Makes room for the counts of the jobs of these requests.
 fn reserve(failures: &mut Failures, requests: &[Request]) -> Result<(), NoMemory>
     ensures counts { KeepsCounts failures.old failures.new }
     ensures room { OnOk result (All (λ (request : Request). IsCounted failures.new request.job) requests.now) }
@@ -160,7 +160,7 @@ fn reserve(failures: &mut Failures, requests: &[Request]) -> Result<(), NoMemory
     Ok(())
 }
 
-// One more commit for a job, with these outcomes. Answers the job's count after it.
+/// One more commit for a job, with these outcomes. Answers the job's count after it.
 fn note(failures: &mut Failures, job: u64, outcomes: &[Outcome]) -> u64
     requires room { IsCounted failures.old job }
     requires few { count_of failures.old job + 1 < 2 ^ 64 }
@@ -171,7 +171,7 @@ fn note(failures: &mut Failures, job: u64, outcomes: &[Outcome]) -> u64
     failures.note(job, places_any(outcomes))
 }
 
-// Whether outcomes place a task.
+/// Whether outcomes place a task.
 fn places_any(outcomes: &[Outcome]) -> bool
     ensures { result ≡ list_any (λ outcome. is_placed outcome.verdict) outcomes.now }
 {

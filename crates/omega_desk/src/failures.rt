@@ -23,7 +23,7 @@ impl Model for Failures {
 }
 
 impl Failures {
-    /// No job has failed, and there is room for none. Takes no memory.
+    /// No job has failed, and there is room for none.
     pub fn new(alloc: Global) -> Failures
         ensures { result ≡ [] }
     {
@@ -32,7 +32,7 @@ impl Failures {
         }
     }
 
-    /// The count of a job. Takes no memory.
+    /// The count of a job.
     pub fn of(&self, job: u64) -> u64
         ensures { result ≡ count_of self.now job }
     {
@@ -53,7 +53,6 @@ impl Failures {
     }
 
     /// One more commit for a job, which placed something or nothing. Answers the job's count after it.
-    /// Takes no memory.
     pub fn note(&mut self, job: u64, placed: bool) -> u64
         requires room { IsCounted self.old job }
         requires few { count_of self.old job + 1 < 2 ^ 64 }

@@ -42,8 +42,7 @@ impl JobActivities {
     }
 
     /// The activities of a job: those of the last row for it. `None` exactly where it has none, and
-    /// so is no MapReduce job. Costs the logarithm of the number of jobs that have any. Takes no
-    /// memory.
+    /// so is no MapReduce job. Costs the logarithm of the number of jobs that have any.
     pub fn of(&self, job: u64) -> Option<u32>
         ensures activities { result ≡ activities_in self.now job }
         ensures range { IfSome result (λ activities. activities ≤ most_activities) }

@@ -43,7 +43,7 @@ impl MachineDisks {
 
     /// The disk of a machine, in units of 10^-9 of the trace's normalised amount: that of the last
     /// row for it, and the greatest quantity where it has none. Costs the logarithm of the number of
-    /// machines that have one. Takes no memory.
+    /// machines that have one.
     pub fn of(&self, machine: u64) -> u64
         ensures disk { result ≡ disk_of self.now machine }
         ensures range { result ≤ greatest_quantity }

@@ -60,8 +60,8 @@ fn extras_among(alloc: Global, tasks: &[Task]) -> Result<Tasks, NoMemory>
 }
 
 /// How many extras a job gets on the cell of a board, with these activities, so many tasks wanted and
-/// so many extras running, each of which needs so much. Takes no memory, and the same time for any
-/// number of machines.
+/// so many extras running, each of which needs so much. Takes the same time for any number of
+/// machines.
 pub fn extra_count(
     policy: Extra,
     activities: u32,
@@ -87,7 +87,7 @@ pub fn extra_count(
 }
 
 /// Whether a job with these activities has all the tasks that it should have, with so many wanted and
-/// so many extras running. Takes no memory.
+/// so many extras running.
 pub fn has_all(policy: Extra, activities: u32, wanted: usize, held: usize) -> bool
     ensures { result ≡ nat_le (target policy activities wanted) (wanted + held) }
 {

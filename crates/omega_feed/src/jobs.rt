@@ -43,7 +43,7 @@ impl Model for Jobs {
 }
 
 impl Jobs {
-    /// No jobs. Takes no memory.
+    /// No jobs.
     pub fn new(alloc: Global) -> Jobs
         ensures { result ≡ [] }
     {

@@ -26,7 +26,7 @@ impl Model for OpenJobs {
 }
 
 impl OpenJobs {
-    /// None is open. Takes no memory.
+    /// None is open.
     pub fn new(alloc: Global) -> OpenJobs
         ensures { result.keys ≡ [] }
     {

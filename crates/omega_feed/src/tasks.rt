@@ -47,7 +47,7 @@ impl Model for WantedTasks {
 }
 
 impl WantedTasks {
-    /// No tasks. Takes no memory.
+    /// No tasks.
     pub fn new(alloc: Global) -> WantedTasks
         ensures { result ≡ [] }
     {

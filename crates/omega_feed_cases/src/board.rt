@@ -7,7 +7,7 @@ use std::alloc::Global;
 /// Does a step on the board, and appends its answer: an entry, as `apply` takes it, answers `-`, and may stop no
 /// task; `place` and a claim of five words places it where it may be placed without evictions, and answers
 /// `placed -`.
-pub(crate) fn tell_step(
+pub(crate) fn show_step(
     board: &mut Board,
     alloc: Global,
     step: &[Bytes],

@@ -4,9 +4,9 @@ ghost use Rattle.omega_model.specs.Ranges.{IsInRange, IsPercentage};
 ghost use Rattle.omega_model.specs.declared.cells.Task.{Task};
 ghost use Rattle.omega_feed.specs.Open.{OthersAreQuiet};
 
-use crate::board::tell_step;
+use crate::board::show_step;
 use crate::rows::push_row;
-use crate::telling::{tell_entries, tell_requests, tell_rounds};
+use crate::showing::{show_entries, show_requests, show_rounds};
 use omega_board::Board;
 use omega_calls::{Fault, is_colon, number, part, policy_of, small, text};
 use omega_feed::{OpenJobs, Wanted, feed, rounds};
@@ -41,7 +41,7 @@ enum Closed {
 ///
 /// Steps that answer nothing: the rows of tables, as `push_row` says; `batch NUMBER`, so many batch
 /// schedulers, else 1; `extra max`, `extra relative` and `extra PERCENTAGE`, which is the policy of
-/// extras, else `max`. `board` and a step do that step on the board, and answer as `tell_step` says.
+/// extras, else `max`. `board` and a step do that step on the board, and answer as `show_step` says.
 ///
 /// Of all rows so far, in order of time: `rounds WINDOW` answers the rounds, each its number and the
 /// machine or the task of each row. `ask SCHEDULER` answers what the scheduler is asked on the board
@@ -97,7 +97,7 @@ fn take(
     match (text(call)?, words) {
         ("board", _) => {
             part(answers)?;
-            tell_step(board, alloc, words, answers)
+            show_step(board, alloc, words, answers)
         }
         ("batch", [word]) => {
             trace.batch = small(word)?;
@@ -109,7 +109,7 @@ fn take(
         }
         (call, _) if is_question(call) => {
             part(answers)?;
-            tell(trace, board, alloc, call, words, answers)
+            show(trace, board, alloc, call, words, answers)
         }
         (call, _) => push_row(&mut trace.tables, alloc, call, words),
     }
@@ -124,7 +124,7 @@ fn is_question(call: &str) -> bool {
 }
 
 /// Appends the answer of a question.
-fn tell(
+fn show(
     trace: &Trace,
     board: &Board,
     alloc: Global,
@@ -133,27 +133,27 @@ fn tell(
     answers: &mut String,
 ) -> Result<(), Fault> {
     match (call, words) {
-        ("rounds", [window]) => tell_cut(trace, alloc, number(window)?, answers),
+        ("rounds", [window]) => show_cut(trace, alloc, number(window)?, answers),
         ("ask", [scheduler, closed @ ..]) => {
             let (scheduler, closed) = (small(scheduler)?, closed_of(closed)?);
             let question = Question { scheduler, closed };
-            tell_asked(trace, board, alloc, question, answers)
+            show_asked(trace, board, alloc, question, answers)
         }
         ("ask-by-round", [window, scheduler]) => {
             let (window, scheduler) = (number(window)?, small(scheduler)?);
-            tell_by_round(trace, board, alloc, window, scheduler, answers)
+            show_by_round(trace, board, alloc, window, scheduler, answers)
         }
-        ("entries", []) => tell_taken(trace, board, alloc, answers),
-        ("entries-unwanted", []) => tell_unwanted(trace, board, alloc, answers),
-        ("waiting", []) => tell_waiting(trace, board, alloc, answers),
+        ("entries", []) => show_taken(trace, board, alloc, answers),
+        ("entries-unwanted", []) => show_unwanted(trace, board, alloc, answers),
+        ("waiting", []) => show_waiting(trace, board, alloc, answers),
         _ => Err(Fault::UnknownCall),
     }
 }
 
 /// Appends the rounds of a trace.
-fn tell_cut(trace: &Trace, alloc: Global, window: u64, answers: &mut String) -> Result<(), Fault> {
+fn show_cut(trace: &Trace, alloc: Global, window: u64, answers: &mut String) -> Result<(), Fault> {
     let cut = rounds_of(alloc, &trace.tables, window)?;
-    tell_rounds(answers, cut.as_slice())
+    show_rounds(answers, cut.as_slice())
 }
 
 /// Which jobs are closed, of words.
@@ -208,7 +208,7 @@ fn at_first(trace: &Trace, alloc: Global) -> Result<Wanted, Fault>
 }
 
 /// Appends what a scheduler is asked on the board once all rows were taken.
-fn tell_asked(
+fn show_asked(
     trace: &Trace,
     board: &Board,
     alloc: Global,
@@ -216,11 +216,11 @@ fn tell_asked(
     answers: &mut String,
 ) -> Result<(), Fault> {
     let rows = feed(alloc, &trace.tables)?;
-    tell_asked_after(trace, board, alloc, &rows, question, answers)
+    show_asked_after(trace, board, alloc, &rows, question, answers)
 }
 
 /// Appends what a scheduler is asked on the board once these rows were taken.
-fn tell_asked_after(
+fn show_asked_after(
     trace: &Trace,
     board: &Board,
     alloc: Global,
@@ -229,11 +229,11 @@ fn tell_asked_after(
     answers: &mut String,
 ) -> Result<(), Fault> {
     let mut wanted = at_first(trace, alloc)?;
-    tell_asked_of(alloc, &mut wanted, rows, board, question, answers)
+    show_asked_of(alloc, &mut wanted, rows, board, question, answers)
 }
 
 /// Appends what is asked of what is wanted, once these rows were taken.
-fn tell_asked_of(
+fn show_asked_of(
     alloc: Global,
     wanted: &mut Wanted,
     rows: &[Row],
@@ -244,7 +244,7 @@ fn tell_asked_of(
     requires { wanted.old.tasks ≡ [] }
 {
     let requests = asked(alloc, wanted, rows, board, question)?;
-    tell_requests(answers, requests.as_slice())
+    show_requests(answers, requests.as_slice())
 }
 
 /// What a scheduler is asked on a board once these rows were taken.
@@ -309,7 +309,7 @@ fn close_but_one(
 }
 
 /// Appends the number of each round, and what a scheduler is asked once its rows were taken.
-fn tell_by_round(
+fn show_by_round(
     trace: &Trace,
     board: &Board,
     alloc: Global,
@@ -318,11 +318,11 @@ fn tell_by_round(
     answers: &mut String,
 ) -> Result<(), Fault> {
     let cut = rounds_of(alloc, &trace.tables, window)?;
-    tell_by_round_of(trace, board, alloc, &cut, scheduler, answers)
+    show_by_round_of(trace, board, alloc, &cut, scheduler, answers)
 }
 
 /// The same of these rounds.
-fn tell_by_round_of(
+fn show_by_round_of(
     trace: &Trace,
     board: &Board,
     alloc: Global,
@@ -331,7 +331,7 @@ fn tell_by_round_of(
     answers: &mut String,
 ) -> Result<(), Fault> {
     let rows = feed(alloc, &trace.tables)?;
-    tell_each_round(
+    show_each_round(
         trace,
         board,
         alloc,
@@ -343,7 +343,7 @@ fn tell_by_round_of(
 }
 
 /// The same of these rounds and rows.
-fn tell_each_round(
+fn show_each_round(
     trace: &Trace,
     board: &Board,
     alloc: Global,
@@ -362,24 +362,24 @@ fn tell_each_round(
         write!(answers, "round {} ", round.number)?;
         count = count.saturating_add(round.rows.len());
         let taken = rows.get(..count).unwrap_or(rows);
-        tell_asked_after(trace, board, alloc, taken, question, answers)?;
+        show_asked_after(trace, board, alloc, taken, question, answers)?;
     }
     Ok(())
 }
 
 /// Appends the entries of each row once it was taken.
-fn tell_taken(
+fn show_taken(
     trace: &Trace,
     board: &Board,
     alloc: Global,
     answers: &mut String,
 ) -> Result<(), Fault> {
     let rows = feed(alloc, &trace.tables)?;
-    tell_taken_of(trace, board, alloc, &rows, answers)
+    show_taken_of(trace, board, alloc, &rows, answers)
 }
 
 /// The same of these rows.
-fn tell_taken_of(
+fn show_taken_of(
     trace: &Trace,
     board: &Board,
     alloc: Global,
@@ -387,23 +387,23 @@ fn tell_taken_of(
     answers: &mut String,
 ) -> Result<(), Fault> {
     let mut wanted = at_first(trace, alloc)?;
-    tell_each_taken(&mut wanted, board, alloc, rows, answers)
+    show_each_taken(&mut wanted, board, alloc, rows, answers)
 }
 
 /// The same of what is wanted before the first of these rows.
-fn tell_each_taken(
+fn show_each_taken(
     wanted: &mut Wanted,
     board: &Board,
     alloc: Global,
     rows: &[Row],
     answers: &mut String,
 ) -> Result<(), Fault> {
-    let mut told = Told::Nothing;
+    let mut told = Shown::Nothing;
     for row in rows {
         take_row(wanted, alloc, row)?;
-        told = tell_row(wanted, board, alloc, row, told, answers)?;
+        told = show_row(wanted, board, alloc, row, told, answers)?;
     }
-    tell_end(told, answers)
+    show_end(told, answers)
 }
 
 /// Takes a row, whatever jobs are open.
@@ -413,18 +413,18 @@ fn take_row(wanted: &mut Wanted, alloc: Global, row: &Row) -> Result<(), Fault> 
 }
 
 /// Appends the entries of each row where no task is wanted.
-fn tell_unwanted(
+fn show_unwanted(
     trace: &Trace,
     board: &Board,
     alloc: Global,
     answers: &mut String,
 ) -> Result<(), Fault> {
     let rows = feed(alloc, &trace.tables)?;
-    tell_unwanted_of(trace, board, alloc, &rows, answers)
+    show_unwanted_of(trace, board, alloc, &rows, answers)
 }
 
 /// The same of these rows.
-fn tell_unwanted_of(
+fn show_unwanted_of(
     trace: &Trace,
     board: &Board,
     alloc: Global,
@@ -432,72 +432,72 @@ fn tell_unwanted_of(
     answers: &mut String,
 ) -> Result<(), Fault> {
     let wanted = at_first(trace, alloc)?;
-    tell_each(&wanted, board, alloc, rows, answers)
+    show_each(&wanted, board, alloc, rows, answers)
 }
 
 /// Appends the entries of each row, with what is wanted as it is.
-fn tell_each(
+fn show_each(
     wanted: &Wanted,
     board: &Board,
     alloc: Global,
     rows: &[Row],
     answers: &mut String,
 ) -> Result<(), Fault> {
-    let mut told = Told::Nothing;
+    let mut told = Shown::Nothing;
     for row in rows {
-        told = tell_row(wanted, board, alloc, row, told, answers)?;
+        told = show_row(wanted, board, alloc, row, told, answers)?;
     }
-    tell_end(told, answers)
+    show_end(told, answers)
 }
 
 /// Whether an entry has been told.
 #[derive(Clone, Copy, PartialEq, Eq)]
-enum Told {
+enum Shown {
     Nothing,
     Some,
 }
 
 /// Appends the entries of a row behind those that were told before, and answers whether any has been told.
-fn tell_row(
+fn show_row(
     wanted: &Wanted,
     board: &Board,
     alloc: Global,
     row: &Row,
-    told: Told,
+    told: Shown,
     answers: &mut String,
-) -> Result<Told, Fault> {
+) -> Result<Shown, Fault> {
     let entries = wanted.entries(alloc, row, board)?;
     if entries.is_empty() {
         return Ok(told);
     }
-    if told == Told::Some {
+    if told == Shown::Some {
         answers.push(' ')?;
     }
-    tell_entries(answers, entries.as_slice())?;
-    Ok(Told::Some)
+    show_entries(answers, entries.as_slice())?;
+    Ok(Shown::Some)
 }
 
 /// Appends `-` where nothing has been told.
-fn tell_end(told: Told, answers: &mut String) -> Result<(), Fault> {
-    if told == Told::Nothing {
+fn show_end(told: Shown, answers: &mut String) -> Result<(), Fault> {
+    if told == Shown::Nothing {
         answers.push('-')?;
     }
     Ok(())
 }
 
 /// Appends how many tasks are wanted in the end and don't run, and their jobs.
-fn tell_waiting(
+fn show_waiting(
     trace: &Trace,
     board: &Board,
     alloc: Global,
     answers: &mut String,
 ) -> Result<(), Fault> {
     let rows = feed(alloc, &trace.tables)?;
-    tell_waiting_of(trace, board, alloc, &rows, answers)
+    show_waiting_of(trace, board, alloc, &rows, answers)
 }
 
 /// The same of these rows.
-fn tell_waiting_of(
+fn show_waiting_of(
     trace: &Trace,
     board: &Board,
     alloc: Global,
@@ -506,11 +506,11 @@ fn tell_waiting_of(
 ) -> Result<(), Fault> {
     let mut wanted = at_first(trace, alloc)?;
     take_rows(&mut wanted, &mut OpenJobs::new(alloc), rows)?;
-    tell_left(&wanted, board, alloc, answers)
+    show_left(&wanted, board, alloc, answers)
 }
 
 /// The same of what is wanted in the end.
-fn tell_left(
+fn show_left(
     wanted: &Wanted,
     board: &Board,
     alloc: Global,

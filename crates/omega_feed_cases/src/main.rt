@@ -7,7 +7,7 @@
 mod board;
 mod feed;
 mod rows;
-mod telling;
+mod showing;
 
 use omega_calls::{Fault, answer_lines, text, words_of};
 use omega_model::Bytes;

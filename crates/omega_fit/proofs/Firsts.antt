@@ -3,7 +3,7 @@ use Rattle.std.proofs.Common.{◌≡◌, ◌∙◌, ◌+◌, ◌-◌, ◌≤◌,
 use Rattle.std.specs.List.{range_with_len}
 use Rattle.std.proofs.lemmas.List.{append_assoc}
 use Rattle.std.proofs.lemmas.List.Elements.{All-nil, All-cons, All-append}
-use Rattle.omega_fit.specs.Round.{positions_from, IsFirst, FirstBetween}
+use Rattle.omega_fit.specs.Wrapped.{positions_from, IsFirst, FirstBetween}
 use Rattle.omega_fit.proofs.Middles.{below_or_not}
 
 -- the first of the numbers from one up to another

@@ -4,9 +4,9 @@ use Rattle.std.specs.Prelude.{get_or}
 use Rattle.std.specs.List.{All, AllZip, find, range_with_len, slice_get}
 use Rattle.std.proofs.lemmas.List.Elements.{All-head, All-tail, All-weaker}
 use Rattle.omega_model.specs.declared.cells.Need.{Need}
-use Rattle.omega_model.specs.Plan.{round_from}
+use Rattle.omega_model.specs.Plan.{wrapped_from}
 use Rattle.omega_fit.specs.Needs.{Holds, IsFirstWithRoom, WithRoom}
-use Rattle.omega_fit.specs.Round.{positions_from, IsFirst}
+use Rattle.omega_fit.specs.Wrapped.{positions_from, IsFirst}
 use Rattle.omega_fit.proofs.Middles.{below_or_not}
 
 -- the same item for answers that follow
@@ -95,8 +95,8 @@ zip_range at a (x ∷ xs) same =
       zip_range at (a + 1) xs (λ i. let e : a + suc i ≡ a + 1 + i = omega arith in subst (λ z. at z ≡ slice_get xs i) e (same (suc i))),
     )
 
-zip_round : {X : Type 0} (xs : List X) (start : ℕ) → AllZip (λ i x. slice_get xs i ≡ Some x) (positions_from start (length xs)) (round_from start xs)
-zip_round xs start =
+zip_wrapped : {X : Type 0} (xs : List X) (start : ℕ) → AllZip (λ i x. slice_get xs i ≡ Some x) (positions_from start (length xs)) (wrapped_from start xs)
+zip_wrapped xs start =
     let all : AllZip (λ i x. slice_get xs i ≡ Some x) (range_with_len 0 (length xs)) xs =
     zip_range (slice_get xs) 0 xs (λ i. let e : 0 + i ≡ i = omega arith in ap (slice_get xs) e) in
     zip_append (λ i x. slice_get xs i ≡ Some x) _ _ _ _
@@ -118,16 +118,16 @@ of_items p items free need answers start found f same follows none =
     (room_is_tested answers (OfItem p items) free need follows none))
 
 -- the first position round from a start has the first item of the round
-pub find_in_round : {X : Type 0} (p : X → Bool) (items : List X) (start i : ℕ) (x : X) → slice_get items i ≡ Some x
-    → IsFirst (OfItem p items) (positions_from start (length items)) (Some i) → find p (round_from start items) ≡ Some x
+pub find_wrapped : {X : Type 0} (p : X → Bool) (items : List X) (start i : ℕ) (x : X) → slice_get items i ≡ Some x
+    → IsFirst (OfItem p items) (positions_from start (length items)) (Some i) → find p (wrapped_from start items) ≡ Some x
 unfolding IsFirst
-find_in_round p items start i x is f =
-    find_some p (slice_get items) f.before f.after i x (round_from start items)
-    (subst (λ z. AllZip (λ j y. slice_get items j ≡ Some y) z (round_from start items)) f.split (zip_round items start))
+find_wrapped p items start i x is f =
+    find_some p (slice_get items) f.before f.after i x (wrapped_from start items)
+    (subst (λ z. AllZip (λ j y. slice_get items j ≡ Some y) z (wrapped_from start items)) f.split (zip_wrapped items start))
     is (f.taken x is) f.passed_over
 
 pub none_in_round : {X : Type 0} (p : X → Bool) (items : List X) (start : ℕ)
-    → IsFirst (OfItem p items) (positions_from start (length items)) None → find p (round_from start items) ≡ None
+    → IsFirst (OfItem p items) (positions_from start (length items)) None → find p (wrapped_from start items) ≡ None
 unfolding IsFirst
 none_in_round p items start f =
-    find_none p (slice_get items) (positions_from start (length items)) (round_from start items) (zip_round items start) f
+    find_none p (slice_get items) (positions_from start (length items)) (wrapped_from start items) (zip_wrapped items start) f

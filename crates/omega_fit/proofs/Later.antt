@@ -6,7 +6,7 @@ use Rattle.std.proofs.lemmas.List.Elements.{All-append, All-head, All-tail, All-
 use Rattle.std.proofs.lemmas.List.FromFn.{length-range_with_len, get_or-range_with_len}
 use Rattle.omega_model.specs.declared.cells.Need.{Need}
 use Rattle.omega_fit.specs.Needs.{IsFirstWithRoom, WithRoom}
-use Rattle.omega_fit.specs.Round.{positions_from, IsFirst}
+use Rattle.omega_fit.specs.Wrapped.{positions_from, IsFirst}
 use Rattle.omega_fit.proofs.Middles.{below_or_not}
 use Rattle.omega_fit.proofs.Firsts.{two_parts, none_from_start}
 

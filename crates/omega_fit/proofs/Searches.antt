@@ -6,7 +6,7 @@ use Rattle.std.proofs.lemmas.List.{length-take-le, length-drop, take-append-drop
 use Rattle.omega_model.specs.declared.cells.Need.{Need}
 use Rattle.omega_fit.specs.declared.nodes.Slot.{Slot}
 use Rattle.omega_fit.specs.Needs.{greater, Holds, IsFirstWithRoom, WithRoom}
-use Rattle.omega_fit.specs.Round.{positions_from, IsFirst, FirstBetween}
+use Rattle.omega_fit.specs.Wrapped.{positions_from, IsFirst, FirstBetween}
 use Rattle.omega_fit.specs.Tree.{frees, middle, most_of, root, Tree, FirstWithin}
 use Rattle.omega_fit.proofs.Firsts.{found_from_start, none_from_start}
 use Rattle.omega_fit.proofs.Middles.{middle_within}
@@ -207,21 +207,21 @@ whole answers need slots from to (Some i) f =
     )
 
 -- what a search from the start on finds, and one before the start where that one finds nothing
-pub found_round : (answers : ℕ → Bool → Type 0) (need : Need) (slots : List Slot) (start i : ℕ) → start ≤ length slots
+pub found_wrapped : (answers : ℕ → Bool → Type 0) (need : Need) (slots : List Slot) (start i : ℕ) → start ≤ length slots
     → FirstWithin answers need slots 0 start (length slots) (Some i)
     → IsFirstWithRoom (frees slots) need answers start (Some i)
 unfolding IsFirstWithRoom
-found_round answers need slots start i le f =
+found_wrapped answers need slots start i le f =
     let e : length (frees slots) ≡ length slots = rw length-map refl in
     subst (λ n. IsFirst (WithRoom (frees slots) need answers) (positions_from start n) (Some i)) (sym e)
     (found_from_start (WithRoom (frees slots) need answers) start (length slots) i le
     (whole answers need slots start (length slots) (Some i) f))
 
-pub none_round : (answers : ℕ → Bool → Type 0) (need : Need) (slots : List Slot) (start : ℕ) (found : Option ℕ) → start ≤ length slots
+pub none_wrapped : (answers : ℕ → Bool → Type 0) (need : Need) (slots : List Slot) (start : ℕ) (found : Option ℕ) → start ≤ length slots
     → FirstWithin answers need slots 0 start (length slots) None → FirstWithin answers need slots 0 0 start found
     → IsFirstWithRoom (frees slots) need answers start found
 unfolding IsFirstWithRoom
-none_round answers need slots start found le none f =
+none_wrapped answers need slots start found le none f =
     let e : length (frees slots) ≡ length slots = rw length-map refl in
     subst (λ n. IsFirst (WithRoom (frees slots) need answers) (positions_from start n) found) (sym e)
     (none_from_start (WithRoom (frees slots) need answers) start (length slots) found le

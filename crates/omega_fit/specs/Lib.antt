@@ -1,4 +1,4 @@
 pub mod Needs
 pub mod Positions
-pub mod Round
+pub mod Wrapped
 pub mod Tree

@@ -2,7 +2,7 @@
 use Rattle.std.specs.Prelude.{ℕ, Bool, true, false, List, Option, Some, None, get_or, length, max}
 use Rattle.omega_model.specs.Need.{Fits}
 use Rattle.omega_model.specs.declared.cells.Need.{Need}
-use Rattle.omega_fit.specs.Round.{positions_from, IsFirst}
+use Rattle.omega_fit.specs.Wrapped.{positions_from, IsFirst}
 
 -- there is an amount, and the need fits it
 abbrev pub Holds : Need → Option Need → Type 0

@@ -3,7 +3,7 @@ use Rattle.std.specs.Prelude.{⊤, ◌≡◌, ◌+◌, ℕ, zero, suc, Bool, Lis
 use Rattle.omega_model.specs.declared.cells.Need.{Need}
 use Rattle.omega_fit.specs.declared.nodes.Slot.{Slot}
 use Rattle.omega_fit.specs.Needs.{greater, WithRoom}
-use Rattle.omega_fit.specs.Round.{FirstBetween}
+use Rattle.omega_fit.specs.Wrapped.{FirstBetween}
 
 -- the list of the amounts
 abbrev pub frees : List Slot → List (Option Need)

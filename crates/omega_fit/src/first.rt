@@ -1,10 +1,10 @@
 //! First fit by asking at each position.
 ghost use Rattle.std.specs.Prelude.{◌≤◌, ◌<◌, ℕ, IfSome};
-ghost use Rattle.omega_fit.specs.Round.{FirstBetween, IsFirst, positions_from};
+ghost use Rattle.omega_fit.specs.Wrapped.{FirstBetween, IsFirst, positions_from};
 
 /// The first position that passes the test, from `start` up to `len` and then from 0 up to `start`;
-/// `None` exactly where no position below `len` passes. Takes no memory. Asks at each position
-/// once at most, and at none behind the answer.
+/// `None` exactly where no position below `len` passes. Asks at each position once at most, and at
+/// none behind the answer.
 pub fn first_fit<F: Fn(usize) -> bool>(len: usize, start: usize, test: F) -> Option<usize>
     requires callable { F.IsAlwaysCallable test }
     requires start { start ≤ len }

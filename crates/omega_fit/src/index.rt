@@ -4,7 +4,7 @@ ghost use Rattle.omega_fit.specs.Needs.{IsFirstWithRoom};
 ghost use Rattle.omega_fit.specs.Tree.{frees};
 
 use crate::nodes::{Slot, put_in, settle, settle_last};
-use crate::searching::search_round;
+use crate::searching::search_wrapped;
 use omega_model::{Need, NoMemory};
 use std::alloc::Global;
 use std::marker::Model;
@@ -29,7 +29,7 @@ impl Model for FitIndex {
 }
 
 impl FitIndex {
-    /// No position, and no room. Takes no memory.
+    /// No position, and no room.
     #[tactic(auto, using(crate::proofs::Trees::tree_nil))]
     pub fn new(alloc: Global) -> FitIndex
         ensures free { result.free ≡ [] }
@@ -50,7 +50,7 @@ impl FitIndex {
         Ok(FitIndex { slots })
     }
 
-    /// How many positions there are. Takes no memory.
+    /// How many positions there are.
     pub fn len(&self) -> usize
         ensures { result ≡ length self.now.free }
     {
@@ -69,8 +69,8 @@ impl FitIndex {
         Ok(())
     }
 
-    /// Puts one more position behind the others, for which room was reserved. Takes no memory, and
-    /// time logarithmic in the number of positions.
+    /// Puts one more position behind the others, for which room was reserved. Takes time
+    /// logarithmic in the number of positions.
     pub fn push_reserved(&mut self, free: Option<Need>)
         requires { 0 < self.old.spare }
         ensures free { self.new.free ≡ self.old.free ++ free ∷ [] }
@@ -80,8 +80,7 @@ impl FitIndex {
         settle_last(&mut self.slots);
     }
 
-    /// Writes what is free at a position. Takes no memory, and time logarithmic in the number of
-    /// positions.
+    /// Writes what is free at a position. Takes time logarithmic in the number of positions.
     pub fn put(&mut self, position: usize, free: Option<Need>)
         requires { position < length self.old.free }
         ensures free { self.new.free ≡ set self.old.free position free }
@@ -91,17 +90,17 @@ impl FitIndex {
     }
 
     /// The first position whose amount holds `need` and that passes the test, from `start` up to the
-    /// length and then from 0 up to `start`; `None` exactly where there is none. Takes no memory.
-    /// Asks the test only where there is room, at each position once at most and at none behind the
-    /// answer. Looks at the root alone where in one component all amounts are less than `need`. Else
-    /// it goes down where the greatest of each component is enough, which is linear at worst.
+    /// length and then from 0 up to `start`; `None` exactly where there is none. Asks the test only
+    /// where there is room, at each position once at most and at none behind the answer. Looks at
+    /// the root alone where in one component all amounts are less than `need`. Else it goes down
+    /// where the greatest of each component is enough, which is linear at worst.
     pub fn first<F: Fn(usize) -> bool>(&self, start: usize, need: Need, test: F) -> Option<usize>
         requires callable { F.IsAlwaysCallable test }
         requires start { start ≤ length self.now.free }
         ensures first { IsFirstWithRoom self.now.free need (F.post test) start result }
         ensures below { IfSome result (λ position. position < length self.now.free) }
     {
-        search_round(&self.slots, start, need, &test)
+        search_wrapped(&self.slots, start, need, &test)
     }
 }
 

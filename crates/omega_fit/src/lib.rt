@@ -3,8 +3,8 @@
 //! `first_fit` asks at one position after the other. `FitIndex` keeps an amount for each position:
 //! what is free on a machine, or what could be made free on it. It answers the first position whose
 //! amount holds a need and that passes a test, and passes over whole stretches without room. Both
-//! answer the first position in the same order; a search takes no memory. The program searches by
-//! the index alone; `first_fit` is a second answer to compare with, as `omega_cases` does.
+//! answer the first position in the same order. The program searches by the index alone;
+//! `first_fit` is a second answer to compare with, as `omega_cases` does.
 #![tactic(auto)]
 
 mod first;

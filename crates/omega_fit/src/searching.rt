@@ -8,7 +8,7 @@ use crate::nodes::{Slot, parted, root_of};
 use omega_model::Need;
 
 /// The first position with room that passes the test, round from a start.
-pub(crate) fn search_round<F: Fn(usize) -> bool>(
+pub(crate) fn search_wrapped<F: Fn(usize) -> bool>(
     slots: &[Slot],
     start: usize,
     need: Need,

@@ -9,7 +9,7 @@ use crate::unread::Unread;
 use omega_model::{Bytes, NoMemory, Seq, Table, Text};
 use std::alloc::Global;
 
-// The unread bytes of one table, and its faults.
+/// The unread bytes of one table, and its faults.
 #[derive(Drop)]
 pub struct TableInMemory {
     unread: Unread,
@@ -59,8 +59,7 @@ impl MemoryTables {
     ghost use Rattle.omega_model.specs.declared.rows.Table.{Table};
     ghost use Rattle.omega_io.specs.ByTable.{bytes_of};
 
-    /// Tables of these bytes, in the order of `Table`. No folder is entered and no read fails. Takes
-    /// no memory.
+    /// Tables of these bytes, in the order of `Table`. No folder is entered and no read fails.
     pub fn new(alloc: Global, tables: [Bytes; 6]) -> MemoryTables
         ensures rests { (t : Table) → ⟦<MemoryTables as Tables>⟧.rest result t ≡ Some (bytes_of tables t) }
         ensures counts { (t : Table) → ⟦<MemoryTables as Tables>⟧.faults result t ≡ 0 }
@@ -189,7 +188,7 @@ impl MemorySink {
         sink
     }
 
-    /// The bytes that were written. Takes no memory.
+    /// The bytes that were written.
     pub fn into_bytes(self) -> Bytes
         ensures { ⟦<MemorySink as Sink>⟧.written self ≡ Some result }
     {
@@ -197,7 +196,7 @@ impl MemorySink {
         Seq::of(bytes)
     }
 
-    // Counts a fault.
+    /// Counts a fault.
     fn fault(&mut self) -> Failed
         ensures stays { self.new.bytes ≡ self.old.bytes }
         ensures cause { Rose self.old.faults self.new.faults }

@@ -19,7 +19,7 @@ pub struct SteadyTables {
 }
 
 impl SteadyTables {
-    /// Tables of these bytes, in the order of `Table`. No folder is entered. Takes no memory.
+    /// Tables of these bytes, in the order of `Table`. No folder is entered.
     pub fn new(alloc: Global, tables: [Bytes; 6]) -> SteadyTables
         ensures rests { (t : Table) → ⟦<SteadyTables as Tables>⟧.rest result t ≡ Some (bytes_of tables t) }
         ensures folder { ⟦<SteadyTables as Tables>⟧.entered result ≡ Some None }

@@ -2,18 +2,13 @@
 use Rattle.std.specs.Prelude.{◌≡◌, ℕ, suc, ◌==◌, ◌||◌, ◌⊎◌, Bool, true, false, List, [], ◌∷◌, Option, Some, None, IsTrue, length, map, take, slice_get, if◌then◌else◌}
 use Rattle.std.specs.Option.{option_map_or}
 use Rattle.std.specs.Str.{bytes_eq}
+use Rattle.omega_model.specs.Lawful.{begins_round}
 use Rattle.omega_model.specs.declared.entries.Entry.{Entry}
-use Rattle.omega_model.specs.declared.entries.Entry.TheVariants.{Round}
 use Rattle.omega_keep.specs.KeptLines.{entry_text}
 
 -- the lines of a history
 abbrev pub lines_of : List Entry → List (List ℕ)
 lines_of history = map entry_text history
-
--- whether an entry begins a round
-abbrev pub begins_round : Entry → Bool
-begins_round (Round number) = true
-begins_round _ = false
 
 -- whether no round of a history is under way once so many entries stand: there is none yet, or all
 -- are there, or the next one begins a round

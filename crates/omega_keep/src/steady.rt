@@ -14,7 +14,7 @@ pub struct SteadyKeeper {
 }
 
 impl SteadyKeeper {
-    /// A keeper of no lines. No path is entered. Takes no memory.
+    /// A keeper of no lines. No path is entered.
     pub fn new(alloc: Global) -> SteadyKeeper
         ensures list { ⟦<SteadyKeeper as Keeper>⟧.kept result ≡ Some [] }
         ensures path { ⟦<SteadyKeeper as Keeper>⟧.entered result ≡ Some None }
@@ -22,7 +22,7 @@ impl SteadyKeeper {
         SteadyKeeper::holding(alloc, Seq::new(alloc))
     }
 
-    /// A keeper of these lines. No path is entered. Takes no memory.
+    /// A keeper of these lines. No path is entered.
     pub fn holding(alloc: Global, lines: Lines) -> SteadyKeeper
         ensures list { ⟦<SteadyKeeper as Keeper>⟧.kept result ≡ Some lines }
         ensures path { ⟦<SteadyKeeper as Keeper>⟧.entered result ≡ Some None }

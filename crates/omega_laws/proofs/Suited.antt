@@ -6,7 +6,7 @@ use Rattle.std.proofs.lemmas.Bool.{eq-eqb}
 use Rattle.std.proofs.lemmas.Map.Keys.{IsDistinct-head, IsDistinct-tail}
 use Rattle.omega_model.specs.Cell.{Cell, machine_at}
 use Rattle.omega_model.specs.Machines.{numbers_of}
-use Rattle.omega_model.specs.Plan.{after_planned, and_claims, claim_of, first_item, goes_in, or_else, round_from, victims, whole_or_none}
+use Rattle.omega_model.specs.Plan.{after_planned, and_claims, claim_of, first_item, goes_in, or_else, wrapped_from, victims, whole_or_none}
 use Rattle.omega_model.specs.Planning.{claim_as_is, claim_for_wish, claim_with_victims, claims_for_wishes, plan_for, suiting_from, suits}
 use Rattle.omega_model.specs.declared.cells.Machine.{Machine}
 use Rattle.omega_model.specs.declared.cells.TaskKey.{TaskKey}
@@ -34,8 +34,8 @@ module _ {X : Type 0} (P : X → Type 0) where
   each_drop (suc n) [] each = tt
   each_drop (suc n) (x ∷ xs) each = each_drop n xs each.1
 
-  each_round_from : (n : ℕ) (xs : List X) → Each P xs → Each P (round_from n xs)
-  each_round_from n xs each = each_append P (drop n xs) (take n xs) (each_drop n xs each) (each_take n xs each)
+  each_wrapped_from : (n : ℕ) (xs : List X) → Each P xs → Each P (wrapped_from n xs)
+  each_wrapped_from n xs each = each_append P (drop n xs) (take n xs) (each_drop n xs each) (each_take n xs each)
 
   pub found : (test : X → Bool) (xs : List X) → Each P xs → OfValue P (find test xs)
   found test [] each = tt
@@ -97,9 +97,9 @@ each_suited machines wish start distinct =
     each_both (λ machine. machine_at machines machine.id ≡ Some machine) (λ machine. suits wish machine.attrs ≡ true) (IsSuited machines wish)
     (λ machine listed suited. record { listed = listed; suited = suited })
     (suiting_from machines wish start)
-    (each_filter (λ machine. machine_at machines machine.id ≡ Some machine) test (round_from start machines)
-    (each_round_from (λ machine. machine_at machines machine.id ≡ Some machine) start machines (each_at_its_number machines distinct)))
-    (each_passes test (round_from start machines))
+    (each_filter (λ machine. machine_at machines machine.id ≡ Some machine) test (wrapped_from start machines)
+    (each_wrapped_from (λ machine. machine_at machines machine.id ≡ Some machine) start machines (each_at_its_number machines distinct)))
+    (each_passes test (wrapped_from start machines))
 
 module _ (machines : List Machine) (wish : Wish) (wishes : List Wish) where
   -- the claim of a wish on such a machine

@@ -12,7 +12,7 @@ pub trait Counted {
     // The number of the seat whose entry this is, where it is a seat's.
     ghost number: { Self.Entry → Option ℕ };
 
-    /// How long the list is. Takes no memory.
+    /// How long the list is.
     fn count(&self) -> u64
         ensures { result ≡ length (entries self.now) };
 }

@@ -94,7 +94,7 @@ impl<T: Counted> Lock<T> {
     }
 
     /// Waits until it is the seat's turn, and hands out the value. The seat has then seen the value's
-    /// whole list, and has one turn less. Takes no memory. May wait.
+    /// whole list, and has one turn less. May wait.
     pub fn turn<R: Wait>(&self, rt: &R, seat: &mut Seat<T>) -> T
         requires of { seat.old.of ≡ self.now.of }
         requires free { seat.old.holds ≡ false }
@@ -119,7 +119,7 @@ impl<T: Counted> Lock<T> {
     }
 
     /// Takes the value back from the seat that holds the turn, and passes the turn on. The list is
-    /// the one that was handed out, or that and one entry of the seat's number. Takes no memory.
+    /// the one that was handed out, or that and one entry of the seat's number.
     pub fn release(&self, seat: &mut Seat<T>, value: T)
         requires of { seat.old.of ≡ self.now.of }
         requires holds { seat.old.holds ≡ true }
@@ -140,7 +140,7 @@ impl<T: Counted> Lock<T> {
     /// Takes all seats back, and hands out the value. Its list goes on from what each seat had seen.
     /// Every entry since the lock began has the number of one of the seats, and those of a seat's
     /// number are its own entries, in order. Each seat knows how long the list was when the lock
-    /// began. Takes no memory.
+    /// began.
     pub fn close(self, mut seats: Vec<Seat<T>>) -> T
         requires all { length seats.items ≡ self.callers }
         requires of { All (λ seat. seat.of ≡ self.of) seats.items }

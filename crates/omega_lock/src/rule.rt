@@ -97,9 +97,9 @@ impl<T: Counted> Play<Option<T>, View<T::Entry>> for Publish {
 }
 
 // The seat that holds the turn passes it on: word 2 is raised.
-pub(crate) struct Pass;
+pub(crate) struct HandOn;
 
-impl<T: Counted> Play<Option<T>, View<T::Entry>> for Pass {
+impl<T: Counted> Play<Option<T>, View<T::Entry>> for HandOn {
     ghost use Rattle.omega_lock.specs.Steps.{Passes};
 
     ghost then = { Passes };

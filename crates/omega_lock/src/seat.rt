@@ -33,7 +33,7 @@ impl<T: Counted> Model for Seat<T> {
 }
 
 impl<T: Counted> Seat<T> {
-    /// Its number, counted from 0. Takes no memory.
+    /// Its number, counted from 0.
     pub fn number(&self) -> u32
         ensures number { result ≡ self.now.number }
         ensures own { OwnIsSeen T.number self.now }
@@ -41,7 +41,7 @@ impl<T: Counted> Seat<T> {
         self.number
     }
 
-    /// How many turns it has left. Takes no memory.
+    /// How many turns it has left.
     pub fn turns_left(&self) -> u32
         ensures turns { result ≡ self.now.turns }
         ensures own { OwnIsSeen T.number self.now }

@@ -6,7 +6,7 @@ ghost use Rattle.omega_lock.specs.Steps.{turned_over, HasPublished};
 
 use crate::counted::Counted;
 use crate::lock::Lock;
-use crate::rule::{LENGTH, Look, Pass, Publish, SERVED, VALUE};
+use crate::rule::{HandOn, LENGTH, Look, Publish, SERVED, VALUE};
 use crate::view::View;
 use atomic_table::Seat as Token;
 use std::hint::spin_loop;
@@ -114,7 +114,7 @@ impl<T: Counted> Lock<T> {
         ensures of { token.new.table_id ≡ token.old.table_id }
         ensures now { token.new.me ≡ (turned_over token.old.me.0, []) }
     {
-        self.table.shared.fetch_add::<Pass>(token, SERVED, 1);
+        self.table.shared.fetch_add::<HandOn>(token, SERVED, 1);
     }
 }
 

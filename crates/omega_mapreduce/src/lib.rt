@@ -15,7 +15,7 @@ use omega_model::{Extra, Need};
 /// four times `asked`. Under `Extra::Cap` they are the most of these with which the use of each
 /// component stays within the percentage of its capacity; 0 where it is beyond that already. `need`
 /// is what each asks for, `used` is what is in use in the whole cell, and `capacity` its capacity.
-/// Any amounts and any percentage are allowed. Three divisions at most; takes no memory.
+/// Any amounts and any percentage are allowed. Three divisions at most.
 pub fn extras(
     choice: Extra,
     activities: u32,

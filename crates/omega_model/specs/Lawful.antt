@@ -1,5 +1,5 @@
 -- Histories that are made of a trace's rounds, each with its rows and then the schedulers' attempts.
-use Rattle.std.specs.Prelude.{◌≡◌, ℕ, List, [], ◌∷◌, ◌++◌, Some, ◌+◌, ◌<◌, ◌≤◌, ◌⊎◌, ◌==◌, length, take, slice_get, if◌then◌else◌}
+use Rattle.std.specs.Prelude.{◌≡◌, ℕ, Bool, true, false, List, [], ◌∷◌, ◌++◌, Some, ◌+◌, ◌<◌, ◌≤◌, ◌⊎◌, ◌==◌, length, take, slice_get, if◌then◌else◌}
 use Rattle.std.specs.List.{fold, flat_map}
 use Rattle.omega_model.specs.Feed.{rounds}
 use Rattle.omega_model.specs.Policy.{schedulers}
@@ -58,6 +58,11 @@ pub record MayCommit (settings : Settings) (opened_at : ℕ) (before : List Entr
   pub rows : opened_at ≤ seen
   pub own : after_last scheduler before ≤ seen
   pub answered : reply ≡ reply_of before seen txn
+
+-- whether an entry begins a round
+abbrev pub begins_round : Entry → Bool
+begins_round (RoundEntry number) = true
+begins_round _ = false
 
 -- an entry after a round's rows is a commit, and may stand there
 abbrev pub IsCommitOfRound : Settings → ℕ → List Entry → Entry → Type 0

@@ -1,5 +1,5 @@
 -- The table of the program's words: its commands, and its options with their values.
-use Rattle.std.specs.Prelude.{ℕ, Bool, true, ◌&&◌, nat_le, List, [], ◌∷◌, filter, find, is_some, Option, Some, None, codes, if◌then◌else◌}
+use Rattle.std.specs.Prelude.{ℕ, Bool, true, ◌&&◌, nat_le, List, [], ◌∷◌, find, is_some, Option, Some, None, codes, if◌then◌else◌}
 use Rattle.std.specs.List.{list_any}
 use Rattle.std.specs.Option.{option_and_then}
 use Rattle.std.specs.Str.{bytes_eq}
@@ -54,13 +54,6 @@ whole_table = record {
 -- whether a text is one of these
 abbrev pub is_among : List (List ℕ) → List ℕ → Bool
 is_among names text = list_any (λ name. bytes_eq name text) names
-
--- the part of a table that has these commands and the options of these names alone
-abbrev pub part : List (List ℕ) → List (List ℕ) → WordTable → WordTable
-part commands names table = record {
-  commands = filter (is_among commands) table.commands;
-  choices = filter (λ option. is_among names option.name) table.choices;
-}
 
 -- the whole number that a text writes, where it isn't below the first bound nor above the second
 abbrev pub number_from : ℕ → ℕ → List ℕ → Option ℕ

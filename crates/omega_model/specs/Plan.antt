@@ -33,8 +33,8 @@ abbrev pub victims : Cell → ℕ → Wish → Option (List TaskKey)
 victims cell id wish = find (λ keys. goes_in cell wish keys id) (beginnings (candidates cell id wish))
 
 -- a list from place start on, and then what stands before it
-abbrev pub round_from : {X : Type 0} → ℕ → List X → List X
-round_from start items = drop start items ++ take start items
+abbrev pub wrapped_from : {X : Type 0} → ℕ → List X → List X
+wrapped_from start items = drop start items ++ take start items
 
 -- the first item, if there is one
 abbrev pub first_item : {X : Type 0} → List X → Option X

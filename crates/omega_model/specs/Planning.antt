@@ -3,7 +3,7 @@ use Rattle.std.specs.Prelude.{ℕ, Bool, List, [], ◌∷◌, Option, None, opti
 use Rattle.std.specs.List.{find, filter, filter_map}
 use Rattle.omega_model.specs.Cell.{Cell}
 use Rattle.omega_model.specs.Eligible.{eligible}
-use Rattle.omega_model.specs.Plan.{claim_of, goes_in, victims, round_from, first_item, or_else, and_claims, after_planned, whole_or_none}
+use Rattle.omega_model.specs.Plan.{claim_of, goes_in, victims, wrapped_from, first_item, or_else, and_claims, after_planned, whole_or_none}
 use Rattle.omega_model.specs.declared.cells.Attr.{Attr}
 use Rattle.omega_model.specs.declared.cells.Machine.{Machine}
 use Rattle.omega_model.specs.declared.claims.Claim.{Claim}
@@ -16,7 +16,7 @@ suits wish attrs = eligible wish.constraints attrs
 
 -- the machines that suit a wish, in the order in which they are tried
 abbrev pub suiting_from : List Machine → Wish → ℕ → List Machine
-suiting_from machines wish start = filter (λ machine. suits wish machine.attrs) (round_from start machines)
+suiting_from machines wish start = filter (λ machine. suits wish machine.attrs) (wrapped_from start machines)
 
 -- the claim on the first suiting machine that takes the wish as it is
 abbrev pub claim_as_is : Cell → ℕ → Wish → Option Claim

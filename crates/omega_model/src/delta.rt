@@ -39,7 +39,7 @@ impl Model for Delta {
 }
 
 impl Delta {
-    /// The delta from one place to another with these parts. Takes no memory.
+    /// The delta from one place to another with these parts.
     pub fn of(from: u64, to: u64, parts: Parts) -> Delta
         requires order { from ≤ to }
         requires positions { PositionsRise parts }
@@ -76,7 +76,7 @@ impl Delta {
         self.parts.get(i as usize)
     }
 
-    /// The parts in order of position. Takes no memory.
+    /// The parts in order of position.
     pub fn into_parts(self) -> Parts
         ensures { result ≡ self.parts }
     {

@@ -50,7 +50,7 @@ pub enum Entry {
 impl Entry {
     /// The number of the one machine that an entry of a machine, of an attribute or of an end touches.
     /// `None` for a round, which touches no machine, and for a commit, which touches those on which it
-    /// placed claims. Takes no memory.
+    /// placed claims.
     pub fn machine(&self) -> Option<u64>
         ensures touched { is_commit self.now ≡ false → (id : ℕ) → touches id self.now ≡ option_map_or (λ machine. machine == id) result false }
         ensures commit { is_commit self.now ≡ true → result ≡ None }

@@ -2,6 +2,9 @@
 //!
 //! The definitions that every contract cites stand in `specs/`. They speak of plain lists and
 //! whole numbers, never of a counter, an index or a lock.
+//!
+//! What holds of the calls of all crates unless their own text says otherwise: one whose answer can't
+//! be `NoMemory` takes no memory, and one that isn't said to wait waits for nobody.
 #![tactic(auto)]
 
 mod cells;

@@ -51,7 +51,7 @@ impl<T> Model for Seq<T> {
 }
 
 impl<T> Seq<T> {
-    /// The empty list. Takes no memory.
+    /// The empty list.
     pub fn new(alloc: Global) -> Seq<T>
         ensures { result ≡ [] }
     {
@@ -60,14 +60,14 @@ impl<T> Seq<T> {
         }
     }
 
-    /// The list of the items of a vector. Takes no memory.
+    /// The list of the items of a vector.
     pub fn of(items: Vec<T>) -> Seq<T>
         ensures { result ≡ items.items }
     {
         Seq { items }
     }
 
-    /// The vector of the items. Takes no memory.
+    /// The vector of the items.
     pub fn into_items(self) -> Vec<T>
         ensures { result.items ≡ self }
     {

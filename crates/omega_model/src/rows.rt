@@ -157,7 +157,7 @@ pub struct TraceTables {
 }
 
 impl TraceTables {
-    /// Tables without rows. Takes no memory.
+    /// Tables without rows.
     pub fn new(alloc: Global) -> TraceTables
         ensures { result ≡ record { machines = []; attrs = []; tasks = []; constraints = []; activities = []; disks = [] } }
     {

@@ -20,21 +20,21 @@ impl Model for Text {
 }
 
 impl Text {
-    /// The text of a string. Takes no memory.
+    /// The text of a string.
     pub fn of(text: String) -> Text
         ensures { result ≡ string_bytes text }
     {
         Text { string: text }
     }
 
-    /// How many bytes it has. Takes no memory.
+    /// How many bytes it has.
     pub fn len(&self) -> usize
         ensures { result ≡ length self.now }
     {
         self.string.len()
     }
 
-    /// Whether it has no byte. Takes no memory.
+    /// Whether it has no byte.
     pub fn is_empty(&self) -> bool
         ensures { IsTrue result ↔ (self.now ≡ []) }
     {

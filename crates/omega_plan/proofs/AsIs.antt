@@ -5,14 +5,14 @@ use Rattle.std.specs.Prelude.{option_map}
 use Rattle.std.proofs.lemmas.List.{length-map}
 use Rattle.std.proofs.lemmas.Option.{none-some, slice_get-get_or}
 use Rattle.omega_model.specs.Cell.{Cell}
-use Rattle.omega_model.specs.Plan.{claim_of, goes_in, round_from}
+use Rattle.omega_model.specs.Plan.{claim_of, goes_in, wrapped_from}
 use Rattle.omega_model.specs.Planning.{claim_as_is, suits}
 use Rattle.omega_model.specs.declared.cells.Machine.{Machine}
 use Rattle.omega_model.specs.declared.wishes.Wish.{Wish}
 use Rattle.omega_model.proofs.Lists.{by_answer}
 use Rattle.omega_machines.specs.Table.{machines_of}
 use Rattle.omega_machines.specs.declared.MachineState.{MachineState}
-use Rattle.omega_fit.proofs.Found.{find_in_round, none_in_round}
+use Rattle.omega_fit.proofs.Found.{find_wrapped, none_in_round}
 use Rattle.omega_plan.specs.Trying.{IsFirstToTake, takes}
 
 -- a search in what a filter keeps
@@ -24,17 +24,17 @@ find_kept p q (x ∷ xs) =
     (λ f. rw f (find_kept p q xs))
 
 kept : (cell : Cell) (start : ℕ) (wish : Wish)
-    → claim_as_is cell start wish ≡ option_map (λ (machine : Machine). claim_of wish [] machine.id) (find (takes cell wish) (round_from start cell.machines))
+    → claim_as_is cell start wish ≡ option_map (λ (machine : Machine). claim_of wish [] machine.id) (find (takes cell wish) (wrapped_from start cell.machines))
 kept cell start wish =
     ap (option_map (λ (machine : Machine). claim_of wish [] machine.id))
-    (find_kept (λ (machine : Machine). goes_in cell wish [] machine.id) (λ (machine : Machine). suits wish machine.attrs) (round_from start cell.machines))
+    (find_kept (λ (machine : Machine). goes_in cell wish [] machine.id) (λ (machine : Machine). suits wish machine.attrs) (wrapped_from start cell.machines))
 
 pub as_is_found : (cell : Cell) (start : ℕ) (wish : Wish) (place : ℕ) (machine : Machine) → IsFirstToTake cell wish start (Some place)
     → slice_get cell.machines place ≡ Some machine → Some (claim_of wish [] machine.id) ≡ claim_as_is cell start wish
 unfolding IsFirstToTake
 as_is_found cell start wish place machine first is =
     sym (kept cell start wish
-    ∙ ap (option_map (λ (m : Machine). claim_of wish [] m.id)) (find_in_round (takes cell wish) cell.machines start place machine is first))
+    ∙ ap (option_map (λ (m : Machine). claim_of wish [] m.id)) (find_wrapped (takes cell wish) cell.machines start place machine is first))
 
 pub as_is_none : (cell : Cell) (start : ℕ) (wish : Wish) → IsFirstToTake cell wish start None → None ≡ claim_as_is cell start wish
 unfolding IsFirstToTake

@@ -1,6 +1,6 @@
 -- Where a search may begin.
 use Rattle.std.proofs.Common.{◌≡◌, ◌≤◌, ℕ, Bool, false, Option, Some, None, length, refl, subst, inl, inr}
-use Rattle.omega_fit.specs.Round.{IsFirst, positions_from}
+use Rattle.omega_fit.specs.Wrapped.{IsFirst, positions_from}
 use Rattle.omega_fit.proofs.Found.{first_follows}
 use Rattle.omega_fit.proofs.Later.{later}
 use Rattle.omega_model.specs.Cell.{Cell}

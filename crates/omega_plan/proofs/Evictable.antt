@@ -24,7 +24,7 @@ use Rattle.omega_model.proofs.Admitted.{Refuses, refuses_if, refuses_rank, refus
 use Rattle.omega_model.proofs.Amounts.{fits_part, fits_plus, fits_same, fits_tested, fits_trans}
 use Rattle.omega_model.proofs.InOrder.{key_itself, key_same}
 use Rattle.omega_model.proofs.Lists.{by_answer}
-use Rattle.omega_running.specs.Held.{held_on, stays_against}
+use Rattle.omega_running.specs.Staying.{staying_on, stays_against}
 use Rattle.omega_running.specs.Order.{Each}
 use Rattle.omega_running.proofs.Lists.{each_map}
 use Rattle.omega_board.proofs.Numbered.{machine_there}
@@ -33,7 +33,7 @@ use Rattle.omega_board.proofs.Placed.{is_placed-Placed, passes, placeable_fine}
 use Rattle.omega_copy.specs.Telling.{freed_of, freed_on}
 use Rattle.omega_fit.proofs.Found.{first_follows, room_is_tested}
 use Rattle.omega_fit.specs.Needs.{Holds, IsFirstWithRoom, WithRoom}
-use Rattle.omega_fit.specs.Round.{IsFirst, positions_from}
+use Rattle.omega_fit.specs.Wrapped.{IsFirst, positions_from}
 use Rattle.omega_plan.specs.Trying.{IsFirstToYield, MayYield, Yields, claim_on}
 
 -- a search that nothing passes
@@ -90,8 +90,8 @@ held_fewer id prec gone (t ∷ tasks) out =
     (λ off. rw off rest)
 
 -- beside what stays, no less is held
-fits_beside_held : (need cap rest held : Need) → Fits held rest → Fits need (minus cap rest) → Fits need (minus cap held)
-fits_beside_held need cap rest held less p = (omega (arith, p.0, less.0), (omega (arith, p.1.0, less.1.0), omega (arith, p.1.1, less.1.1)))
+fits_beside_staying : (need cap rest held : Need) → Fits held rest → Fits need (minus cap rest) → Fits need (minus cap held)
+fits_beside_staying need cap rest held less p = (omega (arith, p.0, less.0), (omega (arith, p.1.0, less.1.0), omega (arith, p.1.1, less.1.1)))
 
 too_little : (cell : Cell) (wish : Wish) → IsDistinct nat_eq (numbers_of cell.machines) → (place : ℕ) (machine : Machine) → slice_get cell.machines place ≡ Some machine
     → (Holds wish.spec.need (freed_on wish.spec.prec cell.tasks machine) → ⊥) → claim_on cell wish machine ≡ None
@@ -116,10 +116,10 @@ too_little cell wish distinct place machine at little =
             let beside : Fits wish.spec.need (minus machine.cap rest) =
             subst (λ (o : Option Machine). Fits wish.spec.need (minus (capacity_of o) rest)) found (fits_tested _ _ room) in
             let none = none_withstands cell claim placed in
-            let less : Fits (held_on wish.spec.prec cell.tasks machine.id) rest =
+            let less : Fits (staying_on wish.spec.prec cell.tasks machine.id) rest =
             held_fewer machine.id wish.spec.prec standing cell.tasks
             (each_map _ _ (λ t own stays. not_named cell.tasks wish.spec.prec t.key standing none (own stays)) cell.tasks (each_withstands wish.spec.prec cell.tasks cell.tasks (λ key own. own))) in
-            rw up (fits_beside_held wish.spec.need machine.cap rest (held_on wish.spec.prec cell.tasks machine.id) less beside)
+            rw up (fits_beside_staying wish.spec.need machine.cap rest (staying_on wish.spec.prec cell.tasks machine.id) less beside)
 
 -- where the index says that too little could be freed, evictions make no room
 pub yields_where_freed : (cell : Cell) (wish : Wish) → IsDistinct nat_eq (numbers_of cell.machines) → (frees : List (Option Need)) → frees ≡ freed_of wish.spec.prec cell

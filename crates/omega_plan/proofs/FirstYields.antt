@@ -4,12 +4,12 @@ use Rattle.std.specs.List.{cons_option, filter, filter_map, find}
 use Rattle.std.specs.Prelude.{option_map}
 use Rattle.std.proofs.lemmas.Option.{none-some, same_Some}
 use Rattle.omega_model.specs.Cell.{Cell}
-use Rattle.omega_model.specs.Plan.{claim_of, first_item, round_from, victims}
+use Rattle.omega_model.specs.Plan.{claim_of, first_item, wrapped_from, victims}
 use Rattle.omega_model.specs.Planning.{claim_with_victims, suits}
 use Rattle.omega_model.specs.declared.cells.Machine.{Machine}
 use Rattle.omega_model.specs.declared.wishes.Wish.{Wish}
 use Rattle.omega_model.proofs.Lists.{by_answer}
-use Rattle.omega_fit.proofs.Found.{find_in_round, none_in_round}
+use Rattle.omega_fit.proofs.Found.{find_wrapped, none_in_round}
 use Rattle.omega_model.specs.declared.cells.TaskKey.{TaskKey}
 use Rattle.omega_plan.specs.Trying.{AreVictimsAt, IsFirstToYield, Yields, claim_on}
 
@@ -44,25 +44,25 @@ none_mapped_first {X} {Y} f (y ∷ xs) none = by (f y) refl (λ later. none_mapp
         ∙ later (sym (ap (λ o. if is_some o then Some y else find (λ z. is_some (f z)) xs) is) ∙ none)
     by (Some v) is later = absurd (none-some y (sym none ∙ ap (λ o. if is_some o then Some y else find (λ z. is_some (f z)) xs) is))
 
-kept : (cell : Cell) (start : ℕ) (wish : Wish) → claim_with_victims cell start wish ≡ first_item (filter_map (claim_on cell wish) (round_from start cell.machines))
+kept : (cell : Cell) (start : ℕ) (wish : Wish) → claim_with_victims cell start wish ≡ first_item (filter_map (claim_on cell wish) (wrapped_from start cell.machines))
 kept cell start wish =
     ap first_item
     (mapped_kept (λ (machine : Machine). option_map (λ keys. claim_of wish keys machine.id) (victims cell machine.id wish))
-    (λ (machine : Machine). suits wish machine.attrs) (round_from start cell.machines))
+    (λ (machine : Machine). suits wish machine.attrs) (wrapped_from start cell.machines))
 
 pub yield_found : (cell : Cell) (start : ℕ) (wish : Wish) (place : ℕ) (machine : Machine) → IsFirstToYield cell wish start (Some place)
     → slice_get cell.machines place ≡ Some machine → claim_with_victims cell start wish ≡ claim_on cell wish machine
 unfolding IsFirstToYield
 yield_found cell start wish place machine first is =
     kept cell start wish
-    ∙ first_mapped (claim_on cell wish) (round_from start cell.machines) machine
-    (find_in_round (λ (m : Machine). is_some (claim_on cell wish m)) cell.machines start place machine is first)
+    ∙ first_mapped (claim_on cell wish) (wrapped_from start cell.machines) machine
+    (find_wrapped (λ (m : Machine). is_some (claim_on cell wish m)) cell.machines start place machine is first)
 
 pub yield_none : (cell : Cell) (start : ℕ) (wish : Wish) → IsFirstToYield cell wish start None → claim_with_victims cell start wish ≡ None
 unfolding IsFirstToYield
 yield_none cell start wish first =
     kept cell start wish
-    ∙ none_mapped_first (claim_on cell wish) (round_from start cell.machines)
+    ∙ none_mapped_first (claim_on cell wish) (wrapped_from start cell.machines)
     (none_in_round (λ (m : Machine). is_some (claim_on cell wish m)) cell.machines start first)
 
 -- evictions make room where there are victims

@@ -18,7 +18,7 @@ use Rattle.omega_model.specs.declared.wishes.Wish.{Wish}
 use Rattle.omega_running.specs.Order.{IsInOrder}
 use Rattle.omega_running.specs.declared.orders.Order.TheVariants.{ByKey}
 use Rattle.omega_board.proofs.Placed.{is_placed-Placed, placeable_fine}
-use Rattle.omega_fit.specs.Round.{IsFirst}
+use Rattle.omega_fit.specs.Wrapped.{IsFirst}
 use Rattle.omega_plan.specs.Kinds.{IsFull, Serves, StaysFull, has_room}
 use Rattle.omega_plan.specs.Steps.{IsStep}
 use Rattle.omega_plan.specs.Trying.{AreVictimsAt, IsClaimAt, IsFirstToTake, IsFirstToYield, Takes, Yields, claim_on, takes}

@@ -105,10 +105,10 @@ pub planned_more : (copy first after : CopyState) (claims more : List Claim) (st
     → cell_of after.board ≡ after_planned (cell_of copy.board) step.claim → more ≡ claims ++ and_claims step.claim []
     → after_trial after after.trial ≡ after_trial copy copy.trial → IsSomeAnd after.trial (λ trial. length wishes ≤ trial.room + (place + 1))
     → Planned after first more start preempts wishes (place + 1) wish step.progress
-planned_more copy first after claims more start preempts wishes place kind wish progress turned step so below is turn now cell grown back room =
+planned_more copy first after claims more start preempts wishes place kind wish progress turned step so below is advance now cell grown back room =
     let one = cell_of copy.board in
     let rest = drop (place + 1) wishes in
-    let began : turned.start ≡ start = turn ∙ so.began in
+    let began : turned.start ≡ start = advance ∙ so.began in
     let claim : step.claim ≡ claim_for_wish one start preempts wish = now.claim ∙ ap (λ n. claim_for_wish one n preempts wish) began in
     record {
       planned =

@@ -7,7 +7,7 @@ use Rattle.omega_model.specs.Planning.{suits}
 use Rattle.omega_model.specs.declared.cells.Machine.{Machine}
 use Rattle.omega_model.specs.declared.cells.TaskKey.{TaskKey}
 use Rattle.omega_model.specs.declared.wishes.Wish.{Wish}
-use Rattle.omega_fit.specs.Round.{IsFirst, positions_from}
+use Rattle.omega_fit.specs.Wrapped.{IsFirst, positions_from}
 use Rattle.omega_plan.specs.declared.progress.Progress.{Progress}
 
 -- the kind of a wish: wishes of one kind differ in the task's index alone

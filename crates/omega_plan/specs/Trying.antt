@@ -7,7 +7,7 @@ use Rattle.omega_model.specs.declared.cells.Machine.{Machine}
 use Rattle.omega_model.specs.declared.cells.TaskKey.{TaskKey}
 use Rattle.omega_model.specs.declared.claims.Claim.{Claim}
 use Rattle.omega_model.specs.declared.wishes.Wish.{Wish}
-use Rattle.omega_fit.specs.Round.{IsFirst, positions_from}
+use Rattle.omega_fit.specs.Wrapped.{IsFirst, positions_from}
 
 -- whether a machine suits a wish and takes it as it is
 abbrev pub takes : Cell → Wish → Machine → Bool

@@ -21,7 +21,7 @@ use std::alloc::Global;
 
 /// A position, and the victims that make room on the machine that stands there.
 #[derive(Debug, Drop)]
-pub(crate) struct Yielding {
+pub(crate) struct Candidate {
     pub position: usize,
     pub victims: Keys,
 }
@@ -36,7 +36,7 @@ pub(crate) fn first_to_yield(
     copy: &mut PrivateCopy,
     wish: &Wish,
     progress: &Progress,
-) -> Result<Option<Yielding>, NoMemory>
+) -> Result<Option<Candidate>, NoMemory>
     requires sound { Sound (cell_of copy.old.board) }
     requires ordered { KeysRise copy.old.board.tasks }
     requires absent { task_at copy.old.board.tasks wish.now.key ≡ None }
@@ -62,7 +62,7 @@ fn yielding_from(
     freed: &FitIndex,
     wish: &Wish,
     begin: usize,
-) -> Result<Option<Yielding>, NoMemory>
+) -> Result<Option<Candidate>, NoMemory>
     requires sound { Sound (cell_of board.now) }
     requires freed { freed.now.free ≡ freed_of wish.now.spec.prec (cell_of board.now) }
     requires begin { begin ≤ length (cell_of board.now).machines }
@@ -77,7 +77,7 @@ fn yielding_from(
         return Ok(None);
     };
     match victims_at(alloc, board, wish, position)? {
-        Some(victims) => Ok(Some(Yielding { position, victims })),
+        Some(victims) => Ok(Some(Candidate { position, victims })),
         None => Err(NoMemory),
     }
 }

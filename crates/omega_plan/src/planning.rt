@@ -77,7 +77,13 @@ fn claims_for_wishes(
         let Step {
             claim,
             progress: next,
-        } = claim_for_wish(alloc, copy, wish, preempts, progress.turn(previous, wish))?;
+        } = claim_for_wish(
+            alloc,
+            copy,
+            wish,
+            preempts,
+            progress.advance(previous, wish),
+        )?;
         if let Some(claim) = claim {
             copy.claim(alloc, &claim)?;
             claims.push(claim)?;

@@ -34,7 +34,7 @@ impl Progress {
     }
 
     /// Turns from a wish to the next one: what is known stays only if they are of one kind.
-    pub fn turn(self, from: &Wish, to: &Wish) -> Progress
+    pub fn advance(self, from: &Wish, to: &Wish) -> Progress
         ensures serves { (cell : Cell) → Serves cell from.now self → Serves cell to.now result }
         ensures start { result.start ≡ self.start }
     {

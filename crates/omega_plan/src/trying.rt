@@ -16,9 +16,8 @@ use omega_model::{Claim, Keys, Seq, Wish};
 use std::alloc::Global;
 
 /// The first position, round from the plan's start, whose machine suits the wish and takes it as it
-/// is. Takes no memory. Begins where the progress says. Looks at the index's root alone where every
-/// machine has too little of one component; else at the machines with room, and at worst at all
-/// positions.
+/// is. Begins where the progress says. Looks at the index's root alone where every machine has too
+/// little of one component; else at the machines with room, and at worst at all positions.
 pub(crate) fn first_to_take(
     alloc: Global,
     board: &Board,

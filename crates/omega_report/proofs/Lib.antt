@@ -3,7 +3,7 @@ pub mod Closing
 mod Examples
 pub mod Empty
 pub mod Tallying
-pub mod PassGrows
+pub mod WalkGrows
 pub mod Summed
 pub mod RoundsCounted
 pub mod Compact

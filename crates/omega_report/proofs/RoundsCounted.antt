@@ -8,7 +8,8 @@ use Rattle.omega_model.proofs.RowEnds.{end_task, stopped_by, stops}
 use Rattle.omega_model.specs.Cell.{Cell}
 use Rattle.omega_model.specs.Feed.{rounds}
 use Rattle.omega_model.specs.Fields.{AttrFields, DiskFields, MachineFields}
-use Rattle.omega_model.specs.Lawful.{Applied, IsCommitOfRound, Lawful, RoundSoFar, Rounds, opened, with_row}
+use Rattle.omega_model.proofs.RoundsInOrder.{commit_begins_none}
+use Rattle.omega_model.specs.Lawful.{Applied, IsCommitOfRound, Lawful, RoundSoFar, Rounds, begins_round, opened, with_row}
 use Rattle.omega_model.specs.State.{state}
 use Rattle.omega_model.specs.RowEntries.{row_entries}
 use Rattle.omega_model.specs.Wanted.{WantedTask, attr_entry, capacity_from, machine_entry, wanted}
@@ -20,7 +21,6 @@ use Rattle.omega_model.specs.declared.rows.Row.{Row}
 use Rattle.omega_model.specs.declared.rows.Row.TheVariants.{Machine as MachineEvent, Attr as AttrEvent, Task as TaskEvent}
 use Rattle.omega_model.specs.declared.rows.TraceTables.{TraceTables}
 use Rattle.omega_model.specs.declared.settings.Settings.{Settings}
-use Rattle.omega_report.specs.Passing.{begins_round}
 
 -- how many rounds some entries begin
 abbrev begun : List Entry → ℕ
@@ -79,16 +79,6 @@ none_begun (entry ∷ entries) none =
     let here : begins_round entry ≡ false = none 0 entry refl in
     sum_by-cons (λ e. cond (begins_round e) 1 0) entry entries ∙ rw here (omega (arith, rest))
 
-commit_none : (settings : Settings) (opened_at : ℕ) (before : List Entry) (entry : Entry) → IsCommitOfRound settings opened_at before entry → begins_round entry ≡ false
-commit_none settings opened_at before (RoundEntry number) may = absurd may
-commit_none settings opened_at before (MachineAdd machine cap) may = absurd may
-commit_none settings opened_at before (MachineUpdate machine cap) may = absurd may
-commit_none settings opened_at before (MachineRemove machine) may = absurd may
-commit_none settings opened_at before (AttrSet machine name value) may = absurd may
-commit_none settings opened_at before (AttrDelete machine name) may = absurd may
-commit_none settings opened_at before (End key machine) may = absurd may
-commit_none settings opened_at before (Commit scheduler seen txn reply) may = refl
-
 -- a round begins once
 round_begun : (settings : Settings) (trace : TraceTables) (rows : List Row) (start : List Entry) (round : Round) (history : List Entry)
     → RoundSoFar settings trace rows start round history → begun history ≡ begun start + 1
@@ -98,7 +88,7 @@ round_begun settings trace rows start round history so_far =
     let whole : history ≡ base ++ later = sym (take-append-drop (length base) history) ∙ ap (λ (front : List Entry). front ++ later) so_far.begins in
     let commits : begun later ≡ 0 =
     none_begun later (behind (λ (entry : Entry). begins_round entry ≡ false) base later
-    (λ place entry is past. commit_none settings (length base) _ entry (so_far.commits place entry (ap (λ (h : List Entry). slice_get h place) whole ∙ is) past))) in
+    (λ place entry is past. commit_begins_none settings (length base) _ entry (so_far.commits place entry (ap (λ (h : List Entry). slice_get h place) whole ∙ is) past))) in
     let based : begun base ≡ begun (start ++ RoundEntry round.number ∷ []) = rows_none trace round.rows (record { rows = rows; history = start ++ RoundEntry round.number ∷ [] }) in
     let began : begun (start ++ RoundEntry round.number ∷ []) ≡ begun start + 1 = more_begun start (RoundEntry round.number ∷ []) in
     ap begun whole ∙ more_begun base later ∙ omega (arith, commits, based, began)

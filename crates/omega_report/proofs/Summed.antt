@@ -22,7 +22,7 @@ use Rattle.omega_model.specs.declared.settings.Settings.{Settings}
 use Rattle.omega_report.specs.Counted.{counts_in}
 use Rattle.omega_report.specs.Lines.{sizes_line, unplaced_line, usage_line}
 use Rattle.omega_report.specs.Pages.{PageState}
-use Rattle.omega_report.specs.Passing.{lines_from, lines_of_all}
+use Rattle.omega_report.specs.Walking.{lines_from, lines_of_all}
 use Rattle.omega_report.specs.Tallies.{tallies}
 use Rattle.omega_report.specs.declared.counts.Counts.{Counts as HeldCounts}
 

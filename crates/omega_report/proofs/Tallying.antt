@@ -25,9 +25,9 @@ pub evicted_placed : (judgement : Judgement) (rest : List Judgement) → is_plac
     → length (evicted_by (judgement ∷ rest)) ≡ length judgement.evicted + length (evicted_by rest)
 evicted_placed judgement rest placed = rw placed (length-append judgement.evicted (evicted_by rest))
 
-pub evicted_passed : (judgement : Judgement) (rest : List Judgement) → is_placed judgement.verdict ≡ false
+pub evicted_walked : (judgement : Judgement) (rest : List Judgement) → is_placed judgement.verdict ≡ false
     → length (evicted_by (judgement ∷ rest)) ≡ length (evicted_by rest)
-evicted_passed judgement rest passed = rw passed refl
+evicted_walked judgement rest walked = rw walked refl
 
 -- the commits of a scheduler with one more entry
 commits_push : (scheduler : ℕ) (history : List Entry) (entry : Entry)

@@ -9,4 +9,4 @@ pub mod Readings
 pub mod Spelling
 pub mod Tallies
 pub mod Writing
-pub mod Passing
+pub mod Walking

@@ -1,4 +1,4 @@
--- What is noted of the entries that a pass has before it.
+-- What is noted of the entries that a walk has before it.
 use Rattle.std.specs.Prelude.{◌≡◌, List, ◌∷◌, [], if◌then◌else◌, Bool}
 use Rattle.std.specs.List.{fold}
 use Rattle.omega_cell.specs.Effects.{along, displaced_at, usage_at, usage_in}

@@ -1,4 +1,4 @@
-//! What is noted of the entries that a pass has before it.
+//! What is noted of the entries that a walk has before it.
 ghost use Rattle.std.specs.Prelude.{◌≡◌, ◌∷◌, List, IsTrue, slice_get};
 ghost use Rattle.omega_cell.specs.Effects.{AreEffects, usage_in};
 ghost use Rattle.omega_model.specs.Cell.{Cell, empty_cell, keys_of};
@@ -22,7 +22,7 @@ pub struct Ahead<'a> {
 }
 
 impl<'a> Ahead<'a> {
-    /// What is noted of a whole history with these effects. Takes no memory.
+    /// What is noted of a whole history with these effects.
     pub fn of(effects: &'a Effects) -> Ahead<'a>
         ensures { (history : List Entry) → AreEffects history effects.now → IsAhead empty_cell history result }
     {
@@ -33,7 +33,7 @@ impl<'a> Ahead<'a> {
         }
     }
 
-    /// The usage before the next entry, where a round ends there. Takes no memory.
+    /// The usage before the next entry, where a round ends there.
     pub fn usage(self) -> Usage
         ensures { (cell : Cell) (later : List Entry) → IsAhead cell later self.entry → IsTrue (is_round_end (slice_get later 0)) → result ≡ usage_in cell }
     {
@@ -44,7 +44,7 @@ impl<'a> Ahead<'a> {
     }
 
     /// The names of the tasks that the next entry displaces, in order of eviction, and what is noted of
-    /// the entries behind it. Takes no memory.
+    /// the entries behind it.
     pub fn past(self, entry: &Entry) -> (&'a [TaskKey], Ahead<'a>)
         ensures stopped { (cell : Cell) (later : List Entry) → IsAhead cell (entry.now ∷ later) self.entry → result.0.now ≡ keys_of (displaced cell.tasks entry.now) }
         ensures ahead { (cell : Cell) (later : List Entry) → IsAhead cell (entry.now ∷ later) self.entry → IsAhead (step cell entry.now) later result.1 }
@@ -61,7 +61,7 @@ impl<'a> Ahead<'a> {
         }
     }
 
-    // What is noted behind the beginning of a round.
+    /// What is noted behind the beginning of a round.
     fn past_round(self) -> Ahead<'a>
         ensures usages { (first : Usage) (rest : List Usage) → self.entry.usages.now ≡ first ∷ rest → result.usages.now ≡ rest }
         ensures displaced { result.displaced.now ≡ self.entry.displaced.now }
@@ -73,7 +73,7 @@ impl<'a> Ahead<'a> {
         }
     }
 
-    // What is noted at an entry of a machine, and behind it.
+    /// What is noted at an entry of a machine, and behind it.
     fn past_machine(self) -> (&'a [TaskKey], Ahead<'a>)
         ensures stopped { (keys : List TaskKey) (rest : List (List TaskKey)) → self.entry.displaced.now ≡ keys ∷ rest → result.0.now ≡ keys }
         ensures displaced { (keys : List TaskKey) (rest : List (List TaskKey)) → self.entry.displaced.now ≡ keys ∷ rest → result.1.displaced.now ≡ rest }

@@ -3,7 +3,7 @@ ghost use Rattle.std.specs.Prelude.{◌≡◌, ◌++◌, OnOk};
 ghost use Rattle.omega_model.specs.Cell.{Cell, keys_of};
 ghost use Rattle.omega_model.specs.ReportLines.{lines_on};
 ghost use Rattle.omega_model.specs.State.{displaced};
-ghost use Rattle.omega_report.specs.Passing.{if_printed};
+ghost use Rattle.omega_report.specs.Walking.{if_printed};
 
 use crate::page::Page;
 use omega_model::{Entry, NoMemory, TaskKey};
@@ -24,7 +24,7 @@ pub fn push_entry(
     push_lines(page, entry, stopped)
 }
 
-// The same where they are printed.
+/// The same where they are printed.
 fn push_lines(page: &mut Page, entry: &Entry, stopped: &[TaskKey]) -> Result<(), NoMemory>
     ensures format { OnOk result (page.new.format ≡ page.old.format) }
     ensures lines { OnOk result ((cell : Cell) → stopped.now ≡ keys_of (displaced cell.tasks entry.now) → page.new.lines ≡ page.old.lines ++ lines_on cell entry.now) }

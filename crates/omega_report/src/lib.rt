@@ -1,7 +1,7 @@
 //! The whole report of a history, as text or as JSON.
 //!
 //! A page takes the report's lines one after the other, each as its words, and holds only their bytes
-//! in the report's format. One pass over the history, beside what was noted of its effects, puts the
+//! in the report's format. One walk over the history, beside what was noted of its effects, puts the
 //! lines of each entry on it, and what the history comes to.
 #![tactic(auto)]
 
@@ -17,9 +17,9 @@ mod judgements;
 mod laws;
 mod lines;
 mod page;
-mod pass;
 mod reporting;
 mod tally;
+mod walk;
 mod words;
 
 pub use audited::audit_report;

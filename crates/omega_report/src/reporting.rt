@@ -3,7 +3,7 @@ ghost use Rattle.std.specs.Prelude.{◌≡◌, ◌++◌, ◌<◌, ◌≤◌, ◌
 ghost use Rattle.omega_cell.specs.Effects.{AreEffects, usage_in};
 ghost use Rattle.omega_desk.specs.Counts.{count_of};
 ghost use Rattle.omega_feed.specs.Left.{IsLeft};
-ghost use Rattle.omega_model.specs.Lawful.{Lawful};
+ghost use Rattle.omega_model.specs.Lawful.{Lawful, begins_round};
 ghost use Rattle.omega_model.specs.Policy.{schedulers};
 ghost use Rattle.omega_model.specs.Report.{Line};
 ghost use Rattle.omega_model.specs.ReportForms.{in_format, printed_report};
@@ -12,11 +12,11 @@ ghost use Rattle.omega_model.specs.State.{state};
 ghost use Rattle.omega_model.specs.declared.entries.Entry.{Entry};
 ghost use Rattle.omega_model.specs.declared.rows.TraceTables.{TraceTables};
 ghost use Rattle.omega_model.specs.declared.settings.Format.{Format as Form};
-ghost use Rattle.omega_report.specs.Passing.{begins_round, lines_of_all, IsAfter};
+ghost use Rattle.omega_report.specs.Walking.{lines_of_all, IsAfter};
 
 use crate::counts::Counts;
 use crate::page::Page;
-use crate::pass::{Pass, passed};
+use crate::walk::{Walk, walked};
 use omega_cell::{Effects, Usage};
 use omega_desk::Failures;
 use omega_feed::WaitingTasks;
@@ -65,32 +65,32 @@ pub fn report_as(
 {
     let mut page = Page::new(alloc, format);
     page.first()?;
-    let pass = passed(alloc, settings, page, history, effects)?;
-    summed_up(settings, history, effects.last, left, pass)?.finish()
+    let walk = walked(alloc, settings, page, history, effects)?;
+    summed_up(settings, history, effects.last, left, walk)?.finish()
 }
 
-// The page of a pass over a history, with what it comes to, where `last` is the usage at its end.
+/// The page of a walk over a history, with what it comes to, where `last` is the usage at its end.
 fn summed_up(
     settings: &Settings,
     history: &[Entry],
     last: Usage,
     left: &WaitingTasks,
-    pass: Pass,
+    walk: Walk,
 ) -> Result<Page, NoMemory>
     requires batch { settings.now.batch ≤ 30 }
     requires last { last ≡ usage_in (state history.now) }
-    requires counted { length pass.tally ≡ schedulers settings.now }
+    requires counted { length walk.tally ≡ schedulers settings.now }
     ensures { IfOk result (λ page. (trace : TraceTables) (format : Form) (lines : List Line)
         → Lawful settings.now trace history.now → IsLeft trace (state history.now) left.now
-        → IsAfter (schedulers settings.now) format lines history.now pass
+        → IsAfter (schedulers settings.now) format lines history.now walk
         → (page.format ≡ format) × (page.lines ≡ lines ++ final_lines settings.now trace history.now)) }
 {
-    let abandoned = count_given_up(left.jobs.as_slice(), settings.give_up, &pass.failures);
-    let Pass {
+    let abandoned = count_given_up(left.jobs.as_slice(), settings.give_up, &walk.failures);
+    let Walk {
         mut page,
         tally,
         ..
-    } = pass;
+    } = walk;
     page.sizes(history.len() as u64, count_rounds(history))?;
     push_counts(&mut page, tally.counts())?;
     page.usage(last.used, last.capacity)?;
@@ -98,7 +98,7 @@ fn summed_up(
     Ok(page)
 }
 
-// How many rounds a history begins.
+/// How many rounds a history begins.
 fn count_rounds(history: &[Entry]) -> u64
     ensures { result ≡ count_by begins_round history.now }
 {
@@ -111,7 +111,7 @@ fn begins_round(entry: &Entry) -> bool
     matches!(entry, Entry::Round { .. })
 }
 
-// Appends the line of each scheduler with its counts.
+/// Appends the line of each scheduler with its counts.
 fn push_counts(page: &mut Page, counts: &[Counts]) -> Result<(), NoMemory>
     requires { length counts.now < 2 ^ 32 }
     ensures format { OnOk result (page.new.format ≡ page.old.format) }
@@ -123,7 +123,7 @@ fn push_counts(page: &mut Page, counts: &[Counts]) -> Result<(), NoMemory>
     Ok(())
 }
 
-// How many of these jobs are given up after so many commits that failed.
+/// How many of these jobs are given up after so many commits that failed.
 fn count_given_up(jobs: &[u64], give_up: u32, failures: &Failures) -> u64
     ensures { result ≡ count_by (λ job. nat_le give_up (count_of failures.now job)) jobs.now }
 {

@@ -34,7 +34,7 @@ impl Tally {
         Ok(Tally { counts })
     }
 
-    /// The counts in order. Takes no memory.
+    /// The counts in order.
     pub fn counts(&self) -> &[Counts]
         ensures { map counts_in result.now ≡ self.now }
     {
@@ -60,7 +60,7 @@ impl Tally {
         }
     }
 
-    // Adds counts to those of a scheduler, if it is known.
+    /// Adds counts to those of a scheduler, if it is known.
     fn add(&mut self, scheduler: usize, more: &Counts) -> Result<(), NoMemory>
         ensures { OnOk result (self.new ≡ added_at scheduler (counts_in more.now) self.old) }
     {

@@ -2,26 +2,14 @@
 use Rattle.std.proofs.Common.{◌≡◌, ℕ, List, length, take, get_or, ap, ◌∙◌}
 use Rattle.std.specs.Prelude.{All}
 use Rattle.std.proofs.lemmas.Option.{slice_get-get_or}
-use Rattle.omega_model.proofs.Answered.{length-all_or_nothing, length-judgements}
 use Rattle.omega_model.specs.Legal.{Follows, Legal}
-use Rattle.omega_model.specs.Reply.{by_mode, judgements}
 use Rattle.omega_model.specs.State.{reply_of, state}
 use Rattle.omega_model.specs.declared.claims.Judgement.{Judgement}
-use Rattle.omega_model.specs.declared.claims.Mode.{Mode}
-use Rattle.omega_model.specs.declared.claims.Mode.TheVariants.{Incremental, Gang}
 use Rattle.omega_model.specs.declared.claims.Txn.{Txn}
 use Rattle.omega_model.specs.declared.entries.Entry.{Entry}
 use Rattle.omega_model.specs.declared.entries.Entry.TheVariants.{Round, MachineAdd, MachineUpdate, MachineRemove, AttrSet, AttrDelete, End, Commit}
 use Rattle.omega_keep.specs.KeptLines.{IsAnswered}
-
--- so it is of the reply that is due
-length-reply : (before : List Entry) (seen : ℕ) (txn : Txn) → length (reply_of before seen txn) ≡ length txn.claims
-length-reply before seen txn =
-    let each = length-judgements before seen (state before) txn.rule txn.claims in
-    elim txn.mode as (λ (mode : Mode). length (by_mode mode (judgements before seen (state before) txn.rule txn.claims)) ≡ length txn.claims) [
-      | Incremental ↦ each
-      | Gang ↦ length-all_or_nothing (judgements before seen (state before) txn.rule txn.claims) ∙ each
-    ]
+use Rattle.omega_rounds.proofs.CommitCounts.{length-reply_of}
 
 is_answered : (before : List Entry) (entry : Entry) → Follows before entry → IsAnswered entry
 is_answered before (Round number) follows = tt
@@ -32,7 +20,7 @@ is_answered before (AttrSet machine name value) follows = tt
 is_answered before (AttrDelete machine name) follows = tt
 is_answered before (End key machine) follows = tt
 is_answered before (Commit scheduler seen txn reply) follows =
-    ap (λ (told : List Judgement). length told) follows.1 ∙ length-reply before seen txn
+    ap (λ (told : List Judgement). length told) follows.1 ∙ length-reply_of before seen txn
 
 pub are_answered : (history : List Entry) → Legal history → All IsAnswered history
 are_answered history legal place default within =

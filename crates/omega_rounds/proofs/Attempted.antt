@@ -19,8 +19,8 @@ use Rattle.omega_board.specs.Board.{cell_of}
 use Rattle.omega_board.proofs.Commits.{cell_is}
 use Rattle.omega_copy.specs.Copies.{CopyOf, CopyState}
 use Rattle.omega_laws.specs.NextCommit.{attempt_txn}
-use Rattle.omega_rounds.specs.Seats.{IsSeat}
-use Rattle.omega_rounds.specs.declared.seat.Seat.{Seat}
+use Rattle.omega_rounds.specs.Workers.{IsWorker}
+use Rattle.omega_rounds.specs.declared.worker.Worker.{Worker}
 use Rattle.omega_laws.proofs.Agreeing.{is_attempt}
 
 -- a plan on a copy, from the place at which the scheduler's next attempt begins, is that of the attempt
@@ -50,10 +50,10 @@ planned_is settings scheduler policy copy request start (Ok txn) is job rule mod
       sym_length : (table : List MachineState) → length table ≡ length (map (λ (state : MachineState). state.machine) table)
       sym_length table = rw (length-map table (λ (state : MachineState). state.machine)) refl
 
--- the start of a seat's attempt is that of its scheduler's next one
-pub start_of_seat : (settings : Settings) (history : List Entry) (number : ℕ) (seat : Seat) (machines : ℕ) → IsSeat settings history number seat
-    → drawn_start seat.desk.settings seat.desk.scheduler seat.desk.attempts machines ≡ drawn_start settings number (commits_of number history) machines
-start_of_seat settings history number seat machines is = rw (is.settings, is.scheduler, is.attempts) refl
+-- the start of a worker's attempt is that of its scheduler's next one
+pub start_of_worker : (settings : Settings) (history : List Entry) (number : ℕ) (worker : Worker) (machines : ℕ) → IsWorker settings history number worker
+    → drawn_start worker.desk.settings worker.desk.scheduler worker.desk.attempts machines ≡ drawn_start settings number (commits_of number history) machines
+start_of_worker settings history number worker machines is = rw (is.settings, is.scheduler, is.attempts) refl
 
 -- a start that is below the number of machines where there are any is at most that
 pub start_within : (settings : Settings) (scheduler attempts start machines : ℕ) → start ≡ drawn_start settings scheduler attempts machines

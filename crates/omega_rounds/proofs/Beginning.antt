@@ -1,4 +1,4 @@
--- Seats that begin with their requests one after the other.
+-- Workers that begin with their requests one after the other.
 use Rattle.std.proofs.Common.{◌≡◌, ◌≢◌, ◌≤◌, ◌<◌, ◌+◌, ℕ, List, [], length, set, Some, refl, sym, ap, subst, arith, ◌∙◌, inl, inr, None}
 use Rattle.std.specs.Prelude.{slice_get}
 use Rattle.std.specs.List.{All}
@@ -17,36 +17,36 @@ use Rattle.omega_model.specs.declared.settings.Settings.{Settings}
 use Rattle.omega_model.specs.declared.wishes.Request.{Request}
 use Rattle.omega_desk.specs.Desks.{IsSameDesk, left_at, still_tried}
 use Rattle.omega_desk.specs.Walks.{HasDistinctWishes}
-use Rattle.omega_rounds.specs.Opening.{BeginAll, BeginsSeat, HaveNoWork, IsAsked}
-use Rattle.omega_rounds.specs.declared.seat.Seat.{Seat}
+use Rattle.omega_rounds.specs.Opening.{BeginAll, BeginsWorker, HaveNoWork, IsAsked}
+use Rattle.omega_rounds.specs.declared.worker.Worker.{Worker}
 use Rattle.omega_rounds.proofs.Requested.{open_distinct}
-use Rattle.omega_rounds.proofs.SeatLists.{set_cases, set-other}
+use Rattle.omega_rounds.proofs.WorkerLists.{set_cases, set-other}
 
--- the seats before a place have begun, and the others are as they were
-pub record HaveBegun (asked : Asked) (history : List Entry) (old now : List Seat) (place : ℕ) : Type 0 where
+-- the workers before a place have begun, and the others are as they were
+pub record HaveBegun (asked : Asked) (history : List Entry) (old now : List Worker) (place : ℕ) : Type 0 where
   pub count : length now ≡ length old
-  pub done : (number : ℕ) (seat : Seat) → number < place → slice_get now number ≡ Some seat
-      → (before : Seat) × ((slice_get old number ≡ Some before) × BeginsSeat asked history number before seat)
+  pub done : (number : ℕ) (worker : Worker) → number < place → slice_get now number ≡ Some worker
+      → (before : Worker) × ((slice_get old number ≡ Some before) × BeginsWorker asked history number before worker)
   pub rest : (number : ℕ) → place ≤ number → slice_get now number ≡ slice_get old number
 
 -- none has
-pub begun_none : (asked : Asked) (history : List Entry) (old : List Seat) → HaveBegun asked history old old 0
+pub begun_none : (asked : Asked) (history : List Entry) (old : List Worker) → HaveBegun asked history old old 0
 begun_none asked history old = record {
   count = refl;
-  done = λ number seat below here. absurd (omega arith);
+  done = λ number worker below here. absurd (omega arith);
   rest = λ number above. refl;
 }
 
 -- one more has
-pub begun_more : (asked : Asked) (history : List Entry) (old now : List Seat) (place : ℕ) (seat next : Seat)
-    → HaveBegun asked history old now place → slice_get now place ≡ Some seat → BeginsSeat asked history place seat next
+pub begun_more : (asked : Asked) (history : List Entry) (old now : List Worker) (place : ℕ) (worker next : Worker)
+    → HaveBegun asked history old now place → slice_get now place ≡ Some worker → BeginsWorker asked history place worker next
     → HaveBegun asked history old (set now place next) (place + 1)
-begun_more asked history old now place seat next have here begins = record {
+begun_more asked history old now place worker next have here begins = record {
   count = length-set now place next ∙ have.count;
   done = λ number other below there. elim (set_cases now place next number other there) [
     | inl same ↦
-        subst (λ (n : ℕ). (before : Seat) × ((slice_get old n ≡ Some before) × BeginsSeat asked history n before other)) (sym same.0)
-        (seat, (sym (have.rest place (omega arith)) ∙ here, subst (BeginsSeat asked history place seat) same.1 begins))
+        subst (λ (n : ℕ). (before : Worker) × ((slice_get old n ≡ Some before) × BeginsWorker asked history n before other)) (sym same.0)
+        (worker, (sym (have.rest place (omega arith)) ∙ here, subst (BeginsWorker asked history place worker) same.1 begins))
     | inr before ↦ have.done number other (let apart : number ≢ place = before.0 in grind (arith)) before.1
   ];
   rest = λ number above.
@@ -55,17 +55,17 @@ begun_more asked history old now place seat next have here begins = record {
 }
 
 -- all have
-pub begun_all : (asked : Asked) (history : List Entry) (old now : List Seat) (place : ℕ) → HaveBegun asked history old now place → length now ≤ place
+pub begun_all : (asked : Asked) (history : List Entry) (old now : List Worker) (place : ℕ) → HaveBegun asked history old now place → length now ≤ place
     → BeginAll asked history old now
 begun_all asked history old now place have all = record {
   count = have.count;
-  each = λ number seat here. have.done number seat (let within : number < length now = slice_get_within now number seat here in omega (arith, within, all)) here;
+  each = λ number worker here. have.done number worker (let within : number < length now = slice_get_within now number worker here in omega (arith, within, all)) here;
 }
 
--- a seat that hasn't begun has no work
-pub idle_still : (asked : Asked) (history : List Entry) (old now : List Seat) (place : ℕ) (seat : Seat)
-    → HaveBegun asked history old now place → HaveNoWork old → slice_get now place ≡ Some seat → seat.desk.requests ≡ []
-idle_still asked history old now place seat have idle here = idle place seat (sym (have.rest place (omega arith)) ∙ here)
+-- a worker that hasn't begun has no work
+pub idle_still : (asked : Asked) (history : List Entry) (old now : List Worker) (place : ℕ) (worker : Worker)
+    → HaveBegun asked history old now place → HaveNoWork old → slice_get now place ≡ Some worker → worker.desk.requests ≡ []
+idle_still asked history old now place worker have idle here = idle place worker (sym (have.rest place (omega arith)) ∙ here)
 
 -- what is asked of a scheduler wishes for no task twice
 pub asked_distinct : (asked : Asked) (history : List Entry) (cell : Cell) (place : ℕ) (all : List Request) → IsAsked asked → All HasLowIndex asked.tasks → cell ≡ state history
@@ -76,14 +76,14 @@ asked_distinct asked history cell place all is low now are =
     (sym (are is.settings is.trace is.rows is.asks ∙ ap (λ (c : Cell). all_requests is.settings is.trace is.rows c place) now))
     (open_distinct is.settings is.trace is.rows history place (subst (All HasLowIndex) (ap (λ (a : Asked). a.tasks) is.asks) low))
 
--- a seat begins
-pub seat_begins : (asked : Asked) (history : List Entry) (cell : Cell) (place : ℕ) (all : List Request) (old new : Seat) → cell ≡ state history
+-- a worker begins
+pub worker_begins : (asked : Asked) (history : List Entry) (cell : Cell) (place : ℕ) (all : List Request) (old new : Worker) → cell ≡ state history
     → ((settings : Settings) (trace : TraceTables) (rows : List Row) → asked ≡ asked_after settings trace rows → all ≡ all_requests settings trace rows cell place)
     → IsSameDesk old.desk new.desk → new.desk.attempts ≡ old.desk.attempts
     → left_at new.desk ≡ fresh (left_at old.desk).failing (still_tried old.desk.settings (left_at old.desk).failing all)
     → new.copy ≡ old.copy → new.synced ≡ None
-    → BeginsSeat asked history place old new
-seat_begins asked history cell place all old new now are desk attempts left copy synced = record {
+    → BeginsWorker asked history place old new
+worker_begins asked history cell place all old new now are desk attempts left copy synced = record {
   desk = desk;
   attempts = attempts;
   left = λ settings trace rows asks.

@@ -31,7 +31,7 @@ use Rattle.omega_laws.proofs.TickingOn.{clock_none, synced_push-own, ticking_com
 use Rattle.omega_laws.proofs.TimeOrder.{clock-before, next_time-is, next_time_push-other, timed_push}
 use Rattle.omega_sim.specs.Agenda.{IsFirst, IsNoLater}
 use Rattle.omega_rounds.specs.Clocked.{Clocked, HasCommitted, IsDueAt, IsSet, MaySync, TimedRound, all_rows, next_at, place_of}
-use Rattle.omega_rounds.proofs.SeatLists.{set-other, set-same}
+use Rattle.omega_rounds.proofs.WorkerLists.{set-other, set-same}
 
 -- where there is no wish there is no next commit, and else there is
 next_none : (settings : Settings) (scheduler wishes now : ℕ) → wishes ≡ 0 → next_at settings scheduler wishes now ≡ None

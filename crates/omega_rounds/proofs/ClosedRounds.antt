@@ -20,13 +20,13 @@ use Rattle.omega_rounds.specs.Closed.{AreBack, IsBack, IsCommitOfOne, IsDone}
 use Rattle.omega_laws.specs.InRound.{rows_before, rows_now}
 use Rattle.omega_rounds.specs.Keeping.{HasBegun, IsLawful, IsWorld, world_at}
 use Rattle.omega_rounds.specs.Players.{IsOwnDesk, MayStand, OwnMayStand}
-use Rattle.omega_rounds.specs.Seats.{IsDeskOf, synced_of}
+use Rattle.omega_rounds.specs.Workers.{IsDeskOf, synced_of}
 use Rattle.omega_rounds.specs.Stages.{IsInRunOf, Stage, rows_begun}
-use Rattle.omega_rounds.specs.declared.seat.Seat.{Seat}
+use Rattle.omega_rounds.specs.declared.worker.Worker.{Worker}
 use Rattle.omega_rounds.proofs.PlansKept.{plan_none}
 use Rattle.omega_rounds.proofs.DeskCommits.{desk_with_failures, own_desk}
 use Rattle.omega_rounds.proofs.RoundFailures.{counted_so_far}
-use Rattle.omega_rounds.proofs.SeatLists.{seen_at, seen_none}
+use Rattle.omega_rounds.proofs.WorkerLists.{seen_at, seen_none}
 use Rattle.omega_rounds.proofs.WorldBegins.{nobody_works}
 use Rattle.omega_rounds.proofs.WorldSteps.{rows_same, state_at}
 use Rattle.omega_rounds.proofs.Worlds.{rows_within}
@@ -76,11 +76,11 @@ front_get [] ys place x within is = absurd (omega arith)
 front_get (y ∷ xs) ys zero x within is = is
 front_get (y ∷ xs) ys (suc place) x within is = front_get xs ys place x (omega arith) is
 
-module _ (settings : Settings) (first history : List Entry) (old new : List Seat) (back : AreBack settings first history old new)
+module _ (settings : Settings) (first history : List Entry) (old new : List Worker) (back : AreBack settings first history old new)
     (all : length old ≡ schedulers settings) where
-  -- the seat with which a scheduler is back
+  -- the worker with which a scheduler is back
   back_at : (number : ℕ) → number < schedulers settings
-      → (seat : Seat) × ((slice_get new number ≡ Some seat) × ((was : Seat) × ((slice_get old number ≡ Some was) × IsBack settings first history number was seat)))
+      → (worker : Worker) × ((slice_get new number ≡ Some worker) × ((was : Worker) × ((slice_get old number ≡ Some was) × IsBack settings first history number was worker)))
   back_at number known =
       let count : length new ≡ length old = back.count in
       elim (slice_get_cases new number).1 [
@@ -91,8 +91,8 @@ module _ (settings : Settings) (first history : List Entry) (old new : List Seat
   module _ (trace : TraceTables) (rows : List Row) (start : List Entry) (round : Round)
       (within : length (opened trace rows start round).history ≤ length first)
       (so_far : RoundSoFar settings trace rows start round first)
-      (desks : (number : ℕ) (seat : Seat) → slice_get old number ≡ Some seat
-      → IsDeskOf settings trace (rows ++ round.rows) (length (opened trace rows start round).history) first number seat.desk) where
+      (desks : (number : ℕ) (worker : Worker) → slice_get old number ≡ Some worker
+      → IsDeskOf settings trace (rows ++ round.rows) (length (opened trace rows start round).history) first number worker.desk) where
     abbrev base : ℕ
     base = length (opened trace rows start round).history
 
@@ -118,10 +118,10 @@ module _ (settings : Settings) (first history : List Entry) (old new : List Seat
         (its.1.1.1.1.commits base within (own_stand settings trace rows start round first so_far one.scheduler) place entry is past)
 
     -- a desk after it
-    own_desk_after : (number : ℕ) (seat : Seat) → slice_get new number ≡ Some seat
-        → IsOwnDesk settings trace (rows ++ round.rows) base history number seat.desk
-    own_desk_after number seat here =
-        let found = back.each number seat here in
+    own_desk_after : (number : ℕ) (worker : Worker) → slice_get new number ≡ Some worker
+        → IsOwnDesk settings trace (rows ++ round.rows) base history number worker.desk
+    own_desk_after number worker here =
+        let found = back.each number worker here in
         found.1.1.desk trace (rows ++ round.rows) base within
         (own_desk settings trace (rows ++ round.rows) base first number found.0.desk (desks number found.0 found.1.0))
 
@@ -139,20 +139,20 @@ module _ (settings : Settings) (first history : List Entry) (old new : List Seat
     }
 
     -- and each desk is right
-    pub desk_closed : (number : ℕ) (seat : Seat) → slice_get new number ≡ Some seat
-        → IsDeskOf settings trace (rows ++ round.rows) base history number seat.desk
-    desk_closed number seat here =
-        let is : IsOwnDesk settings trace (rows ++ round.rows) base history number seat.desk = own_desk_after number seat here in
-        desk_with_failures settings trace (rows ++ round.rows) base history number seat.desk is
+    pub desk_closed : (number : ℕ) (worker : Worker) → slice_get new number ≡ Some worker
+        → IsDeskOf settings trace (rows ++ round.rows) base history number worker.desk
+    desk_closed number worker here =
+        let is : IsOwnDesk settings trace (rows ++ round.rows) base history number worker.desk = own_desk_after number worker here in
+        desk_with_failures settings trace (rows ++ round.rows) base history number worker.desk is
         (λ job its. counted_so_far settings trace rows start round history so_far_closed number is.standing is.stands job its ∙ is.counts job its)
 
-module _ (stage : Stage) (tasks : List WantedTask) (first history : List Entry) (old new : List Seat)
+module _ (stage : Stage) (tasks : List WantedTask) (first history : List Entry) (old new : List Worker)
     (world : IsWorld stage tasks first old) (begun : 0 < stage.begun) (nobody : NobodySynced (world_at first old))
     (back : AreBack stage.settings first history old new) where
   -- nobody has synced
   nobody_closed : NobodySynced (world_at history new)
-  nobody_closed = seen_none synced_of new (λ number seat here.
-      let found = back.each number seat here in
+  nobody_closed = seen_none synced_of new (λ number worker here.
+      let found = back.each number worker here in
       found.1.1.spent (sym (seen_at synced_of old number found.0 found.1.0) ∙ nobody number))
 
   lawful_closed : (trace : TraceTables) → IsInRunOf stage trace → HasBegun trace stage (world_at first old) → IsLawful trace stage history new
@@ -164,10 +164,10 @@ module _ (stage : Stage) (tasks : List WantedTask) (first history : List Entry) 
       let before : List Row = rows_before settings trace first underway in
       let place : ℕ = rows_end settings trace first underway in
       let rows : rows_begun stage ≡ rows_now settings trace first underway = rows_same trace stage one made has in
-      let desks : (number : ℕ) (seat : Seat) → slice_get old number ≡ Some seat → IsDeskOf settings trace (before ++ underway.round.rows) place first number seat.desk =
-      λ number seat here.
-      subst (λ (n : ℕ). IsDeskOf settings trace (rows_now settings trace first underway) n first number seat.desk) has.rows
-      (subst (λ (rs : List Row). IsDeskOf settings trace rs stage.opened_at first number seat.desk) rows ((world.lawful trace made).desks number seat here)) in
+      let desks : (number : ℕ) (worker : Worker) → slice_get old number ≡ Some worker → IsDeskOf settings trace (before ++ underway.round.rows) place first number worker.desk =
+      λ number worker here.
+      subst (λ (n : ℕ). IsDeskOf settings trace (rows_now settings trace first underway) n first number worker.desk) has.rows
+      (subst (λ (rs : List Row). IsDeskOf settings trace rs stage.opened_at first number worker.desk) rows ((world.lawful trace made).desks number worker here)) in
       let within : place ≤ length first = rows_within settings trace first underway in
       let so_far : RoundSoFar settings trace before underway.start underway.round history =
       so_far_closed settings first history old new back world.count trace before underway.start underway.round within underway.begun desks in
@@ -185,10 +185,10 @@ module _ (stage : Stage) (tasks : List WantedTask) (first history : List Entry) 
       } in
       record {
         run = inr (record { in_round = in_round; count = has.count; rows = has.rows });
-        desks = λ number seat here.
-            subst (λ (n : ℕ). IsDeskOf settings trace (rows_begun stage) n history number seat.desk) (sym has.rows)
-            (subst (λ (rs : List Row). IsDeskOf settings trace rs place history number seat.desk) (sym rows)
-            (desk_closed settings first history old new back world.count trace before underway.start underway.round within underway.begun desks number seat here));
+        desks = λ number worker here.
+            subst (λ (n : ℕ). IsDeskOf settings trace (rows_begun stage) n history number worker.desk) (sym has.rows)
+            (subst (λ (rs : List Row). IsDeskOf settings trace rs place history number worker.desk) (sym rows)
+            (desk_closed settings first history old new back world.count trace before underway.start underway.round within underway.begun desks number worker here));
       }
 
   -- the world after the round
@@ -198,8 +198,8 @@ module _ (stage : Stage) (tasks : List WantedTask) (first history : List Entry) 
     within = world.within;
     asked = world.asked;
     count = back.count ∙ world.count;
-    each_seat = λ number seat here. (back.each number seat here).1.1.seat;
-    each_plan = λ number seat here. plan_none stage.settings history number seat (sym (seen_at synced_of new number seat here) ∙ nobody_closed number);
+    each_worker = λ number worker here. (back.each number worker here).1.1.worker;
+    each_plan = λ number worker here. plan_none stage.settings history number worker (sym (seen_at synced_of new number worker here) ∙ nobody_closed number);
     made = world.made;
     lawful = λ trace made. elim (world.lawful trace made).run [
       | inl none ↦ let start : stage.begun ≡ 0 = none.none in absurd (omega (arith, begun, start))
@@ -210,4 +210,4 @@ module _ (stage : Stage) (tasks : List WantedTask) (first history : List Entry) 
   -- nobody has work
   pub closed_done : IsDone (state_at stage history new)
   closed_done trace made =
-      nobody_works trace stage tasks history new world_closed (λ number seat here. (back.each number seat here).1.1.no_work) made
+      nobody_works trace stage tasks history new world_closed (λ number worker here. (back.each number worker here).1.1.no_work) made

@@ -19,7 +19,7 @@ use Rattle.omega_model.specs.declared.claims.Txn.{Txn}
 use Rattle.omega_model.specs.declared.entries.Entry.{Entry}
 use Rattle.omega_model.specs.declared.entries.Entry.TheVariants.{Commit}
 use Rattle.omega_copy.specs.Copies.{CopyOf, CopyState}
-use Rattle.omega_rounds.specs.Seats.{SyncedWithin}
+use Rattle.omega_rounds.specs.Workers.{SyncedWithin}
 
 commits_more : (scheduler : ℕ) (before : List Entry) (entry : Entry)
     → commits_of scheduler (before ++ entry ∷ []) ≡ commits_of scheduler before + cond (is_commit_of scheduler entry) 1 0

@@ -15,7 +15,7 @@ use Rattle.omega_fit.proofs.index.FitIndex.TheSendSync as index
 use Rattle.omega_shared.proofs.Crossing.{board_send, pass_send}
 use Rattle.omega_rounds.proofs.plans.Planned.TheSendSync as planned
 use Rattle.omega_rounds.specs.contracts.player.Player as Player
-use Rattle.omega_rounds.specs.contracts.seat.Seat as Seat
+use Rattle.omega_rounds.specs.contracts.worker.Worker as Worker
 use Rattle.omega_shared.specs.contracts.pass.Pass as Pass
 
 -- the levels of a copy
@@ -29,13 +29,13 @@ inside_send = search (board_send, index.the_send, levels_send, trial.the_send, s
 copy_send : IsSend PrivateCopy.the_row
 copy_send = view_send _ _ _ _ _ inside_send
 
--- what a seat and a pass hold goes to another thread with them
-seat_send : IsSend (Seat.the_field).row
-seat_send = search (copy_send, planned.the_send, desk.the_send, sendable) depth 40
+-- what a worker and a pass hold goes to another thread with them
+worker_send : IsSend (Worker.the_field).row
+worker_send = search (copy_send, planned.the_send, desk.the_send, sendable) depth 40
 
 pass_field_send : IsSend (Pass.the_field).row
 pass_field_send = search (pass_send, sendable) depth 20
 
--- a player, with its seat
+-- a player, with its worker
 pub player_send : IsSend Player.the_row
-player_send = recorded_send (Player.the_field).row _ _ (Player.the_type).to_one (struct_send (shape Player.the_type) (seat_send, (pass_field_send, (search sendable, tt))))
+player_send = recorded_send (Player.the_field).row _ _ (Player.the_type).to_one (struct_send (shape Player.the_type) (worker_send, (pass_field_send, (search sendable, tt))))

@@ -10,7 +10,8 @@ use Rattle.omega_model.proofs.Lists.{by_answer}
 use Rattle.omega_model.specs.declared.entries.Entry.{Entry}
 use Rattle.omega_keep.specs.Keeping.{Adds}
 use Rattle.omega_keep.specs.KeptLines.{entry_text}
-use Rattle.omega_keep.specs.Resumed.{begins_round, ends_round, in_common, lines_of, refused_for}
+use Rattle.omega_model.specs.Lawful.{begins_round}
+use Rattle.omega_keep.specs.Resumed.{ends_round, in_common, lines_of, refused_for}
 use Rattle.omega_rounds.specs.Resuming.{Agree, RefusesRound, StopsAt, lines_behind}
 use Rattle.omega_rounds.specs.declared.kept.ResumeRefusal.{ResumeRefusal}
 use Rattle.omega_rounds.specs.declared.kept.ResumeRefusal.TheVariants.{BadKept, KeepFault, NoMemory}

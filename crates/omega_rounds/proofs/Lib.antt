@@ -5,16 +5,16 @@ pub mod Taking
 pub mod AttemptsLeft
 mod Examples
 pub mod Worlds
-pub mod TwoPasses
+pub mod TwoHalves
 pub mod Attempted
-pub mod SeatLists
+pub mod WorkerLists
 pub mod Answering
 pub mod Requested
 pub mod Fed
 pub mod Applying
-pub mod NewSeats
+pub mod NewWorkers
 pub mod CommitCounts
-pub mod SeatCommits
+pub mod WorkerCommits
 pub mod DeskCommits
 pub mod WorldSteps
 pub mod WorldWaiting

@@ -23,14 +23,14 @@ use Rattle.omega_lock.specs.Lists.{StartsWith}
 use Rattle.omega_shared.specs.Commits.{GoesOnWithout}
 use Rattle.omega_laws.specs.NextCommit.{attempt}
 use Rattle.omega_rounds.specs.Plans.{HasPlan, HasPlanAfter, IsPlan}
-use Rattle.omega_rounds.specs.SeatSteps.{SeatSteps}
+use Rattle.omega_rounds.specs.WorkerSteps.{WorkerSteps}
 use Rattle.omega_rounds.specs.declared.plans.Planned.{Planned}
-use Rattle.omega_rounds.specs.declared.seat.Seat.{Seat}
+use Rattle.omega_rounds.specs.declared.worker.Worker.{Worker}
 use Rattle.omega_rounds.specs.declared.steps.Stepped.{Stepped}
 use Rattle.omega_rounds.specs.declared.steps.Stepped.TheVariants.{Synced, Committed, Idle}
 use Rattle.omega_rounds.proofs.CommitCounts.{commits_other}
 use Rattle.omega_rounds.proofs.OpenedEntries.{stays_opened}
-use Rattle.omega_rounds.proofs.SeatLists.{set_cases}
+use Rattle.omega_rounds.proofs.WorkerLists.{set_cases}
 use Rattle.omega_rounds.proofs.Without.{attempt_without, front_without, longer_without}
 
 -- indexes of a history are those of a longer one
@@ -54,32 +54,32 @@ indexes_opened trace rows start round indexes are =
     (λ history entry none here. indexes_on indexes history (history ++ entry ∷ []) (entry ∷ [], refl) here) trace rows start round are
 
 -- who hasn't synced needs no plan
-pub plan_none : (settings : Settings) (history : List Entry) (scheduler : ℕ) (seat : Seat) → seat.synced ≡ None → HasPlan settings history scheduler seat
-plan_none settings history scheduler seat none = subst (λ (synced : Option ℕ). IfSome synced (HasPlanAfter settings history scheduler seat)) (sym none) tt
+pub plan_none : (settings : Settings) (history : List Entry) (scheduler : ℕ) (worker : Worker) → worker.synced ≡ None → HasPlan settings history scheduler worker
+plan_none settings history scheduler worker none = subst (λ (synced : Option ℕ). IfSome synced (HasPlanAfter settings history scheduler worker)) (sym none) tt
 
-module _ (settings : Settings) (history : List Entry) (scheduler : ℕ) (seat : Seat) (seen : ℕ) where
+module _ (settings : Settings) (history : List Entry) (scheduler : ℕ) (worker : Worker) (seen : ℕ) where
   -- who has synced has this plan
-  pub has_plan : (plan : Planned) → seat.synced ≡ Some seen → seat.planned ≡ Some plan → seen ≤ length history → IsPlan settings history scheduler seen seat.desk plan
-      → HasPlan settings history scheduler seat
+  pub has_plan : (plan : Planned) → worker.synced ≡ Some seen → worker.planned ≡ Some plan → seen ≤ length history → IsPlan settings history scheduler seen worker.desk plan
+      → HasPlan settings history scheduler worker
   has_plan plan synced there within is =
-      subst (λ (o : Option ℕ). IfSome o (HasPlanAfter settings history scheduler seat)) (sym synced)
+      subst (λ (o : Option ℕ). IfSome o (HasPlanAfter settings history scheduler worker)) (sym synced)
       (record { within = within; plan = plan; there = there; is_plan = is })
 
-  has_after : seat.synced ≡ Some seen → HasPlan settings history scheduler seat → HasPlanAfter settings history scheduler seat seen
-  has_after synced has = subst (λ (o : Option ℕ). IfSome o (HasPlanAfter settings history scheduler seat)) synced has
+  has_after : worker.synced ≡ Some seen → HasPlan settings history scheduler worker → HasPlanAfter settings history scheduler worker seen
+  has_after synced has = subst (λ (o : Option ℕ). IfSome o (HasPlanAfter settings history scheduler worker)) synced has
 
   -- which isn't missing
-  pub plan_missing : seat.synced ≡ Some seen → HasPlan settings history scheduler seat → None ≡ seat.planned → ⊥
+  pub plan_missing : worker.synced ≡ Some seen → HasPlan settings history scheduler worker → None ≡ worker.planned → ⊥
   plan_missing synced has none = let clash : None ≡ Some (has_after synced has).plan = none ∙ (has_after synced has).there in absurd (cc)
 
   -- and is the one that it has
-  pub plan_there : (plan : Planned) → seat.synced ≡ Some seen → HasPlan settings history scheduler seat → Some plan ≡ seat.planned
-      → (seen ≤ length history) × IsPlan settings history scheduler seen seat.desk plan
+  pub plan_there : (plan : Planned) → worker.synced ≡ Some seen → HasPlan settings history scheduler worker → Some plan ≡ worker.planned
+      → (seen ≤ length history) × IsPlan settings history scheduler seen worker.desk plan
   plan_there plan synced has there =
       let after = has_after synced has in
       let both : Some after.plan ≡ Some plan = sym after.there ∙ sym there in
       let same : after.plan ≡ plan = cc in
-      (after.within, subst (IsPlan settings history scheduler seen seat.desk) same after.is_plan)
+      (after.within, subst (IsPlan settings history scheduler seen worker.desk) same after.is_plan)
 
 if_some : (P Q : ℕ → Type 0) → ((n : ℕ) → P n → Q n) → (o : Option ℕ) → IfSome o P → IfSome o Q
 if_some P Q f None holds = tt
@@ -98,10 +98,10 @@ module _ (settings : Settings) (scheduler : ℕ) (old new : List Entry) (on : Go
     seqs = is.seqs ∙ ap (λ (h : List Entry). map (λ (claim : Claim). seq h claim.machine) plan.txn.claims) (sym (front_without scheduler old new on seen within));
   }
 
-  -- in a history that goes on without a commit of its scheduler, a seat has its plan still
-  pub has_plan_without : (seat : Seat) → HasPlan settings old scheduler seat → HasPlan settings new scheduler seat
-  has_plan_without seat =
-      if_some (HasPlanAfter settings old scheduler seat) (HasPlanAfter settings new scheduler seat)
+  -- in a history that goes on without a commit of its scheduler, a worker has its plan still
+  pub has_plan_without : (worker : Worker) → HasPlan settings old scheduler worker → HasPlan settings new scheduler worker
+  has_plan_without worker =
+      if_some (HasPlanAfter settings old scheduler worker) (HasPlanAfter settings new scheduler worker)
       (λ seen has.
       let longer = longer_without scheduler old new on in
       let within : seen ≤ length old = has.within in
@@ -109,29 +109,29 @@ module _ (settings : Settings) (scheduler : ℕ) (old new : List Entry) (on : Go
         within = omega (arith, longer, within);
         plan = has.plan;
         there = has.there;
-        is_plan = plan_without seen seat.desk has.plan within has.is_plan;
-      }) seat.synced
+        is_plan = plan_without seen worker.desk has.plan within has.is_plan;
+      }) worker.synced
 
-module _ (settings : Settings) (before after : List Entry) (scheduler : ℕ) (old new : Seat) where
-  -- another seat has its plan after a step
-  plan_other : (stepped : Stepped) → SeatSteps settings scheduler before old after new stepped
-      → (number : ℕ) (seat : Seat) → number ≢ scheduler → HasPlan settings before number seat → HasPlan settings after number seat
-  plan_other Idle did number seat apart has = subst (λ (h : List Entry). HasPlan settings h number seat) (sym did.history) has
-  plan_other Synced did number seat apart has = subst (λ (h : List Entry). HasPlan settings h number seat) (sym did.history) has
-  plan_other (Committed place) did number seat apart has =
+module _ (settings : Settings) (before after : List Entry) (scheduler : ℕ) (old new : Worker) where
+  -- another worker has its plan after a step
+  plan_other : (stepped : Stepped) → WorkerSteps settings scheduler before old after new stepped
+      → (number : ℕ) (worker : Worker) → number ≢ scheduler → HasPlan settings before number worker → HasPlan settings after number worker
+  plan_other Idle did number worker apart has = subst (λ (h : List Entry). HasPlan settings h number worker) (sym did.history) has
+  plan_other Synced did number worker apart has = subst (λ (h : List Entry). HasPlan settings h number worker) (sym did.history) has
+  plan_other (Committed place) did number worker apart has =
       let entry : Entry = attempt settings before scheduler did.seen did.request in
       has_plan_without settings number before after (record {
         later = entry ∷ [];
         goes_on = did.appended;
         others = commits_other number [] entry (ne_eqb scheduler number (λ same. apart (sym same)));
-      }) seat has
+      }) worker has
 
-  -- each seat has its plan after it
-  pub plans_after : (stepped : Stepped) (seats : List Seat) → SeatSteps settings scheduler before old after new stepped
+  -- each worker has its plan after it
+  pub plans_after : (stepped : Stepped) (workers : List Worker) → WorkerSteps settings scheduler before old after new stepped
       → HasPlan settings after scheduler new
-      → ((number : ℕ) (seat : Seat) → slice_get seats number ≡ Some seat → HasPlan settings before number seat)
-      → (number : ℕ) (seat : Seat) → slice_get (set seats scheduler new) number ≡ Some seat → HasPlan settings after number seat
-  plans_after stepped seats did now each number seat here = elim (set_cases seats scheduler new number seat here) [
-    | inl same ↦ subst (λ (s : Seat). HasPlan settings after number s) same.1 (subst (λ (n : ℕ). HasPlan settings after n new) (sym same.0) now)
-    | inr other ↦ plan_other stepped did number seat other.0 (each number seat other.1)
+      → ((number : ℕ) (worker : Worker) → slice_get workers number ≡ Some worker → HasPlan settings before number worker)
+      → (number : ℕ) (worker : Worker) → slice_get (set workers scheduler new) number ≡ Some worker → HasPlan settings after number worker
+  plans_after stepped workers did now each number worker here = elim (set_cases workers scheduler new number worker here) [
+    | inl same ↦ subst (λ (s : Worker). HasPlan settings after number s) same.1 (subst (λ (n : ℕ). HasPlan settings after n new) (sym same.0) now)
+    | inr other ↦ plan_other stepped did number worker other.0 (each number worker other.1)
   ]

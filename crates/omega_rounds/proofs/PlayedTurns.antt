@@ -12,14 +12,14 @@ use Rattle.omega_model.specs.declared.rows.TraceTables.{TraceTables}
 use Rattle.omega_model.specs.declared.settings.Settings.{Settings}
 use Rattle.omega_rounds.specs.Going.{IsRoundOver, LeavesToDo, answer_of}
 use Rattle.omega_laws.specs.NextCommit.{NobodyHasWork}
-use Rattle.omega_rounds.specs.Passes.{Committing, IdleBelow, Syncing}
+use Rattle.omega_rounds.specs.Halves.{Committing, IdleBelow, Syncing}
 use Rattle.omega_rounds.specs.Playing.{BeginsTurn, CommitsInTurn, CommitsTurn, IsRoundNow, PlaysRound, SyncsTurn, TakesTurnFrom, is_committed}
 use Rattle.omega_rounds.specs.Stages.{IsInRunOf, Stage, WorldState, rows_begun, world_of}
 use Rattle.omega_rounds.specs.Taking.{Taking}
 use Rattle.omega_rounds.specs.declared.steps.Stepped.{Stepped}
 use Rattle.omega_rounds.specs.declared.steps.Stepped.TheVariants.{Synced, Committed, Idle}
 use Rattle.omega_laws.proofs.RoundGrows.{round_ends}
-use Rattle.omega_rounds.proofs.TwoPasses.{commit_last, commit_step, commits_only, idle_more, sync_first, sync_last, sync_step}
+use Rattle.omega_rounds.proofs.TwoHalves.{commit_last, commit_step, commits_only, idle_more, sync_first, sync_last, sync_step}
 
 -- a step in the run of each trace in whose run a stage is
 abbrev pub StepsFrom : Stage → WorldState → ℕ → WorldState → Stepped → Type 0
@@ -42,7 +42,7 @@ no_more old new Idle leaves = omega (arith, leaves)
 no_more old new Synced leaves = omega (arith, leaves)
 no_more old new (Committed place) leaves = omega (arith, leaves)
 
--- the first pass up to a scheduler
+-- the first half up to a scheduler
 pub record IsSyncing (old now : WorldState) (next : ℕ) : Type 0 where
   pub stage : now.stage ≡ old.stage
   pub to_do : now.to_do ≤ old.to_do
@@ -82,7 +82,7 @@ syncing_all old now count is all trace before start round turn begins =
           (sync_last old.stage.settings trace before start round old.history (world_of now) turn taking syncing);
     }
 
--- the second pass up to a scheduler
+-- the second half up to a scheduler
 pub record IsCommitting (old now : WorldState) (committed : Bool) (next : ℕ) : Type 0 where
   pub stage : now.stage ≡ old.stage
   pub to_do : now.to_do ≤ old.to_do
@@ -168,7 +168,7 @@ committing_all old now committed count is all trace before start round turn comm
           (is.idle none trace before start round turn commits))),
     )
 
--- a turn in two passes
+-- a turn in two halves
 pub turn_taken : (old middle new : WorldState) (committed : Bool) → SyncsTurn old middle → CommitsTurn middle new committed → TakesTurnFrom old new committed
 turn_taken old middle new committed syncs commits trace before start round turn begins =
     let last = commits trace before start round turn (syncs trace before start round turn begins) in

@@ -1,4 +1,4 @@
--- Players before their round, and the seats that they bring back from it.
+-- Players before their round, and the workers that they bring back from it.
 use Rattle.std.proofs.Common.{◌≡◌, ◌≤◌, ◌<◌, ◌*◌, ◌-◌, ℕ, true, false, List, length, drop, get_or, map, Option, Some, None, refl, sym, ap, subst, arith, ◌∙◌, inl, inr}
 use Rattle.std.specs.Prelude.{All, Any, option_map, slice_get}
 use Rattle.std.specs.List.{list_any}
@@ -19,11 +19,11 @@ use Rattle.omega_shared.specs.Passes.{PassState, new_pass}
 use Rattle.omega_rounds.specs.AttemptsLeft.{attempts_left}
 use Rattle.omega_rounds.specs.Closed.{AreBack, IsBack, IsCommitOfOne, Suffice}
 use Rattle.omega_rounds.specs.Players.{HasPlayed, HavePlayed, IsOwnDesk, MayPlay, OwnMayStand}
-use Rattle.omega_rounds.specs.Seats.{IsSeat, to_do_of}
+use Rattle.omega_rounds.specs.Workers.{IsWorker, to_do_of}
 use Rattle.omega_rounds.specs.declared.player.Player.{Player}
-use Rattle.omega_rounds.specs.declared.seat.Seat.{Seat}
+use Rattle.omega_rounds.specs.declared.worker.Worker.{Worker}
 use Rattle.omega_desk.specs.Desks.{left_at}
-use Rattle.omega_rounds.proofs.Without.{desk_without, seat_without, stand_without}
+use Rattle.omega_rounds.proofs.Without.{desk_without, worker_without, stand_without}
 
 -- what stands at a place of a list stands seen there
 mapped_at : {X Y : Type 0} (f : X → Y) (xs : List X) (ys : List Y) (place : ℕ) (x : X) → map f xs ≡ ys → slice_get xs place ≡ Some x → slice_get ys place ≡ Some (f x)
@@ -49,21 +49,21 @@ none_failed players none place player is =
     (ap (λ (p : Player). p.failed) (get_or_from_slice_get players place player player is) ∙ yes))))
     (λ no. no)
 
--- the player of a scheduler before its round: it has the scheduler's seat, its pass has seen the history, and
+-- the player of a scheduler before its round: it has the scheduler's worker, its pass has seen the history, and
 -- it hasn't failed
 pub record IsNewPlayer (of : TableId) (turns : ℕ) (first : List Entry) (number : ℕ) (player : Player) : Type 0 where
   pub pass : player.pass ≡ new_pass of turns first number
   pub failed : player.failed ≡ false
 
-module _ (settings : Settings) (of : TableId) (turns : ℕ) (first : List Entry) (seats : List Seat) (passes : List PassState) (players : List Player)
-    (of_seats : map (λ (player : Player). player.seat) players ≡ seats)
+module _ (settings : Settings) (of : TableId) (turns : ℕ) (first : List Entry) (workers : List Worker) (passes : List PassState) (players : List Player)
+    (of_workers : map (λ (player : Player). player.worker) players ≡ workers)
     (of_passes : map (λ (player : Player). player.pass) players ≡ passes)
     (fresh : All (λ (player : Player). player.failed ≡ false) players)
-    (all : length seats ≡ schedulers settings)
+    (all : length workers ≡ schedulers settings)
     (numbered : (number : ℕ) → number < schedulers settings → slice_get passes number ≡ Some (new_pass of turns first number)) where
   -- there are as many as schedulers
   players_count : length players ≡ schedulers settings
-  players_count = sym (length-map players (λ (player : Player). player.seat)) ∙ ap (λ (ss : List Seat). length ss) of_seats ∙ all
+  players_count = sym (length-map players (λ (player : Player). player.worker)) ∙ ap (λ (ss : List Worker). length ss) of_workers ∙ all
 
   new_player : (number : ℕ) (player : Player) → slice_get players number ≡ Some player → IsNewPlayer of turns first number player
   new_player number player here =
@@ -77,25 +77,25 @@ module _ (settings : Settings) (of : TableId) (turns : ℕ) (first : List Entry)
       }
 
   -- each may play
-  pub may_play : ((number : ℕ) (seat : Seat) → slice_get seats number ≡ Some seat → IsSeat settings first number seat) → Suffice settings seats turns
+  pub may_play : ((number : ℕ) (worker : Worker) → slice_get workers number ≡ Some worker → IsWorker settings first number worker) → Suffice settings workers turns
       → All (MayPlay settings of) players
   may_play each suffice = λ number other inside.
       let player : Player = get_or players number other in
       let here : slice_get players number ≡ Some player = slice_get-get_or players number other inside in
       let is : IsNewPlayer of turns first number player = new_player number player here in
-      let there : slice_get seats number ≡ Some player.seat = mapped_at (λ (p : Player). p.seat) players seats number player of_seats here in
-      let seat : IsSeat settings first number player.seat = each number player.seat there in
+      let there : slice_get workers number ≡ Some player.worker = mapped_at (λ (p : Player). p.worker) players workers number player of_workers here in
+      let worker : IsWorker settings first number player.worker = each number player.worker there in
       let known : number < schedulers settings = omega (arith, inside, players_count) in
-      let few : 2 * (length player.seat.desk.requests * settings.tries) ≤ turns =
-      subst (λ (s : Seat). 2 * (length s.desk.requests * settings.tries) ≤ turns) (get_or_from_slice_get seats number player.seat player.seat there)
-      (suffice number player.seat (slice_get_within seats number player.seat there)) in
+      let few : 2 * (length player.worker.desk.requests * settings.tries) ≤ turns =
+      subst (λ (s : Worker). 2 * (length s.desk.requests * settings.tries) ≤ turns) (get_or_from_slice_get workers number player.worker player.worker there)
+      (suffice number player.worker (slice_get_within workers number player.worker there)) in
       record {
         of = ap (λ (p : PassState). p.of) is.pass;
         known = subst (λ (p : PassState). p.number < schedulers settings) (sym is.pass) known;
-        seat = subst (λ (p : PassState). IsSeat settings p.seen p.number player.seat) (sym is.pass) seat;
-        turns = subst (λ (p : PassState). 2 * to_do_of player.seat ≤ p.turns) (sym is.pass)
-            (subst (λ (s : Settings). 2 * attempts_left s (left_at player.seat.desk) ≤ turns) (sym seat.settings)
-            (few_left (length player.seat.desk.requests * settings.tries) player.seat.desk.taken turns few));
+        worker = subst (λ (p : PassState). IsWorker settings p.seen p.number player.worker) (sym is.pass) worker;
+        turns = subst (λ (p : PassState). 2 * to_do_of player.worker ≤ p.turns) (sym is.pass)
+            (subst (λ (s : Settings). 2 * attempts_left s (left_at player.worker.desk) ≤ turns) (sym worker.settings)
+            (few_left (length player.worker.desk.requests * settings.tries) player.worker.desk.taken turns few));
       }
     where
       few_left : (all taken turns : ℕ) → 2 * all ≤ turns → 2 * (all - taken) ≤ turns
@@ -138,7 +138,7 @@ module _ (settings : Settings) (of : TableId) (turns : ℕ) (first : List Entry)
         (history : List Entry) (begins : StartsWith history first)
         (others : All (λ (pass : PassState). GoesOnWithout pass.number pass.seen history) (map (λ (player : Player). player.pass) after))
         (commits : All (λ entry. Any (λ (pass : PassState). is_commit_of pass.number entry ≡ true) (map (λ (player : Player). player.pass) after)) (drop (length first) history)) where
-      since : All (IsCommitOfOne (length seats)) (drop (length first) history)
+      since : All (IsCommitOfOne (length workers)) (drop (length first) history)
       since = λ place entry inside.
           let by = commits place entry inside in
           let k : ℕ = by.0 in
@@ -155,23 +155,23 @@ module _ (settings : Settings) (of : TableId) (turns : ℕ) (first : List Entry)
           }
 
       back_of : (number : ℕ) (was player : Player) → IsNewPlayer of turns first number was → HasPlayed settings was player → player.failed ≡ false
-          → GoesOnWithout player.pass.number player.pass.seen history → IsBack settings first history number was.seat player.seat
+          → GoesOnWithout player.pass.number player.pass.seen history → IsBack settings first history number was.worker player.worker
       back_of number was player is did good on =
           let same : player.pass.number ≡ number = did.number ∙ ap (λ (p : PassState). p.number) is.pass in
           let old_number : was.pass.number ≡ number = ap (λ (p : PassState). p.number) is.pass in
           let old_seen : was.pass.seen ≡ first = ap (λ (p : PassState). p.seen) is.pass in
           let on_number : GoesOnWithout number player.pass.seen history = subst (λ (n : ℕ). GoesOnWithout n player.pass.seen history) same on in
           record {
-            seat = seat_without number player.pass.seen history on_number settings player.seat
-                (subst (λ (n : ℕ). IsSeat settings player.pass.seen n player.seat) same did.seat);
+            worker = worker_without number player.pass.seen history on_number settings player.worker
+                (subst (λ (n : ℕ). IsWorker settings player.pass.seen n player.worker) same did.worker);
             desk = λ trace rows opened_at within desk.
                 let before : opened_at ≤ length was.pass.seen = subst (λ (h : List Entry). opened_at ≤ length h) (sym old_seen) within in
                 let longer : length was.pass.seen ≤ length player.pass.seen = did.within in
-                desk_without number player.pass.seen history on_number settings trace rows opened_at player.seat.desk (omega (arith, before, longer))
-                (subst (λ (n : ℕ). IsOwnDesk settings trace rows opened_at player.pass.seen n player.seat.desk) same
+                desk_without number player.pass.seen history on_number settings trace rows opened_at player.worker.desk (omega (arith, before, longer))
+                (subst (λ (n : ℕ). IsOwnDesk settings trace rows opened_at player.pass.seen n player.worker.desk) same
                 (did.desk trace rows opened_at before
-                (subst (λ (h : List Entry). IsOwnDesk settings trace rows opened_at h was.pass.number was.seat.desk) (sym old_seen)
-                (subst (λ (n : ℕ). IsOwnDesk settings trace rows opened_at first n was.seat.desk) (sym old_number) desk))));
+                (subst (λ (h : List Entry). IsOwnDesk settings trace rows opened_at h was.pass.number was.worker.desk) (sym old_seen)
+                (subst (λ (n : ℕ). IsOwnDesk settings trace rows opened_at first n was.worker.desk) (sym old_number) desk))));
             commits = λ opened_at within stand.
                 let before : opened_at ≤ length was.pass.seen = subst (λ (h : List Entry). opened_at ≤ length h) (sym old_seen) within in
                 stand_without number player.pass.seen history on_number settings opened_at
@@ -193,19 +193,19 @@ module _ (settings : Settings) (of : TableId) (turns : ℕ) (first : List Entry)
           (others number player.pass (slice_get_within seen number player.pass there))
 
       -- all are back
-      pub are_back : AreBack settings first history seats (map (λ (player : Player). player.seat) after)
+      pub are_back : AreBack settings first history workers (map (λ (player : Player). player.worker) after)
       are_back = record {
-        count = length-map after (λ (player : Player). player.seat) ∙ played.count ∙ players_count ∙ sym all;
+        count = length-map after (λ (player : Player). player.worker) ∙ played.count ∙ players_count ∙ sym all;
         begins = begins;
         since = since;
-        each = λ number seat here.
-            let one = seen_from (λ (p : Player). p.seat) after (map (λ (player : Player). player.seat) after) number seat refl here in
+        each = λ number worker here.
+            let one = seen_from (λ (p : Player). p.worker) after (map (λ (player : Player). player.worker) after) number worker refl here in
             let found = before_of number one.0 one.1.0 in
             let is : IsNewPlayer of turns first number found.0 = new_player number found.0 found.1.0 in (
-              found.0.seat,
+              found.0.worker,
               (
-                mapped_at (λ (p : Player). p.seat) players seats number found.0 of_seats found.1.0,
-                subst (IsBack settings first history number found.0.seat) one.1.1
+                mapped_at (λ (p : Player). p.worker) players workers number found.0 of_workers found.1.0,
+                subst (IsBack settings first history number found.0.worker) one.1.1
                     (back_of number found.0 one.0 is found.1.1 (succeeded number one.0 one.1.0) (goes_on number one.0 one.1.0 found.0 is found.1.1)),
               ),
             );

@@ -21,44 +21,44 @@ use Rattle.omega_shared.specs.Turns.{Commits, SpendsTurn}
 use Rattle.omega_laws.specs.NextCommit.{attempt, attempt_txn}
 use Rattle.omega_rounds.specs.Players.{HasPlayed, IsOwnDesk, MayPlay, MayStand, OwnMayStand}
 use Rattle.omega_rounds.specs.PlayingOn.{IsSynced, PlansFirst, PlaysOn}
-use Rattle.omega_rounds.specs.Seats.{IsSeat, synced_of, to_do_of, IsAtRest, SyncedWithin}
-use Rattle.omega_rounds.specs.SeatSteps.{CommitsFirst}
+use Rattle.omega_rounds.specs.Workers.{IsWorker, synced_of, to_do_of, IsAtRest, SyncedWithin}
+use Rattle.omega_rounds.specs.WorkerSteps.{CommitsFirst}
 use Rattle.omega_rounds.specs.declared.player.Player.{Player}
-use Rattle.omega_rounds.specs.declared.seat.Seat.{Seat}
-use Rattle.omega_rounds.proofs.Attempted.{start_of_seat}
+use Rattle.omega_rounds.specs.declared.worker.Worker.{Worker}
+use Rattle.omega_rounds.proofs.Attempted.{start_of_worker}
 use Rattle.omega_rounds.proofs.DeskCommits.{own_desk_own}
 use Rattle.omega_laws.proofs.LastCommits.{after_last-within}
-use Rattle.omega_rounds.proofs.SeatCommits.{IsCommitting, answers_first, commits_first, fewer_left, first_some, seat_after}
-use Rattle.omega_rounds.proofs.Without.{after_last-without, attempt_without, desk_without, longer_without, seat_without, stand_without}
+use Rattle.omega_rounds.proofs.WorkerCommits.{IsCommitting, answers_first, commits_first, fewer_left, first_some, worker_after}
+use Rattle.omega_rounds.proofs.Without.{after_last-without, attempt_without, desk_without, longer_without, worker_without, stand_without}
 
 module _ (settings : Settings) where
   -- a turn after which the pass has seen commits of others, the desk is as before, and the copy stands for
   -- what the pass has seen
-  pub plays_on_without : (old new : Player) → IsSeat settings old.pass.seen old.pass.number old.seat
+  pub plays_on_without : (old new : Player) → IsWorker settings old.pass.seen old.pass.number old.worker
       → SpendsTurn old.pass new.pass → GoesOnWithout old.pass.number old.pass.seen new.pass.seen
-      → new.seat.desk ≡ old.seat.desk → CopyOf new.seat.copy new.pass.seen → new.seat.copy.trial ≡ None
-      → SyncedWithin new.seat.synced new.seat.copy.seen (length new.pass.seen)
+      → new.worker.desk ≡ old.worker.desk → CopyOf new.worker.copy new.pass.seen → new.worker.copy.trial ≡ None
+      → SyncedWithin new.worker.synced new.worker.copy.seen (length new.pass.seen)
       → PlaysOn settings old new
-  plays_on_without old new seat turn on same copy no_trial seen =
-      let here = seat_without old.pass.number old.pass.seen new.pass.seen on settings old.seat seat in
+  plays_on_without old new worker turn on same copy no_trial seen =
+      let here = worker_without old.pass.number old.pass.seen new.pass.seen on settings old.worker worker in
       record {
         of = turn.of;
         number = turn.number;
         first_length = turn.first_length;
         within = longer_without old.pass.number old.pass.seen new.pass.seen on;
-        seat = record {
-          settings = ap (λ (d : DeskState). d.settings) same ∙ seat.settings;
-          scheduler = ap (λ (d : DeskState). d.scheduler) same ∙ seat.scheduler ∙ sym turn.number;
+        worker = record {
+          settings = ap (λ (d : DeskState). d.settings) same ∙ worker.settings;
+          scheduler = ap (λ (d : DeskState). d.scheduler) same ∙ worker.scheduler ∙ sym turn.number;
           attempts = ap (λ (d : DeskState). d.attempts) same ∙ here.attempts ∙ ap (λ (n : ℕ). commits_of n new.pass.seen) (sym turn.number);
-          tries = subst (λ (d : DeskState). d.taken < settings.tries) (sym same) seat.tries;
+          tries = subst (λ (d : DeskState). d.taken < settings.tries) (sym same) worker.tries;
           copy = copy;
           no_trial = no_trial;
           seen = seen;
         };
         desk = λ trace rows opened_at within is.
             subst (λ (d : DeskState). IsOwnDesk settings trace rows opened_at new.pass.seen new.pass.number d) (sym same)
-            (subst (λ (n : ℕ). IsOwnDesk settings trace rows opened_at new.pass.seen n old.seat.desk) (sym turn.number)
-            (desk_without old.pass.number old.pass.seen new.pass.seen on settings trace rows opened_at old.seat.desk within is));
+            (subst (λ (n : ℕ). IsOwnDesk settings trace rows opened_at new.pass.seen n old.worker.desk) (sym turn.number)
+            (desk_without old.pass.number old.pass.seen new.pass.seen on settings trace rows opened_at old.worker.desk within is));
         commits = λ opened_at within stand.
             subst (λ (n : ℕ). OwnMayStand settings opened_at n new.pass.seen) (sym turn.number)
             (stand_without old.pass.number old.pass.seen new.pass.seen on settings opened_at stand);
@@ -66,35 +66,35 @@ module _ (settings : Settings) where
 
 -- what is planned on the copy for the first request at the desk
 pub plans_first : (settings : Settings) (player : Player) (number start : ℕ) (request : Request) (txn : Txn)
-    → IsSeat settings player.pass.seen player.pass.number player.seat → number ≡ player.pass.number
-    → Some request ≡ slice_get player.seat.desk.requests 0
-    → start ≡ drawn_start player.seat.desk.settings player.seat.desk.scheduler player.seat.desk.attempts (length player.seat.copy.board.table)
-    → ((history : List Entry) → CopyOf player.seat.copy history
-    → start ≡ drawn_start settings number (commits_of number history) (length player.seat.copy.board.table)
-    → txn ≡ attempt_txn settings history number player.seat.copy.seen request)
+    → IsWorker settings player.pass.seen player.pass.number player.worker → number ≡ player.pass.number
+    → Some request ≡ slice_get player.worker.desk.requests 0
+    → start ≡ drawn_start player.worker.desk.settings player.worker.desk.scheduler player.worker.desk.attempts (length player.worker.copy.board.table)
+    → ((history : List Entry) → CopyOf player.worker.copy history
+    → start ≡ drawn_start settings number (commits_of number history) (length player.worker.copy.board.table)
+    → txn ≡ attempt_txn settings history number player.worker.copy.seen request)
     → PlansFirst player txn
-plans_first settings player number start request txn seat same first drawn planned =
-    let parts = first_some player.seat.desk.requests request first in
-    let begins : start ≡ drawn_start settings player.pass.number (commits_of player.pass.number player.pass.seen) (length player.seat.copy.board.table) =
-    drawn ∙ start_of_seat settings player.pass.seen player.pass.number player.seat _ seat in
+plans_first settings player number start request txn worker same first drawn planned =
+    let parts = first_some player.worker.desk.requests request first in
+    let begins : start ≡ drawn_start settings player.pass.number (commits_of player.pass.number player.pass.seen) (length player.worker.copy.board.table) =
+    drawn ∙ start_of_worker settings player.pass.seen player.pass.number player.worker _ worker in
     record {
       request = request;
       rest = parts.0;
       work = parts.1;
-      is = planned player.pass.seen seat.copy
-          (subst (λ (n : ℕ). start ≡ drawn_start settings n (commits_of n player.pass.seen) (length player.seat.copy.board.table)) (sym same) begins)
-          ∙ ap (λ (n : ℕ). attempt_txn settings player.pass.seen n player.seat.copy.seen request) same
-          ∙ ap (λ (s : Settings). attempt_txn s player.pass.seen player.pass.number player.seat.copy.seen request) (sym seat.settings);
+      is = planned player.pass.seen worker.copy
+          (subst (λ (n : ℕ). start ≡ drawn_start settings n (commits_of n player.pass.seen) (length player.worker.copy.board.table)) (sym same) begins)
+          ∙ ap (λ (n : ℕ). attempt_txn settings player.pass.seen n player.worker.copy.seen request) same
+          ∙ ap (λ (s : Settings). attempt_txn s player.pass.seen player.pass.number player.worker.copy.seen request) (sym worker.settings);
     }
 
 -- what a commit was answered is for the first request at the desk
-pub takes_answers : (old : Player) → IsSeat old.seat.desk.settings old.pass.seen old.pass.number old.seat
-    → (new : PassState) (txn : Txn) (reply : Reply) → PlansFirst old txn → Commits old.pass new old.seat.copy.seen txn reply
-    → AnswersFirst old.seat.desk.requests reply.outcomes
-takes_answers old seat new txn reply plans did =
-    answers_first old.seat.desk.settings old.pass.number did.before did.before old.seat.copy.seen old.seat.desk.requests plans.request txn reply.outcomes
+pub takes_answers : (old : Player) → IsWorker old.worker.desk.settings old.pass.seen old.pass.number old.worker
+    → (new : PassState) (txn : Txn) (reply : Reply) → PlansFirst old txn → Commits old.pass new old.worker.copy.seen txn reply
+    → AnswersFirst old.worker.desk.requests reply.outcomes
+takes_answers old worker new txn reply plans did =
+    answers_first old.worker.desk.settings old.pass.number did.before did.before old.worker.copy.seen old.worker.desk.requests plans.request txn reply.outcomes
     (sym (ap (λ (rs : List Request). slice_get rs 0) plans.work))
-    (plans.is ∙ attempt_without old.pass.number old.pass.seen did.before did.others old.seat.desk.settings old.seat.copy.seen plans.request seat.copy.within)
+    (plans.is ∙ attempt_without old.pass.number old.pass.seen did.before did.others old.worker.desk.settings old.worker.copy.seen plans.request worker.copy.within)
     did.answers.outcomes
 
 -- a player before a commit, and what its pass and its desk say after it
@@ -103,16 +103,16 @@ pub record PlayerCommits (old new : Player) (txn : Txn) (reply : Reply) : Type 0
   pub synced : IsSynced shared old
   pub plans : PlansFirst old txn
   pub turn : SpendsTurn old.pass new.pass
-  pub commits : Commits old.pass new.pass old.seat.copy.seen txn reply
-  pub same : IsSameDesk old.seat.desk new.seat.desk
-  pub attempts : new.seat.desk.attempts ≡ old.seat.desk.attempts + 1
-  pub moved : after_outcomes old.seat.desk.settings (left_at old.seat.desk) old.seat.desk.requests reply.outcomes ≡ Some (left_at new.seat.desk)
-  pub copy : new.seat.copy ≡ old.seat.copy
-  pub spent : new.seat.synced ≡ None
+  pub commits : Commits old.pass new.pass old.worker.copy.seen txn reply
+  pub same : IsSameDesk old.worker.desk new.worker.desk
+  pub attempts : new.worker.desk.attempts ≡ old.worker.desk.attempts + 1
+  pub moved : after_outcomes old.worker.desk.settings (left_at old.worker.desk) old.worker.desk.requests reply.outcomes ≡ Some (left_at new.worker.desk)
+  pub copy : new.worker.copy ≡ old.worker.copy
+  pub spent : new.worker.synced ≡ None
 
 module _ (old new : Player) (txn : Txn) (reply : Reply) (did : PlayerCommits old new txn reply) where
   abbrev settings : Settings
-  settings = old.seat.desk.settings
+  settings = old.worker.desk.settings
 
   abbrev number : ℕ
   number = old.pass.number
@@ -120,24 +120,24 @@ module _ (old new : Player) (txn : Txn) (reply : Reply) (did : PlayerCommits old
   abbrev before : List Entry
   before = did.commits.before
 
-  abbrev next : Seat
-  next = record { desk = new.seat.desk; copy = new.seat.copy; synced = None; planned = new.seat.planned }
+  abbrev next : Worker
+  next = record { desk = new.worker.desk; copy = new.worker.copy; synced = None; planned = new.worker.planned }
 
-  next_is : next ≡ new.seat
-  next_is = ap (λ (o : Option ℕ). record { desk = new.seat.desk; copy = new.seat.copy; synced = o; planned = new.seat.planned }) (sym did.spent)
+  next_is : next ≡ new.worker
+  next_is = ap (λ (o : Option ℕ). record { desk = new.worker.desk; copy = new.worker.copy; synced = o; planned = new.worker.planned }) (sym did.spent)
 
-  -- the seat beside what was there before the commit
-  seat_before : IsSeat settings before number old.seat
-  seat_before = seat_without number old.pass.seen before did.commits.others settings old.seat did.synced.seat
+  -- the worker beside what was there before the commit
+  worker_before : IsWorker settings before number old.worker
+  worker_before = worker_without number old.pass.seen before did.commits.others settings old.worker did.synced.worker
 
-  committing : IsCommitting settings number before new.pass.seen old.seat new.seat.desk did.plans.request txn reply.outcomes
+  committing : IsCommitting settings number before new.pass.seen old.worker new.worker.desk did.plans.request txn reply.outcomes
   committing = record {
-    seat = seat_before;
+    worker = worker_before;
     tries = did.synced.range.tries.0;
-    seen = old.seat.copy.seen;
+    seen = old.worker.copy.seen;
     synced = did.synced.all ∙ ap (λ (n : ℕ). Some n) (sym did.synced.copied);
     first = sym (ap (λ (rs : List Request). slice_get rs 0) did.plans.work);
-    is = did.plans.is ∙ attempt_without number old.pass.seen before did.commits.others settings old.seat.copy.seen did.plans.request did.synced.seat.copy.within;
+    is = did.plans.is ∙ attempt_without number old.pass.seen before did.commits.others settings old.worker.copy.seen did.plans.request did.synced.worker.copy.within;
     appended = did.commits.commit_seen;
     outcome = did.commits.answers.outcomes;
     same = did.same;
@@ -145,23 +145,23 @@ module _ (old new : Player) (txn : Txn) (reply : Reply) (did : PlayerCommits old
     moved = did.moved;
   }
 
-  seat_next : IsSeat settings new.pass.seen number next
-  seat_next = seat_after settings number before new.pass.seen old.seat new.seat.desk did.plans.request txn reply.outcomes committing new.seat.copy new.seat.planned (subst (IsAtRest before) (sym did.copy) (record { stands = seat_before.copy; no_trial = seat_before.no_trial }))
+  worker_next : IsWorker settings new.pass.seen number next
+  worker_next = worker_after settings number before new.pass.seen old.worker new.worker.desk did.plans.request txn reply.outcomes committing new.worker.copy new.worker.planned (subst (IsAtRest before) (sym did.copy) (record { stands = worker_before.copy; no_trial = worker_before.no_trial }))
 
-  first_next : CommitsFirst settings number before old.seat new.pass.seen next reply.place
+  first_next : CommitsFirst settings number before old.worker new.pass.seen next reply.place
   first_next =
-      commits_first settings number before new.pass.seen old.seat new.seat.desk did.plans.request txn reply.outcomes committing
-      new.seat.copy new.seat.planned reply.place did.commits.answers.place
+      commits_first settings number before new.pass.seen old.worker new.worker.desk did.plans.request txn reply.outcomes committing
+      new.worker.copy new.worker.planned reply.place did.commits.answers.place
 
   -- it had seen all that its pass had
   seen_all : first_next.seen ≡ length old.pass.seen
   seen_all = let both : Some first_next.seen ≡ Some (length old.pass.seen) = sym first_next.synced_before ∙ did.synced.all in cc
 
   -- fewer attempts are left
-  pub fewer_after : to_do_of new.seat < to_do_of old.seat
+  pub fewer_after : to_do_of new.worker < to_do_of old.worker
   fewer_after =
-      subst (λ (seat : Seat). to_do_of seat < to_do_of old.seat) next_is
-      (fewer_left settings number before new.pass.seen old.seat next reply.place did.synced.range.tries.0 seat_before seat_next first_next)
+      subst (λ (worker : Worker). to_do_of worker < to_do_of old.worker) next_is
+      (fewer_left settings number before new.pass.seen old.worker next reply.place did.synced.range.tries.0 worker_before worker_next first_next)
 
   -- the history before the commit is no shorter than what was seen
   longer : length old.pass.seen ≤ length before
@@ -190,14 +190,14 @@ module _ (old new : Player) (txn : Txn) (reply : Reply) (did : PlayerCommits old
 
   -- the desk is right after it
   desk_after : (trace : TraceTables) (rows : List Row) (opened_at : ℕ) → opened_at ≤ length old.pass.seen
-      → IsOwnDesk settings trace rows opened_at old.pass.seen number old.seat.desk
-      → IsOwnDesk settings trace rows opened_at new.pass.seen number new.seat.desk
+      → IsOwnDesk settings trace rows opened_at old.pass.seen number old.worker.desk
+      → IsOwnDesk settings trace rows opened_at new.pass.seen number new.worker.desk
   desk_after trace rows opened_at within is =
       let more = longer in
-      subst (λ (h : List Entry). IsOwnDesk settings trace rows opened_at h number new.seat.desk) (sym first_next.appended)
+      subst (λ (h : List Entry). IsOwnDesk settings trace rows opened_at h number new.worker.desk) (sym first_next.appended)
       (own_desk_own settings trace rows opened_at before (omega (arith, more, within)) number first_next.seen first_next.request
-      old.seat.desk new.seat.desk first_next.rest
-      (desk_without number old.pass.seen before did.commits.others settings trace rows opened_at old.seat.desk within is)
+      old.worker.desk new.worker.desk first_next.rest
+      (desk_without number old.pass.seen before did.commits.others settings trace rows opened_at old.worker.desk within is)
       first_next.work first_next.moved)
 
   -- a player that commits plays on
@@ -209,10 +209,10 @@ module _ (old new : Player) (txn : Txn) (reply : Reply) (did : PlayerCommits old
         number = did.turn.number;
         first_length = did.turn.first_length;
         within = omega (arith, first, more);
-        seat = subst (λ (n : ℕ). IsSeat settings new.pass.seen n new.seat) (sym did.turn.number)
-            (subst (λ (seat : Seat). IsSeat settings new.pass.seen number seat) next_is seat_next);
+        worker = subst (λ (n : ℕ). IsWorker settings new.pass.seen n new.worker) (sym did.turn.number)
+            (subst (λ (worker : Worker). IsWorker settings new.pass.seen number worker) next_is worker_next);
         desk = λ trace rows opened_at within is.
-            subst (λ (n : ℕ). IsOwnDesk settings trace rows opened_at new.pass.seen n new.seat.desk) (sym did.turn.number)
+            subst (λ (n : ℕ). IsOwnDesk settings trace rows opened_at new.pass.seen n new.worker.desk) (sym did.turn.number)
             (desk_after trace rows opened_at within is);
         commits = λ opened_at within stand.
             subst (λ (n : ℕ). OwnMayStand settings opened_at n new.pass.seen) (sym did.turn.number)
@@ -220,24 +220,24 @@ module _ (old new : Player) (txn : Txn) (reply : Reply) (did : PlayerCommits old
       } where
         commit_longer : length before ≤ length new.pass.seen
         commit_longer = subst (λ (h : List Entry). length before ≤ length h) (sym did.commits.commit_seen)
-            (let count = length-append before (commit_after before number old.seat.copy.seen txn ∷ []) in omega (arith, count))
+            (let count = length-append before (commit_after before number old.worker.copy.seen txn ∷ []) in omega (arith, count))
 
 -- a player in the middle of its round: it has played on so far, may play on, and has met no want of memory since
 pub record IsPlaying (settings : Settings) (shared : TableId) (old now : Player) : Type 0 where
   pub plays_on : PlaysOn settings old now
   pub may_play : MayPlay settings shared now
   pub failed : now.failed ≡ old.failed
-  pub spent : synced_of old.seat ≡ None → synced_of now.seat ≡ None
+  pub spent : synced_of old.worker ≡ None → synced_of now.worker ≡ None
 
 -- at its end it has played, whether or not it had met want of memory before
 pub played_all : (chosen : Settings) (shared : TableId) (old now : Player) (failed : Bool) → IsPlaying chosen shared old now
-    → now.seat.desk.requests ≡ [] → HasPlayed chosen old (record { seat = now.seat; pass = now.pass; failed = failed })
+    → now.worker.desk.requests ≡ [] → HasPlayed chosen old (record { worker = now.worker; pass = now.pass; failed = failed })
 played_all chosen shared old now failed is none = record {
   of = is.plays_on.of;
   number = is.plays_on.number;
   first_length = is.plays_on.first_length;
   within = is.plays_on.within;
-  seat = is.plays_on.seat;
+  worker = is.plays_on.worker;
   desk = is.plays_on.desk;
   commits = is.plays_on.commits;
   no_work = λ ok. none;

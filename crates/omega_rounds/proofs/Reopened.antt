@@ -33,9 +33,9 @@ use Rattle.omega_model.specs.declared.entries.Entry.TheVariants.{Round as RoundE
 use Rattle.omega_model.specs.declared.settings.Settings.{Settings}
 use Rattle.omega_rounds.specs.Keeping.{IsWorld, WereQuiet}
 use Rattle.omega_rounds.specs.Reopening.{IsOpenIfMissed, OpensJobs, may_stop}
-use Rattle.omega_rounds.specs.SeatSteps.{SeatSteps}
+use Rattle.omega_rounds.specs.WorkerSteps.{WorkerSteps}
 use Rattle.omega_rounds.specs.Stages.{Stage}
-use Rattle.omega_rounds.specs.declared.seat.Seat.{Seat}
+use Rattle.omega_rounds.specs.declared.worker.Worker.{Worker}
 use Rattle.omega_rounds.specs.declared.steps.Stepped.{Stepped}
 use Rattle.omega_rounds.specs.declared.steps.Stepped.TheVariants.{Synced, Committed, Idle}
 use Rattle.omega_rounds.proofs.RunOn.{runs_after}
@@ -212,7 +212,7 @@ of_round settings opened_at before (AttrDelete machine name) is = absurd is
 of_round settings opened_at before (End key machine) is = absurd is
 of_round settings opened_at before (Commit scheduler seen txn reply) is = refl
 
-module _ (stage : Stage) (tasks : List WantedTask) (history : List Entry) (seats : List Seat) (world : IsWorld stage tasks history seats) where
+module _ (stage : Stage) (tasks : List WantedTask) (history : List Entry) (workers : List Worker) (world : IsWorld stage tasks history workers) where
   -- the rows of the round that is under way end within the history
   pub opened_within : stage.opened_at ≤ length history
   opened_within = elim (world.lawful world.made.0 world.made.1).run [
@@ -250,9 +250,9 @@ module _ (stage : Stage) (tasks : List WantedTask) (history : List Entry) (seats
 pub goes_on_same : (before after : List Entry) → after ≡ before → StartsWith after before
 goes_on_same before after same = ([], same ∙ sym (append-nil before))
 
--- a step of a seat lets the history go on
-pub goes_on_step : (settings : Settings) (scheduler : ℕ) (before after : List Entry) (old new : Seat) (stepped : Stepped)
-    → SeatSteps settings scheduler before old after new stepped → StartsWith after before
+-- a step of a worker lets the history go on
+pub goes_on_step : (settings : Settings) (scheduler : ℕ) (before after : List Entry) (old new : Worker) (stepped : Stepped)
+    → WorkerSteps settings scheduler before old after new stepped → StartsWith after before
 goes_on_step settings scheduler before after old new Idle did = goes_on_same before after did.history
 goes_on_step settings scheduler before after old new Synced did = goes_on_same before after did.history
 goes_on_step settings scheduler before after old new (Committed place) did = (_, did.appended)

@@ -4,7 +4,7 @@ use Rattle.std.proofs.Math.Seq.{drop-nil, take-append_seam}
 use Rattle.std.proofs.lemmas.List.{append-nil, length-append, length-map, length-take-le, map-append, take-append-drop}
 use Rattle.std.proofs.Common.{◌≡◌, ◌≤◌, ◌<◌, ◌+◌, ℕ, zero, suc, true, false, List, [], ◌∷◌, ◌++◌, length, take, drop, Option, Some, None, refl, sym, ap, subst, arith, ◌∙◌, add-one, inl, inr}
 use Rattle.std.specs.Prelude.{◌⊎◌, min, slice_get}
-use Rattle.omega_model.specs.Lawful.{Lawful, RoundOf, Rounds, opened, rows_of}
+use Rattle.omega_model.specs.Lawful.{Lawful, RoundOf, Rounds, begins_round, opened, rows_of}
 use Rattle.omega_model.specs.Turns.{InTurns, KeepsTurns}
 use Rattle.omega_model.specs.declared.entries.Entry.{Entry}
 use Rattle.omega_model.specs.declared.entries.Entry.TheVariants.{Round as RoundEntry}
@@ -15,7 +15,7 @@ use Rattle.omega_model.specs.declared.settings.Settings.{Settings}
 use Rattle.omega_model.proofs.RoundsInOrder.{rounds_push}
 use Rattle.omega_keep.specs.Keeping.{Adds}
 use Rattle.omega_keep.specs.KeptLines.{entry_text}
-use Rattle.omega_keep.specs.Resumed.{begins_round, ends_round, in_common, lines_of, refused_for}
+use Rattle.omega_keep.specs.Resumed.{ends_round, in_common, lines_of, refused_for}
 use Rattle.omega_laws.specs.TurnOrder.{GoesEarlier, LostItsTurn, sees_in_turn}
 use Rattle.omega_laws.proofs.AnyOrder.{only_round}
 use Rattle.omega_laws.proofs.Places.{take_next}

@@ -6,7 +6,8 @@ use Rattle.std.proofs.lemmas.List.{append-nil, length-take-le}
 use Rattle.std.proofs.lemmas.List.Elements.{All-head, All-tail}
 use Rattle.std.proofs.lemmas.Option.{slice_get_within}
 use Rattle.omega_model.proofs.Growing.{by_place_push}
-use Rattle.omega_model.specs.Lawful.{Applied, IsCommitOfRound, RoundSoFar, Rounds, opened, with_row}
+use Rattle.omega_model.proofs.RoundsInOrder.{commit_begins_none}
+use Rattle.omega_model.specs.Lawful.{Applied, IsCommitOfRound, RoundSoFar, Rounds, begins_round, opened, with_row}
 use Rattle.omega_model.specs.State.{state}
 use Rattle.omega_model.specs.RowEntries.{row_entries}
 use Rattle.omega_model.specs.Wanted.{wanted}
@@ -16,7 +17,7 @@ use Rattle.omega_model.specs.declared.rows.Row.{Row}
 use Rattle.omega_model.specs.declared.rows.Round.{Round}
 use Rattle.omega_model.specs.declared.rows.TraceTables.{TraceTables}
 use Rattle.omega_model.specs.declared.settings.Settings.{Settings}
-use Rattle.omega_keep.specs.Resumed.{begins_round, ends_round}
+use Rattle.omega_keep.specs.Resumed.{ends_round}
 use Rattle.omega_laws.proofs.Places.{at_joined, get_seam}
 use Rattle.omega_laws.proofs.RoundsAdd.{round_begins, round_from, rounds_add}
 use Rattle.omega_laws.proofs.RowEntries.{IsOfRow, are_of_row}
@@ -39,16 +40,6 @@ of_row_begins_none (AttrSet machine name value) is = refl
 of_row_begins_none (AttrDelete machine name) is = refl
 of_row_begins_none (End key machine) is = refl
 of_row_begins_none (Commit scheduler seen txn reply) is = absurd is
-
-commit_begins_none : (settings : Settings) (opened_at : ℕ) (before : List Entry) (entry : Entry) → IsCommitOfRound settings opened_at before entry → begins_round entry ≡ false
-commit_begins_none settings opened_at before (RoundEntry number) is = absurd is
-commit_begins_none settings opened_at before (MachineAdd machine cap) is = refl
-commit_begins_none settings opened_at before (MachineUpdate machine cap) is = refl
-commit_begins_none settings opened_at before (MachineRemove machine) is = refl
-commit_begins_none settings opened_at before (AttrSet machine name value) is = refl
-commit_begins_none settings opened_at before (AttrDelete machine name) is = refl
-commit_begins_none settings opened_at before (End key machine) is = refl
-commit_begins_none settings opened_at before (Commit scheduler seen txn reply) is = refl
 
 none_of_row : (from : ℕ) (before entries : List Entry) → All IsOfRow entries → NoneBegins from before → NoneBegins from (before ++ entries)
 none_of_row from before [] are none = subst (NoneBegins from) (sym (append-nil before)) none

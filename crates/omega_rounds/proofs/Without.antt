@@ -17,8 +17,8 @@ use Rattle.omega_desk.specs.Desks.{DeskState}
 use Rattle.omega_shared.specs.Commits.{GoesOnWithout}
 use Rattle.omega_laws.specs.NextCommit.{attempt_txn}
 use Rattle.omega_rounds.specs.Players.{IsOwnDesk, MayStand, OwnMayStand}
-use Rattle.omega_rounds.specs.Seats.{IsSeat}
-use Rattle.omega_rounds.specs.declared.seat.Seat.{Seat}
+use Rattle.omega_rounds.specs.Workers.{IsWorker}
+use Rattle.omega_rounds.specs.declared.worker.Worker.{Worker}
 use Rattle.omega_rounds.proofs.CommitCounts.{commits_other, copy_grown, synced_longer}
 use Rattle.omega_rounds.proofs.DeskCommits.{own_desk_other}
 use Rattle.omega_laws.proofs.LastCommits.{after_last-none}
@@ -75,16 +75,16 @@ module _ (scheduler : ℕ) (old new : List Entry) (on : GoesOnWithout scheduler 
   pub copy_without : (copy : CopyState) → CopyOf copy old → CopyOf copy new
   copy_without copy stands = subst (CopyOf copy) (sym on.goes_on) (copy_grown copy old on.later stands)
 
-  -- the scheduler's seat is its seat
-  pub seat_without : (settings : Settings) (seat : Seat) → IsSeat settings old scheduler seat → IsSeat settings new scheduler seat
-  seat_without settings seat is = record {
+  -- the scheduler's worker is its worker
+  pub worker_without : (settings : Settings) (worker : Worker) → IsWorker settings old scheduler worker → IsWorker settings new scheduler worker
+  worker_without settings worker is = record {
     settings = is.settings;
     scheduler = is.scheduler;
     attempts = is.attempts ∙ sym commits_without;
     tries = is.tries;
-    copy = copy_without seat.copy is.copy;
+    copy = copy_without worker.copy is.copy;
     no_trial = is.no_trial;
-    seen = synced_longer seat.synced seat.copy.seen (length old) (length new) longer_without is.seen;
+    seen = synced_longer worker.synced worker.copy.seen (length old) (length new) longer_without is.seen;
   }
 
   -- its attempt, on a copy that had seen some of the old history, is the same

@@ -36,30 +36,30 @@ use Rattle.omega_rounds.specs.AttemptsLeft.{attempts_left}
 use Rattle.omega_laws.specs.InRound.{RoundIsOver, rows_now}
 use Rattle.omega_rounds.specs.Keeping.{HasBegun, HasNotBegun, IsLawful, IsWorld, world_at}
 use Rattle.omega_laws.specs.NextCommit.{NobodyHasWork}
-use Rattle.omega_rounds.specs.Opening.{BeginAll, BeginsSeat, HaveNoWork, IsAsked}
+use Rattle.omega_rounds.specs.Opening.{BeginAll, BeginsWorker, HaveNoWork, IsAsked}
 use Rattle.omega_rounds.specs.Playing.{IsAtStart}
-use Rattle.omega_rounds.specs.Seats.{IsDeskOf, IsRoutedTo, IsSeat, synced_of, to_do_of, SyncedWithin}
+use Rattle.omega_rounds.specs.Workers.{IsDeskOf, IsRoutedTo, IsWorker, synced_of, to_do_of, SyncedWithin}
 use Rattle.omega_rounds.specs.Stages.{IsInRunOf, Source, Stage, next_stage, rows_begun, stage_of}
-use Rattle.omega_rounds.specs.declared.seat.Seat.{Seat}
+use Rattle.omega_rounds.specs.declared.worker.Worker.{Worker}
 use Rattle.omega_rounds.proofs.PlansKept.{indexes_opened, plan_none}
 use Rattle.omega_rounds.proofs.OpenedEntries.{commits_opened, copy_opened, failed_opened}
 use Rattle.omega_laws.proofs.Places.{take_next}
 use Rattle.omega_rounds.proofs.Requested.{open_own, requests_own}
 use Rattle.omega_laws.proofs.RoundGrows.{has_left_opened}
-use Rattle.omega_rounds.proofs.SeatLists.{seen_none, sum_none, sum_of_none}
+use Rattle.omega_rounds.proofs.WorkerLists.{seen_none, sum_none, sum_of_none}
 use Rattle.omega_rounds.proofs.WorldSteps.{new_idle, rows_more, rows_same, state_at}
 use Rattle.omega_rounds.proofs.Worlds.{begins_done, begins_rows, goes_done, goes_rows, world_begins, world_goes_on}
 
 -- nobody has work where no request is left at any desk
-pub nobody_works : (trace : TraceTables) (stage : Stage) (tasks : List WantedTask) (history : List Entry) (seats : List Seat)
-    → IsWorld stage tasks history seats → HaveNoWork seats → IsInRunOf stage trace
+pub nobody_works : (trace : TraceTables) (stage : Stage) (tasks : List WantedTask) (history : List Entry) (workers : List Worker)
+    → IsWorld stage tasks history workers → HaveNoWork workers → IsInRunOf stage trace
     → NobodyHasWork stage.settings trace (rows_begun stage) stage.opened_at history
-nobody_works trace stage tasks history seats world idle made scheduler known =
-    elim (slice_get_cases seats scheduler).1 [
+nobody_works trace stage tasks history workers world idle made scheduler known =
+    elim (slice_get_cases workers scheduler).1 [
       | inl some ↦
           ((world.lawful trace made).desks scheduler some.0 some.2).left.remains
           ∙ ap (λ (l : List Request). Some l) (idle scheduler some.0 some.2)
-      | inr none ↦ let all : length seats ≡ schedulers stage.settings = world.count in absurd (omega (arith, all, none.0, known))
+      | inr none ↦ let all : length workers ≡ schedulers stage.settings = world.count in absurd (omega (arith, all, none.0, known))
     ]
 
 -- a desk without attempts has no request left
@@ -75,21 +75,21 @@ none_left (request ∷ rest) tries taken few none =
     mul_more a t = grind (arith)
 
 -- where no commit can follow no request is left at any desk
-pub idle_all : (stage : Stage) (tasks : List WantedTask) (history : List Entry) (seats : List Seat)
-    → IsWorld stage tasks history seats → sum_by to_do_of seats ≡ 0 → HaveNoWork seats
-idle_all stage tasks history seats world none number seat here =
-    let is : IsSeat stage.settings history number seat = world.each_seat number seat here in
-    let own : attempts_left seat.desk.settings (left_at seat.desk) ≡ 0 = sum_none to_do_of seats none number seat here in
-    none_left seat.desk.requests stage.settings.tries seat.desk.taken is.tries
-    (subst (λ (s : Settings). attempts_left s (left_at seat.desk) ≡ 0) is.settings own)
+pub idle_all : (stage : Stage) (tasks : List WantedTask) (history : List Entry) (workers : List Worker)
+    → IsWorld stage tasks history workers → sum_by to_do_of workers ≡ 0 → HaveNoWork workers
+idle_all stage tasks history workers world none number worker here =
+    let is : IsWorker stage.settings history number worker = world.each_worker number worker here in
+    let own : attempts_left worker.desk.settings (left_at worker.desk) ≡ 0 = sum_none to_do_of workers none number worker here in
+    none_left worker.desk.requests stage.settings.tries worker.desk.taken is.tries
+    (subst (λ (s : Settings). attempts_left s (left_at worker.desk) ≡ 0) is.settings own)
 
 -- and where no request is left no commit can follow
-pub none_to_do : (seats : List Seat) → HaveNoWork seats → sum_by to_do_of seats ≡ 0
-none_to_do seats idle = sum_of_none to_do_of seats (λ number seat here. nothing_left seat (idle number seat here)) where
-  nothing_left : (seat : Seat) → seat.desk.requests ≡ [] → to_do_of seat ≡ 0
-  nothing_left seat none =
-      let all : length seat.desk.requests ≡ 0 = ap (λ (l : List Request). length l) none in
-      subst (λ (n : ℕ). n * seat.desk.settings.tries - seat.desk.taken ≡ 0) (sym all) (omega arith)
+pub none_to_do : (workers : List Worker) → HaveNoWork workers → sum_by to_do_of workers ≡ 0
+none_to_do workers idle = sum_of_none to_do_of workers (λ number worker here. nothing_left worker (idle number worker here)) where
+  nothing_left : (worker : Worker) → worker.desk.requests ≡ [] → to_do_of worker ≡ 0
+  nothing_left worker none =
+      let all : length worker.desk.requests ≡ 0 = ap (λ (l : List Request). length l) none in
+      subst (λ (n : ℕ). n * worker.desk.settings.tries - worker.desk.taken ≡ 0) (sym all) (omega arith)
 
 -- the desk of a scheduler as a round begins
 module _ (settings : Settings) (trace : TraceTables) (before : List Entry) (rows : List Row) (base : List Entry) (scheduler : ℕ) (old new : DeskState)
@@ -120,7 +120,7 @@ module _ (settings : Settings) (trace : TraceTables) (before : List Entry) (rows
         failures = count;
       }
 
-module _ (settings : Settings) (all : List Round) (asked : Asked) (begun old_place : ℕ) (before : List Entry) (old : List Seat) (round : Round)
+module _ (settings : Settings) (all : List Round) (asked : Asked) (begun old_place : ℕ) (before : List Entry) (old : List Worker) (round : Round)
     (world : IsWorld (stage_of settings all asked begun old_place) asked.tasks before old)
     (next : slice_get all begun ≡ Some round) where
   abbrev stage : Stage
@@ -154,7 +154,7 @@ module _ (settings : Settings) (all : List Round) (asked : Asked) (begun old_pla
   pub is_asked : IsAsked (record asked { tasks = tasks })
   is_asked = record { settings = settings; trace = world.made.0; rows = rows_begun (later_at 0); asks = asked_later 0 world.made.0 world.made.1 }
 
-  module _ (after : List Entry) (new : List Seat)
+  module _ (after : List Entry) (new : List Worker)
       (idle : HaveNoWork old)
       (history : (trace : TraceTables) (rows : List Row) → asked.disks ≡ trace.disks → asked.tasks ≡ wanted rows
       → after ≡ (opened trace rows before round).history)
@@ -166,30 +166,30 @@ module _ (settings : Settings) (all : List Round) (asked : Asked) (begun old_pla
     pub after_is : (trace : TraceTables) → IsInRunOf stage trace → after ≡ (opened trace (rows_begun stage) before round).history
     after_is trace made = history trace (rows_begun stage) (ap (λ (s : Source). s.asked.disks) made) world.asked
 
-    seat_later : (number : ℕ) (was seat : Seat) → IsSeat settings before number was → BeginsSeat (record asked { tasks = tasks }) after number was seat
-        → IsSeat settings after number seat
-    seat_later number was seat is begun_seat =
+    worker_later : (number : ℕ) (was worker : Worker) → IsWorker settings before number was → BeginsWorker (record asked { tasks = tasks }) after number was worker
+        → IsWorker settings after number worker
+    worker_later number was worker is begun_worker =
         let trace : TraceTables = world.made.0 in
         let made : IsInRunOf stage trace = world.made.1 in
         let same = after_is trace made in
-        let left = begun_seat.left settings trace (rows_begun later) (asked_later (length after) trace made) in
-        let none : 0 ≡ seat.desk.taken = sym (ap (λ (s : Standing). s.taken) left) in
+        let left = begun_worker.left settings trace (rows_begun later) (asked_later (length after) trace made) in
+        let none : 0 ≡ worker.desk.taken = sym (ap (λ (s : Standing). s.taken) left) in
         let some : 1 ≤ settings.tries = world.range.tries.0 in
         record {
-          settings = begun_seat.desk.settings ∙ is.settings;
-          scheduler = begun_seat.desk.scheduler ∙ is.scheduler;
-          attempts = begun_seat.attempts ∙ is.attempts ∙ sym (commits_opened trace (rows_begun stage) before round number)
+          settings = begun_worker.desk.settings ∙ is.settings;
+          scheduler = begun_worker.desk.scheduler ∙ is.scheduler;
+          attempts = begun_worker.attempts ∙ is.attempts ∙ sym (commits_opened trace (rows_begun stage) before round number)
               ∙ ap (λ (h : List Entry). commits_of number h) (sym same);
           tries = omega (arith, none, some);
-          copy = subst (λ (k : CopyState). CopyOf k after) (sym begun_seat.copy)
+          copy = subst (λ (k : CopyState). CopyOf k after) (sym begun_worker.copy)
               (subst (CopyOf was.copy) (sym same) (copy_opened trace (rows_begun stage) before round was.copy is.copy));
-          no_trial = ap (λ (k : CopyState). k.trial) begun_seat.copy ∙ is.no_trial;
-          seen = subst (λ (synced : Option ℕ). SyncedWithin synced seat.copy.seen (length after)) (sym begun_seat.synced) tt;
+          no_trial = ap (λ (k : CopyState). k.trial) begun_worker.copy ∙ is.no_trial;
+          seen = subst (λ (synced : Option ℕ). SyncedWithin synced worker.copy.seen (length after)) (sym begun_worker.synced) tt;
         }
 
     -- nobody has synced
     nobody_later : (number : ℕ) → (world_at after new).synced number ≡ None
-    nobody_later = seen_none synced_of new (λ number seat here. (begins.each number seat here).1.1.synced)
+    nobody_later = seen_none synced_of new (λ number worker here. (begins.each number worker here).1.1.synced)
 
     -- indexes of the history are so still
     pub indexes_later : (indexes : Indexes) → AreIndexesOf before indexes → AreIndexesOf after indexes
@@ -205,16 +205,16 @@ module _ (settings : Settings) (all : List Round) (asked : Asked) (begun old_pla
       abbrev was : IsLawful trace stage before old
       was = world.lawful trace made
 
-      desk_later : (number : ℕ) (seat : Seat) → slice_get new number ≡ Some seat
-          → IsDeskOf settings trace (rows_begun later) (length after) after number seat.desk
-      desk_later number seat here =
-          let found = begins.each number seat here in
-          let is : IsSeat settings before number found.0 = world.each_seat number found.0 found.1.0 in
+      desk_later : (number : ℕ) (worker : Worker) → slice_get new number ≡ Some worker
+          → IsDeskOf settings trace (rows_begun later) (length after) after number worker.desk
+      desk_later number worker here =
+          let found = begins.each number worker here in
+          let is : IsWorker settings before number found.0 = world.each_worker number found.0 found.1.0 in
           let desk : IsDeskOf settings trace (rows_begun stage) old_place before number found.0.desk = was.desks number found.0 found.1.0 in
           let left = found.1.1.left settings trace (rows_begun later) (asked_later (length after) trace made) in
-          desk_begins settings trace before (rows_begun later) after number found.0.desk seat.desk
+          desk_begins settings trace before (rows_begun later) after number found.0.desk worker.desk
           (λ job own. ap (λ (h : List Entry). failed h job) (after_is trace made) ∙ failed_opened trace (rows_begun stage) before round job ∙ desk.failures job own)
-          (subst (λ (s : Settings). left_at seat.desk ≡ fresh (left_at found.0.desk).failing
+          (subst (λ (s : Settings). left_at worker.desk ≡ fresh (left_at found.0.desk).failing
           (still_tried s (left_at found.0.desk).failing (all_requests settings trace (rows_begun later) (state after) number))) is.settings left)
 
       first_later : HasNotBegun stage (world_at before old) → HasBegun trace later (world_at after new)
@@ -268,26 +268,26 @@ module _ (settings : Settings) (all : List Round) (asked : Asked) (begun old_pla
       within = let below : begun < length all = slice_get_within all begun round next in omega (arith, below);
       asked = tasks_later (length after);
       count = begins.count ∙ world.count;
-      each_seat = λ number seat here.
-          let found = begins.each number seat here in
-          seat_later number found.0 seat (world.each_seat number found.0 found.1.0) found.1.1;
-      each_plan = λ number seat here. plan_none settings after number seat (begins.each number seat here).1.1.synced;
+      each_worker = λ number worker here.
+          let found = begins.each number worker here in
+          worker_later number found.0 worker (world.each_worker number found.0 found.1.0) found.1.1;
+      each_plan = λ number worker here. plan_none settings after number worker (begins.each number worker here).1.1.synced;
       made = world.made;
       lawful = λ trace made. lawful_later trace made;
     }
 
 -- a world in which no round has begun
-pub world_start : (stage : Stage) (tasks : List WantedTask) (history : List Entry) (seats : List Seat)
-    → IsWorld stage tasks history seats → stage.begun ≡ 0 → IsAtStart (state_at stage history seats)
-world_start stage tasks history seats world start =
-    let not_begun : (trace : TraceTables) → IsInRunOf stage trace → HasNotBegun stage (world_at history seats) =
+pub world_start : (stage : Stage) (tasks : List WantedTask) (history : List Entry) (workers : List Worker)
+    → IsWorld stage tasks history workers → stage.begun ≡ 0 → IsAtStart (state_at stage history workers)
+world_start stage tasks history workers world start =
+    let not_begun : (trace : TraceTables) → IsInRunOf stage trace → HasNotBegun stage (world_at history workers) =
     λ trace made. elim (world.lawful trace made).run [
       | inl none ↦ none
       | inr has ↦ let count : stage.begun ≡ has.in_round.underway.done + 1 = has.count in absurd (omega (arith, count, start))
     ] in
     record {
       empty = (not_begun world.made.0 world.made.1).is_new.empty;
-      idle = λ trace made. nobody_works trace stage tasks history seats world
-          (λ number seat here. new_idle trace stage history (world_at history seats) number seat.desk (not_begun trace made) refl
-          ((world.lawful trace made).desks number seat here)) made;
+      idle = λ trace made. nobody_works trace stage tasks history workers world
+          (λ number worker here. new_idle trace stage history (world_at history workers) number worker.desk (not_begun trace made) refl
+          ((world.lawful trace made).desks number worker here)) made;
     }

@@ -20,8 +20,8 @@ use Rattle.omega_rounds.specs.Keeping.{IsWorld, world_at}
 use Rattle.omega_laws.specs.NextCommit.{NobodyHasWork}
 use Rattle.omega_rounds.specs.Opening.{HaveNoWork, has_work}
 use Rattle.omega_rounds.specs.Stages.{IsInRunOf, Source, Stage}
-use Rattle.omega_rounds.specs.declared.seat.Seat.{Seat}
-use Rattle.omega_rounds.proofs.SeatLists.{first_past, none_first, some_first}
+use Rattle.omega_rounds.specs.declared.worker.Worker.{Worker}
+use Rattle.omega_rounds.proofs.WorkerLists.{first_past, none_first, some_first}
 use Rattle.omega_rounds.proofs.WorldBegins.{nobody_works}
 use Rattle.omega_rounds.proofs.WorldSteps.{rows_same, state_at}
 use Rattle.omega_rounds.proofs.Worlds.{world_ends}
@@ -36,45 +36,45 @@ a_first : (requests : List Request) → is_some (slice_get requests 0) ≡ true 
 a_first [] some = absurd (cc)
 a_first (request ∷ rest) some = (request, (rest, refl))
 
--- no seat has work where none is the first that has
-pub idle_first : (seats : List Seat) → position has_work seats ≡ None → HaveNoWork seats
-idle_first seats none number seat here = not_first seat.desk.requests (none_first has_work seats none number seat here)
+-- no worker has work where none is the first that has
+pub idle_first : (workers : List Worker) → position has_work workers ≡ None → HaveNoWork workers
+idle_first workers none number worker here = not_first worker.desk.requests (none_first has_work workers none number worker here)
 
 -- nor where that one isn't found
-pub idle_found : (seats : List Seat) (found : Option ℕ) → is_some found ≡ false → found ≡ position has_work seats → HaveNoWork seats
-idle_found seats None none is = idle_first seats (sym is)
-idle_found seats (Some first) none is = absurd (cc)
+pub idle_found : (workers : List Worker) (found : Option ℕ) → is_some found ≡ false → found ≡ position has_work workers → HaveNoWork workers
+idle_found workers None none is = idle_first workers (sym is)
+idle_found workers (Some first) none is = absurd (cc)
 
-module _ (trace : TraceTables) (stage : Stage) (tasks : List WantedTask) (history : List Entry) (seats : List Seat)
-    (world : IsWorld stage tasks history seats) (made : IsInRunOf stage trace) where
-  -- the first seat that has work
-  pub first_works : (first : ℕ) → position has_work seats ≡ Some first → IsFirstAtWork trace (state_at stage history seats) first
+module _ (trace : TraceTables) (stage : Stage) (tasks : List WantedTask) (history : List Entry) (workers : List Worker)
+    (world : IsWorld stage tasks history workers) (made : IsInRunOf stage trace) where
+  -- the first worker that has work
+  pub first_works : (first : ℕ) → position has_work workers ≡ Some first → IsFirstAtWork trace (state_at stage history workers) first
   first_works first is =
-      let all : length seats ≡ schedulers stage.settings = world.count in
-      elim (slice_get_cases seats first).1 [
+      let all : length workers ≡ schedulers stage.settings = world.count in
+      elim (slice_get_cases workers first).1 [
         | inl some ↦
-            let found = some_first has_work seats first some.0 is in
-            let works : has_work some.0 ≡ true = subst (λ (s : Seat). has_work s ≡ true) some.3 found.1.0 in
+            let found = some_first has_work workers first some.0 is in
+            let works : has_work some.0 ≡ true = subst (λ (s : Worker). has_work s ≡ true) some.3 found.1.0 in
             let parts = a_first some.0.desk.requests works in
             record {
               known = omega (arith, all, found.0);
               request = parts.0;
               works = (parts.1.0, ((world.lawful trace made).desks first some.0 some.2).left.remains ∙ ap (λ (l : List Request). Some l) parts.1.1);
-              before = λ other below. elim (slice_get_cases seats other).1 [
+              before = λ other below. elim (slice_get_cases workers other).1 [
                 | inl there ↦
                     ((world.lawful trace made).desks other there.0 there.2).left.remains
                     ∙ ap (λ (l : List Request). Some l) (not_first there.0.desk.requests (found.1.1 other there.0 below there.2))
                 | inr past ↦ absurd (omega (arith, past.0, below, found.0))
               ];
             }
-        | inr past ↦ absurd (first_past has_work seats first is past.0)
+        | inr past ↦ absurd (first_past has_work workers first is past.0)
       ]
 
   -- the run is over
-  pub run_over : HaveNoWork seats → stage.begun ≡ length stage.source.rounds → Lawful stage.settings trace history
+  pub run_over : HaveNoWork workers → stage.begun ≡ length stage.source.rounds → Lawful stage.settings trace history
   run_over idle last =
       let settings : Settings = stage.settings in
-      let one : World = world_at history seats in
+      let one : World = world_at history workers in
       let all : stage.source.rounds ≡ rounds trace settings.window = ap (λ (s : Source). s.rounds) made in
       elim (world.lawful trace made).run [
         | inl none ↦
@@ -89,7 +89,7 @@ module _ (trace : TraceTables) (stage : Stage) (tasks : List WantedTask) (histor
             let over : RoundIsOver settings trace one has.in_round =
             subst (λ (n : ℕ). NobodyHasWork settings trace (rows_now settings trace history underway) n history) has.rows
             (subst (λ (rs : List Row). NobodyHasWork settings trace rs stage.opened_at history) (rows_same trace stage one made has)
-            (nobody_works trace stage tasks history seats world idle made)) in
+            (nobody_works trace stage tasks history workers world idle made)) in
             world_ends settings trace one has.in_round over (slice_get_past (rounds trace settings.window) (suc underway.done) past)
       ] where
         no_item : {X : Type 0} (xs : List X) → length xs ≡ 0 → xs ≡ []

@@ -16,7 +16,7 @@ use Rattle.omega_model.specs.declared.rows.Row.{Row}
 use Rattle.omega_model.specs.declared.rows.TraceTables.{TraceTables}
 use Rattle.omega_rounds.specs.Keeping.{IsWorld}
 use Rattle.omega_rounds.specs.Stages.{AllHaveBegun, IsInRunOf, Source, Stage, WorldState, rows_begun}
-use Rattle.omega_rounds.specs.declared.seat.Seat.{Seat}
+use Rattle.omega_rounds.specs.declared.worker.Worker.{Worker}
 use Rattle.omega_rounds.proofs.WorldSteps.{state_at}
 
 -- the rows of the rounds that have begun are all of the trace, where all have
@@ -28,8 +28,8 @@ all_rows trace stage range made all =
     ∙ ap (λ (s : Source). rows_of s.rounds) made
     ∙ rounds_have trace stage.settings.window range.window.0
 
-module _ (E : Type 0) (seen : WorldState) (stage : Stage) (tasks : List WantedTask) (history : List Entry) (seats : List Seat) (cell : Cell)
-    (result : Result WaitingTasks E) (world : IsWorld stage tasks history seats) (same : state_at stage history seats ≡ seen)
+module _ (E : Type 0) (seen : WorldState) (stage : Stage) (tasks : List WantedTask) (history : List Entry) (workers : List Worker) (cell : Cell)
+    (result : Result WaitingTasks E) (world : IsWorld stage tasks history workers) (same : state_at stage history workers ≡ seen)
     (current : cell ≡ state history) (left : IfOk result (AreLeft tasks cell)) where
   -- what is left of the rounds that have begun
   left_here : IfOk result (AreLeft (wanted (rows_begun stage)) (state history))

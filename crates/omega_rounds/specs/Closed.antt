@@ -8,19 +8,19 @@ use Rattle.omega_model.specs.declared.rows.TraceTables.{TraceTables}
 use Rattle.omega_model.specs.declared.settings.Settings.{Settings}
 use Rattle.omega_rounds.specs.Going.{IsRoundOver}
 use Rattle.omega_rounds.specs.Players.{IsOwnDesk, OwnMayStand}
-use Rattle.omega_rounds.specs.Seats.{IsSeat, synced_of}
+use Rattle.omega_rounds.specs.Workers.{IsWorker, synced_of}
 use Rattle.omega_rounds.specs.Stages.{IsInRunOf, WorldState}
-use Rattle.omega_rounds.specs.declared.seat.Seat.{Seat}
+use Rattle.omega_rounds.specs.declared.worker.Worker.{Worker}
 
--- so many turns suffice for any attempts that these seats' schedulers can make: two for each try of each request
-abbrev pub Suffice : Settings → List Seat → ℕ → Type 0
-Suffice settings seats turns = All (λ seat. 2 * (length seat.desk.requests * settings.tries) ≤ turns) seats
+-- so many turns suffice for any attempts that these workers' schedulers can make: two for each try of each request
+abbrev pub Suffice : Settings → List Worker → ℕ → Type 0
+Suffice settings workers turns = All (λ worker. 2 * (length worker.desk.requests * settings.tries) ≤ turns) workers
 
--- a scheduler is back with its seat: the seat is right beside the closed history, its desk is right wherever
+-- a scheduler is back with its worker: the worker is right beside the closed history, its desk is right wherever
 -- it was, its commits may stand where they do wherever those before could, nothing is left at its desk, and
 -- it has not synced, if it hadn't
-pub record IsBack (settings : Settings) (first history : List Entry) (number : ℕ) (old new : Seat) : Type 0 where
-  pub seat : IsSeat settings history number new
+pub record IsBack (settings : Settings) (first history : List Entry) (number : ℕ) (old new : Worker) : Type 0 where
+  pub worker : IsWorker settings history number new
   pub desk : (trace : TraceTables) (rows : List Row) (opened_at : ℕ) → opened_at ≤ length first
       → IsOwnDesk settings trace rows opened_at first number old.desk
       → IsOwnDesk settings trace rows opened_at history number new.desk
@@ -37,13 +37,13 @@ pub record IsCommitOfOne (count : ℕ) (entry : Entry) : Type 0 where
   pub commit : is_commit_of scheduler entry ≡ true
 
 -- all schedulers are back: the closed history goes on from the first by commits of them, and each has its
--- seat
-pub record AreBack (settings : Settings) (first history : List Entry) (old new : List Seat) : Type 0 where
+-- worker
+pub record AreBack (settings : Settings) (first history : List Entry) (old new : List Worker) : Type 0 where
   pub count : length new ≡ length old
   pub begins : StartsWith history first
   pub since : All (IsCommitOfOne (length old)) (drop (length first) history)
-  pub each : (number : ℕ) (seat : Seat) → slice_get new number ≡ Some seat
-      → (was : Seat) × ((slice_get old number ≡ Some was) × IsBack settings first history number was seat)
+  pub each : (number : ℕ) (worker : Worker) → slice_get new number ≡ Some worker
+      → (was : Worker) × ((slice_get old number ≡ Some was) × IsBack settings first history number was worker)
 
 -- the round that is under way in a world is over, for each trace in whose run the world is
 abbrev pub IsDone : WorldState → Type 0

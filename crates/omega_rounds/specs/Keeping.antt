@@ -13,9 +13,9 @@ use Rattle.omega_model.specs.declared.entries.Entry.{Entry}
 use Rattle.omega_model.specs.declared.rows.TraceTables.{TraceTables}
 use Rattle.omega_model.specs.declared.settings.Settings.{Settings}
 use Rattle.omega_rounds.specs.Plans.{HasPlan}
-use Rattle.omega_rounds.specs.Seats.{IsDeskOf, IsSeat, synced_of}
+use Rattle.omega_rounds.specs.Workers.{IsDeskOf, IsWorker, synced_of}
 use Rattle.omega_rounds.specs.Stages.{IsInRunOf, Stage, rows_begun, synced_at}
-use Rattle.omega_rounds.specs.declared.seat.Seat.{Seat}
+use Rattle.omega_rounds.specs.declared.worker.Worker.{Worker}
 
 -- a world before its first round
 pub record IsNew (world : World) : Type 0 where
@@ -40,28 +40,28 @@ pub record HasBegun (trace : TraceTables) (stage : Stage) (world : World) : Type
   pub rows : stage.opened_at ≡ rows_end stage.settings trace world.history in_round.underway
 
 -- the history of these entries, and who of these has synced
-abbrev pub world_at : List Entry → List Seat → World
-world_at history seats = record { history = history; synced = synced_at (map synced_of seats) }
+abbrev pub world_at : List Entry → List Worker → World
+world_at history workers = record { history = history; synced = synced_at (map synced_of workers) }
 
 -- what a world keeps of a trace in whose run it is: the history is the trace's run up to this stage, and
 -- each desk has what its scheduler has left
-pub record IsLawful (trace : TraceTables) (stage : Stage) (history : List Entry) (seats : List Seat) : Type 0 where
-  pub run : HasNotBegun stage (world_at history seats) ⊎ HasBegun trace stage (world_at history seats)
-  pub desks : (scheduler : ℕ) (seat : Seat) → slice_get seats scheduler ≡ Some seat
-      → IsDeskOf stage.settings trace (rows_begun stage) stage.opened_at history scheduler seat.desk
+pub record IsLawful (trace : TraceTables) (stage : Stage) (history : List Entry) (workers : List Worker) : Type 0 where
+  pub run : HasNotBegun stage (world_at history workers) ⊎ HasBegun trace stage (world_at history workers)
+  pub desks : (scheduler : ℕ) (worker : Worker) → slice_get workers scheduler ≡ Some worker
+      → IsDeskOf stage.settings trace (rows_begun stage) stage.opened_at history scheduler worker.desk
 
 -- what every world keeps: the settings are in their ranges; the wanted tasks are those after the rows of
--- the rounds that have begun; there is a seat for each scheduler, with its plan where it has synced; the world is in the run of some trace, and
+-- the rounds that have begun; there is a worker for each scheduler, with its plan where it has synced; the world is in the run of some trace, and
 -- all is lawful for each one in whose run it is
-pub record IsWorld (stage : Stage) (tasks : List WantedTask) (history : List Entry) (seats : List Seat) : Type 0 where
+pub record IsWorld (stage : Stage) (tasks : List WantedTask) (history : List Entry) (workers : List Worker) : Type 0 where
   pub range : IsInRange stage.settings
   pub within : stage.begun ≤ length stage.source.rounds
   pub asked : tasks ≡ wanted (rows_begun stage)
-  pub count : length seats ≡ schedulers stage.settings
-  pub each_seat : (scheduler : ℕ) (seat : Seat) → slice_get seats scheduler ≡ Some seat → IsSeat stage.settings history scheduler seat
-  pub each_plan : (scheduler : ℕ) (seat : Seat) → slice_get seats scheduler ≡ Some seat → HasPlan stage.settings history scheduler seat
+  pub count : length workers ≡ schedulers stage.settings
+  pub each_worker : (scheduler : ℕ) (worker : Worker) → slice_get workers scheduler ≡ Some worker → IsWorker stage.settings history scheduler worker
+  pub each_plan : (scheduler : ℕ) (worker : Worker) → slice_get workers scheduler ≡ Some worker → HasPlan stage.settings history scheduler worker
   pub made : (trace : TraceTables) × IsInRunOf stage trace
-  pub lawful : (trace : TraceTables) → IsInRunOf stage trace → IsLawful trace stage history seats
+  pub lawful : (trace : TraceTables) → IsInRunOf stage trace → IsLawful trace stage history workers
 
 -- the jobs that aren't open were quiet where the rows of the last round that has begun end; so they are on
 -- the empty history, where none has

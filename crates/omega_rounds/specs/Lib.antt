@@ -1,11 +1,11 @@
 pub mod Taking
-pub mod Passes
+pub mod Halves
 pub mod AttemptsLeft
 pub mod Stages
-pub mod Seats
+pub mod Workers
 pub mod Keeping
 pub mod Going
-pub mod SeatSteps
+pub mod WorkerSteps
 pub mod Plans
 pub mod Opening
 pub mod Playing

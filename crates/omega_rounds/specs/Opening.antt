@@ -11,8 +11,8 @@ use Rattle.omega_model.specs.declared.settings.Settings.{Settings}
 use Rattle.omega_model.specs.Touches.{is_commit}
 use Rattle.omega_desk.specs.Desks.{IsSameDesk, left_at, still_tried}
 use Rattle.omega_feed.specs.Asked.{Asked, asked_after}
-use Rattle.omega_rounds.specs.Seats.{IsSeat, synced_of}
-use Rattle.omega_rounds.specs.declared.seat.Seat.{Seat}
+use Rattle.omega_rounds.specs.Workers.{IsWorker, synced_of}
+use Rattle.omega_rounds.specs.declared.worker.Worker.{Worker}
 
 -- an entry may be fed to the cell of a history, where there is room for its machine
 pub record MayFeed (history : List Entry) (entry : Entry) : Type 0 where
@@ -32,17 +32,17 @@ pub record IsAsked (asked : Asked) : Type 0 where
   pub rows : List Row
   pub asks : asked ≡ asked_after settings trace rows
 
--- whether a request is left at a seat's desk
-abbrev pub has_work : Seat → Bool
-has_work seat = is_some (slice_get seat.desk.requests 0)
+-- whether a request is left at a worker's desk
+abbrev pub has_work : Worker → Bool
+has_work worker = is_some (slice_get worker.desk.requests 0)
 
 -- none is left at any desk
-abbrev pub HaveNoWork : List Seat → Type 0
-HaveNoWork seats = (number : ℕ) (seat : Seat) → slice_get seats number ≡ Some seat → seat.desk.requests ≡ []
+abbrev pub HaveNoWork : List Worker → Type 0
+HaveNoWork workers = (number : ℕ) (worker : Worker) → slice_get workers number ≡ Some worker → worker.desk.requests ≡ []
 
--- a seat begins with what its scheduler is asked to place after this history, but for the jobs that are
+-- a worker begins with what its scheduler is asked to place after this history, but for the jobs that are
 -- given up by the desk's counts; its scheduler hasn't synced
-pub record BeginsSeat (asked : Asked) (history : List Entry) (number : ℕ) (old new : Seat) : Type 0 where
+pub record BeginsWorker (asked : Asked) (history : List Entry) (number : ℕ) (old new : Worker) : Type 0 where
   pub desk : IsSameDesk old.desk new.desk
   pub attempts : new.desk.attempts ≡ old.desk.attempts
   pub left : (settings : Settings) (trace : TraceTables) (rows : List Row) → asked ≡ asked_after settings trace rows
@@ -51,14 +51,14 @@ pub record BeginsSeat (asked : Asked) (history : List Entry) (number : ℕ) (old
   pub copy : new.copy ≡ old.copy
   pub synced : new.synced ≡ None
 
--- so does each seat
-pub record BeginAll (asked : Asked) (history : List Entry) (old new : List Seat) : Type 0 where
+-- so does each worker
+pub record BeginAll (asked : Asked) (history : List Entry) (old new : List Worker) : Type 0 where
   pub count : length new ≡ length old
-  pub each : (number : ℕ) (seat : Seat) → slice_get new number ≡ Some seat
-      → (before : Seat) × ((slice_get old number ≡ Some before) × BeginsSeat asked history number before seat)
+  pub each : (number : ℕ) (worker : Worker) → slice_get new number ≡ Some worker
+      → (before : Worker) × ((slice_get old number ≡ Some before) × BeginsWorker asked history number before worker)
 
--- these are the seats of so many schedulers that have done nothing yet
-pub record AreNewSeats (settings : Settings) (schedulers : ℕ) (seats : List Seat) : Type 0 where
-  pub count : length seats ≡ schedulers
-  pub each : (number : ℕ) (seat : Seat) → slice_get seats number ≡ Some seat
-      → IsSeat settings [] number seat × ((synced_of seat ≡ None) × (left_at seat.desk ≡ fresh (λ job. 0) []))
+-- these are the workers of so many schedulers that have done nothing yet
+pub record AreNewWorkers (settings : Settings) (schedulers : ℕ) (workers : List Worker) : Type 0 where
+  pub count : length workers ≡ schedulers
+  pub each : (number : ℕ) (worker : Worker) → slice_get workers number ≡ Some worker
+      → IsWorker settings [] number worker × ((synced_of worker ≡ None) × (left_at worker.desk ≡ fresh (λ job. 0) []))

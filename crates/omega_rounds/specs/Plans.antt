@@ -5,9 +5,9 @@ use Rattle.omega_desk.specs.Desks.{DeskState}
 use Rattle.omega_model.specs.Work.{commits_of}
 use Rattle.omega_model.specs.declared.entries.Entry.{Entry}
 use Rattle.omega_model.specs.declared.settings.Settings.{Settings}
-use Rattle.omega_rounds.specs.SeatSteps.{IsFirstAttempt}
+use Rattle.omega_rounds.specs.WorkerSteps.{IsFirstAttempt}
 use Rattle.omega_rounds.specs.declared.plans.Planned.{Planned}
-use Rattle.omega_rounds.specs.declared.seat.Seat.{Seat}
+use Rattle.omega_rounds.specs.declared.worker.Worker.{Worker}
 
 -- a scheduler is at its desk: the desk is the scheduler's, has had as many attempts as the history has
 -- commits of it, and has a request left
@@ -24,13 +24,13 @@ pub record IsPlan (settings : Settings) (history : List Entry) (scheduler seen :
   pub few : length plan.txn.claims < 2 ^ 32
   pub seqs : plan.seqs.items ≡ copied_seqs history seen plan.txn.claims
 
--- a seat has its plan, after so many entries that its scheduler has seen
-pub record HasPlanAfter (settings : Settings) (history : List Entry) (scheduler : ℕ) (seat : Seat) (seen : ℕ) : Type 0 where
+-- a worker has its plan, after so many entries that its scheduler has seen
+pub record HasPlanAfter (settings : Settings) (history : List Entry) (scheduler : ℕ) (worker : Worker) (seen : ℕ) : Type 0 where
   pub within : seen ≤ length history
   pub plan : Planned
-  pub there : seat.planned ≡ Some plan
-  pub is_plan : IsPlan settings history scheduler seen seat.desk plan
+  pub there : worker.planned ≡ Some plan
+  pub is_plan : IsPlan settings history scheduler seen worker.desk plan
 
--- where the scheduler of a seat has synced, the seat has its plan
-abbrev pub HasPlan : Settings → List Entry → ℕ → Seat → Type 0
-HasPlan settings history scheduler seat = IfSome seat.synced (HasPlanAfter settings history scheduler seat)
+-- where the scheduler of a worker has synced, the worker has its plan
+abbrev pub HasPlan : Settings → List Entry → ℕ → Worker → Type 0
+HasPlan settings history scheduler worker = IfSome worker.synced (HasPlanAfter settings history scheduler worker)

@@ -12,7 +12,7 @@ use Rattle.omega_model.specs.declared.entries.Entry.TheVariants.{Commit}
 use Rattle.omega_model.specs.declared.rows.Row.{Row}
 use Rattle.omega_model.specs.declared.rows.TraceTables.{TraceTables}
 use Rattle.omega_model.specs.declared.settings.Settings.{Settings}
-use Rattle.omega_rounds.specs.Seats.{IsRoutedTo, IsSeat, synced_of, to_do_of}
+use Rattle.omega_rounds.specs.Workers.{IsRoutedTo, IsWorker, synced_of, to_do_of}
 use Rattle.omega_rounds.specs.declared.player.Player.{Player}
 
 -- a scheduler's desk after these entries of a round whose rows end at this place, by the scheduler's own
@@ -40,15 +40,15 @@ OwnMayStand settings opened_at scheduler history =
     (place : ℕ) (entry : Entry) → slice_get history place ≡ Some entry → opened_at ≤ place
     → MayStand settings opened_at scheduler (take place history) entry
 
--- a player may play in a round on this shared cell: its seat is that of its scheduler beside what its pass has
+-- a player may play in a round on this shared cell: its worker is that of its scheduler beside what its pass has
 -- seen, and its pass has two turns for each attempt that it can still make
 pub record MayPlay (settings : Settings) (shared : TableId) (player : Player) : Type 0 where
   pub of : player.pass.of ≡ shared
   pub known : player.pass.number < schedulers settings
-  pub seat : IsSeat settings player.pass.seen player.pass.number player.seat
-  pub turns : 2 * to_do_of player.seat ≤ player.pass.turns
+  pub worker : IsWorker settings player.pass.seen player.pass.number player.worker
+  pub turns : 2 * to_do_of player.worker ≤ player.pass.turns
 
--- a player has played: its pass has seen no less than before, and beside what it has seen its seat is still that of
+-- a player has played: its pass has seen no less than before, and beside what it has seen its worker is still that of
 -- its scheduler, its desk is right wherever it was, and its commits may stand where they do wherever those
 -- before could. Unless it met want of memory, nothing is left at its desk, and its scheduler has not synced
 -- since its last commit, if it hadn't before
@@ -57,15 +57,15 @@ pub record HasPlayed (settings : Settings) (old new : Player) : Type 0 where
   pub number : new.pass.number ≡ old.pass.number
   pub first_length : new.pass.first_length ≡ old.pass.first_length
   pub within : length old.pass.seen ≤ length new.pass.seen
-  pub seat : IsSeat settings new.pass.seen new.pass.number new.seat
+  pub worker : IsWorker settings new.pass.seen new.pass.number new.worker
   pub desk : (trace : TraceTables) (rows : List Row) (opened_at : ℕ) → opened_at ≤ length old.pass.seen
-      → IsOwnDesk settings trace rows opened_at old.pass.seen old.pass.number old.seat.desk
-      → IsOwnDesk settings trace rows opened_at new.pass.seen new.pass.number new.seat.desk
+      → IsOwnDesk settings trace rows opened_at old.pass.seen old.pass.number old.worker.desk
+      → IsOwnDesk settings trace rows opened_at new.pass.seen new.pass.number new.worker.desk
   pub commits : (opened_at : ℕ) → opened_at ≤ length old.pass.seen
       → OwnMayStand settings opened_at old.pass.number old.pass.seen
       → OwnMayStand settings opened_at new.pass.number new.pass.seen
-  pub no_work : new.failed ≡ false → new.seat.desk.requests ≡ []
-  pub spent : new.failed ≡ false → old.failed ≡ false → synced_of old.seat ≡ None → synced_of new.seat ≡ None
+  pub no_work : new.failed ≡ false → new.worker.desk.requests ≡ []
+  pub spent : new.failed ≡ false → old.failed ≡ false → synced_of old.worker ≡ None → synced_of new.worker ≡ None
 
 -- each of some players has played, in its place
 pub record HavePlayed (settings : Settings) (old new : List Player) : Type 0 where

@@ -9,7 +9,7 @@ use Rattle.omega_model.specs.declared.rows.Row.{Row}
 use Rattle.omega_model.specs.declared.rows.Round.{Round}
 use Rattle.omega_model.specs.declared.rows.TraceTables.{TraceTables}
 use Rattle.omega_rounds.specs.Going.{IsRoundOver}
-use Rattle.omega_rounds.specs.Passes.{Committing}
+use Rattle.omega_rounds.specs.Halves.{Committing}
 use Rattle.omega_rounds.specs.Stages.{IsInRunOf, Stage, WorldState, rows_begun, world_of}
 use Rattle.omega_rounds.specs.Taking.{Taking}
 use Rattle.omega_rounds.specs.declared.steps.Stepped.{Stepped}

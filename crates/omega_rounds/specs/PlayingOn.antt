@@ -8,11 +8,11 @@ use Rattle.omega_model.specs.declared.rows.Row.{Row}
 use Rattle.omega_model.specs.declared.rows.TraceTables.{TraceTables}
 use Rattle.omega_model.specs.declared.settings.Settings.{Settings}
 use Rattle.omega_rounds.specs.Players.{IsOwnDesk, OwnMayStand}
-use Rattle.omega_rounds.specs.SeatSteps.{IsFirstAttempt}
-use Rattle.omega_rounds.specs.Seats.{IsSeat, synced_of}
+use Rattle.omega_rounds.specs.WorkerSteps.{IsFirstAttempt}
+use Rattle.omega_rounds.specs.Workers.{IsWorker, synced_of}
 use Rattle.omega_rounds.specs.declared.player.Player.{Player}
 
--- a player plays on: its pass is the same one and has seen no less than before. Beside that its seat is still that of its
+-- a player plays on: its pass is the same one and has seen no less than before. Beside that its worker is still that of its
 -- scheduler, its desk is right wherever it was, and its commits may stand where they do wherever those before
 -- could
 pub record PlaysOn (settings : Settings) (old new : Player) : Type 0 where
@@ -20,10 +20,10 @@ pub record PlaysOn (settings : Settings) (old new : Player) : Type 0 where
   pub number : new.pass.number ≡ old.pass.number
   pub first_length : new.pass.first_length ≡ old.pass.first_length
   pub within : length old.pass.seen ≤ length new.pass.seen
-  pub seat : IsSeat settings new.pass.seen new.pass.number new.seat
+  pub worker : IsWorker settings new.pass.seen new.pass.number new.worker
   pub desk : (trace : TraceTables) (rows : List Row) (opened_at : ℕ) → opened_at ≤ length old.pass.seen
-      → IsOwnDesk settings trace rows opened_at old.pass.seen old.pass.number old.seat.desk
-      → IsOwnDesk settings trace rows opened_at new.pass.seen new.pass.number new.seat.desk
+      → IsOwnDesk settings trace rows opened_at old.pass.seen old.pass.number old.worker.desk
+      → IsOwnDesk settings trace rows opened_at new.pass.seen new.pass.number new.worker.desk
   pub commits : (opened_at : ℕ) → opened_at ≤ length old.pass.seen
       → OwnMayStand settings opened_at old.pass.number old.pass.seen
       → OwnMayStand settings opened_at new.pass.number new.pass.seen
@@ -31,15 +31,15 @@ pub record PlaysOn (settings : Settings) (old new : Player) : Type 0 where
 -- a transaction is a player's attempt on the first request that is left at its desk, planned on its copy
 abbrev pub PlansFirst : Player → Txn → Type 0
 PlansFirst player txn =
-    IsFirstAttempt player.seat.desk.settings player.pass.seen player.pass.number player.seat.copy.seen player.seat.desk txn
+    IsFirstAttempt player.worker.desk.settings player.pass.seen player.pass.number player.worker.copy.seen player.worker.desk txn
 
 -- a player may commit on this shared cell: it has a turn left and is one of the schedulers of its settings, and
 -- its copy has taken over all that its pass has seen
 pub record IsSynced (shared : TableId) (player : Player) : Type 0 where
-  pub range : IsInRange player.seat.desk.settings
+  pub range : IsInRange player.worker.desk.settings
   pub of : player.pass.of ≡ shared
   pub left : 0 < player.pass.turns
-  pub known : player.pass.number < schedulers player.seat.desk.settings
-  pub seat : IsSeat player.seat.desk.settings player.pass.seen player.pass.number player.seat
-  pub all : synced_of player.seat ≡ Some (length player.pass.seen)
-  pub copied : player.seat.copy.seen ≡ length player.pass.seen
+  pub known : player.pass.number < schedulers player.worker.desk.settings
+  pub worker : IsWorker player.worker.desk.settings player.pass.seen player.pass.number player.worker
+  pub all : synced_of player.worker ≡ Some (length player.pass.seen)
+  pub copied : player.worker.copy.seen ≡ length player.pass.seen

@@ -15,11 +15,11 @@ mod plans;
 mod player;
 mod reopening;
 mod resume;
-mod seat;
 mod steps;
 mod threads;
 mod together;
 mod turns;
+mod worker;
 mod world;
 
 pub use clock::in_time;

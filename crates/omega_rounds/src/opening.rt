@@ -15,7 +15,7 @@ ghost use Rattle.omega_rounds.specs.Keeping.{WereQuiet};
 ghost use Rattle.omega_rounds.specs.Opening.{BeginAll, HaveNoWork, IsAsked, MayFeed, MayFeedAll, has_work};
 
 use crate::reopening::{reopen_since, reopen_stopped};
-use crate::seat::Seat;
+use crate::worker::Worker;
 use omega_board::Board;
 use omega_cell::Cell;
 use omega_feed::{OpenJobs, Wanted};
@@ -34,32 +34,32 @@ pub(crate) fn open_round(
     wanted: &mut Wanted,
     open_jobs: &mut OpenJobs,
     cell: &mut Cell,
-    seats: &mut Vec<Seat>,
+    workers: &mut Vec<Worker>,
 ) -> Result<(), NoMemory>
     requires within { opened_at ≤ length cell.old.history }
     requires commits { All (λ entry. is_commit entry ≡ true) (drop opened_at cell.old.history) }
     requires quiet { WereQuiet open_jobs.old wanted.old opened_at cell.old.history }
     requires asked { IsAsked (record wanted.old { tasks = fold wanted_after wanted.old.tasks round.now.rows }) }
-    requires few { length seats.old.items < 2 ^ 32 }
-    requires no_work { HaveNoWork seats.old.items }
+    requires few { length workers.old.items < 2 ^ 32 }
+    requires no_work { HaveNoWork workers.old.items }
     ensures history { (trace : TraceTables) (rows : List Row) → wanted.old.disks ≡ trace.disks
         → wanted.old.tasks ≡ wanted_tasks rows
         → OnOk result (cell.new.history ≡ (opened trace rows cell.old.history round.now).history) }
     ensures wanted { OnOk result (wanted.new
         ≡ record wanted.old { tasks = fold wanted_after wanted.old.tasks round.now.rows }) }
     ensures quiet { OnOk result (OthersAreQuiet open_jobs.new wanted.new (state cell.new.history).tasks) }
-    ensures seats { OnOk result (BeginAll wanted.new cell.new.history seats.old.items seats.new.items) }
+    ensures workers { OnOk result (BeginAll wanted.new cell.new.history workers.old.items workers.new.items) }
 {
     reopen_since(open_jobs, wanted, cell, opened_at)?;
     open(alloc, cell, wanted, open_jobs, round)?;
     open_jobs.settle(alloc, wanted, cell.board())?;
-    begin_all(alloc, seats, wanted, open_jobs, cell)?;
+    begin_all(alloc, workers, wanted, open_jobs, cell)?;
     Ok(())
 }
 
-// Appends a round's entry and those of its rows in order. Of the jobs that aren't open, those of which
-// something may have to be placed then are opened. More machines than a table holds are answered as
-// want of memory. Costs the rows, and what their entries change.
+/// Appends a round's entry and those of its rows in order. Of the jobs that aren't open, those of which
+/// something may have to be placed then are opened. More machines than a table holds are answered as
+/// want of memory. Costs the rows, and what their entries change.
 fn open(
     alloc: Global,
     cell: &mut Cell,
@@ -89,7 +89,7 @@ fn open(
     Ok(())
 }
 
-// Appends the entries of the row that was taken last.
+/// Appends the entries of the row that was taken last.
 fn apply_row(
     alloc: Global,
     cell: &mut Cell,
@@ -106,7 +106,7 @@ fn apply_row(
     feed_all(alloc, cell, wanted, open_jobs, entries)
 }
 
-// Appends entries in order, and opens the jobs of the tasks that each of them may stop.
+/// Appends entries in order, and opens the jobs of the tasks that each of them may stop.
 fn feed_all(
     alloc: Global,
     cell: &mut Cell,
@@ -125,7 +125,7 @@ fn feed_all(
     Ok(())
 }
 
-// Appends an entry, and opens the jobs of the tasks that it may stop.
+/// Appends an entry, and opens the jobs of the tasks that it may stop.
 fn feed_one(
     alloc: Global,
     cell: &mut Cell,
@@ -143,7 +143,7 @@ fn feed_one(
     Ok(())
 }
 
-// Appends an entry.
+/// Appends an entry.
 fn feed(alloc: Global, cell: &mut Cell, entry: Entry) -> Result<(), NoMemory>
     requires { MayFeed cell.old.history entry }
     ensures { OnOk result (cell.new.history ≡ cell.old.history ++ entry ∷ []) }
@@ -157,7 +157,7 @@ fn feed(alloc: Global, cell: &mut Cell, entry: Entry) -> Result<(), NoMemory>
     }
 }
 
-// Whether a board has the machine of an entry, or room for it.
+/// Whether a board has the machine of an entry, or room for it.
 fn has_room(board: &Board, entry: &Entry) -> bool
     ensures { IsTrue result → IfSome (machine_in entry.now) (ListsOrHasRoom (cell_of board.now).machines) }
 {
@@ -171,7 +171,7 @@ fn has_room(board: &Board, entry: &Entry) -> bool
     }
 }
 
-// Whether a board has a machine, or room for it.
+/// Whether a board has a machine, or room for it.
 fn has_room_for(board: &Board, machine: u64) -> bool
     ensures { IsTrue result → ListsOrHasRoom (cell_of board.now).machines machine }
 {
@@ -179,31 +179,33 @@ fn has_room_for(board: &Board, machine: u64) -> bool
     machines.len() < MOST_MACHINES || machines.position(machine).is_some()
 }
 
-// Hands each scheduler what it is asked to place on the cell. Costs the wanted tasks of the open jobs,
-// also those that run, the extra tasks, and for each scheduler a look at the open jobs.
+/// Hands each scheduler what it is asked to place on the cell. Costs the wanted tasks of the open jobs,
+/// also those that run, the extra tasks, and for each scheduler a look at the open jobs.
 fn begin_all(
     alloc: Global,
-    seats: &mut Vec<Seat>,
+    workers: &mut Vec<Worker>,
     wanted: &Wanted,
     open_jobs: &OpenJobs,
     cell: &Cell,
 ) -> Result<(), NoMemory>
     requires asked { IsAsked wanted.now }
     requires quiet { OthersAreQuiet open_jobs.now wanted.now (state cell.now.history).tasks }
-    requires few { length seats.old.items < 2 ^ 32 }
-    requires no_work { HaveNoWork seats.old.items }
-    ensures { OnOk result (BeginAll wanted.now cell.now.history seats.old.items seats.new.items) }
+    requires few { length workers.old.items < 2 ^ 32 }
+    requires no_work { HaveNoWork workers.old.items }
+    ensures { OnOk result (BeginAll wanted.now cell.now.history workers.old.items workers.new.items) }
 {
-    for i in 0..seats.len() {
+    for i in 0..workers.len() {
         let requests = wanted.requests(alloc, i as u32, cell.board(), open_jobs)?;
-        seats[i].begin(requests)?;
+        workers[i].begin(requests)?;
     }
     Ok(())
 }
 
 /// The first scheduler that has work.
-pub(crate) fn first_at_work(seats: &[Seat]) -> Option<usize>
-    ensures { result ≡ position has_work seats.now }
+pub(crate) fn first_at_work(workers: &[Worker]) -> Option<usize>
+    ensures { result ≡ position has_work workers.now }
 {
-    seats.iter().position(|seat| seat.desk.present().is_some())
+    workers
+        .iter()
+        .position(|worker| worker.desk.present().is_some())
 }

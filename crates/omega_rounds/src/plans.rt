@@ -9,7 +9,7 @@ ghost use Rattle.omega_model.specs.declared.entries.Entry.{Entry};
 ghost use Rattle.omega_rounds.specs.Plans.{IsAtDesk, IsPlan};
 
 use crate::planned::planned;
-use crate::seat::start_on;
+use crate::worker::start_on;
 use omega_board::touched;
 use omega_cell::Cell;
 use omega_copy::{Indexes, PrivateCopy};
@@ -55,8 +55,8 @@ pub(crate) fn plan_first(
     plan
 }
 
-// The attempt, planned on the board of the cell, which is lent to a copy with these indexes. They are told of
-// these machines, for whose places they have room.
+/// The attempt, planned on the board of the cell, which is lent to a copy with these indexes. They are told of
+/// these machines, for whose places they have room.
 fn plan_apart(
     alloc: Global,
     settings: &Settings,
@@ -84,7 +84,7 @@ fn plan_apart(
     (plan, indexes, Cell::joined(board, log))
 }
 
-// The attempt, planned on a copy.
+/// The attempt, planned on a copy.
 fn plan_on(
     alloc: Global,
     settings: &Settings,

@@ -4,20 +4,20 @@ ghost use Rattle.omega_model.specs.Policy.{schedulers};
 ghost use Rattle.omega_model.specs.Ranges.{IsInRange};
 ghost use Rattle.omega_rounds.specs.Players.{HasPlayed, MayPlay};
 ghost use Rattle.omega_rounds.specs.PlayingOn.{IsSynced, PlansFirst, PlaysOn};
-ghost use Rattle.omega_rounds.specs.Seats.{IsSeat, synced_of, to_do_of};
+ghost use Rattle.omega_rounds.specs.Workers.{IsWorker, synced_of, to_do_of};
 
 use crate::planned::planned;
-use crate::seat::{Seat, start_on};
+use crate::worker::{Worker, start_on};
 use omega_io::{Gate, Point};
 use omega_model::{NoMemory, Settings, Txn};
 use omega_shared::{Pass, SharedCell};
 use std::alloc::Global;
 use std::sync::Wait;
 
-/// A scheduler with its seat and its pass to the shared cell, and whether it has met want of memory.
+/// A worker with its pass to the shared cell, and whether it has met want of memory.
 #[derive(Drop)]
 pub(crate) struct Player {
-    pub seat: Seat,
+    pub worker: Worker,
     pub pass: Pass,
     pub failed: bool,
 }
@@ -38,7 +38,7 @@ impl Player {
         requires may_play { MayPlay settings.now shared.now.of self.old }
         ensures played { HasPlayed settings.now self.old self.new }
     {
-        while self.seat.desk.present().is_some() {
+        while self.worker.desk.present().is_some() {
             if self.attempt(rt, alloc, settings, shared, gate).is_err() {
                 self.failed = true;
                 return;
@@ -46,7 +46,7 @@ impl Player {
         }
     }
 
-    // One attempt on the first request that is left, in two turns. Asks the gate after each step.
+    /// One attempt on the first request that is left, in two turns. Asks the gate after each step.
     fn attempt<R: Wait, G: Gate>(
         &mut self,
         rt: &R,
@@ -57,11 +57,11 @@ impl Player {
     ) -> Result<(), NoMemory>
         requires range { IsInRange settings.now }
         requires may_play { MayPlay settings.now shared.now.of self.old }
-        requires work { self.old.seat.desk.requests ≢ [] }
+        requires work { self.old.worker.desk.requests ≢ [] }
         ensures plays_on { PlaysOn settings.now self.old self.new }
         ensures may_play { OnOk result (MayPlay settings.now shared.now.of self.new) }
-        ensures fewer { OnOk result (to_do_of self.new.seat < to_do_of self.old.seat) }
-        ensures spent { OnOk result (synced_of self.new.seat ≡ None) }
+        ensures fewer { OnOk result (to_do_of self.new.worker < to_do_of self.old.worker) }
+        ensures spent { OnOk result (synced_of self.new.worker ≡ None) }
         ensures failed { self.new.failed ≡ self.old.failed }
     {
         let number = self.pass.number();
@@ -74,51 +74,51 @@ impl Player {
         Ok(())
     }
 
-    // A turn in which the copy takes over the history. Where memory runs out the scheduler hasn't synced.
+    /// A turn in which the copy takes over the history. Where memory runs out the scheduler hasn't synced.
     fn sync<R: Wait>(&mut self, rt: &R, alloc: Global, shared: &SharedCell) -> Result<(), NoMemory>
         requires of { self.old.pass.of ≡ shared.now.of }
         requires left { 0 < self.old.pass.turns }
-        requires seat { IsSeat self.old.seat.desk.settings self.old.pass.seen self.old.pass.number self.old.seat }
-        ensures plays_on { PlaysOn self.old.seat.desk.settings self.old self.new }
+        requires worker { IsWorker self.old.worker.desk.settings self.old.pass.seen self.old.pass.number self.old.worker }
+        ensures plays_on { PlaysOn self.old.worker.desk.settings self.old self.new }
         ensures turn { self.new.pass.turns + 1 ≡ self.old.pass.turns }
-        ensures desk { self.new.seat.desk ≡ self.old.seat.desk }
-        ensures all { OnOk result (synced_of self.new.seat ≡ Some (length self.new.pass.seen)) }
-        ensures copied { OnOk result (self.new.seat.copy.seen ≡ length self.new.pass.seen) }
+        ensures desk { self.new.worker.desk ≡ self.old.worker.desk }
+        ensures all { OnOk result (synced_of self.new.worker ≡ Some (length self.new.pass.seen)) }
+        ensures copied { OnOk result (self.new.worker.copy.seen ≡ length self.new.pass.seen) }
         ensures failed { self.new.failed ≡ self.old.failed }
     {
-        self.seat.synced = None;
-        shared.sync(rt, alloc, &mut self.pass, &mut self.seat.copy)?;
-        self.seat.synced = Some(self.seat.copy.seen());
+        self.worker.synced = None;
+        shared.sync(rt, alloc, &mut self.pass, &mut self.worker.copy)?;
+        self.worker.synced = Some(self.worker.copy.seen());
         Ok(())
     }
 
-    // The transaction of an attempt on the first request that is left, planned on the copy. One of
-    // 2^32 claims or more is want of memory, and so is one after 2^64 - 1 entries.
+    /// The transaction of an attempt on the first request that is left, planned on the copy. One of
+    /// 2^32 claims or more is want of memory, and so is one after 2^64 - 1 entries.
     fn plan(&mut self, alloc: Global, settings: &Settings) -> Result<Txn, NoMemory>
         requires range { IsInRange settings.now }
         requires known { self.old.pass.number < schedulers settings.now }
-        requires seat { IsSeat settings.now self.old.pass.seen self.old.pass.number self.old.seat }
-        requires work { self.old.seat.desk.requests ≢ [] }
+        requires worker { IsWorker settings.now self.old.pass.seen self.old.pass.number self.old.worker }
+        requires work { self.old.worker.desk.requests ≢ [] }
         ensures same { self.new ≡ self.old }
         ensures plans { IfOk result (λ txn. PlansFirst self.old txn) }
         ensures few { IfOk result (λ txn. length txn.claims < 2 ^ 32) }
-        ensures short { OnOk result (self.old.seat.copy.seen + 1 < 2 ^ 64) }
+        ensures short { OnOk result (self.old.worker.copy.seen + 1 < 2 ^ 64) }
     {
         let number = self.pass.number();
-        let start = start_on(&self.seat.desk, &self.seat.copy);
-        let Some(request) = self.seat.desk.present() else {
+        let start = start_on(&self.worker.desk, &self.worker.copy);
+        let Some(request) = self.worker.desk.present() else {
             unreachable!()
         };
-        let copy = &mut self.seat.copy;
+        let copy = &mut self.worker.copy;
         let txn = planned(alloc, settings, number, copy, request, start)?;
-        if txn.claims.len() > u32::MAX as usize || self.seat.copy.seen() == u64::MAX {
+        if txn.claims.len() > u32::MAX as usize || self.worker.copy.seen() == u64::MAX {
             return Err(NoMemory);
         }
         Ok(txn)
     }
 
-    // A turn in which an attempt's transaction is committed, after which the desk moves on by what was
-    // answered. Where memory runs out the seat is as before.
+    /// A turn in which an attempt's transaction is committed, after which the desk moves on by what was
+    /// answered. Where memory runs out the worker is as before.
     fn commit<R: Wait>(
         &mut self,
         rt: &R,
@@ -129,19 +129,19 @@ impl Player {
         requires synced { IsSynced shared.now.of self.old }
         requires plans { PlansFirst self.old txn }
         requires few { length txn.claims < 2 ^ 32 }
-        requires short { self.old.seat.copy.seen + 1 < 2 ^ 64 }
-        ensures plays_on { PlaysOn self.old.seat.desk.settings self.old self.new }
+        requires short { self.old.worker.copy.seen + 1 < 2 ^ 64 }
+        ensures plays_on { PlaysOn self.old.worker.desk.settings self.old self.new }
         ensures turn { self.new.pass.turns + 1 ≡ self.old.pass.turns }
-        ensures fewer { OnOk result (to_do_of self.new.seat < to_do_of self.old.seat) }
-        ensures spent { OnOk result (synced_of self.new.seat ≡ None) }
+        ensures fewer { OnOk result (to_do_of self.new.worker < to_do_of self.old.worker) }
+        ensures spent { OnOk result (synced_of self.new.worker ≡ None) }
         ensures failed { self.new.failed ≡ self.old.failed }
     {
-        let copy = &self.seat.copy;
+        let copy = &self.worker.copy;
         let Ok(reply) = shared.commit(rt, alloc, &mut self.pass, copy, txn) else {
             return Err(NoMemory);
         };
-        self.seat.desk.take(&reply);
-        self.seat.synced = None;
+        self.worker.desk.take(&reply);
+        self.worker.synced = None;
         Ok(())
     }
 }

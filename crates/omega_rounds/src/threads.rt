@@ -8,14 +8,14 @@ ghost use Rattle.omega_model.specs.Ranges.{IsInRange};
 ghost use Rattle.omega_model.specs.declared.rows.TraceTables.{TraceTables};
 ghost use Rattle.omega_shared.specs.Passes.{new_pass};
 ghost use Rattle.omega_rounds.specs.Closed.{AreBack, Suffice};
-ghost use Rattle.omega_rounds.specs.Seats.{IsSeat};
+ghost use Rattle.omega_rounds.specs.Workers.{IsWorker};
 ghost use Rattle.omega_rounds.specs.Stages.{AllHaveBegun, IsInRunOf};
-ghost use Rattle.omega_rounds.specs.declared.seat.Seat.{Seat};
+ghost use Rattle.omega_rounds.specs.declared.worker.Worker.{Worker};
 
 use crate::player::Player;
-use crate::seat::Seat;
 use crate::steps::RoundStep;
 use crate::together::play_all;
+use crate::worker::Worker;
 use crate::world::World;
 use omega_cell::Cell;
 use omega_io::Gate;
@@ -59,45 +59,45 @@ pub fn on_threads<R: Threads + Wait + Sync, G: Gate + Sync>(
     }
 }
 
-/// Lets the schedulers of these seats work until nothing is left at any desk, each on a thread of its
-/// own, and answers the cell and the seats. Where memory runs out both are gone. May wait.
+/// Lets the schedulers of these workers work until nothing is left at any desk, each on a thread of its
+/// own, and answers the cell and the workers. Where memory runs out both are gone. May wait.
 pub(crate) fn play_shared<R: Threads + Wait + Sync, G: Gate + Sync>(
     rt: &R,
     alloc: Global,
     settings: &Settings,
     cell: Cell,
-    seats: Vec<Seat>,
+    workers: Vec<Worker>,
     gate: &G,
-) -> Result<(Cell, Vec<Seat>), NoMemory>
+) -> Result<(Cell, Vec<Worker>), NoMemory>
     requires sync { IsSync R.row × IsSync G.row }
     requires range { IsInRange settings.now }
     requires short { length cell.history < 2 ^ 63 }
-    requires count { length seats.items ≡ schedulers settings.now }
-    requires each { (number : ℕ) (seat : Seat) → slice_get seats.items number ≡ Some seat
-        → IsSeat settings.now cell.history number seat }
-    ensures back { IfOk result (λ back. AreBack settings.now cell.history back.0.history seats.items back.1.items) }
+    requires count { length workers.items ≡ schedulers settings.now }
+    requires each { (number : ℕ) (worker : Worker) → slice_get workers.items number ≡ Some worker
+        → IsWorker settings.now cell.history number worker }
+    ensures back { IfOk result (λ back. AreBack settings.now cell.history back.0.history workers.items back.1.items) }
 {
-    let turns = turns_for(settings, seats.as_slice())?;
+    let turns = turns_for(settings, workers.as_slice())?;
     let callers = settings.schedulers();
-    let players = Vec::with_capacity(alloc, seats.len())?;
-    let seats_room = Vec::with_capacity(alloc, seats.len())?;
-    let passes_room = Vec::with_capacity(alloc, seats.len())?;
+    let players = Vec::with_capacity(alloc, workers.len())?;
+    let workers_room = Vec::with_capacity(alloc, workers.len())?;
+    let passes_room = Vec::with_capacity(alloc, workers.len())?;
     let (shared, passes) = share(rt, alloc, cell, callers, turns)?;
-    let mut players = players_of(seats, passes, players);
+    let mut players = players_of(workers, passes, players);
     play_all(rt, alloc, settings, &shared, &mut players, gate);
     if any_failed(&players) {
         return Err(NoMemory);
     }
-    let (seats, passes) = apart(players, seats_room, passes_room);
-    Ok((shared.close(passes), seats))
+    let (workers, passes) = apart(players, workers_room, passes_room);
+    Ok((shared.close(passes), workers))
 }
 
-// Two turns for each attempt that a scheduler can make: as many as for all tries of as many requests as
-// the desk with most has. More than a number of turns can be is want of memory.
-fn turns_for(settings: &Settings, seats: &[Seat]) -> Result<u32, NoMemory>
-    ensures { IfOk result (Suffice settings.now seats.now) }
+/// Two turns for each attempt that a scheduler can make: as many as for all tries of as many requests as
+/// the desk with most has. More than a number of turns can be is want of memory.
+fn turns_for(settings: &Settings, workers: &[Worker]) -> Result<u32, NoMemory>
+    ensures { IfOk result (Suffice settings.now workers.now) }
 {
-    let most = most_requests(seats);
+    let most = most_requests(workers);
     let Some(turns) = most.checked_mul(2 * u128::from(settings.tries)) else {
         return Err(NoMemory);
     };
@@ -107,32 +107,32 @@ fn turns_for(settings: &Settings, seats: &[Seat]) -> Result<u32, NoMemory>
     }
 }
 
-// The number of requests at the desk that has most.
-fn most_requests(seats: &[Seat]) -> u128
-    ensures { All (λ seat. length seat.desk.requests ≤ result) seats.now }
+/// The number of requests at the desk that has most.
+fn most_requests(workers: &[Worker]) -> u128
+    ensures { All (λ worker. length worker.desk.requests ≤ result) workers.now }
 {
     let mut most = 0;
-    for seat in seats {
-        most = most.max(seat.desk.request_count());
+    for worker in workers {
+        most = most.max(worker.desk.request_count());
     }
     most
 }
 
-// The players of the schedulers, by number. There is room for them.
-fn players_of(seats: Vec<Seat>, passes: Vec<Pass>, mut players: Vec<Player>) -> Vec<Player>
-    requires as_many { length passes.items ≡ length seats.items }
-    requires room { (players.items ≡ []) × (length seats.items ≤ vec_capacity players) }
-    ensures seats { map (λ player. player.seat) result.items ≡ seats.items }
+/// The players of the schedulers, by number. There is room for them.
+fn players_of(workers: Vec<Worker>, passes: Vec<Pass>, mut players: Vec<Player>) -> Vec<Player>
+    requires as_many { length passes.items ≡ length workers.items }
+    requires room { (players.items ≡ []) × (length workers.items ≤ vec_capacity players) }
+    ensures workers { map (λ player. player.worker) result.items ≡ workers.items }
     ensures passes { map (λ player. player.pass) result.items ≡ passes.items }
     ensures fresh { All (λ player. player.failed ≡ false) result.items }
 {
     let mut passes = passes.into_iter();
-    for seat in seats {
+    for worker in workers {
         let Some(pass) = passes.next() else {
             unreachable!()
         };
         players.push_reserved(Player {
-            seat,
+            worker,
             pass,
             failed: false,
         });
@@ -140,33 +140,33 @@ fn players_of(seats: Vec<Seat>, passes: Vec<Pass>, mut players: Vec<Player>) -> 
     players
 }
 
-// Whether a player has met want of memory.
+/// Whether a player has met want of memory.
 fn any_failed(players: &[Player]) -> bool
     ensures { result ≡ list_any (λ player. player.failed) players.now }
 {
     players.iter().any(|player| player.failed)
 }
 
-// The seats and the passes of players. There is room for them.
+/// The workers and the passes of players. There is room for them.
 fn apart(
     players: Vec<Player>,
-    mut seats: Vec<Seat>,
+    mut workers: Vec<Worker>,
     mut passes: Vec<Pass>,
-) -> (Vec<Seat>, Vec<Pass>)
-    requires seats { (seats.items ≡ []) × (length players.items ≤ vec_capacity seats) }
+) -> (Vec<Worker>, Vec<Pass>)
+    requires workers { (workers.items ≡ []) × (length players.items ≤ vec_capacity workers) }
     requires passes { (passes.items ≡ []) × (length players.items ≤ vec_capacity passes) }
-    ensures seats { result.0.items ≡ map (λ player. player.seat) players.items }
+    ensures workers { result.0.items ≡ map (λ player. player.worker) players.items }
     ensures passes { result.1.items ≡ map (λ player. player.pass) players.items }
 {
     for player in players {
-        let Player { seat, pass, .. } = player;
-        seats.push_reserved(seat);
+        let Player { worker, pass, .. } = player;
+        workers.push_reserved(worker);
         passes.push_reserved(pass);
     }
-    (seats, passes)
+    (workers, passes)
 }
 
-// Shares a cell. Where memory runs out the cell is gone.
+/// Shares a cell. Where memory runs out the cell is gone.
 fn share<R: Wait>(
     rt: &R,
     alloc: Global,

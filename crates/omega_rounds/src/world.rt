@@ -16,14 +16,14 @@ ghost use Rattle.omega_rounds.specs.Closed.{IsDone};
 ghost use Rattle.omega_rounds.specs.Going.{GoesOn, IsOverAtLast, LeavesToDo, MovesOn, OpensRound, ReachesRound, StepsOn};
 ghost use Rattle.omega_rounds.specs.InTime.{HasWishesLeft, IsNoneWithoutWork, rows_time};
 ghost use Rattle.omega_rounds.specs.Keeping.{IsNew, LawfulWorld};
-ghost use Rattle.omega_rounds.specs.Opening.{AreNewSeats};
+ghost use Rattle.omega_rounds.specs.Opening.{AreNewWorkers};
 ghost use Rattle.omega_rounds.specs.Playing.{IsAtStart, IsInSomeRun};
 ghost use Rattle.omega_rounds.specs.Stages.{AllHaveBegun, IsInRunOf, first_stage, rows_begun, world_of};
 
 use crate::opening::{first_at_work, open_round};
-use crate::seat::Seat;
 use crate::steps::{RoundStep, Stepped};
 use crate::threads::play_shared;
+use crate::worker::Worker;
 use omega_cell::{Cell, Effects};
 use omega_copy::Indexes;
 use omega_feed::{OpenJobs, WaitingTasks, Wanted, feed, rounds};
@@ -54,7 +54,7 @@ pub struct World {
     /// The jobs of which something may have to be placed. All others were quiet at that place.
     open_jobs: OpenJobs,
     cell: Cell,
-    seats: Vec<Seat>,
+    workers: Vec<Worker>,
     /// What a plan needs beside the cell's board.
     indexes: Indexes,
 }
@@ -64,14 +64,14 @@ impl Model for World {
     ghost use Rattle.std.specs.List.{sum_by};
     ghost use Rattle.omega_copy.specs.Indexes.{AreIndexesOf};
     ghost use Rattle.omega_rounds.specs.Keeping.{IsWorld, WereQuiet};
-    ghost use Rattle.omega_rounds.specs.Seats.{synced_of, to_do_of};
+    ghost use Rattle.omega_rounds.specs.Workers.{synced_of, to_do_of};
     ghost use Rattle.omega_rounds.specs.Stages.{WorldState, stage_of};
 
     ghost Value = { WorldState };
 
-    ghost view = { λ w. record { stage = stage_of w.settings w.rounds w.wanted w.begun w.opened_at; history = w.cell.history; synced = map synced_of w.seats.items; to_do = sum_by to_do_of w.seats.items } };
+    ghost view = { λ w. record { stage = stage_of w.settings w.rounds w.wanted w.begun w.opened_at; history = w.cell.history; synced = map synced_of w.workers.items; to_do = sum_by to_do_of w.workers.items } };
 
-    ghost invariant = { λ w. IsWorld (stage_of w.settings w.rounds w.wanted w.begun w.opened_at) w.wanted.tasks w.cell.history w.seats.items
+    ghost invariant = { λ w. IsWorld (stage_of w.settings w.rounds w.wanted w.begun w.opened_at) w.wanted.tasks w.cell.history w.workers.items
         × WereQuiet w.open_jobs w.wanted w.opened_at w.cell.history
         × AreIndexesOf w.cell.history w.indexes };
 }
@@ -88,7 +88,7 @@ impl World {
         let rows = feed(alloc, tables)?;
         let wanted = Wanted::new(alloc, tables, &rows, settings)?;
         let rounds = rounds(alloc, rows, settings.window)?;
-        let seats = new_seats(alloc, settings)?;
+        let workers = new_workers(alloc, settings)?;
         Ok(World {
             alloc,
             settings: *settings,
@@ -98,14 +98,13 @@ impl World {
             wanted,
             open_jobs: OpenJobs::new(alloc),
             cell: Cell::new(alloc),
-            seats,
+            workers,
             indexes: Indexes::new(alloc),
         })
     }
 
     /// The history: lawful so far for each trace in whose run the world is, with each copy that has
-    /// synced within its bounds; legal, and with no state on the way that is overcommitted. Takes no
-    /// memory.
+    /// synced within its bounds; legal, and with no state on the way that is overcommitted.
     pub fn history(&self) -> &[Entry]
         ensures history { result.now ≡ self.now.history }
         ensures lawful { (trace : TraceTables) → IsInRunOf self.now.stage trace
@@ -127,7 +126,7 @@ impl World {
         self.wanted.left(self.alloc, self.cell.board())
     }
 
-    /// The history itself. Takes no memory.
+    /// The history itself.
     pub fn into_history(self) -> Entries
         ensures history { result ≡ self.history }
         ensures lawful { (trace : TraceTables) → IsInRunOf self.stage trace
@@ -140,7 +139,7 @@ impl World {
         cell.into_history()
     }
 
-    /// The history itself, and what its entries did. Takes no memory.
+    /// The history itself, and what its entries did.
     pub fn into_run(self) -> (Entries, Effects)
         ensures history { result.0 ≡ self.history }
         ensures effects { AreEffects self.history result.1 }
@@ -169,7 +168,7 @@ impl World {
         ensures made { IsInSomeRun self.stage }
         ensures start { self.stage.begun ≡ 0 → IsAtStart self }
     {
-        if let Some(scheduler) = first_at_work(self.seats.as_slice()) {
+        if let Some(scheduler) = first_at_work(self.workers.as_slice()) {
             return Ok((self, RoundStep::Unfinished(scheduler as u32)));
         }
         if self.begun == self.rounds.len() {
@@ -179,7 +178,7 @@ impl World {
         Ok((world, RoundStep::Begun(number)))
     }
 
-    // The next round begins. Answers its number.
+    /// The next round begins. Answers its number.
     fn begin_round(self) -> Result<(World, u64), NoMemory>
         requires no_work { self.to_do ≡ 0 }
         requires more { self.stage.begun < length self.stage.source.rounds }
@@ -196,7 +195,7 @@ impl World {
             mut wanted,
             mut open_jobs,
             mut cell,
-            mut seats,
+            mut workers,
             indexes,
         } = self;
         let Some(round) = rounds.get(begun) else {
@@ -210,7 +209,7 @@ impl World {
             &mut wanted,
             &mut open_jobs,
             &mut cell,
-            &mut seats,
+            &mut workers,
         )?;
         let opened_at = cell.history().len();
         let world = World {
@@ -222,7 +221,7 @@ impl World {
             wanted,
             open_jobs,
             cell,
-            seats,
+            workers,
             indexes,
         };
         Ok((world, number))
@@ -243,8 +242,8 @@ impl World {
     {
         let alloc = self.alloc;
         let settings = self.settings;
-        let seat = &mut self.seats[scheduler as usize];
-        let stepped = seat.step(
+        let worker = &mut self.workers[scheduler as usize];
+        let stepped = worker.step(
             alloc,
             &settings,
             scheduler,
@@ -268,7 +267,7 @@ impl World {
         ensures stage { IfOk result (λ after. after.stage ≡ self.stage) }
         ensures done { IfOk result IsDone }
     {
-        if first_at_work(self.seats.as_slice()).is_none() {
+        if first_at_work(self.workers.as_slice()).is_none() {
             return Ok(self);
         }
         if self.cell.history().len() as u64 >= 1 << 63 {
@@ -283,10 +282,10 @@ impl World {
             wanted,
             open_jobs,
             cell,
-            seats,
+            workers,
             indexes,
         } = self;
-        let (cell, seats) = play_shared(rt, alloc, &settings, cell, seats, gate)?;
+        let (cell, workers) = play_shared(rt, alloc, &settings, cell, workers, gate)?;
         Ok(World {
             alloc,
             settings,
@@ -296,19 +295,18 @@ impl World {
             wanted,
             open_jobs,
             cell,
-            seats,
+            workers,
             indexes,
         })
     }
 
-    /// How many wishes of its first request a scheduler has left, 0 exactly where it has no work. Takes no
-    /// memory.
+    /// How many wishes of its first request a scheduler has left, 0 exactly where it has no work.
     pub fn left(&self, scheduler: u32) -> usize
         requires { scheduler < schedulers self.now.stage.settings }
         ensures wishes { HasWishesLeft self.now scheduler result }
         ensures idle { IsNoneWithoutWork self.now scheduler result }
     {
-        self.seats[scheduler as usize].left()
+        self.workers[scheduler as usize].left()
     }
 
     /// The greatest time of the rows of the round that is under way, in microseconds. `None` exactly before
@@ -322,14 +320,14 @@ impl World {
         Some(greatest_time(round.rows.as_slice()))
     }
 
-    /// All rounds of the trace, also those that haven't begun. Takes no memory.
+    /// All rounds of the trace, also those that haven't begun.
     pub fn rounds(&self) -> &[Round]
         ensures { result.now ≡ self.now.stage.source.rounds }
     {
         self.rounds.as_slice()
     }
 
-    /// The settings of the run. Takes no memory.
+    /// The settings of the run.
     pub(crate) fn settings(&self) -> Settings
         ensures is { result ≡ self.now.stage.settings }
     {
@@ -341,7 +339,7 @@ impl World {
         self.alloc
     }
 
-    /// How many schedulers there are. Takes no memory.
+    /// How many schedulers there are.
     pub fn schedulers(&self) -> u32
         ensures { result ≡ schedulers self.now.stage.settings }
     {
@@ -349,14 +347,14 @@ impl World {
     }
 }
 
-// A seat for each scheduler.
-fn new_seats(alloc: Global, settings: &Settings) -> Result<Vec<Seat>, NoMemory>
+/// A worker for each scheduler.
+fn new_workers(alloc: Global, settings: &Settings) -> Result<Vec<Worker>, NoMemory>
     requires { IsInRange settings.now }
-    ensures { IfOk result (λ seats. AreNewSeats settings.now (schedulers settings.now) seats.items) }
+    ensures { IfOk result (λ workers. AreNewWorkers settings.now (schedulers settings.now) workers.items) }
 {
-    let mut seats = Vec::new(alloc);
+    let mut workers = Vec::new(alloc);
     for scheduler in 0..settings.schedulers() {
-        seats.push(Seat::new(alloc, settings, scheduler))?;
+        workers.push(Worker::new(alloc, settings, scheduler))?;
     }
-    Ok(seats)
+    Ok(workers)
 }

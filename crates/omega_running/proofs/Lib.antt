@@ -6,4 +6,4 @@ pub mod AtFork
 pub mod Kept
 pub mod Ranked
 pub mod Spread
-pub mod Held
+pub mod Staying

@@ -3,4 +3,4 @@ pub mod Tree
 pub mod Forest
 pub mod Kept
 pub mod Standing
-pub mod Held
+pub mod Staying

@@ -7,7 +7,7 @@ ghost use Rattle.omega_model.specs.Need.{minus};
 ghost use Rattle.omega_running.specs.declared.orders.Order.TheVariants.{ByKey, ByMachine};
 ghost use Rattle.omega_running.specs.declared.nodes.Tree.TheVariants.{Leaf};
 ghost use Rattle.omega_running.specs.Forest.{is_at};
-ghost use Rattle.omega_running.specs.Held.{held_on};
+ghost use Rattle.omega_running.specs.Staying.{staying_on};
 ghost use Rattle.omega_running.specs.Order.{Each, IsInOrder, has_place, is_apart, led_by, put_in, taken_out};
 ghost use Rattle.omega_running.specs.Tree.{tasks_of};
 
@@ -44,7 +44,7 @@ impl Model for Forest {
 }
 
 impl Forest {
-    /// No task, and no tree. Takes no memory.
+    /// No task, and no tree.
     pub fn bare(alloc: Global, order: Order) -> Forest
         ensures order { result.order ≡ order }
         ensures tasks { result.tasks ≡ [] }
@@ -147,7 +147,7 @@ impl Forest {
     /// its need; a component stops at 0. Costs the tasks on the machine, and one way down of one tree.
     pub fn left_on(&self, machine: u64, prec: u8, amount: Need) -> Need
         requires { self.now.order ≡ ByMachine }
-        ensures { result ≡ minus amount (held_on prec self.now.tasks machine) }
+        ensures { result ≡ minus amount (staying_on prec self.now.tasks machine) }
     {
         match self.tree(machine) {
             Some(tree) => tree.left_on(machine, prec, amount),

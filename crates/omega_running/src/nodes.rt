@@ -4,7 +4,7 @@ ghost use Rattle.omega_model.specs.Cell.{task_at};
 ghost use Rattle.omega_model.specs.Jobs.{other_of_job};
 ghost use Rattle.omega_model.specs.Need.{minus};
 ghost use Rattle.omega_running.specs.declared.orders.Order.TheVariants.{ByKey, ByMachine};
-ghost use Rattle.omega_running.specs.Held.{held_on, stays_against};
+ghost use Rattle.omega_running.specs.Staying.{staying_on, stays_against};
 ghost use Rattle.omega_running.specs.Order.{IsInOrder, put_in, taken_out, has_place, led_by};
 ghost use Rattle.omega_running.specs.Tree.{tasks_of, tasks_at};
 
@@ -172,7 +172,7 @@ impl Tree {
     /// its need; a component stops at 0. Costs the tasks on the machine, and one way down.
     pub fn left_on(&self, machine: u64, prec: u8, amount: Need) -> Need
         requires { IsInOrder ByMachine (tasks_of self.now) }
-        ensures { result ≡ minus amount (held_on prec (tasks_of self.now) machine) }
+        ensures { result ≡ minus amount (staying_on prec (tasks_of self.now) machine) }
     {
         let Tree::Fork(node) = self else {
             return amount;
@@ -252,11 +252,11 @@ fn balanced(mut node: Box<Node>) -> Tree
     let (left, right) = (node.left.height(), node.right.height());
     if left > right.saturating_add(1) {
         node.left = leaning_left(node.left.take());
-        return turned_right(node);
+        return rotated_right(node);
     }
     if right > left.saturating_add(1) {
         node.right = leaning_right(node.right.take());
-        return turned_left(node);
+        return rotated_left(node);
     }
     fork(node)
 }
@@ -269,7 +269,7 @@ fn leaning_left(tree: Tree) -> Tree
         Tree::Leaf => Tree::Leaf,
         Tree::Fork(node) => {
             if node.left.height() < node.right.height() {
-                turned_left(node)
+                rotated_left(node)
             } else {
                 Tree::Fork(node)
             }
@@ -285,7 +285,7 @@ fn leaning_right(tree: Tree) -> Tree
         Tree::Leaf => Tree::Leaf,
         Tree::Fork(node) => {
             if node.right.height() < node.left.height() {
-                turned_right(node)
+                rotated_right(node)
             } else {
                 Tree::Fork(node)
             }
@@ -294,7 +294,7 @@ fn leaning_right(tree: Tree) -> Tree
 }
 
 /// The tree of a node, with the node at its left on top.
-fn turned_right(mut node: Box<Node>) -> Tree
+fn rotated_right(mut node: Box<Node>) -> Tree
     ensures { tasks_of result ≡ tasks_at node.value }
 {
     match node.left.take() {
@@ -308,7 +308,7 @@ fn turned_right(mut node: Box<Node>) -> Tree
 }
 
 /// The tree of a node, with the node at its right on top.
-fn turned_left(mut node: Box<Node>) -> Tree
+fn rotated_left(mut node: Box<Node>) -> Tree
     ensures { tasks_of result ≡ tasks_at node.value }
 {
     match node.right.take() {

@@ -7,8 +7,8 @@ ghost use Rattle.omega_running.specs.Standing.{same_task, stands_in};
 use crate::orders::key_lt;
 use omega_model::{Task, TaskKey};
 
-/// Whether a task is among tasks in order of key, the same in all. Takes no memory, and time
-/// logarithmic in their number.
+/// Whether a task is among tasks in order of key, the same in all. Takes time logarithmic in their
+/// number.
 pub fn stands_in(tasks: &[Task], task: &Task) -> bool
     requires { KeysRise tasks.now }
     ensures { result ≡ stands_in tasks.now task.now }
@@ -19,7 +19,7 @@ pub fn stands_in(tasks: &[Task], task: &Task) -> bool
     }
 }
 
-// The task of this key among tasks in order of key.
+/// The task of this key among tasks in order of key.
 fn task_in(tasks: &[Task], key: TaskKey) -> Option<&Task>
     requires { KeysRise tasks.now }
     ensures { option_map (λ task. task.now) result ≡ task_at tasks.now key }
@@ -37,7 +37,7 @@ fn task_in(tasks: &[Task], key: TaskKey) -> Option<&Task>
     Some(task)
 }
 
-// The tasks before the one in the middle, that one, and those behind it.
+/// The tasks before the one in the middle, that one, and those behind it.
 fn parted(tasks: &[Task]) -> (&[Task], &Task, &[Task])
     requires { 0 < length tasks.now }
     ensures { tasks.now ≡ result.0.now ++ result.1.now ∷ result.2.now }

@@ -4,7 +4,7 @@ ghost use Rattle.std.specs.List.{filter};
 ghost use Rattle.omega_model.specs.Cell.{task_at, with_task, without, is_on, by_rank, keys_of};
 ghost use Rattle.omega_model.specs.Jobs.{is_of_job, other_of_job};
 ghost use Rattle.omega_model.specs.Need.{minus};
-ghost use Rattle.omega_running.specs.Held.{held_on};
+ghost use Rattle.omega_running.specs.Staying.{staying_on};
 ghost use Rattle.omega_running.specs.Kept.{KeysRise};
 ghost use Rattle.omega_running.specs.Standing.{stands_in};
 
@@ -45,7 +45,7 @@ impl Model for Running {
 }
 
 impl Running {
-    /// No task, and no room. Takes no memory.
+    /// No task, and no room.
     pub fn new(alloc: Global) -> Running
         ensures tasks { result.tasks ≡ [] }
         ensures spare { result.spare ≡ 0 }
@@ -58,8 +58,8 @@ impl Running {
         }
     }
 
-    /// The running task of this key; `None` exactly where it doesn't run. Takes no memory, and
-    /// time logarithmic in the number of tasks.
+    /// The running task of this key; `None` exactly where it doesn't run. Takes time logarithmic in
+    /// the number of tasks.
     pub fn get(&self, key: TaskKey) -> Option<&Task>
         ensures task { option_map (λ task. task.now) result ≡ task_at self.now.tasks key }
         ensures ordered { KeysRise self.now.tasks }
@@ -67,7 +67,7 @@ impl Running {
         self.by_key.find(key)
     }
 
-    /// How many tasks run. Takes no memory, and time that doesn't depend on their number.
+    /// How many tasks run. Takes time that doesn't depend on their number.
     pub fn count(&self) -> usize
         ensures count { result ≡ length self.now.tasks }
         ensures ordered { KeysRise self.now.tasks }
@@ -97,8 +97,7 @@ impl Running {
         fill(&mut self.pool, alloc, n)
     }
 
-    /// Puts a task in, for which room was reserved. Takes no memory, and time logarithmic in the
-    /// number of tasks.
+    /// Puts a task in, for which room was reserved. Takes time logarithmic in the number of tasks.
     pub fn insert_reserved(&mut self, task: Task)
         requires absent { task_at self.old.tasks task.key ≡ None }
         requires room { 0 < self.old.spare }
@@ -113,8 +112,8 @@ impl Running {
         self.count += 1;
     }
 
-    /// Takes out the task of this key and answers it; `None` exactly where it doesn't run. Its
-    /// room is spare then. Takes no memory, and time logarithmic in the number of tasks.
+    /// Takes out the task of this key and answers it; `None` exactly where it doesn't run. Its room
+    /// is spare then. Takes time logarithmic in the number of tasks.
     pub fn remove(&mut self, key: TaskKey) -> Option<Task>
         ensures task { result ≡ task_at self.old.tasks key }
         ensures tasks { self.new.tasks ≡ without (key ∷ []) self.old.tasks }
@@ -162,16 +161,15 @@ impl Running {
     }
 
     /// What is left of an amount when each task on a machine of at least this precedence has taken its
-    /// need; a component stops at 0. Takes no memory, and the time of what the machine has, and
-    /// logarithmic in the number of tasks.
+    /// need; a component stops at 0. Takes the time of what the machine has, and logarithmic in the
+    /// number of tasks.
     pub fn left_on(&self, machine: u64, prec: u8, amount: Need) -> Need
-        ensures { result ≡ minus amount (held_on prec self.now.tasks machine) }
+        ensures { result ≡ minus amount (staying_on prec self.now.tasks machine) }
     {
         self.by_machine.left_on(machine, prec, amount)
     }
 
-    /// Whether a task runs, the same in all. Takes no memory, and time logarithmic in the number of
-    /// tasks.
+    /// Whether a task runs, the same in all. Takes time logarithmic in the number of tasks.
     pub fn has(&self, task: &Task) -> bool
         ensures { result ≡ stands_in self.now.tasks task.now }
     {
@@ -192,8 +190,8 @@ impl Running {
     }
 
     /// The key of the job's task on the machine with the least index that isn't in `gone`; `None`
-    /// exactly where there is none. Takes no memory, and the time of the job's tasks on the
-    /// machine, each looked up in `gone`, and logarithmic in the number of tasks.
+    /// exactly where there is none. Takes the time of the job's tasks on the machine, each looked
+    /// up in `gone`, and logarithmic in the number of tasks.
     pub fn other_of_job(&self, job: u64, machine: u64, gone: &Keys) -> Option<TaskKey>
         ensures { result ≡ other_of_job self.now.tasks job machine gone.now }
     {

@@ -27,7 +27,7 @@ use Rattle.omega_running.specs.contracts.nodes.Tree as Tree
 use Rattle.omega_running.specs.contracts.table.Pair as Pair
 use Rattle.omega_running.specs.contracts.table.Running as Running
 use Rattle.omega_running.specs.contracts.table.Running.TheInside as Inside
-use Rattle.omega_shared.specs.contracts.held.Held as Held
+use Rattle.omega_shared.specs.contracts.held.Guarded as Guarded
 use Rattle.omega_shared.specs.contracts.pass.Pass as Pass
 use Rattle.omega_shared.specs.contracts.shared.SharedCell as SharedCell
 use Rattle.omega_shared.specs.contracts.shared.SharedCell.TheInside as SharedInside
@@ -72,12 +72,12 @@ cell_send : IsSend Cell.the_row
 cell_send = search (board_send, entry.the_send, notes.the_send, Vec-send, sendable) depth 20
 
 -- what the lock holds
-held_send : IsSend Held.the_row
-held_send = search (cell_send, sendable) depth 20
+guarded_send : IsSend Guarded.the_row
+guarded_send = search (cell_send, sendable) depth 20
 
 -- a pass
 pub pass_send : IsSend Pass.the_row
-pass_send = search (held_send, seat.the_send, sendable) depth 20
+pass_send = search (guarded_send, seat.the_send, sendable) depth 20
 
 -- a seat that is shared can only be looked at, so it may be shared where it may be sent
 token_sync : (S V : RattleType) → IsSend S → IsSync (Token.the_row S V)
@@ -86,14 +86,14 @@ token_sync S V s =
     record { shared = λ d b o κ q. part_keyless (Token.the_row S V) whole q d b o }
 
 -- the lock and its seats
-lock_sync : (E : RattleType) (g : Ghosts (Held.the_row).Denot E.Denot) → IsSync (Lock.the_row Held.the_row E g)
-lock_sync E g = lock.the_sync Held.the_row E g held_send
+lock_sync : (E : RattleType) (g : Ghosts (Guarded.the_row).Denot E.Denot) → IsSync (Lock.the_row Guarded.the_row E g)
+lock_sync E g = lock.the_sync Guarded.the_row E g guarded_send
 
-held_send_maybe : IsSend (Maybe.the_row Held.the_row)
-held_send_maybe = search (held_send, sendable) depth 20
+guarded_send_maybe : IsSend (Maybe.the_row Guarded.the_row)
+guarded_send_maybe = search (guarded_send, sendable) depth 20
 
-seat_sync : (E : RattleType) (g : Ghosts (Held.the_row).Denot E.Denot) → IsSync (Seat.the_row Held.the_row E g)
-seat_sync E g = search (held_send, held_send_maybe, token_sync, sendable) depth 20
+seat_sync : (E : RattleType) (g : Ghosts (Guarded.the_row).Denot E.Denot) → IsSync (Seat.the_row Guarded.the_row E g)
+seat_sync E g = search (guarded_send, guarded_send_maybe, token_sync, sendable) depth 20
 
 -- a shared cell
 parts_sync : IsSync SharedInside.the_row

@@ -14,7 +14,7 @@
 //! Nothing is said of time: not who comes first, nor that a turn comes soon, nor that it comes.
 #![tactic(auto)]
 
-mod held;
+mod guarded;
 mod pass;
 mod shared;
 

@@ -2,7 +2,7 @@
 ghost use Rattle.std.specs.Prelude.{◌≡◌};
 ghost use Rattle.omega_shared.specs.Passes.{HasSeenFirst, OwnIsSeen};
 
-use crate::held::Held;
+use crate::guarded::Guarded;
 use omega_lock::Seat;
 use std::marker::Model;
 
@@ -13,7 +13,7 @@ use std::marker::Model;
 /// was shared, how many turns it has left, the history that it has seen, and its own commits since.
 #[derive(Drop)]
 pub struct Pass {
-    pub(crate) seat: Seat<Held>,
+    pub(crate) seat: Seat<Guarded>,
 }
 
 impl Model for Pass {
@@ -27,7 +27,7 @@ impl Model for Pass {
 }
 
 impl Pass {
-    /// Its number, counted from 0: that of the scheduler whose commits it makes. Takes no memory.
+    /// Its number, counted from 0: that of the scheduler whose commits it makes.
     pub fn number(&self) -> u32
         ensures number { result ≡ self.now.number }
         ensures own { OwnIsSeen self.now }
@@ -36,7 +36,7 @@ impl Pass {
         self.seat.number()
     }
 
-    /// How many turns it has left. Takes no memory.
+    /// How many turns it has left.
     pub fn turns_left(&self) -> u32
         ensures { result ≡ self.now.turns }
     {

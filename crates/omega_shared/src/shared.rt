@@ -11,7 +11,7 @@ ghost use Rattle.omega_shared.specs.Commits.{GoesOnWithout, commits_since};
 ghost use Rattle.omega_shared.specs.Passes.{IsPassSeat, new_pass, new_passes, pass_at};
 ghost use Rattle.omega_shared.specs.Turns.{Commits, SpendsTurn};
 
-use crate::held::Held;
+use crate::guarded::Guarded;
 use crate::pass::Pass;
 use omega_cell::Cell;
 use omega_copy::PrivateCopy;
@@ -26,9 +26,9 @@ use std::sync::Wait;
 /// A contract sees which shared cell it is, how many passes it has, and the history when it was shared.
 #[derive(Drop)]
 pub struct SharedCell {
-    lock: Lock<Held>,
+    lock: Lock<Guarded>,
     // Room for the seats of all passes, so that closing takes no memory.
-    seats: Vec<Seat<Held>>,
+    seats: Vec<Seat<Guarded>>,
 }
 
 impl Model for SharedCell {
@@ -69,7 +69,7 @@ impl SharedCell {
         let Ok(passes) = Vec::with_capacity(alloc, callers as usize) else {
             return Err((cell, NoMemory));
         };
-        match Lock::begin(rt, alloc, Held { cell }, callers, turns) {
+        match Lock::begin(rt, alloc, Guarded { cell }, callers, turns) {
             Ok((lock, seats)) => {
                 let passes = passes_of(seats, passes);
                 Ok((SharedCell { lock, seats: room }, passes))
@@ -138,7 +138,7 @@ impl SharedCell {
 
     /// Takes all passes back, and hands out the cell. Its history goes on from what each pass had seen,
     /// with no commit of its number. Every entry since the cell was shared is a commit of one of the
-    /// passes, and the commits of a pass's number are its own, in order. Takes no memory.
+    /// passes, and the commits of a pass's number are its own, in order.
     pub fn close(self, passes: Vec<Pass>) -> Cell
         requires all { length passes.items ≡ self.callers }
         requires of { All (λ pass. pass.of ≡ self.of) passes.items }
@@ -161,7 +161,7 @@ impl SharedCell {
         &self,
         rt: &R,
         alloc: Global,
-        seat: &mut Seat<Held>,
+        seat: &mut Seat<Guarded>,
         seen: u64,
     ) -> Result<Delta, NoMemory>
         requires of { seat.old.of ≡ self.now.of }
@@ -186,7 +186,7 @@ impl SharedCell {
         &self,
         rt: &R,
         alloc: Global,
-        seat: &mut Seat<Held>,
+        seat: &mut Seat<Guarded>,
         seen: u64,
         seqs: Result<Vec<u64>, NoMemory>,
         txn: Txn,
@@ -213,7 +213,7 @@ impl SharedCell {
 }
 
 // The passes whose seats these are. There is room for them.
-fn passes_of(seats: Vec<Seat<Held>>, mut passes: Vec<Pass>) -> Vec<Pass>
+fn passes_of(seats: Vec<Seat<Guarded>>, mut passes: Vec<Pass>) -> Vec<Pass>
     requires seats { All IsPassSeat seats.items }
     requires room { (passes.items ≡ []) × (length seats.items ≤ vec_capacity passes) }
     ensures { result.items ≡ map pass_at seats.items }
@@ -225,7 +225,7 @@ fn passes_of(seats: Vec<Seat<Held>>, mut passes: Vec<Pass>) -> Vec<Pass>
 }
 
 // The seats of passes. There is room for them.
-fn seats_of(passes: Vec<Pass>, mut seats: Vec<Seat<Held>>) -> Vec<Seat<Held>>
+fn seats_of(passes: Vec<Pass>, mut seats: Vec<Seat<Guarded>>) -> Vec<Seat<Guarded>>
     requires room { (seats.items ≡ []) × (length passes.items ≤ vec_capacity seats) }
     ensures passes { map pass_at result.items ≡ passes.items }
     ensures seats { All IsPassSeat result.items }

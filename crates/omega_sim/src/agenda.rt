@@ -35,7 +35,7 @@ impl Agenda {
         Ok(Agenda { times })
     }
 
-    /// Sets when a scheduler commits next, in place of an earlier time. Takes no memory.
+    /// Sets when a scheduler commits next, in place of an earlier time.
     pub fn set(&mut self, scheduler: u32, time: u128)
         requires { scheduler < length self.old }
         ensures { self.new ≡ slice_set self.old scheduler (Some time) }
@@ -43,7 +43,7 @@ impl Agenda {
         self.times[scheduler as usize] = Some(time);
     }
 
-    /// Leaves no time set for a scheduler. Takes no memory.
+    /// Leaves no time set for a scheduler.
     pub fn clear(&mut self, scheduler: u32)
         requires { scheduler < length self.old }
         ensures { self.new ≡ slice_set self.old scheduler None }
@@ -65,8 +65,8 @@ impl Agenda {
     }
 }
 
-// Of one scheduler with its time, and another with a greater number and its time, the one that commits
-// first.
+/// Of one scheduler with its time, and another with a greater number and its time, the one that commits
+/// first.
 fn sooner(first: Option<(u32, u128)>, scheduler: u32, time: Option<u128>) -> Option<(u32, u128)>
     ensures { result ≡ sooner first scheduler time }
 {

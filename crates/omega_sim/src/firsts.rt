@@ -15,7 +15,7 @@ pub struct FirstTimes {
 }
 
 impl FirstTimes {
-    /// No time is noted. Takes no memory.
+    /// No time is noted.
     pub fn new(alloc: Global) -> FirstTimes
         ensures { (job : ℕ) → time_at result job ≡ None }
     {

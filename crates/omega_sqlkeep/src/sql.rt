@@ -33,7 +33,7 @@ impl<S: Alter + Drop> SqlKeeper<S> {
     ghost use Rattle.omega_sqlkeep.specs.Connections.{connection_of};
 
     /// A keeper over this connection, with no fault so far. A connection that is in a transaction takes
-    /// no lines. Takes no memory.
+    /// no lines.
     pub fn over(alloc: Global, connection: Connection<S>) -> SqlKeeper<S>
         ensures connection { connection_of result ≡ connection }
         ensures count { ⟦<SqlKeeper<S> as Keeper>⟧.faults result ≡ 0 }

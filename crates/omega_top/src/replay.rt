@@ -92,7 +92,7 @@ pub fn whole_run(world: World, time: Option<Bytes>) -> Result<WholeRun, NoMemory
     })
 }
 
-// Runs all rounds of a new world as a command has it. Of a simulated run it answers the times of its commits.
+/// Runs all rounds of a new world as a command has it. Of a simulated run it answers the times of its commits.
 fn run_to_end<R: Threads + Wait + Sync, G: Gate + Sync>(
     rt: &R,
     command: Command,
@@ -126,8 +126,8 @@ fn run_to_end<R: Threads + Wait + Sync, G: Gate + Sync>(
     }
 }
 
-// The lines that say how long the schedulers of a run decided and how long its jobs waited, if its commits
-// have these times.
+/// The lines that say how long the schedulers of a run decided and how long its jobs waited, if its commits
+/// have these times.
 fn lines_of_time(
     alloc: Global,
     settings: &Settings,
@@ -150,7 +150,7 @@ fn lines_of_time(
     }
 }
 
-// The lines that say how long the schedulers of a simulated run decided and how long its jobs waited.
+/// The lines that say how long the schedulers of a simulated run decided and how long its jobs waited.
 fn lines_of_simulated(
     alloc: Global,
     settings: &Settings,
@@ -169,7 +169,7 @@ fn lines_of_simulated(
     time_lines(alloc, settings, &arrivals, world.history(), times)
 }
 
-// No job has more activities than a row can say: the type of a row keeps it.
+/// No job has more activities than a row can say: the type of a row keeps it.
 fn activities_are_few(rows: &[ActivityRow])
     ensures { All (λ row. row.activities ≤ most_activities) rows.now }
 {

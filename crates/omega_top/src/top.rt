@@ -205,7 +205,7 @@ pub fn omega_with<R: Threads + Wait + Sync, T: Tables, K: Sink, G: Gate + Sync, 
     }
 }
 
-// Reads the tables of a run, replays them and writes the report.
+/// Reads the tables of a run, replays them and writes the report.
 fn run_and_write<R: Threads + Wait + Sync, T: Tables, K: Sink, G: Gate + Sync, P: Keeper>(
     rt: &R,
     alloc: Global,
@@ -264,7 +264,7 @@ fn run_and_write<R: Threads + Wait + Sync, T: Tables, K: Sink, G: Gate + Sync, P
     }
 }
 
-// A run that ends with nothing written and without a history.
+/// A run that ends with nothing written and without a history.
 fn refused(alloc: Global, status: Status, settings: Option<Settings>) -> Done
     ensures answer { result ≡ record { status = status; settings = settings; history = [] } }
     ensures turns { InTurns result.history }
@@ -277,7 +277,7 @@ fn refused(alloc: Global, status: Status, settings: Option<Settings>) -> Done
     }
 }
 
-// Replays the tables and writes the report.
+/// Replays the tables and writes the report.
 fn replay_and_write<R: Threads + Wait + Sync, K: Sink, G: Gate + Sync, P: Keeper>(
     rt: &R,
     alloc: Global,
@@ -323,7 +323,7 @@ fn replay_and_write<R: Threads + Wait + Sync, K: Sink, G: Gate + Sync, P: Keeper
     }
 }
 
-// Audits what the keeper has and writes the report.
+/// Audits what the keeper has and writes the report.
 fn audit_and_write<K: Sink, P: Keeper>(
     alloc: Global,
     settings: &Settings,
@@ -352,7 +352,7 @@ fn audit_and_write<K: Sink, P: Keeper>(
     }
 }
 
-// Writes a report, and answers how that went.
+/// Writes a report, and answers how that went.
 fn write<K: Sink>(out: &mut K, report: &[u8]) -> Status
     ensures ends { (result ≡ Status.Done) ⊎ (result ≡ WriteFault) }
     ensures written { Writes report.now (K.written out.old) (K.written out.new) result }

@@ -25,7 +25,7 @@ pub struct BadNumber;
 const LONGEST: usize = 32;
 
 /// The whole number that a text writes: ASCII digits alone, at least one and at most 32, and a
-/// value below 2^64. Leading zeros are allowed. One pass, takes no memory.
+/// value below 2^64. Leading zeros are allowed. One pass.
 pub fn read_u64(text: &[u8]) -> Result<u64, BadNumber>
     ensures { result_ok result ≡ whole text.now }
 {
@@ -44,7 +44,7 @@ pub fn read_u64(text: &[u8]) -> Result<u64, BadNumber>
 /// Any other text is digits with a point among them, in front of them or behind them, or none, and
 /// then `e` or `E`, a sign or none, and digits, or nothing. `BadNumber` where the text is no such
 /// thing, is longer than 32 bytes, or its exact value is above 1000, which is judged before the
-/// rounding. Looks at each byte at most three times, takes no memory.
+/// rounding. Looks at each byte at most three times.
 pub fn read_quantity(text: &[u8], rounding: Rounding) -> Result<u64, BadNumber>
     ensures value { result_ok result ≡ units rounding text.now }
     ensures bound { IfOk result (λ units. units ≤ greatest_quantity) }

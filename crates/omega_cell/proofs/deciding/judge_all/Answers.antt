@@ -11,9 +11,9 @@ loop-i-preserved c =
     let number = get_or c.args.seqs.now c.loop-i.i 0 in
     let within : c.loop-i.i < length c.args.seqs.now = subst (λ (n : ℕ). c.loop-i.i < n) (sym c.requires.seqs) c.loop-i-test.true in
     let next : IsJudging c.args.board.now c.judge_one-judgement.new.board c.args.undo.now c.judge_one-judgement.new.undo c.args.rule c.args.claims.now c.args.seqs.now
-    (c.loop-i.told.items ++ c.judge_one-judgement.result ∷ []) (c.loop-i.i + 1) =
+    (c.loop-i.answered.items ++ c.judge_one-judgement.result ∷ []) (c.loop-i.i + 1) =
     judge_next c.args.board.now c.loop-i.board c.judge_one-judgement.new.board c.args.undo.now c.loop-i.undo c.judge_one-judgement.new.undo
-    c.args.rule c.args.claims.now c.args.seqs.now c.loop-i.told.items c.loop-i.i c.index-claims-i.result number c.known_of-copy.result c.judge_one-judgement.result
+    c.args.rule c.args.claims.now c.args.seqs.now c.loop-i.answered.items c.loop-i.i c.index-claims-i.result number c.known_of-copy.result c.judge_one-judgement.result
     c.loop-i-test.true c.index-claims-i.is
     (sym (get_or_default c.args.seqs.now c.loop-i.i number 0 within))
     c.known_of-copy.ensures
@@ -27,7 +27,7 @@ loop-i-preserved c =
       victims = c.judge_one-judgement.ensures.victims;
     })
     c.loop-i.invariant.0 in (
-      subst (λ (told : List Judgement). IsJudging c.args.board.now c.judge_one-judgement.new.board c.args.undo.now c.judge_one-judgement.new.undo c.args.rule c.args.claims.now c.args.seqs.now told (c.loop-i.i + 1))
+      subst (λ (answered : List Judgement). IsJudging c.args.board.now c.judge_one-judgement.new.board c.args.undo.now c.judge_one-judgement.new.undo c.args.rule c.args.claims.now c.args.seqs.now answered (c.loop-i.i + 1))
           (sym c.push_reserved.ensures.items) next,
       rooms_left c.args.claims.now c.loop-i.i c.index-claims-i.result c.unwrap-room.result (into_iter_items c.loop-i.rooms) (into_iter_items c.next.new.self)
           c.loop-i-test.true c.loop-i.invariant.1 (c.next.ensures.items ∙ ap (λ (room : Option ℕ). option_to_list room ++ into_iter_items c.next.new.self) c.unwrap-room.ensures),

@@ -7,7 +7,7 @@ use Rattle.omega_cell.proofs.deciding.judge_all.Given as goal
 
 abbrev pub invariant-loop-i : goal.invariant-loop-i
 invariant-loop-i l =
-    IsJudging l.fn.board l.board l.fn.undo l.undo l.rule l.claims l.seqs l.told.items l.i
+    IsJudging l.fn.board l.board l.fn.undo l.undo l.rule l.claims l.seqs l.answered.items l.i
     × (into_iter_items l.rooms ≡ victim_counts (drop l.i l.claims))
-    × (vec_len l.told ≡ l.i)
-    × (length l.claims ≤ vec_capacity l.told)
+    × (vec_len l.answered ≡ l.i)
+    × (length l.claims ≤ vec_capacity l.answered)

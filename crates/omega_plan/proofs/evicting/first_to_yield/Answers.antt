@@ -8,7 +8,7 @@ use Rattle.omega_board.proofs.Commits.{cell_is}
 use Rattle.omega_copy.specs.Copies.{CopyState}
 use Rattle.omega_plan.specs.Kinds.{MayBegin, StaysFull}
 use Rattle.omega_plan.specs.Trying.{IsFirstToYield, Yields}
-use Rattle.omega_plan.specs.declared.evicting.Yielding.{Yielding}
+use Rattle.omega_plan.specs.declared.evicting.Candidate.{Candidate}
 use Rattle.omega_plan.proofs.Begins.{begins_within, found_from, found_nowhere}
 use Rattle.omega_plan.proofs.KindsOf.{yields_where_full}
 use Rattle.omega_plan.proofs.evicting.first_to_yield.Goals as goal
@@ -49,9 +49,9 @@ returns-clause-first c =
     let may : MayBegin (StaysFull cell wish) progress.start (length cell.machines) (Some c.in-Some.begin) =
     subst (λ (begin : Option ℕ). MayBegin (StaysFull cell wish) progress.start (length cell.machines) begin) c.in-Some.is c.requires.serves.evicting in
     IfOk-weaker c.yielding_from-found.result
-    (λ (found : Option Yielding). IsFirstToYield cell wish c.in-Some.begin (option_map (λ (f : Yielding). f.position) found))
-    (λ (found : Option Yielding). IsFirstToYield cell wish progress.start (option_map (λ (f : Yielding). f.position) found))
+    (λ (found : Option Candidate). IsFirstToYield cell wish c.in-Some.begin (option_map (λ (f : Candidate). f.position) found))
+    (λ (found : Option Candidate). IsFirstToYield cell wish progress.start (option_map (λ (f : Candidate). f.position) found))
     (λ found first. found_from (StaysFull cell wish) (Yields cell wish) progress.start (length cell.machines) c.in-Some.begin
-    (option_map (λ (f : Yielding). f.position) found) c.requires.serves.start may (yields_where_full cell wish c.requires.absent c.requires.ordered) first)
-    (subst (λ (other : Cell). IfOk c.yielding_from-found.result (λ (found : Option Yielding). IsFirstToYield other wish c.in-Some.begin (option_map (λ (f : Yielding). f.position) found))) same
+    (option_map (λ (f : Candidate). f.position) found) c.requires.serves.start may (yields_where_full cell wish c.requires.absent c.requires.ordered) first)
+    (subst (λ (other : Cell). IfOk c.yielding_from-found.result (λ (found : Option Candidate). IsFirstToYield other wish c.in-Some.begin (option_map (λ (f : Candidate). f.position) found))) same
     c.yielding_from-found.ensures.first)

@@ -9,7 +9,7 @@ use Rattle.omega_board.proofs.Commits.{cell_is}
 use Rattle.omega_copy.specs.Copies.{CopyState}
 use Rattle.omega_plan.specs.Steps.{IsStep}
 use Rattle.omega_plan.specs.Trying.{AreVictimsAt, IsClaimAt, IsFirstToYield}
-use Rattle.omega_plan.specs.declared.evicting.Yielding.{Yielding}
+use Rattle.omega_plan.specs.declared.evicting.Candidate.{Candidate}
 use Rattle.omega_plan.specs.declared.progress.Progress.{Progress}
 use Rattle.omega_plan.proofs.StepsOf.{step_evicting, step_full, step_stays_full}
 use Rattle.omega_plan.proofs.planning.claim_by_evicting.Goals as goal
@@ -31,11 +31,11 @@ returns-in-Some-clause-step c =
     cell_is _ _ (ap machines_of (c.board.ensures.table ∙ ap (λ (copy : CopyState). copy.board.table) c.in_ok-found.ensures.copy))
     (c.board.ensures.tasks ∙ ap (λ (copy : CopyState). copy.board.tasks) c.in_ok-found.ensures.copy) in
     let first : IsFirstToYield cell wish progress.start (Some found.position) =
-    subst (λ (o : Option Yielding). IsFirstToYield cell wish progress.start (option_map (λ (f : Yielding). f.position) o)) c.in-Some.is c.in_ok-found.ensures.first in
+    subst (λ (o : Option Candidate). IsFirstToYield cell wish progress.start (option_map (λ (f : Candidate). f.position) o)) c.in-Some.is c.in_ok-found.ensures.first in
     let victims : AreVictimsAt cell wish found.position (Some found.victims) =
-    subst (λ (o : Option Yielding). IfSome o (λ (f : Yielding). AreVictimsAt cell wish f.position (Some f.victims))) c.in-Some.is c.in_ok-found.ensures.victims in
+    subst (λ (o : Option Candidate). IfSome o (λ (f : Candidate). AreVictimsAt cell wish f.position (Some f.victims))) c.in-Some.is c.in_ok-found.ensures.victims in
     let within : found.position < length board.table =
-    subst (λ (o : Option Yielding). IfSome o (λ (f : Yielding). f.position < length board.table)) c.in-Some.is c.in_ok-found.ensures.below in
+    subst (λ (o : Option Candidate). IfSome o (λ (f : Candidate). f.position < length board.table)) c.in-Some.is c.in_ok-found.ensures.below in
     let below : found.position < length cell.machines =
     subst (λ n. found.position < n) (sym (length-map board.table (λ (s : MachineState). s.machine))) within in
     subst (λ (p : Progress). IsStep cell wish c.args.preempts progress (record { claim = Some c.claim_at.result; progress = p })) (sym c.evicted.ensures)
@@ -51,7 +51,7 @@ returns-in-None-clause-step c =
     let wish = c.args.wish.now in
     let progress = c.args.progress in
     let none : IsFirstToYield cell wish progress.start None =
-    subst (λ (o : Option Yielding). IsFirstToYield cell wish progress.start (option_map (λ (f : Yielding). f.position) o)) c.in-None.is c.in_ok-found.ensures.first in
+    subst (λ (o : Option Candidate). IsFirstToYield cell wish progress.start (option_map (λ (f : Candidate). f.position) o)) c.in-None.is c.in_ok-found.ensures.first in
     subst (λ (p : Progress). IsStep cell wish c.args.preempts progress (record { claim = None; progress = p })) (sym c.stays_full.ensures)
     (subst (λ (b : Bool). IsStep cell wish b progress (record { claim = None; progress = record progress { evicting = None } })) (sym c.if-not-preempts.false)
     (step_stays_full cell wish progress c.requires.serves c.requires.ordered c.requires.absent c.requires.full none))

@@ -11,12 +11,12 @@ use Rattle.omega_plan.proofs.planning.claims_for_wishes.Goals as goal
 use Rattle.omega_plan.proofs.planning.claims_for_wishes.Goals.{in-Some-claim+in_ok-claim-2+in_ok-push, in_default-claim}
 
 pub claim_for_wish-requires : goal.claim_for_wish-requires
-claim_for_wish-requires c = c.turn.ensures.serves (cell_of c.loop-wish.copy.board) c.loop-wish.invariant.serves
+claim_for_wish-requires c = c.advance.ensures.serves (cell_of c.loop-wish.copy.board) c.loop-wish.invariant.serves
 
 pub claim-requires-clause-placed : goal.claim-requires-clause-placed
 claim-requires-clause-placed c =
     subst (λ (copy : CopyState). IsTrue (would_be_placed (cell_of copy.board) c.in-Some-claim.claim)) (sym c.in_ok-claim.ensures.copy)
-    (planned_goes (cell_of c.loop-wish.copy.board) c.turn.result.start c.args.preempts c.wish-item.result c.in-Some-claim.claim
+    (planned_goes (cell_of c.loop-wish.copy.board) c.advance.result.start c.args.preempts c.wish-item.result c.in-Some-claim.claim
     (sym c.in-Some-claim.is ∙ c.in_ok-claim.ensures.step.claim))
 
 pub loop-wish-preserved : goal.loop-wish-preserved
@@ -32,7 +32,7 @@ loop-wish-preserved c =
           c.match-claim.previous.now c.wish-item.result c.match-claim.progress step.progress
           w.copy-is (ap (λ cs. cs.items) w.claims-is) (ap (λ k. k.now) w.previous-is) w.progress-is
           (planned_more at.copy c.args.copy.now w.claim.new.self at.claims.items w.push.new.self.items c.args.start c.args.preempts wishes at.wish-index at.previous.now c.wish-item.result
-          at.progress c.turn.result step at.invariant c.loop-wish-test.true c.wish-item.is c.turn.ensures.start c.in_ok-claim.ensures.step
+          at.progress c.advance.result step at.invariant c.loop-wish-test.true c.wish-item.is c.advance.ensures.start c.in_ok-claim.ensures.step
           (w.in_ok-claim-2.ensures.cell
           ∙ ap (λ (copy : CopyState). after_claim (cell_of copy.board) (w.in-Some-claim.claim, judge_fine (cell_of copy.board) w.in-Some-claim.claim)) same
           ∙ ap (after_planned cell) (sym w.in-Some-claim.is))
@@ -44,7 +44,7 @@ loop-wish-preserved c =
           c.match-claim.previous.now c.wish-item.result c.match-claim.progress step.progress
           (w.copy-is ∙ same) (ap (λ cs. cs.items) w.claims-is) (ap (λ k. k.now) w.previous-is) w.progress-is
           (planned_more at.copy c.args.copy.now at.copy at.claims.items at.claims.items c.args.start c.args.preempts wishes at.wish-index at.previous.now c.wish-item.result
-          at.progress c.turn.result step at.invariant c.loop-wish-test.true c.wish-item.is c.turn.ensures.start c.in_ok-claim.ensures.step
+          at.progress c.advance.result step at.invariant c.loop-wish-test.true c.wish-item.is c.advance.ensures.start c.in_ok-claim.ensures.step
           (ap (after_planned cell) (sym w.in_default-claim.is))
           (sym (append-nil at.claims.items) ∙ ap (λ (o : Option Claim). at.claims.items ++ and_claims o []) (sym w.in_default-claim.is))
           refl

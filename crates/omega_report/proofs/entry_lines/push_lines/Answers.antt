@@ -1,6 +1,6 @@
 use Rattle.std.proofs.Common.{refl}
 use Rattle.omega_model.specs.declared.entries.Entry.TheVariants.{MachineAdd, MachineUpdate, MachineRemove}
-use Rattle.omega_report.proofs.PassGrows.{on_ok, stops_said}
+use Rattle.omega_report.proofs.WalkGrows.{on_ok, stops_said}
 use Rattle.omega_report.proofs.entry_lines.push_lines.Goals as goal
 
 pub returns-in-MachineAdd-clause-lines : goal.returns-in-MachineAdd-clause-lines

@@ -1,5 +1,5 @@
 use Rattle.std.proofs.Common.{◌≡◌, ◌++◌, drop}
-use Rattle.omega_report.specs.Passing.{lines_from, lines_of_all}
+use Rattle.omega_report.specs.Walking.{lines_from, lines_of_all}
 use Rattle.omega_report.proofs.reporting.push_counts.Given as goal
 
 abbrev pub invariant-loop-scheduler : goal.invariant-loop-scheduler

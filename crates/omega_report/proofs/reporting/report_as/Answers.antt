@@ -13,7 +13,7 @@ use Rattle.std.specs.Prelude.{length}
 
 pub summed_up-requires-clause-counted : goal.summed_up-requires-clause-counted
 summed_up-requires-clause-counted c =
-    ap length c.in_ok-pass.ensures.counted ∙ length_tallies (schedulers c.args.settings.now) c.args.history.now
+    ap length c.in_ok-walk.ensures.counted ∙ length_tallies (schedulers c.args.settings.now) c.args.history.now
 
 pub returns : goal.returns
 returns c =
@@ -25,7 +25,7 @@ returns c =
     let said : (trace : TraceTables) → Lawful settings trace history → IsLeft trace (state history) left
     → in_format page.format page.lines ≡ in_format form (printed_lines settings trace history) =
     λ trace lawful waits.
-    let whole = c.in_ok-summed_up.ensures trace _ _ lawful waits c.in_ok-pass.ensures in
+    let whole = c.in_ok-summed_up.ensures trace _ _ lawful waits c.in_ok-walk.ensures in
     report_said settings form trace history page c.new-page.result.lines c.first.new.self.lines c.new-page.ensures.lines c.in_ok-first.ensures.lines
     (whole.0 ∙ c.in_ok-first.ensures.format ∙ c.new-page.ensures.format) whole.1 in
     if_ok_weaker (λ (bytes : List ℕ). bytes ≡ in_format page.format page.lines)

@@ -20,7 +20,7 @@ returns c = λ trace format lines lawful waits after.
       all_capacity = ap (λ (u : Usage). u.capacity) c.requires.last;
       all_tasks = waits.count;
       all_jobs = c.count_given_up-abandoned.ensures
-          ∙ abandoned_is settings trace history (count_of c.args.pass.failures) c.as_slice.result.now after.failing (c.as_slice.ensures ∙ waits.jobs);
+          ∙ abandoned_is settings trace history (count_of c.args.walk.failures) c.as_slice.result.now after.failing (c.as_slice.ensures ∙ waits.jobs);
     } in (
       c.in_ok-unplaced.ensures.format ∙ c.in_ok-usage.ensures.format ∙ c.in_ok-push_counts.ensures.format ∙ c.in_ok-sizes.ensures.format ∙ after.form,
       summed_is settings trace history (length history) c.count_rounds.result counts c.args.last.used c.args.last.capacity left.tasks c.count_given_up-abandoned.result

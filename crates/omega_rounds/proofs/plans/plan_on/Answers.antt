@@ -5,7 +5,7 @@ use Rattle.omega_copy.specs.Copies.{CopyOf, CopyState}
 use Rattle.omega_model.specs.declared.claims.Claim.{Claim}
 use Rattle.omega_model.specs.declared.wishes.Request.{Request}
 use Rattle.omega_rounds.proofs.Planning.{start_at_desk}
-use Rattle.omega_rounds.proofs.SeatCommits.{first_none, first_some}
+use Rattle.omega_rounds.proofs.WorkerCommits.{first_none, first_some}
 use Rattle.omega_rounds.proofs.plans.plan_on.Goals as goal
 
 pub unreachable-requires : goal.unreachable-requires

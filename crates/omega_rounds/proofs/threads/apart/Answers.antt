@@ -10,7 +10,7 @@ loop-player-preserved c =
     let player : Player = c.in-Some.player in
     let steps : into_iter_items c.loop-player.player-iterator ≡ player ∷ into_iter_items c.next.new.self = c.in-Some.ensures.steps.0 in (
       append_assoc c.loop-player.yielded (player ∷ []) (into_iter_items c.next.new.self) ∙ rw (← steps) kept.0,
-      c.push_reserved.ensures.items ∙ ap (λ l. l ++ player.seat ∷ []) kept.1 ∙ sym (map-append (λ (p : Player). p.seat) c.loop-player.yielded (player ∷ [])),
+      c.push_reserved.ensures.items ∙ ap (λ l. l ++ player.worker ∷ []) kept.1 ∙ sym (map-append (λ (p : Player). p.worker) c.loop-player.yielded (player ∷ [])),
       c.push_reserved-in-loop-player.ensures.items ∙ ap (λ l. l ++ player.pass ∷ []) kept.2 ∙ sym (map-append (λ (p : Player). p.pass) c.loop-player.yielded (player ∷ [])),
       c.push_reserved.ensures.capacity ∙ kept.3,
       c.push_reserved-in-loop-player.ensures.capacity ∙ kept.4,

@@ -1,23 +1,23 @@
 use Rattle.std.proofs.Common.{rules, ◌≡◌, ◌≤◌, ◌+◌, ◌++◌, ◌∷◌, ◌∙◌, [], length, take, sym, ap, arith}
 use Rattle.std.proofs.lemmas.List.{take_all, take_more}
 use Rattle.std.proofs.lemmas.List.Elements.{All-push, All-same, All-weaker}
-use Rattle.omega_rounds.specs.declared.seat.Seat.{Seat}
+use Rattle.omega_rounds.specs.declared.worker.Worker.{Worker}
 use Rattle.omega_rounds.proofs.threads.most_requests.Goals as goal
 
-pub loop-seat-preserved : goal.loop-seat-preserved
-loop-seat-preserved c =
-    let seats = c.args.seats.now in
-    let seat : Seat = c.seat-item.result in
-    let more : c.loop-seat.most ≤ c.max-most.result = search rules in
-    let fits : length seat.desk.requests ≤ c.max-most.result = search rules in
-    let next : take (c.loop-seat.seat-index + 1) seats ≡ take c.loop-seat.seat-index seats ++ seat ∷ [] =
-    take_more seats c.loop-seat.seat-index seat c.loop-seat-test.true ∙ ap (λ (s : Seat). take c.loop-seat.seat-index seats ++ s ∷ []) (sym c.seat-item.is) in
-    All-same (λ (s : Seat). length s.desk.requests ≤ c.max-most.result) (take (c.loop-seat.seat-index + 1) seats) (take c.loop-seat.seat-index seats ++ seat ∷ []) next
-    (All-push (λ (s : Seat). length s.desk.requests ≤ c.max-most.result) (take c.loop-seat.seat-index seats) seat
-    (All-weaker (λ (s : Seat). length s.desk.requests ≤ c.loop-seat.most) (λ (s : Seat). length s.desk.requests ≤ c.max-most.result)
-    (λ s few. omega (arith, few, more)) (take c.loop-seat.seat-index seats) c.loop-seat.invariant) fits)
+pub loop-worker-preserved : goal.loop-worker-preserved
+loop-worker-preserved c =
+    let workers = c.args.workers.now in
+    let worker : Worker = c.worker-item.result in
+    let more : c.loop-worker.most ≤ c.max-most.result = search rules in
+    let fits : length worker.desk.requests ≤ c.max-most.result = search rules in
+    let next : take (c.loop-worker.worker-index + 1) workers ≡ take c.loop-worker.worker-index workers ++ worker ∷ [] =
+    take_more workers c.loop-worker.worker-index worker c.loop-worker-test.true ∙ ap (λ (s : Worker). take c.loop-worker.worker-index workers ++ s ∷ []) (sym c.worker-item.is) in
+    All-same (λ (s : Worker). length s.desk.requests ≤ c.max-most.result) (take (c.loop-worker.worker-index + 1) workers) (take c.loop-worker.worker-index workers ++ worker ∷ []) next
+    (All-push (λ (s : Worker). length s.desk.requests ≤ c.max-most.result) (take c.loop-worker.worker-index workers) worker
+    (All-weaker (λ (s : Worker). length s.desk.requests ≤ c.loop-worker.most) (λ (s : Worker). length s.desk.requests ≤ c.max-most.result)
+    (λ s few. omega (arith, few, more)) (take c.loop-worker.worker-index workers) c.loop-worker.invariant) fits)
 
 pub returns : goal.returns
 returns c =
-    All-same (λ (s : Seat). length s.desk.requests ≤ c.loop-seat.most) c.args.seats.now (take c.loop-seat.seat-index c.args.seats.now)
-    (sym (take_all c.loop-seat.seat-index c.args.seats.now c.loop-seat-test.false)) c.loop-seat.invariant
+    All-same (λ (s : Worker). length s.desk.requests ≤ c.loop-worker.most) c.args.workers.now (take c.loop-worker.worker-index c.args.workers.now)
+    (sym (take_all c.loop-worker.worker-index c.args.workers.now c.loop-worker-test.false)) c.loop-worker.invariant

@@ -3,11 +3,11 @@ use Rattle.std.specs.Prelude.{All, map, vec_capacity}
 use Rattle.std.specs.Vec.Iter.{into_iter_items}
 use Rattle.omega_rounds.proofs.threads.players_of.Given as goal
 
--- the players so far have the seats and the passes so far, and as many passes remain as seats
-abbrev pub invariant-loop-seat : goal.invariant-loop-seat
-invariant-loop-seat l =
-    (l.yielded ++ into_iter_items l.seat-iterator ≡ l.fn.seats.items)
-    × (map (λ player. player.seat) l.players.items ≡ l.yielded)
+-- the players so far have the workers and the passes so far, and as many passes remain as workers
+abbrev pub invariant-loop-worker : goal.invariant-loop-worker
+invariant-loop-worker l =
+    (l.yielded ++ into_iter_items l.worker-iterator ≡ l.fn.workers.items)
+    × (map (λ player. player.worker) l.players.items ≡ l.yielded)
     × (map (λ player. player.pass) l.players.items ++ into_iter_items l.passes ≡ l.fn.passes.items)
     × All (λ player. player.failed ≡ false) l.players.items
     × (vec_capacity l.players ≡ vec_capacity l.fn.players)

@@ -20,7 +20,7 @@ touch_placed-requires-clause-listed c =
 
 pub outcomes_of-outcomes-requires-clause-reply : goal.outcomes_of-outcomes-requires-clause-reply
 outcomes_of-outcomes-requires-clause-reply c =
-    subst (λ (told : List Judgement). EvictWithin c.as_slice.result.now told) (sym c.as_slice-2.ensures)
+    subst (λ (answered : List Judgement). EvictWithin c.as_slice.result.now answered) (sym c.as_slice-2.ensures)
     (subst (λ (claims : List Claim). EvictWithin claims c.decide-reply.result) (sym c.as_slice.ensures)
     (reply_fits c.self.inside.board c.decide-reply.new.board c.self.inside.entries.items c.args.self.now.history c.prepared.inside.txn c.args.prepared
     c.args.seen c.args.seqs.now c.decide-reply.result

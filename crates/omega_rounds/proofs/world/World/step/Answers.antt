@@ -5,7 +5,7 @@ use Rattle.omega_model.specs.Policy.{schedulers}
 use Rattle.omega_model.specs.declared.rows.TraceTables.{TraceTables}
 use Rattle.omega_rounds.specs.Going.{LeavesToDo, StepsOn}
 use Rattle.omega_rounds.specs.Stages.{IsInRunOf, WorldState, rows_begun, stage_of}
-use Rattle.omega_rounds.specs.declared.seat.Seat.{Seat}
+use Rattle.omega_rounds.specs.declared.worker.Worker.{Worker}
 use Rattle.omega_rounds.specs.declared.steps.Stepped.{Stepped}
 use Rattle.omega_rounds.specs.declared.steps.Stepped.TheVariants.{Synced, Committed, Idle}
 use Rattle.omega_rounds.proofs.Reopened.{goes_on_same, goes_on_step, were_quiet}
@@ -15,9 +15,9 @@ use Rattle.omega_rounds.proofs.world.World.step.Goals as goal
 knows : (scheduler : ℕ) (one other : WorldState) → one ≡ other → scheduler < schedulers other.stage.settings → scheduler < schedulers one.stage.settings
 knows scheduler one other same known = subst (λ (w : WorldState). scheduler < schedulers w.stage.settings) (sym same) known
 
-stands : (seats : List Seat) (count scheduler : ℕ) (seat : Seat) → length seats ≡ count → scheduler < count → seat ≡ get_or seats scheduler seat
-    → slice_get seats scheduler ≡ Some seat
-stands seats count scheduler seat all known is = slice_get_read seats count scheduler seat (sym all) known is
+stands : (workers : List Worker) (count scheduler : ℕ) (worker : Worker) → length workers ≡ count → scheduler < count → worker ≡ get_or workers scheduler worker
+    → slice_get workers scheduler ≡ Some worker
+stands workers count scheduler worker all known is = slice_get_read workers count scheduler worker (sym all) known is
 
 on_err : {T E P : Type 0} → (result : Result T E) → P → OnErr result P
 on_err (Ok value) holds = tt
@@ -28,27 +28,27 @@ leaves old new Synced is = is
 leaves old new (Committed place) is = is
 leaves old new Idle is = is
 
-pub step-requires-clause-seat : goal.step-requires-clause-seat
-step-requires-clause-seat c =
+pub step-requires-clause-worker : goal.step-requires-clause-worker
+step-requires-clause-worker c =
     let known = knows c.args.scheduler _ _ c.self.view_is c.requires in
-    c.self.invariant.0.each_seat c.args.scheduler c.index_mut-seat.result.now
-    (stands c.self.inside.seats.items (schedulers c.self.inside.settings) c.args.scheduler c.index_mut-seat.result.now c.self.invariant.0.count known c.index_mut-seat.ensures.value)
+    c.self.invariant.0.each_worker c.args.scheduler c.index_mut-worker.result.now
+    (stands c.self.inside.workers.items (schedulers c.self.inside.settings) c.args.scheduler c.index_mut-worker.result.now c.self.invariant.0.count known c.index_mut-worker.ensures.value)
 
 pub step-requires-clause-plan : goal.step-requires-clause-plan
 step-requires-clause-plan c =
     let known = knows c.args.scheduler _ _ c.self.view_is c.requires in
-    c.self.invariant.0.each_plan c.args.scheduler c.index_mut-seat.result.now
-    (stands c.self.inside.seats.items (schedulers c.self.inside.settings) c.args.scheduler c.index_mut-seat.result.now c.self.invariant.0.count known c.index_mut-seat.ensures.value)
+    c.self.invariant.0.each_plan c.args.scheduler c.index_mut-worker.result.now
+    (stands c.self.inside.workers.items (schedulers c.self.inside.settings) c.args.scheduler c.index_mut-worker.result.now c.self.invariant.0.count known c.index_mut-worker.ensures.value)
 
 pub invariant_of-self : goal.invariant_of-self
 invariant_of-self c =
     let known = knows c.args.scheduler _ _ c.self.view_is c.requires in
     let stage = stage_of c.self.inside.settings c.self.inside.rounds c.self.inside.wanted c.self.inside.begun c.self.inside.opened_at in (
       world_kept stage c.self.inside.wanted.tasks
-          c.self.inside.cell.history c.step.new.cell.history c.self.inside.seats.items c.args.scheduler c.index_mut-seat.result.now c.step.new.self c.self.invariant.0
-          (stands c.self.inside.seats.items (schedulers c.self.inside.settings) c.args.scheduler c.index_mut-seat.result.now c.self.invariant.0.count known c.index_mut-seat.ensures.value)
-          c.in_err-stepped.ensures.err c.in_err-stepped.ensures.desk c.in_err-stepped.ensures.synced c.step.ensures.seat c.step.ensures.plan,
-      were_quiet stage c.self.inside.wanted.tasks c.self.inside.cell.history c.self.inside.seats.items c.self.invariant.0
+          c.self.inside.cell.history c.step.new.cell.history c.self.inside.workers.items c.args.scheduler c.index_mut-worker.result.now c.step.new.self c.self.invariant.0
+          (stands c.self.inside.workers.items (schedulers c.self.inside.settings) c.args.scheduler c.index_mut-worker.result.now c.self.invariant.0.count known c.index_mut-worker.ensures.value)
+          c.in_err-stepped.ensures.err c.in_err-stepped.ensures.desk c.in_err-stepped.ensures.synced c.step.ensures.worker c.step.ensures.plan,
+      were_quiet stage c.self.inside.wanted.tasks c.self.inside.cell.history c.self.inside.workers.items c.self.invariant.0
           c.self.inside.open_jobs c.self.inside.wanted c.step.new.cell.history
           (goes_on_same c.self.inside.cell.history c.step.new.cell.history c.in_err-stepped.ensures.err) c.self.invariant.1,
       c.step.ensures.indexes,
@@ -59,8 +59,8 @@ returns-in_err-stepped-clause-err c =
     let known = knows c.args.scheduler _ _ c.self.view_is c.requires in
     on_err c.from_residual.result
     (seen_as (stage_of c.self.inside.settings c.self.inside.rounds c.self.inside.wanted c.self.inside.begun c.self.inside.opened_at) c.self.inside.wanted.tasks
-    c.self.inside.cell.history c.step.new.cell.history c.self.inside.seats.items c.args.scheduler c.index_mut-seat.result.now c.step.new.self c.self.invariant.0
-    (stands c.self.inside.seats.items (schedulers c.self.inside.settings) c.args.scheduler c.index_mut-seat.result.now c.self.invariant.0.count known c.index_mut-seat.ensures.value)
+    c.self.inside.cell.history c.step.new.cell.history c.self.inside.workers.items c.args.scheduler c.index_mut-worker.result.now c.step.new.self c.self.invariant.0
+    (stands c.self.inside.workers.items (schedulers c.self.inside.settings) c.args.scheduler c.index_mut-worker.result.now c.self.invariant.0.count known c.index_mut-worker.ensures.value)
     c.in_err-stepped.ensures.err c.in_err-stepped.ensures.desk c.in_err-stepped.ensures.synced
     ∙ c.self.view_is)
 
@@ -69,12 +69,12 @@ invariant_of-self-2 c =
     let known = knows c.args.scheduler _ _ c.self.view_is c.requires in
     let stage = stage_of c.self.inside.settings c.self.inside.rounds c.self.inside.wanted c.self.inside.begun c.self.inside.opened_at in (
       world_after stage c.self.inside.wanted.tasks
-          c.self.inside.cell.history c.step.new.cell.history c.self.inside.seats.items c.args.scheduler c.index_mut-seat.result.now c.step.new.self c.self.invariant.0
-          (stands c.self.inside.seats.items (schedulers c.self.inside.settings) c.args.scheduler c.index_mut-seat.result.now c.self.invariant.0.count known c.index_mut-seat.ensures.value)
-          c.in_ok-stepped.stepped known c.step.ensures.seat c.step.ensures.plan c.in_ok-stepped.ensures.step,
-      were_quiet stage c.self.inside.wanted.tasks c.self.inside.cell.history c.self.inside.seats.items c.self.invariant.0
+          c.self.inside.cell.history c.step.new.cell.history c.self.inside.workers.items c.args.scheduler c.index_mut-worker.result.now c.step.new.self c.self.invariant.0
+          (stands c.self.inside.workers.items (schedulers c.self.inside.settings) c.args.scheduler c.index_mut-worker.result.now c.self.invariant.0.count known c.index_mut-worker.ensures.value)
+          c.in_ok-stepped.stepped known c.step.ensures.worker c.step.ensures.plan c.in_ok-stepped.ensures.step,
+      were_quiet stage c.self.inside.wanted.tasks c.self.inside.cell.history c.self.inside.workers.items c.self.invariant.0
           c.self.inside.open_jobs c.self.inside.wanted c.step.new.cell.history
-          (goes_on_step c.self.inside.settings c.args.scheduler c.self.inside.cell.history c.step.new.cell.history c.index_mut-seat.result.now c.step.new.self
+          (goes_on_step c.self.inside.settings c.args.scheduler c.self.inside.cell.history c.step.new.cell.history c.index_mut-worker.result.now c.step.new.self
           c.in_ok-stepped.stepped c.in_ok-stepped.ensures.step) c.self.invariant.1,
       c.step.ensures.indexes,
     )
@@ -83,20 +83,20 @@ pub returns-clause-step : goal.returns-clause-step
 returns-clause-step c =
     let known = knows c.args.scheduler _ _ c.self.view_is c.requires in
     let stage = stage_of c.self.inside.settings c.self.inside.rounds c.self.inside.wanted c.self.inside.begun c.self.inside.opened_at in
-    let here = stands c.self.inside.seats.items (schedulers c.self.inside.settings) c.args.scheduler c.index_mut-seat.result.now c.self.invariant.0.count known c.index_mut-seat.ensures.value in
-    subst (λ (w : WorldState). (trace : TraceTables) → IsInRunOf w.stage trace → StepsOn trace w c.args.scheduler (state_at stage c.step.new.cell.history (set c.self.inside.seats.items c.args.scheduler c.step.new.self)) c.in_ok-stepped.stepped) c.self.view_is
-    (λ trace made. step_is c.self.inside.settings c.self.inside.cell.history c.step.new.cell.history c.args.scheduler c.index_mut-seat.result.now c.step.new.self
-    trace (rows_begun stage) c.self.inside.opened_at c.self.inside.seats.items here c.in_ok-stepped.stepped c.in_ok-stepped.ensures.step
-    ((c.self.invariant.0.lawful trace made).desks c.args.scheduler c.index_mut-seat.result.now here))
+    let here = stands c.self.inside.workers.items (schedulers c.self.inside.settings) c.args.scheduler c.index_mut-worker.result.now c.self.invariant.0.count known c.index_mut-worker.ensures.value in
+    subst (λ (w : WorldState). (trace : TraceTables) → IsInRunOf w.stage trace → StepsOn trace w c.args.scheduler (state_at stage c.step.new.cell.history (set c.self.inside.workers.items c.args.scheduler c.step.new.self)) c.in_ok-stepped.stepped) c.self.view_is
+    (λ trace made. step_is c.self.inside.settings c.self.inside.cell.history c.step.new.cell.history c.args.scheduler c.index_mut-worker.result.now c.step.new.self
+    trace (rows_begun stage) c.self.inside.opened_at c.self.inside.workers.items here c.in_ok-stepped.stepped c.in_ok-stepped.ensures.step
+    ((c.self.invariant.0.lawful trace made).desks c.args.scheduler c.index_mut-worker.result.now here))
 
 pub returns-clause-to_do : goal.returns-clause-to_do
 returns-clause-to_do c =
     let known = knows c.args.scheduler _ _ c.self.view_is c.requires in
-    let here = stands c.self.inside.seats.items (schedulers c.self.inside.settings) c.args.scheduler c.index_mut-seat.result.now c.self.invariant.0.count known c.index_mut-seat.ensures.value in
+    let here = stands c.self.inside.workers.items (schedulers c.self.inside.settings) c.args.scheduler c.index_mut-worker.result.now c.self.invariant.0.count known c.index_mut-worker.ensures.value in
     let stage = stage_of c.self.inside.settings c.self.inside.rounds c.self.inside.wanted c.self.inside.begun c.self.inside.opened_at in
-    let after = state_at stage c.step.new.cell.history (set c.self.inside.seats.items c.args.scheduler c.step.new.self) in
+    let after = state_at stage c.step.new.cell.history (set c.self.inside.workers.items c.args.scheduler c.step.new.self) in
     subst (λ (w : WorldState). LeavesToDo w after c.in_ok-stepped.stepped) c.self.view_is
-    (leaves (state_at stage c.self.inside.cell.history c.self.inside.seats.items) after c.in_ok-stepped.stepped
-    (to_do_after c.self.inside.settings c.self.inside.cell.history c.step.new.cell.history c.args.scheduler c.index_mut-seat.result.now c.step.new.self
-    c.in_ok-stepped.stepped c.self.inside.seats.items here c.self.invariant.0.range.tries.0
-    (c.self.invariant.0.each_seat c.args.scheduler c.index_mut-seat.result.now here) c.step.ensures.seat c.in_ok-stepped.ensures.step))
+    (leaves (state_at stage c.self.inside.cell.history c.self.inside.workers.items) after c.in_ok-stepped.stepped
+    (to_do_after c.self.inside.settings c.self.inside.cell.history c.step.new.cell.history c.args.scheduler c.index_mut-worker.result.now c.step.new.self
+    c.in_ok-stepped.stepped c.self.inside.workers.items here c.self.invariant.0.range.tries.0
+    (c.self.invariant.0.each_worker c.args.scheduler c.index_mut-worker.result.now here) c.step.ensures.worker c.in_ok-stepped.ensures.step))

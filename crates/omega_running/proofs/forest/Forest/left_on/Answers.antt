@@ -3,7 +3,7 @@ use Rattle.std.specs.List.{filter}
 use Rattle.omega_model.specs.Cell.{total}
 use Rattle.omega_model.specs.Need.{minus}
 use Rattle.omega_running.specs.Forest.{is_at}
-use Rattle.omega_running.specs.Held.{stays_against}
+use Rattle.omega_running.specs.Staying.{stays_against}
 use Rattle.omega_running.specs.Order.{led_by}
 use Rattle.omega_running.specs.Tree.{tasks_of}
 use Rattle.omega_running.specs.declared.orders.Order.TheVariants.{ByMachine}

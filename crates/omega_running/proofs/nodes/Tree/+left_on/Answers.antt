@@ -2,12 +2,12 @@ use Rattle.std.proofs.Common.{◌≡◌, ◌<◌, ◌≤◌, ap, sym, ◌∙◌,
 use Rattle.omega_model.specs.Need.{minus}
 use Rattle.omega_running.specs.declared.orders.Order.TheVariants.{ByMachine}
 use Rattle.omega_running.specs.declared.nodes.Node.{Node}
-use Rattle.omega_running.specs.Held.{held_on}
+use Rattle.omega_running.specs.Staying.{staying_on}
 use Rattle.omega_running.specs.Order.{IsInOrder}
 use Rattle.omega_running.specs.Tree.{tasks_of}
 use Rattle.omega_running.specs.declared.nodes.Tree.{the_lemmas}
 use Rattle.omega_running.proofs.AtFork.{at_fork}
-use Rattle.omega_running.proofs.Held.{beside, held_at_left, held_at_right, left_here}
+use Rattle.omega_running.proofs.Staying.{beside, staying_at_left, staying_at_right, left_here}
 use Rattle.omega_running.proofs.nodes.Tree.+left_on.Goals as goal
 
 pub left_on-requires : goal.left_on-requires
@@ -20,8 +20,8 @@ returns-then-here-machine t c =
     let f = at_fork {order = ByMachine} c.requires c.in-Fork.is in
     let p : c.in-Fork.node.value.task.machine < c.args.machine = rw c.deref.ensures at c.if-here-machine.true in
     c.left_on.ensures
-    ∙ ap (λ (node : Node). minus c.args.amount (held_on c.args.prec (tasks_of node.right) c.args.machine)) c.deref-then-here-machine.ensures
-    ∙ ap (minus c.args.amount) (sym (held_at_right c.args.prec c.args.machine f p))
+    ∙ ap (λ (node : Node). minus c.args.amount (staying_on c.args.prec (tasks_of node.right) c.args.machine)) c.deref-then-here-machine.ensures
+    ∙ ap (minus c.args.amount) (sym (staying_at_right c.args.prec c.args.machine f p))
 
 pub left_on-requires-then-machine-here : goal.left_on-requires-then-machine-here
 left_on-requires-then-machine-here t c =
@@ -33,8 +33,8 @@ returns-then-machine-here t c =
     let f = at_fork {order = ByMachine} c.requires c.in-Fork.is in
     let p : c.args.machine < c.in-Fork.node.value.task.machine = rw c.deref.ensures at c.if-machine-here.true in
     c.left_on-then-machine-here.ensures
-    ∙ ap (λ (node : Node). minus c.args.amount (held_on c.args.prec (tasks_of node.left) c.args.machine)) c.deref-then-machine-here.ensures
-    ∙ ap (minus c.args.amount) (sym (held_at_left c.args.prec c.args.machine f p))
+    ∙ ap (λ (node : Node). minus c.args.amount (staying_on c.args.prec (tasks_of node.left) c.args.machine)) c.deref-then-machine-here.ensures
+    ∙ ap (minus c.args.amount) (sym (staying_at_left c.args.prec c.args.machine f p))
 
 pub left_on-before-requires : goal.left_on-before-requires
 left_on-before-requires t c =
@@ -56,13 +56,13 @@ returns t c =
     let over : node.task.machine ≤ machine = rw c.deref.ensures at c.if-machine-here.false in
     let under : machine ≤ node.task.machine = rw c.deref.ensures at c.if-here-machine.false in
     let here : node.task.machine ≡ machine = omega (arith, over, under) in
-    let before : c.left_on-before.result ≡ minus amount (held_on prec (tasks_of node.left) machine) =
-    c.left_on-before.ensures ∙ ap (λ (n : Node). minus amount (held_on prec (tasks_of n.left) machine)) c.deref-2.ensures in
-    let own : c.left_beside-beside.result ≡ beside prec node.task (minus amount (held_on prec (tasks_of node.left) machine)) =
+    let before : c.left_on-before.result ≡ minus amount (staying_on prec (tasks_of node.left) machine) =
+    c.left_on-before.ensures ∙ ap (λ (n : Node). minus amount (staying_on prec (tasks_of n.left) machine)) c.deref-2.ensures in
+    let own : c.left_beside-beside.result ≡ beside prec node.task (minus amount (staying_on prec (tasks_of node.left) machine)) =
     c.left_beside-beside.ensures
     ∙ ap (λ (n : Node). beside prec n.task c.left_on-before.result) c.deref-3.ensures
     ∙ ap (beside prec node.task) before in
     c.left_on-2.ensures
-    ∙ ap (λ (n : Node). minus c.left_beside-beside.result (held_on prec (tasks_of n.right) machine)) c.deref-4.ensures
-    ∙ ap (λ a. minus a (held_on prec (tasks_of node.right) machine)) own
+    ∙ ap (λ (n : Node). minus c.left_beside-beside.result (staying_on prec (tasks_of n.right) machine)) c.deref-4.ensures
+    ∙ ap (λ a. minus a (staying_on prec (tasks_of node.right) machine)) own
     ∙ sym (left_here prec machine amount f here)

@@ -1,0 +1,127 @@
+//! How answers are put into words: tasks, verdicts, machines.
+use omega_calls::{Fault, show_need, show_spec, show_task, text};
+use omega_model::{Attr, Need, Part, Task, TaskKey, Verdict};
+
+/// Appends an amount, or `-` where there is none.
+pub(crate) fn show_free(answers: &mut String, free: Option<Need>) -> Result<(), Fault> {
+    match free {
+        Some(need) => show_need(answers, need),
+        None => {
+            answers.push('-')?;
+            Ok(())
+        }
+    }
+}
+
+/// Appends the names of tasks, parted by commas, or `-` where there is none.
+pub(crate) fn show_tasks(answers: &mut String, keys: &[TaskKey]) -> Result<(), Fault> {
+    if keys.is_empty() {
+        answers.push('-')?;
+    }
+    for (place, key) in keys.iter().enumerate() {
+        if place > 0 {
+            answers.push(',')?;
+        }
+        show_task(answers, *key)?;
+    }
+    Ok(())
+}
+
+/// Appends running tasks, parted by blanks, or `-` where there is none.
+pub(crate) fn show_running(answers: &mut String, tasks: &[Task]) -> Result<(), Fault> {
+    if tasks.is_empty() {
+        answers.push('-')?;
+    }
+    for (place, task) in tasks.iter().enumerate() {
+        if place > 0 {
+            answers.push(' ')?;
+        }
+        show_running_task(answers, task)?;
+    }
+    Ok(())
+}
+
+/// Appends a running task, or `-` where there is none.
+pub(crate) fn show_found(answers: &mut String, task: Option<&Task>) -> Result<(), Fault> {
+    match task {
+        Some(task) => show_running_task(answers, task),
+        None => {
+            answers.push('-')?;
+            Ok(())
+        }
+    }
+}
+
+/// Appends a running task: its name, the machine, the amount and the precedence.
+fn show_running_task(answers: &mut String, task: &Task) -> Result<(), Fault> {
+    show_task(answers, task.key)?;
+    write!(answers, " {} ", task.machine)?;
+    show_spec(answers, task.spec)
+}
+
+/// Appends the words of a verdict and the names of the tasks that are evicted.
+pub(crate) fn show_judged(
+    answers: &mut String,
+    verdict: Verdict,
+    evicted: &[TaskKey],
+) -> Result<(), Fault> {
+    show_verdict(answers, verdict)?;
+    answers.push(' ')?;
+    show_tasks(answers, evicted)
+}
+
+/// Appends the words of a verdict: its name, and what it says.
+fn show_verdict(answers: &mut String, verdict: Verdict) -> Result<(), Fault> {
+    match verdict {
+        Verdict::Placed => answers.push_str("placed")?,
+        Verdict::NoMachine => answers.push_str("no-machine")?,
+        Verdict::AlreadyRunning(machine) => write!(answers, "running {machine}")?,
+        Verdict::Changed { now, copy } => write!(answers, "changed {now},{copy}")?,
+        Verdict::VictimRank(key) => return show_of_task(answers, "victim-rank ", key),
+        Verdict::SameJob(key) => return show_of_task(answers, "same-job ", key),
+        Verdict::Full(free) => {
+            answers.push_str("full ")?;
+            return show_need(answers, free);
+        }
+        Verdict::Withdrawn(place) => write!(answers, "withdrawn {place}")?,
+    }
+    Ok(())
+}
+
+/// Appends the words of a verdict that names a task.
+fn show_of_task(answers: &mut String, name: &str, key: TaskKey) -> Result<(), Fault> {
+    answers.push_str(name)?;
+    show_task(answers, key)
+}
+
+/// Appends a machine with its tasks: its number, `up` or `down`, its capacity, how many attributes it
+/// has, how many entries touched it, and the names of its tasks.
+pub(crate) fn show_part(answers: &mut String, part: &Part) -> Result<(), Fault> {
+    let machine = &part.machine;
+    let state = if machine.up { "up" } else { "down" };
+    write!(answers, "{} {state} ", machine.id)?;
+    show_need(answers, machine.cap)?;
+    write!(answers, " {} {} ", machine.attrs.len(), part.seq)?;
+    show_names(answers, part.tasks.as_slice())
+}
+
+/// Appends the names of some tasks, parted by commas, or `-` where there is none.
+pub(crate) fn show_names(answers: &mut String, tasks: &[Task]) -> Result<(), Fault> {
+    if tasks.is_empty() {
+        answers.push('-')?;
+    }
+    for (place, task) in tasks.iter().enumerate() {
+        if place > 0 {
+            answers.push(',')?;
+        }
+        show_task(answers, task.key)?;
+    }
+    Ok(())
+}
+
+/// Appends an attribute as `NAME=VALUE`, behind a blank.
+pub(crate) fn show_attribute(answers: &mut String, attr: &Attr) -> Result<(), Fault> {
+    let (name, value) = (text(&attr.name)?, text(&attr.value)?);
+    write!(answers, " {name}={value}")?;
+    Ok(())
+}

@@ -1,0 +1,188 @@
+//! A scheduler's worker: its desk, its copy of the cell, and its plan.
+ghost use Rattle.std.specs.Prelude.{◌≡◌, ◌≢◌, ◌≤◌, ◌<◌, [], None, Some, length, IfOk, OnOk, OnErr};
+ghost use Rattle.std.specs.List.{All};
+ghost use Rattle.omega_copy.specs.Indexes.{AreIndexesOf};
+ghost use Rattle.omega_desk.specs.Desks.{IsSameDesk, left_at, still_tried};
+ghost use Rattle.omega_desk.specs.Walks.{HasDistinctWishes};
+ghost use Rattle.omega_laws.specs.VirtualTime.{first_wishes};
+ghost use Rattle.omega_model.specs.Draws.{drawn_start};
+ghost use Rattle.omega_model.specs.Policy.{schedulers};
+ghost use Rattle.omega_model.specs.Ranges.{IsInRange};
+ghost use Rattle.omega_model.specs.Work.{fresh};
+ghost use Rattle.omega_rounds.specs.Plans.{HasPlan};
+ghost use Rattle.omega_rounds.specs.Workers.{IsWorker};
+ghost use Rattle.omega_rounds.specs.WorkerSteps.{CommitsFirst, WorkerSteps, SyncsWorker};
+
+use crate::plans::{Planned, plan_first};
+use crate::steps::Stepped;
+use omega_cell::Cell;
+use omega_copy::{Indexes, PrivateCopy};
+use omega_desk::Desk;
+use omega_model::{NoMemory, Requests, Settings};
+use std::alloc::Global;
+
+/// What belongs to one scheduler of a world.
+#[derive(Drop)]
+pub(crate) struct Worker {
+    pub desk: Desk,
+    /// The copy on which a scheduler plans that has a thread of its own.
+    pub copy: PrivateCopy,
+    /// How many entries the scheduler has seen, if it has synced since its last commit.
+    pub synced: Option<u64>,
+    /// Its plan after these, where it takes steps of a world.
+    pub planned: Option<Planned>,
+}
+
+impl Worker {
+    /// The worker of a scheduler that has no work and has seen nothing.
+    pub fn new(alloc: Global, settings: &Settings, scheduler: u32) -> Worker
+        requires { IsInRange settings.now }
+        ensures worker { IsWorker settings.now [] scheduler result }
+        ensures synced { result.synced ≡ None }
+        ensures left { left_at result.desk ≡ fresh (λ job. 0) [] }
+    {
+        Worker {
+            desk: Desk::new(alloc, settings, scheduler),
+            copy: PrivateCopy::new(alloc),
+            synced: None,
+            planned: None,
+        }
+    }
+
+    /// Takes a round's requests in order, but for those of jobs that are given up; the scheduler
+    /// hasn't synced.
+    pub fn begin(&mut self, requests: Requests) -> Result<(), NoMemory>
+        requires no_work { self.old.desk.requests ≡ [] }
+        requires distinct { All HasDistinctWishes requests }
+        ensures desk { IsSameDesk self.old.desk self.new.desk }
+        ensures attempts { self.new.desk.attempts ≡ self.old.desk.attempts }
+        ensures left { OnOk result (left_at self.new.desk ≡ fresh (left_at self.old.desk).failing
+            (still_tried self.old.desk.settings (left_at self.old.desk).failing requests)) }
+        ensures copy { self.new.copy ≡ self.old.copy }
+        ensures synced { OnOk result (self.new.synced ≡ None) }
+    {
+        self.desk.begin(requests)?;
+        self.synced = None;
+        Ok(())
+    }
+
+    /// How many wishes of its first request are left, 0 where no request is.
+    pub fn left(&self) -> usize
+        ensures { result ≡ first_wishes (Some self.now.desk.requests) }
+    {
+        match self.desk.present() {
+            Some(request) => request.wishes.len(),
+            None => 0,
+        }
+    }
+
+    /// One step of the worker's scheduler over a cell, beside which indexes of its history stand that all may
+    /// use. Where memory runs out, the history, the desk and whether the scheduler has synced are as before.
+    pub fn step(
+        &mut self,
+        alloc: Global,
+        settings: &Settings,
+        scheduler: u32,
+        indexes: &mut Indexes,
+        cell: &mut Cell,
+    ) -> Result<Stepped, NoMemory>
+        requires range { IsInRange settings.now }
+        requires known { scheduler < schedulers settings.now }
+        requires worker { IsWorker settings.now cell.old.history scheduler self.old }
+        requires plan { HasPlan settings.now cell.old.history scheduler self.old }
+        requires indexes { AreIndexesOf cell.old.history indexes.old }
+        ensures worker { IsWorker settings.now cell.new.history scheduler self.new }
+        ensures plan { HasPlan settings.now cell.new.history scheduler self.new }
+        ensures indexes { AreIndexesOf cell.new.history indexes.new }
+        ensures step { IfOk result (λ stepped. WorkerSteps settings.now scheduler cell.old.history self.old cell.new.history self.new stepped) }
+        ensures err { OnErr result (cell.new.history ≡ cell.old.history) }
+        ensures desk { OnErr result (self.new.desk ≡ self.old.desk) }
+        ensures synced { OnErr result (self.new.synced ≡ self.old.synced) }
+    {
+        if self.desk.present().is_none() {
+            return Ok(Stepped::Idle);
+        }
+        let Some(seen) = self.synced else {
+            self.sync(alloc, settings, scheduler, indexes, cell)?;
+            return Ok(Stepped::Synced);
+        };
+        let place = self.commit(alloc, settings, scheduler, seen, cell)?;
+        Ok(Stepped::Committed(place))
+    }
+
+    /// The scheduler has seen the history to its end, and plans its attempt on the first request that is left.
+    /// Where memory runs out it hasn't synced.
+    fn sync(
+        &mut self,
+        alloc: Global,
+        settings: &Settings,
+        scheduler: u32,
+        indexes: &mut Indexes,
+        cell: &mut Cell,
+    ) -> Result<(), NoMemory>
+        requires range { IsInRange settings.now }
+        requires known { scheduler < schedulers settings.now }
+        requires worker { IsWorker settings.now cell.old.history scheduler self.old }
+        requires indexes { AreIndexesOf cell.old.history indexes.old }
+        requires synced { self.old.synced ≡ None }
+        requires work { self.old.desk.requests ≢ [] }
+        ensures worker { IsWorker settings.now cell.new.history scheduler self.new }
+        ensures plan { HasPlan settings.now cell.new.history scheduler self.new }
+        ensures indexes { AreIndexesOf cell.new.history indexes.new }
+        ensures syncs { OnOk result (SyncsWorker cell.old.history self.old cell.new.history self.new) }
+        ensures err { OnErr result (cell.new.history ≡ cell.old.history) }
+        ensures desk { OnErr result (self.new.desk ≡ self.old.desk) }
+        ensures unsynced { OnErr result (self.new.synced ≡ self.old.synced) }
+    {
+        let plan = plan_first(alloc, settings, scheduler, &self.desk, indexes, cell)?;
+        self.planned = Some(plan);
+        self.synced = Some(cell.history().len() as u64);
+        Ok(())
+    }
+
+    /// Commits the plan, which was made after so many entries that were seen. Answers the place of the commit.
+    /// Where memory runs out nothing has changed but the cell's room.
+    fn commit(
+        &mut self,
+        alloc: Global,
+        settings: &Settings,
+        scheduler: u32,
+        seen: u64,
+        cell: &mut Cell,
+    ) -> Result<u64, NoMemory>
+        requires tries { 1 ≤ settings.now.tries }
+        requires worker { IsWorker settings.now cell.old.history scheduler self.old }
+        requires plan { HasPlan settings.now cell.old.history scheduler self.old }
+        requires synced { self.old.synced ≡ Some seen }
+        ensures worker { IsWorker settings.now cell.new.history scheduler self.new }
+        ensures plan { HasPlan settings.now cell.new.history scheduler self.new }
+        ensures commits { IfOk result (λ place. CommitsFirst settings.now scheduler cell.old.history self.old cell.new.history self.new place) }
+        ensures err { OnErr result (cell.new.history ≡ cell.old.history) }
+        ensures desk { OnErr result (self.new.desk ≡ self.old.desk) }
+        ensures spent { OnErr result (self.new.synced ≡ self.old.synced) }
+    {
+        let Some(Planned { txn, seqs }) = self.planned.take() else {
+            unreachable!()
+        };
+        match cell.reserve(alloc, txn) {
+            Ok(prepared) => {
+                let reply = cell.commit(scheduler, seen, &seqs, prepared);
+                self.desk.take(&reply);
+                self.synced = None;
+                Ok(reply.place)
+            }
+            Err((txn, error)) => {
+                self.planned = Some(Planned { txn, seqs });
+                Err(error)
+            }
+        }
+    }
+}
+
+/// The place in a copy's list of machines at which a desk's present attempt begins.
+pub(crate) fn start_on(desk: &Desk, copy: &PrivateCopy) -> usize
+    ensures drawn { result ≡ drawn_start desk.now.settings desk.now.scheduler desk.now.attempts (length copy.now.board.table) }
+    ensures within { result ≤ length copy.now.board.table }
+{
+    desk.start(copy.board().machines().len())
+}
