@@ -1,5 +1,5 @@
 -- The map from numbers to places, as machines come, change and leave.
-use Rattle.std.proofs.Common.{◌≡◌, ℕ, zero, suc, ◌+◌, ◌<◌, ◌≤◌, Bool, true, false, nat_eq, List, [], ◌∷◌, ◌++◌, Option, Some, None, length, take, map, slice_get, position, refl, ap, sym, ◌∙◌, subst, ◌⊎◌, inl, inr, arith, length-append, ◌==◌}
+use Rattle.std.proofs.Common.{◌≡◌, ℕ, zero, suc, ◌+◌, ◌<◌, ◌≤◌, false, nat_eq, List, [], ◌∷◌, ◌++◌, Some, None, length, take, slice_get, position, refl, ap, sym, ◌∙◌, ◌⊎◌, inl, inr, arith, ◌==◌}
 use Rattle.std.specs.BTreeMap as tree
 use Rattle.std.specs.BTreeMap.{BTreeMap}
 use Rattle.std.specs.List.{IsDistinct}
@@ -9,7 +9,7 @@ use Rattle.std.specs.Ordering.{nat_cmp}
 use Rattle.std.proofs.lemmas.Bool.{ne_eqb, le-ltb, lt-ltb, cases_eq, cases_order}
 use Rattle.std.proofs.lemmas.List.{map-append, length-map, take-map}
 use Rattle.std.proofs.lemmas.List.Elements.{All-nil}
-use Rattle.std.proofs.lemmas.Option.{none-some, same_Some, slice_get_within, slice_get_past}
+use Rattle.std.proofs.lemmas.Option.{none-some, same_Some, slice_get_within}
 use Rattle.omega_model.specs.Machines.{numbers_of}
 use Rattle.omega_model.specs.declared.cells.Machine.{Machine}
 use Rattle.omega_machines.specs.Load.{load_of_all}
@@ -99,24 +99,22 @@ placed_more places more states state n placed none end u id place =
     let to : slice_get (numbers ++ new ∷ []) place ≡ Some id → slice_get (numbers_of (machines_of (states ++ state ∷ []))) place ≡ Some id = λ at. ap (λ ns. slice_get ns place) (numbers_more states state) ∙ at in
     let back : slice_get (numbers_of (machines_of (states ++ state ∷ []))) place ≡ Some id → slice_get (numbers ++ new ∷ []) place ≡ Some id = λ at. sym (ap (λ ns. slice_get ns place) (numbers_more states state)) ∙ at in
     elim (cases_eq new id) [
-      | inl same ↦
-          (
-            λ is.
+      | inl same ↦ (
+        λ is.
             let one : n ≡ place = same_Some _ _ (sym u.1 ∙ ap (λ z. tree.get nat_cmp more z) same ∙ is) in
             to (ap (slice_get (numbers ++ new ∷ [])) (sym one ∙ last) ∙ new_at numbers new ∙ ap Some same),
-            λ at. elim (which_at numbers new id place (back at)) [
-              | inl e ↦ absurd (none-some _ (sym absent ∙ ap (λ z. tree.get nat_cmp places z) same ∙ (placed id place).1 e))
-              | inr e ↦ ap (λ z. tree.get nat_cmp more z) (sym same) ∙ u.1 ∙ ap Some (last ∙ sym e.0)
-            ],
-          )
-      | inr ne ↦
-          (
-            λ is. to (kept_at numbers new id place ((placed id place).0 (sym (u.2 id (apart new id ne)) ∙ is))),
-            λ at. elim (which_at numbers new id place (back at)) [
-              | inl e ↦ u.2 id (apart new id ne) ∙ (placed id place).1 e
-              | inr e ↦ absurd (ne e.1)
-            ],
-          )
+        λ at. elim (which_at numbers new id place (back at)) [
+          | inl e ↦ absurd (none-some _ (sym absent ∙ ap (λ z. tree.get nat_cmp places z) same ∙ (placed id place).1 e))
+          | inr e ↦ ap (λ z. tree.get nat_cmp more z) (sym same) ∙ u.1 ∙ ap Some (last ∙ sym e.0)
+        ],
+      )
+      | inr ne ↦ (
+        λ is. to (kept_at numbers new id place ((placed id place).0 (sym (u.2 id (apart new id ne)) ∙ is))),
+        λ at. elim (which_at numbers new id place (back at)) [
+          | inl e ↦ u.2 id (apart new id ne) ∙ (placed id place).1 e
+          | inr e ↦ absurd (ne e.1)
+        ],
+      )
     ]
 
 -- the map once the machines from a place up to another have left it
@@ -160,28 +158,33 @@ module _ (first places : BTreeMap ℕ ℕ) (states : List MachineState) (from i 
           elim (cases_eq state.machine.id id) [
             | inl same ↦ absurd (none-some _ (sym u.1 ∙ ap (λ z. tree.get nat_cmp fewer z) same ∙ is))
             | inr ne ↦
-                let was = left.found id place (sym (u.2 id (apart state.machine.id id ne)) ∙ is) in
-                (was.0, elim was.1 [ inl low ↦ inl low | inr high ↦ elim (cases_eq i place) [
-                  | inl one ↦ absurd (ne (same_Some _ _ (sym here ∙ ap (slice_get (numbers_of (machines_of states))) one ∙ was.0)))
-                  | inr apart ↦ inr (omega (arith, high, apart))
-                ] ])
+                let was = left.found id place (sym (u.2 id (apart state.machine.id id ne)) ∙ is) in (
+                  was.0,
+                  elim was.1 [
+                    | inl low ↦ inl low
+                    | inr high ↦ elim (cases_eq i place) [
+                      | inl one ↦ absurd (ne (same_Some _ _ (sym here ∙ ap (slice_get (numbers_of (machines_of states))) one ∙ was.0)))
+                      | inr apart ↦ inr (omega (arith, high, apart))
+                    ]
+                  ],
+                )
           ]
 
   -- and once all have, it gives the places of the first ones
   pub left_first : length states ≤ i → ArePlaced places (machines_of (take from states))
   left_first end id place = (
     λ is.
-    let was = left.found id place is in
-    elim was.1 [
-      | inl low ↦ ap (λ ns. slice_get ns place) first_numbers ∙ take_at from (numbers_of (machines_of states)) place low ∙ was.0
-      | inr high ↦
-          let within = slice_get_within (numbers_of (machines_of states)) place id was.0 in
-          absurd (omega (arith, high, end, within, numbers_long states))
-    ],
+        let was = left.found id place is in
+        elim was.1 [
+          | inl low ↦ ap (λ ns. slice_get ns place) first_numbers ∙ take_at from (numbers_of (machines_of states)) place low ∙ was.0
+          | inr high ↦
+              let within = slice_get_within (numbers_of (machines_of states)) place id was.0 in
+              absurd (omega (arith, high, end, within, numbers_long states))
+        ],
     λ at.
-    let taken = sym (ap (λ ns. slice_get ns place) first_numbers) ∙ at in
-    let low = taken_low from (numbers_of (machines_of states)) place id taken in
-    left.finds id place (sym (take_at from (numbers_of (machines_of states)) place low) ∙ taken) (inl low),
+        let taken = sym (ap (λ ns. slice_get ns place) first_numbers) ∙ at in
+        let low = taken_low from (numbers_of (machines_of states)) place id taken in
+        left.finds id place (sym (take_at from (numbers_of (machines_of states)) place low) ∙ taken) (inl low),
   )
     where
       first_numbers : numbers_of (machines_of (take from states)) ≡ take from (numbers_of (machines_of states))

@@ -1,5 +1,5 @@
 -- Where a machine stands in a table, and what is said of it there.
-use Rattle.std.proofs.Common.{◌≡◌, inl, inr, ℕ, zero, suc, ◌+◌, ◌<◌, nat_lt, Bor, Option, is_some, Bool, true, false, true≢false, cond, not, ◌||◌, nat_eq, List, [], ◌∷◌, map, length, get_or, slice_get, position, Some, None, IsTrue, IsSomeAnd, refl, sym, ap, ◌∙◌, arith, if◌then◌else◌, ◌==◌}
+use Rattle.std.proofs.Common.{◌≡◌, inl, inr, ℕ, zero, suc, ◌+◌, ◌<◌, nat_lt, Bor, Option, is_some, Bool, true, false, true≢false, cond, not, List, [], ◌∷◌, map, length, get_or, slice_get, position, Some, None, IsTrue, IsSomeAnd, refl, sym, ap, ◌∙◌, arith, if◌then◌else◌, ◌==◌}
 use Rattle.std.specs.BTreeMap as tree
 use Rattle.std.specs.BTreeMap.{BTreeMap}
 use Rattle.std.specs.List.{position_or_len}

@@ -1,5 +1,5 @@
 -- What is in use on the machines of a table that are up, and their capacity, as sums.
-use Rattle.std.specs.Prelude.{◌≡◌, ℕ, ◌<◌, ◌^◌, List}
+use Rattle.std.specs.Prelude.{◌≡◌, ◌<◌, ◌^◌, List}
 use Rattle.omega_model.specs.Need.{plus, minus}
 use Rattle.omega_model.specs.declared.cells.Need.{Need}
 use Rattle.omega_machines.specs.Table.{MachineState, used_if_up, cap_if_up, used_by_all, capacity_of_all, IsTable}

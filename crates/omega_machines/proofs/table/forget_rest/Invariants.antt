@@ -1,4 +1,3 @@
-use Rattle.std.proofs.Common.{◌≤◌}
 use Rattle.omega_machines.proofs.Finding.{LeftBetween}
 use Rattle.omega_machines.proofs.table.forget_rest.Given as goal
 

@@ -1,6 +1,4 @@
-use Rattle.std.proofs.Common.{◌∙◌, sym, ap, subst, length, ◌++◌, ◌∷◌, []}
-use Rattle.omega_machines.specs.Places.{ArePlaced}
-use Rattle.omega_machines.specs.Table.{machines_of}
+use Rattle.std.proofs.Common.{◌∙◌, ap, length}
 use Rattle.omega_machines.proofs.Finding.{placed_more}
 use Rattle.omega_machines.proofs.table.push.Goals as goal
 

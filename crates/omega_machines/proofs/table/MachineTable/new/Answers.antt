@@ -1,5 +1,4 @@
-use Rattle.std.proofs.Common.{rules, arith, ap, sym, subst, [], List}
-use Rattle.omega_machines.specs.Load.{AreSummed}
+use Rattle.std.proofs.Common.{sym, subst, List}
 use Rattle.omega_machines.specs.Places.{IsKept}
 use Rattle.omega_machines.specs.Table.{MachineState}
 use Rattle.omega_machines.proofs.Finding.{kept_none}

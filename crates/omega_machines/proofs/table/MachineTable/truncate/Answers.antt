@@ -1,4 +1,4 @@
-use Rattle.std.proofs.Common.{sym, ap, subst}
+use Rattle.std.proofs.Common.{sym, subst}
 use Rattle.omega_machines.specs.Places.{ArePlaced}
 use Rattle.omega_machines.specs.Table.{machines_of, IsTable}
 use Rattle.omega_machines.proofs.Shortening.{first_table}
