@@ -35,16 +35,19 @@ use std::sync::Wait;
 use std::thread::Threads;
 
 /// Does what the words say with the tables of their folder, or with those that it makes on
-/// `generate`: replays them and writes the report of the history that it answers. On `audit` it reads no
-/// tables: it replays the lines that the keeper hands out, and writes how many entries they are and what is
-/// used after the last one.
+/// `generate`: replays them and writes the report of the history that it answers. On `resume` it compares the
+/// lines that the keeper hands out with those of the history, and appends the others to the keeper's list,
+/// round by round. On `audit` it reads no tables: it replays the lines that the keeper hands out, and writes
+/// how many entries they are and what is used after the last one.
 ///
 /// Of the refusals the first that stands is answered: that of the words, then for each table in
 /// order that of its reading, its length and its rows, then that of the limits over all tables, then
-/// that of the writing; on `audit` that of the words, of the loading, of the first kept line that is refused,
-/// and of the writing. Want of memory alone may be answered at any place before the first write.
-/// After a refusal of one table none behind it was read. On `generate` and `audit` the folder is entered too,
-/// but none of its tables is read; the keeper's path is entered on every command, and its list always stays.
+/// that of the writing; on `resume`, before the writing, that of the loading, of the first kept line that
+/// isn't the run's, and of the appending; on `audit` that of the words, of the loading, of the first kept
+/// line that is refused, and of the writing. Want of memory alone may be answered at any place before the
+/// first write. After a refusal of one table none behind it was read. On `generate` and `audit` the folder is
+/// entered too, but none of its tables is read; the keeper's path is entered on every command, and its list
+/// stays on all but `resume`.
 /// Settings are answered unless the words weren't read; then no folder and no path was entered, and all tables
 /// are as they were. On `run` each scheduler has a thread of its own, which passes the gate, and the call may
 /// wait; on `simulate` the commits stand in the order of a virtual clock; on the other commands that run a
