@@ -190,6 +190,9 @@ chosen() {
     shape crowded 5000 replay --preempt all
     shape taking_over 2000 run
     shape same_tree 100000 replay
+    shape other_trees 100000 replay
+    shape machines_apart 25000 replay
+    shape machines_in_row 25000 replay
     shape constraints 5000 replay
     shape matched 5000 replay
     shape nowhere 5000 replay

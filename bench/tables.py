@@ -361,6 +361,28 @@ def same_tree(files, size):
         files.task(0, job * 65_536, 0, 0, 0)
 
 
+def other_trees(files, size):
+    """Jobs of one task whose numbers follow one another, on 2,000 machines"""
+    for number in range(1, 2001):
+        files.machine(number)
+    for job in range(size):
+        files.task(0, job, 0, 0, 0)
+
+
+def machines_apart(files, size):
+    """Machines whose numbers are equal modulo 2^44, each with a task"""
+    for number in range(size):
+        files.machine(number << 44)
+        files.task(0, number, 0, 0, 0.6)
+
+
+def machines_in_row(files, size):
+    """Machines whose numbers follow one another, each with a task"""
+    for number in range(size):
+        files.machine(number)
+        files.task(0, number, 0, 0, 0.6)
+
+
 def constraints(files, size):
     """One task with many constraints that waits on 100 machines in 20 rounds"""
     for number in range(1, 101):
@@ -529,9 +551,9 @@ def too_little(files, size):
 
 SHAPES = {shape.__name__: shape for shape in (
     one_job, apart, never_fits, one_machine, long_runs, attributes, scarce, map_reduce, half_full, full, evicting,
-    too_little, victims, one_by_one, updates, shrinking, crowded, taking_over, same_tree, constraints, matched,
-    nowhere, lopsided, many_rounds, given_up, large_job, one_waits, restarts, short_rounds, extras, extras_alike,
-    commas, quotes, long_text)}
+    too_little, victims, one_by_one, updates, shrinking, crowded, taking_over, same_tree, other_trees,
+    machines_apart, machines_in_row, constraints, matched, nowhere, lopsided, many_rounds, given_up, large_job,
+    one_waits, restarts, short_rounds, extras, extras_alike, commas, quotes, long_text)}
 
 
 def main(words):
