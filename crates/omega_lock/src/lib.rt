@@ -32,6 +32,7 @@
 //! `specs/Steps.antt`.
 #![tactic(auto)]
 
+mod bells;
 mod counted;
 mod gathering;
 mod lock;
