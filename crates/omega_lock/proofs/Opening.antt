@@ -1,7 +1,6 @@
 -- A new lock keeps its rule: the value is in the slot, no number was given and no ticket drawn.
 -- k: the terms of the lock; y: the value.
-use Rattle.std.proofs.Common.{◌≡◌, ℕ, zero, suc, ◌+◌, ◌≤◌, List, [], ◌∷◌, ◌++◌, length, refl, sym, subst, arith, Some, Option}
-use Rattle.std.specs.Prelude.{drop}
+use Rattle.std.proofs.Common.{◌≡◌, ℕ, zero, suc, ◌+◌, ◌≤◌, List, [], ◌∷◌, length, refl, sym, subst, arith, Some, Option}
 use Rattle.std.proofs.lemmas.List.{drop_all, append-nil}
 use mathlib.Core.Option.{some, some-injective, some-ne-none}
 use lib.ListN.{get_elem?}
