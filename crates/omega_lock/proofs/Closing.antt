@@ -1,6 +1,7 @@
 -- What is known when the table is closed with the seat that all others were joined to.
 use Rattle.std.proofs.Common.{◌≡◌, ℕ, suc, ◌<◌, ◌≤◌, List, [], ◌∷◌, ◌++◌, length, drop, get_or, sym, refl, ap, ◌∙◌, subst, arith, append_assoc, true, false, Some, None, Option, ⊎_elim, Bool, inl, inr}
 use Rattle.std.specs.Prelude.{sum_by, if◌then◌else◌, All, Any, map}
+use Rattle.std.proofs.lemmas.List.{get_or_append_left, length-append}
 use Rattle.std.proofs.lemmas.List.Sums.{sum_by-cons, sum_by-append}
 use Rattle.std.proofs.lemmas.List.Elements.{All-nil, All-cons, All-push, All-same}
 use mathlib.Core.Option.{some, some-injective}
@@ -18,6 +19,12 @@ use Rattle.omega_lock.specs.Seats.{LockState, SeatState, seat_state}
 use Rattle.omega_lock.specs.Gathering.{EachIsKnown, Has, HasAll, In, pair_of}
 use Rattle.omega_lock.proofs.Sums.{same-same, same-other, below_le, below_is, term_le, terms_le, sum_le}
 use Rattle.omega_lock.proofs.Pigeons.{pigeons}
+
+-- what holds of all elements holds of those before the last
+pub all_before : {A : Type 0} (Q : A → Type 0) (all rest : List A) (last : A) → all ≡ rest ++ last ∷ [] → All Q all → All Q rest
+all_before Q all rest last is h = λ k d lt.
+    let more = length-append rest (last ∷ []) in
+    subst Q (get_or_append_left rest (last ∷ []) d k lt) (All-same Q (rest ++ last ∷ []) all (sym is) h k d (omega (arith, lt, more)))
 
 -- a sum of zeros
 sum-none : {V : Type 0} (l : List V) → sum_by (λ (_ : V). 0) l ≡ 0

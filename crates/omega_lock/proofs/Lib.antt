@@ -2,6 +2,7 @@ pub mod Sums
 pub mod Entries
 pub mod SeatLists
 pub mod Holders
+pub mod Opening
 pub mod Splitting
 pub mod Numbering
 pub mod Drawing

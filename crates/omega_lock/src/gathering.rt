@@ -64,7 +64,7 @@ impl<T: Counted> Lock<T> {
             × (seat.first_length ≡ length self.first)
             × (seat.own ≡ entries_since T.number (length self.first) seat.number (T.entries result)) }
     {
-        let Lock { table } = self;
+        let Lock { table, .. } = self;
         let mut closed = table.close_with(all);
         let value = closed.take(VALUE);
         closed.free();

@@ -25,6 +25,11 @@
 //! takes the value out of the slot. A release puts the value back, raises word 3 where the list has
 //! one more entry, and raises word 2.
 //!
+//! Who has looked often enough sleeps between two looks, at the bell of its ticket (`bells`): a word of
+//! a second table, which has no rule and says nothing of the lock. A release that has raised word 2
+//! rings the bell of the next ticket, if that was drawn, and so wakes the one caller whose turn it is.
+//! Whoever wakes looks again. That nobody sleeps for ever is not proved; `wait` says why it is so.
+//!
 //! What each seat knows is its view, which exists in proofs alone (`view`). `LockRule` (in
 //! `specs/Rule.antt`) ties words, slot and views together and holds between any two steps. Each kind
 //! of step has one lemma in `proofs/` that it keeps the rule: `Splitting`, `Numbering`, `Drawing`,
@@ -32,6 +37,7 @@
 //! `specs/Steps.antt`.
 #![tactic(auto)]
 
+mod bells;
 mod counted;
 mod gathering;
 mod lock;

@@ -3,6 +3,7 @@ ghost use Rattle.std.specs.Prelude.{◌≡◌, ℕ, ◌+◌, ◌^◌, ◌<◌, �
 ghost use Rattle.omega_lock.specs.Lists.{StartsWith, entries_since};
 ghost use Rattle.omega_lock.specs.Seats.{IsSameSeat, OwnIsSeen, AddsAtMostOne, new_seat, new_seats};
 
+use crate::bells::Bells;
 use crate::counted::Counted;
 use crate::rule::{Draw, LENGTH, Read, TICKETS, Terms, Turns, VALUE};
 use crate::seat::Seat;
@@ -24,6 +25,8 @@ pub struct NoMemory;
 #[derive(Drop)]
 pub struct Lock<T: Counted> {
     pub(crate) table: Table<Option<T>, View<T::Entry>, Terms<T>, Turns<T>, Global>,
+    // Where callers sleep whose turn isn't near.
+    pub(crate) bells: Bells,
 }
 
 impl<T: Counted> Model for Lock<T> {
@@ -68,6 +71,10 @@ impl<T: Counted> Lock<T> {
         let Ok(mut slots) = Vec::with_capacity(alloc, 1) else {
             return Err((value, NoMemory));
         };
+        let Some(bells) = Bells::new(alloc) else {
+            slots.destroy_empty();
+            return Err((value, NoMemory));
+        };
         let terms = Terms {
             callers: u64::from(callers),
             turns: u64::from(turns),
@@ -77,7 +84,7 @@ impl<T: Counted> Lock<T> {
         slots.push_reserved(Some(value));
         match Table::new(alloc, &words, slots, &terms) {
             Ok((table, first)) => {
-                let lock = Lock { table };
+                let lock = Lock { table, bells };
                 let seats = lock.seats(rt, first, seats, callers, turns);
                 Ok((lock, seats))
             }

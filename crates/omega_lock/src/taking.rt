@@ -6,18 +6,22 @@ ghost use Rattle.omega_lock.specs.Steps.{turned_over, HasPublished};
 
 use crate::counted::Counted;
 use crate::lock::Lock;
-use crate::rule::{HandOn, LENGTH, Look, Publish, SERVED, VALUE};
+use crate::rule::{HandOn, LENGTH, Look, Publish, SERVED, TICKETS, VALUE};
 use crate::view::View;
 use atomic_table::Seat as Token;
 use std::hint::spin_loop;
 use std::sync::Wait;
-use std::thread::yield_now;
 
-// How often a waiting thread looks again before it lets another thread run between two looks.
+// How often a waiting thread looks again before it sleeps between two looks.
 const LOOKS: u32 = 100;
 
 impl<T: Counted> Lock<T> {
     // Waits until the seat's ticket is served. The turn is then the seat's, and the slot with it.
+    //
+    // The bell is read before the served ticket, and a release raises the served ticket before it rings. So
+    // if the look found another ticket, the release to come rings after the bell was read: a thread that
+    // isn't asleep by then doesn't fall asleep, since the bell is no longer as it was read, and one that is
+    // asleep wakes. Whoever wakes looks again, whatever woke it.
     pub(crate) fn wait<R: Wait>(
         &self,
         rt: &R,
@@ -35,10 +39,11 @@ impl<T: Counted> Lock<T> {
         let shared = &self.table.shared;
         let mut looks = 0;
         for _ in rt.forever() {
+            let rung = self.bells.rung(ticket);
             if shared.load::<Look>(token, SERVED) == ticket {
                 return;
             }
-            pause(looks);
+            self.pause(rt, looks, ticket, rung);
             looks = looks.saturating_add(1);
         }
         unreachable!()
@@ -114,15 +119,20 @@ impl<T: Counted> Lock<T> {
         ensures of { token.new.table_id ≡ token.old.table_id }
         ensures now { token.new.me ≡ (turned_over token.old.me.0, []) }
     {
-        self.table.shared.fetch_add::<HandOn>(token, SERVED, 1);
+        let shared = &self.table.shared;
+        let next = shared.fetch_add::<HandOn>(token, SERVED, 1).wrapping_add(1);
+        if shared.peek(TICKETS) != next {
+            self.bells.ring(next);
+        }
     }
-}
 
-// What a thread does between two looks at the served ticket, after so many of them.
-fn pause(looks: u32) {
-    if looks < LOOKS {
-        spin_loop();
-    } else {
-        yield_now();
+    // What a thread does between two looks at the served ticket, after so many of them. `rung` is how often
+    // the bell of its ticket had been rung before the last look.
+    fn pause<R: Wait>(&self, rt: &R, looks: u32, ticket: u64, rung: u64) {
+        if looks < LOOKS {
+            spin_loop();
+        } else {
+            self.bells.sleep(rt, ticket, rung);
+        }
     }
 }

@@ -3,6 +3,7 @@ ghost use Rattle.std.specs.Prelude.{◌≡◌, ◌≤◌, false, Some};
 
 use crate::{Counted, Lock, Seat};
 use std::alloc::Global;
+use std::hint::spin_loop;
 use std::sync::Wait;
 use std::thread;
 use std::thread::Threads;
@@ -28,29 +29,34 @@ impl Counted for Tally {
     }
 }
 
-// Takes all turns of a seat, and adds an entry in each.
-fn take_turns<R: Wait>(rt: &R, lock: &Lock<Tally>, mut seat: Seat<Tally>) -> Seat<Tally>
+// Takes so many turns of a seat, if it has them, and adds an entry in each. Those who wait have time to fall
+// asleep.
+fn take_turns<R: Wait>(rt: &R, lock: &Lock<Tally>, mut seat: Seat<Tally>, most: u32) -> Seat<Tally>
     requires { (seat.of ≡ lock.now.of) × (seat.holds ≡ false) }
     ensures { (result.of ≡ lock.now.of) × (result.holds ≡ false) }
 {
-    for _ in 0..seat.turns_left() {
+    for _ in 0..seat.turns_left().min(most) {
         let mut tally = lock.turn(rt, &mut seat);
         if tally.entries.push(seat.number()).is_ok() {
             tally.raised = tally.raised.wrapping_add(1);
+        }
+        for _ in 0..500 {
+            spin_loop();
         }
         lock.release(&mut seat, tally);
     }
     seat
 }
 
-// What callers leave that each take all turns in a thread of their own, but for the idle ones, which
-// have the least numbers. Where memory runs out there is nothing, and the lock is dropped.
+// What callers leave that each take all turns in a thread of their own, but for the first so many, which end
+// after a few. Where memory runs out there is nothing, and the lock is dropped.
 fn count_turns<R: Threads + Wait + Sync>(
     rt: &R,
     alloc: Global,
     callers: u32,
     turns: u32,
-    idle: u32,
+    first: u32,
+    few: u32,
 ) -> Option<Tally>
     requires { (1 ≤ callers) × (callers ≤ 32) }
 {
@@ -68,11 +74,8 @@ fn count_turns<R: Threads + Wait + Sync>(
             requires { (seat.of ≡ lock.of) × (seat.holds ≡ false) }
             ensures { (result.of ≡ lock.of) × (result.holds ≡ false) }
         {
-            if seat.number() < idle {
-                seat
-            } else {
-                take_turns(rt, &lock, seat)
-            }
+            let most = if seat.number() < first { few } else { turns };
+            take_turns(rt, &lock, seat, most)
         },
     );
     Some(lock.close(seats.ok()?))
@@ -85,7 +88,7 @@ fn entries_of(tally: &Tally, number: u32) -> usize {
 
 #[test]
 fn two_callers(rt: HostRuntime) {
-    let tally = count_turns(&rt, rt.alloc(), 2, 1000, 0).expect(&rt, "memory");
+    let tally = count_turns(&rt, rt.alloc(), 2, 1000, 0, 0).expect(&rt, "memory");
     assert_eq!(rt; tally.raised, 2000);
     assert_eq!(rt; entries_of(&tally, 0), 1000);
     assert_eq!(rt; entries_of(&tally, 1), 1000);
@@ -93,7 +96,7 @@ fn two_callers(rt: HostRuntime) {
 
 #[test]
 fn as_many_callers_as_can_be(rt: HostRuntime) {
-    let tally = count_turns(&rt, rt.alloc(), 32, 100, 0).expect(&rt, "memory");
+    let tally = count_turns(&rt, rt.alloc(), 32, 100, 0, 0).expect(&rt, "memory");
     assert_eq!(rt; tally.raised, 3200);
     for number in 0..32 {
         assert_eq!(rt; entries_of(&tally, number), 100);
@@ -102,9 +105,27 @@ fn as_many_callers_as_can_be(rt: HostRuntime) {
 
 #[test]
 fn a_caller_that_does_nothing(rt: HostRuntime) {
-    let tally = count_turns(&rt, rt.alloc(), 3, 1000, 1).expect(&rt, "memory");
+    let tally = count_turns(&rt, rt.alloc(), 3, 1000, 1, 0).expect(&rt, "memory");
     assert_eq!(rt; tally.raised, 2000);
     assert_eq!(rt; entries_of(&tally, 0), 0);
     assert_eq!(rt; entries_of(&tally, 1), 1000);
     assert_eq!(rt; entries_of(&tally, 2), 1000);
+}
+
+// The last caller finds nobody to wake in most of its turns.
+#[test]
+fn all_callers_but_one_end_early(rt: HostRuntime) {
+    let tally = count_turns(&rt, rt.alloc(), 32, 500, 31, 2).expect(&rt, "memory");
+    assert_eq!(rt; tally.raised, 562);
+    assert_eq!(rt; entries_of(&tally, 0), 2);
+    assert_eq!(rt; entries_of(&tally, 31), 500);
+}
+
+// Those who sleep are woken by others than the one that ended.
+#[test]
+fn one_caller_ends_early(rt: HostRuntime) {
+    let tally = count_turns(&rt, rt.alloc(), 16, 200, 1, 1).expect(&rt, "memory");
+    assert_eq!(rt; tally.raised, 3001);
+    assert_eq!(rt; entries_of(&tally, 0), 1);
+    assert_eq!(rt; entries_of(&tally, 15), 200);
 }

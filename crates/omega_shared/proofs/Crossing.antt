@@ -27,7 +27,7 @@ use Rattle.omega_running.specs.contracts.nodes.Tree as Tree
 use Rattle.omega_running.specs.contracts.table.Pair as Pair
 use Rattle.omega_running.specs.contracts.table.Running as Running
 use Rattle.omega_running.specs.contracts.table.Running.TheInside as Inside
-use Rattle.omega_shared.specs.contracts.held.Guarded as Guarded
+use Rattle.omega_shared.specs.contracts.guarded.Guarded as Guarded
 use Rattle.omega_shared.specs.contracts.pass.Pass as Pass
 use Rattle.omega_shared.specs.contracts.shared.SharedCell as SharedCell
 use Rattle.omega_shared.specs.contracts.shared.SharedCell.TheInside as SharedInside

@@ -2,8 +2,8 @@ use Rattle.std.proofs.Common.{rules}
 use Rattle.omega_lock.proofs.Passing.{pass_keeps}
 use Rattle.omega_lock.proofs.lock.Lock.pass.Goals as goal
 
-pub fetch_add-requires : goal.fetch_add-requires
-fetch_add-requires g c =
+pub fetch_add-next-requires : goal.fetch_add-next-requires
+fetch_add-next-requires g c =
     let t = c.requires.turn in
     let s = c.requires.slot in (
       search rules,
