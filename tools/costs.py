@@ -8,7 +8,7 @@ The first runs a command that proves crates, and a few times a second reads from
 prover's ones below it have taken. FILE has a line for each check when the command ends: the crate, what was checked
 (`proof`, `tests`, an `edit` that must be refused, the `seed` that a crate's edits begin with, or `build`, a program
 made of what is proved), its processor seconds, the most memory in MB, and when it began and ended in seconds since
-the command did. The status is the command's. A check is seen until its last reading, so up to a third of a second
+the command did. The status is the command's. A check is seen until its last reading, so up to half a second
 of it is missing, and memory is read every few seconds.
 
 The second writes a table with a line for each crate in the order of crates.txt between the page's two marks, and
@@ -26,9 +26,9 @@ from typing import Dict, Iterator, List, NamedTuple, Optional, Tuple
 from omegatools.common import Refusal, ends
 
 ROOT = Path(__file__).resolve().parent.parent
-PROC = Path('/proc')
+PROC = '/proc'
 TICK = os.sysconf('SC_CLK_TCK')
-PAUSE, READINGS = 0.3, 15  # seconds between two readings; readings from one of memory to the next
+PAUSE, READINGS = 0.4, 12  # seconds between two readings; readings from one of memory to the next
 KINDS = ('proof', 'tests', 'seed', 'edit', 'build')
 BEGIN, END = '<!-- costs -->', '<!-- end of costs -->'
 
@@ -55,14 +55,16 @@ class Check:
 def processes() -> Dict[int, Process]:
     """All processes, by number. One that ends meanwhile is left out."""
     found = {}
-    for folder in PROC.iterdir():
-        if folder.name.isdigit():
+    for number in os.listdir(PROC):
+        if number.isdigit():
             try:
-                name, _, rest = (folder / 'stat').read_text(errors='replace').partition('(')[2].rpartition(') ')
+                with open('%s/%s/stat' % (PROC, number), 'rb') as stat:
+                    before, _, behind = stat.read().rpartition(b') ')
             except OSError:
                 continue
-            words = rest.split()
-            found[int(folder.name)] = Process(int(words[1]), name, sum(map(int, words[11:15])) / TICK)
+            words = behind.split()
+            seconds = sum(map(int, words[11:15])) / TICK
+            found[int(number)] = Process(int(words[1]), before.partition(b'(')[2].decode(errors='replace'), seconds)
     return found
 
 
@@ -96,8 +98,8 @@ def megabytes(numbers: List[int]) -> float:
     found = 0
     for number in numbers:
         try:
-            lines = (PROC / str(number) / 'smaps_rollup').read_text().splitlines()
-            found += sum(int(line.split()[1]) for line in lines if line.startswith('Pss:'))
+            with open('%s/%d/smaps_rollup' % (PROC, number)) as lines:
+                found += sum(int(line.split()[1]) for line in lines if line.startswith('Pss:'))
         except OSError:
             continue
     return found / 1024
@@ -114,8 +116,9 @@ class Taking:
     def begun(self, number: int, now: float) -> Optional[Check]:
         """The check of a process of the prover that is new."""
         try:
-            words = (PROC / str(number) / 'cmdline').read_text(errors='replace').split('\0')
-            found = what_is_checked(words, os.readlink(str(PROC / str(number) / 'cwd')))
+            with open('%s/%d/cmdline' % (PROC, number), errors='replace') as line:
+                words = line.read().split('\0')
+            found = what_is_checked(words, os.readlink('%s/%d/cwd' % (PROC, number)))
         except OSError:
             return None
         return Check(*found, now) if found else None

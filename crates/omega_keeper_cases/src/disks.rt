@@ -85,30 +85,23 @@ fn stop_at(alloc: Global, files: Files<Disk>, wholes: &Wholes) -> Left {
 /// How many lists are done before one is refused, and the files then.
 fn stopped(alloc: Global, files: Files<Disk>, wholes: &Wholes) -> (usize, Files<Disk>) {
     match keeper_over(alloc, files) {
-        Ok(keeper) => appended(keeper, wholes),
+        Ok(keeper) => closed(wholes.appended(keeper)),
         Err(files) => (0, files),
     }
 }
 
-/// How many lists a keeper takes before it refuses one, and the files under it then.
-fn appended(keeper: Kept, wholes: &Wholes) -> (usize, Files<Disk>) {
-    let mut keeper = keeper;
-    let done = wholes.append_to(&mut keeper);
+/// The files under a keeper, behind how many lists it took.
+fn closed(taken: (usize, Kept)) -> (usize, Files<Disk>) {
+    let (done, keeper) = taken;
     (done, keeper.into_connection().into_store().close())
 }
 
 /// Whether a keeper over files has the lines of whole lists, no fewer than so many.
 fn is_whole(alloc: Global, files: Files<Disk>, wholes: &Wholes, least: usize) -> bool {
     match keeper_over(alloc, files) {
-        Ok(keeper) => has_whole(keeper, wholes, least),
+        Ok(keeper) => wholes.are_kept(keeper, least),
         Err(_) => false,
     }
-}
-
-/// Whether a keeper has the lines of whole lists, no fewer than so many.
-fn has_whole(keeper: Kept, wholes: &Wholes, least: usize) -> bool {
-    let mut keeper = keeper;
-    wholes.are_kept(&mut keeper, least)
 }
 
 /// The files once the machine is up again: what was never synced is lost.

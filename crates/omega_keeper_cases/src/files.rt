@@ -1,17 +1,48 @@
 //! Keepers over files.
 use crate::steps::{show_done, take};
 use omega_calls::{Fault, is_colon, part, text};
+use omega_keep::Keeper;
 use omega_model::Bytes;
 use omega_sqlkeep::FileKeeper;
 use std::{fs, mem};
+
+/// A keeper over a file. Functions take it as a value of a type parameter, since to lend one whose type is known costs the one
+/// who lends it minutes of proof.
+trait Kept<'a>: Keeper + Drop {
+    /// A new keeper.
+    fn at(rt: &'a HostRuntime) -> Self;
+
+    /// Closes the file, and answers whether that was done.
+    fn closed(self) -> bool;
+}
+
+impl<'a> Kept<'a> for FileKeeper<'a> {
+    fn at(rt: &'a HostRuntime) -> FileKeeper<'a> {
+        FileKeeper::new(rt)
+    }
+
+    fn closed(self) -> bool {
+        self.close().is_ok()
+    }
+}
 
 /// What each step answers on two keepers over files, `first` and `other`. Behind one of these words stand the steps of
 /// every keeper, and `close`, which closes its file and leaves a new keeper, and `leave`, which leaves a new one without
 /// closing. `folder PATH` makes a folder, `write PATH TEXT` a file; `read PATH` answers the text of a file, and `there PATH` whether
 /// anything stands at a path.
 pub(crate) fn answer(rt: &HostRuntime, words: &[Bytes], answers: &mut String) -> Result<(), Fault> {
-    let mut first = FileKeeper::new(rt);
-    let mut other = FileKeeper::new(rt);
+    take_all(rt, FileKeeper::new(rt), FileKeeper::new(rt), words, answers)
+}
+
+/// Takes all steps.
+fn take_all<'a, K: Kept<'a>>(
+    rt: &'a HostRuntime,
+    first: K,
+    other: K,
+    words: &[Bytes],
+    answers: &mut String,
+) -> Result<(), Fault> {
+    let (mut first, mut other) = (first, other);
     for step in words.split(|word| is_colon(word)) {
         part(answers)?;
         take_step(rt, &mut first, &mut other, step, answers)?;
@@ -20,10 +51,10 @@ pub(crate) fn answer(rt: &HostRuntime, words: &[Bytes], answers: &mut String) ->
 }
 
 /// Takes a step, and appends its answer.
-fn take_step<'a>(
+fn take_step<'a, K: Kept<'a>>(
     rt: &'a HostRuntime,
-    first: &mut FileKeeper<'a>,
-    other: &mut FileKeeper<'a>,
+    first: &mut K,
+    other: &mut K,
     step: &[Bytes],
     answers: &mut String,
 ) -> Result<(), Fault> {
@@ -38,9 +69,9 @@ fn take_step<'a>(
 }
 
 /// Takes a keeper's step.
-fn take_of_keeper<'a>(
+fn take_of_keeper<'a, K: Kept<'a>>(
     rt: &'a HostRuntime,
-    keeper: &mut FileKeeper<'a>,
+    keeper: &mut K,
     step: &[Bytes],
     answers: &mut String,
 ) -> Result<(), Fault> {
@@ -51,20 +82,20 @@ fn take_of_keeper<'a>(
 }
 
 /// Takes a keeper's step of one word.
-fn take_of_one_word<'a>(
+fn take_of_one_word<'a, K: Kept<'a>>(
     rt: &'a HostRuntime,
-    keeper: &mut FileKeeper<'a>,
+    keeper: &mut K,
     word: &str,
     step: &[Bytes],
     answers: &mut String,
 ) -> Result<(), Fault> {
     match word {
         "close" => {
-            let closed = mem::replace(keeper, FileKeeper::new(rt)).close();
-            show_done(answers, closed.is_ok())
+            let closed = mem::replace(keeper, K::at(rt)).closed();
+            show_done(answers, closed)
         }
         "leave" => {
-            *keeper = FileKeeper::new(rt);
+            *keeper = K::at(rt);
             show_done(answers, true)
         }
         _ => take(rt.alloc(), keeper, step, answers),

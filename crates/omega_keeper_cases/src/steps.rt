@@ -39,6 +39,19 @@ pub(crate) fn take<K: Keeper>(
     }
 }
 
+/// Takes a step on a keeper, appends its answer, and answers the keeper after it. It takes the keeper as a value of a
+/// type parameter, since lending one over a database costs its caller minutes of proof.
+pub(crate) fn taken<K: Keeper + Drop>(
+    alloc: Global,
+    keeper: K,
+    step: &[Bytes],
+    answers: &mut String,
+) -> Result<K, Fault> {
+    let mut keeper = keeper;
+    take(alloc, &mut keeper, step, answers)?;
+    Ok(keeper)
+}
+
 /// Some lines as a list of their own.
 pub(crate) fn listed(alloc: Global, lines: &[Bytes]) -> Result<Lines, Fault> {
     let mut list = Lines::new(alloc);

@@ -34,8 +34,17 @@ impl Wholes {
         Ok(())
     }
 
+    /// Loads what a keeper has and appends the lists until one is refused. Answers how many were appended, and the
+    /// keeper. It takes the keeper as a value of a type parameter, since lending one over a database costs its caller
+    /// minutes of proof.
+    pub(crate) fn appended<K: Keeper>(&self, keeper: K) -> (usize, K) {
+        let mut keeper = keeper;
+        let done = self.append_to(&mut keeper);
+        (done, keeper)
+    }
+
     /// Loads what a keeper has and appends the lists until one is refused. Answers how many were appended.
-    pub(crate) fn append_to<K: Keeper>(&self, keeper: &mut K) -> usize {
+    fn append_to<K: Keeper>(&self, keeper: &mut K) -> usize {
         if keeper.load().is_err() {
             return 0;
         }
@@ -48,7 +57,8 @@ impl Wholes {
     }
 
     /// Whether a keeper has the lines of so many lists, or of some more.
-    pub(crate) fn are_kept<K: Keeper>(&self, keeper: &mut K, least: usize) -> bool {
+    pub(crate) fn are_kept<K: Keeper + Drop>(&self, keeper: K, least: usize) -> bool {
+        let mut keeper = keeper;
         match keeper.load() {
             Ok(lines) => self.has_whole(lines.as_slice(), least),
             Err(_) => false,

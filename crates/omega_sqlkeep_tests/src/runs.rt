@@ -2,7 +2,7 @@
 
 ghost use Rattle.std.specs.Thread.{IsSync};
 
-use crate::disks::{Disk, Kept, Stopped, files_of, files_under, keeper_over, up_again};
+use crate::disks::{Disk, Stopped, files_of, files_under, keeper_over, up_again};
 use omega_io::{MemorySink, MemoryTables, PassGate};
 use omega_keep::{Keeper, Lines};
 use omega_model::{Bytes, NoMemory, Seq, Status};
@@ -80,12 +80,12 @@ fn tables_of(alloc: Global) -> Result<MemoryTables, NoMemory> {
 }
 
 /// Whether a resume is done.
-fn is_done<R: Threads + Wait + Sync>(
+fn is_done<R: Threads + Wait + Sync, K: Keeper>(
     rt: &R,
     alloc: Global,
     tables: &mut MemoryTables,
     sink: &mut MemorySink,
-    keeper: &mut Kept,
+    keeper: &mut K,
 ) -> bool
     requires { IsSync R.row }
 {
@@ -94,10 +94,10 @@ fn is_done<R: Threads + Wait + Sync>(
 }
 
 /// Whether a resume is done and writes the report.
-fn is_resumed<R: Threads + Wait + Sync>(
+fn is_resumed<R: Threads + Wait + Sync, K: Keeper>(
     rt: &R,
     alloc: Global,
-    keeper: &mut Kept,
+    keeper: &mut K,
 ) -> Result<bool, NoMemory>
     requires { IsSync R.row }
 {
@@ -107,20 +107,21 @@ fn is_resumed<R: Threads + Wait + Sync>(
     Ok(is_done && sink.into_bytes().as_slice() == REPORT.as_bytes())
 }
 
-/// Whether a resume over this keeper is done, and the files under it then.
-fn kept_by<R: Threads + Wait + Sync>(
+/// Whether a resume over this keeper is done and writes the report, and the keeper then. This and the functions below
+/// take the keeper as a value of a type parameter, since lending one over a database costs its caller minutes of proof.
+fn resumed<R: Threads + Wait + Sync, K: Keeper + Drop>(
     rt: &R,
     alloc: Global,
-    keeper: Kept,
-) -> Result<(bool, Files<Disk>), NoMemory>
+    keeper: K,
+) -> Result<(bool, K), NoMemory>
     requires { IsSync R.row }
 {
     let mut keeper = keeper;
-    let is_done = is_resumed(rt, alloc, &mut keeper)?;
-    Ok((is_done, files_under(keeper)))
+    let is_resumed = is_resumed(rt, alloc, &mut keeper)?;
+    Ok((is_resumed, keeper))
 }
 
-/// Whether a resume over two files is done, and the files then.
+/// Whether a resume over two files is done and writes the report, and the files then.
 fn kept_in<R: Threads + Wait + Sync>(
     rt: &R,
     alloc: Global,
@@ -129,7 +130,10 @@ fn kept_in<R: Threads + Wait + Sync>(
     requires { IsSync R.row }
 {
     match keeper_over(alloc, files) {
-        Ok(keeper) => kept_by(rt, alloc, keeper),
+        Ok(keeper) => {
+            let (is_done, keeper) = resumed(rt, alloc, keeper)?;
+            Ok((is_done, files_under(keeper)))
+        }
         Err(files) => Ok((false, files)),
     }
 }
@@ -144,25 +148,28 @@ fn are_whole_rounds(lines: &Lines) -> bool {
             .all(|(line, text)| line.as_slice() == text.as_bytes())
 }
 
-/// Whether a keeper has the lines of whole rounds, of all where the run was done.
-fn has_whole_rounds(keeper: &mut Kept, all: bool) -> bool {
+/// Whether a keeper has the lines of whole rounds, and all where this is asked.
+fn has_whole_rounds<K: Keeper>(keeper: &mut K, all: bool) -> bool {
     match keeper.load() {
         Ok(lines) => are_whole_rounds(&lines) && (lines.len() == KEPT.len() || !all),
         Err(_) => false,
     }
 }
 
-/// Whether a keeper has the lines of whole rounds, and a run goes on from them to the report.
-fn goes_on_by<R: Threads + Wait + Sync>(
+/// Whether a keeper has the lines of whole rounds, all where this is asked, and a run goes on from them to the report.
+fn goes_on<R: Threads + Wait + Sync, K: Keeper + Drop>(
     rt: &R,
     alloc: Global,
-    keeper: Kept,
+    keeper: K,
     all: bool,
 ) -> Result<bool, NoMemory>
     requires { IsSync R.row }
 {
     let mut keeper = keeper;
-    Ok(has_whole_rounds(&mut keeper, all) && is_resumed(rt, alloc, &mut keeper)?)
+    if !has_whole_rounds(&mut keeper, all) {
+        return Ok(false);
+    }
+    is_resumed(rt, alloc, &mut keeper)
 }
 
 /// The same of a keeper over two files.
@@ -175,7 +182,7 @@ fn goes_on_in<R: Threads + Wait + Sync>(
     requires { IsSync R.row }
 {
     match keeper_over(alloc, files) {
-        Ok(keeper) => goes_on_by(rt, alloc, keeper, all),
+        Ok(keeper) => goes_on(rt, alloc, keeper, all),
         Err(_) => Ok(false),
     }
 }
