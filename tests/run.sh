@@ -86,8 +86,21 @@ faults_in() {
     differences "$1/fault.txt" "$scratch/err"
     [ -f "$1/status" ] && wanted=$(<"$1/status")
     [ "$status" = "$wanted" ] || echo "the status is $status, and $wanted is wanted"
-    [ ! -f "$1/kept" ] || kept_differences "$1" "$base"
+    if [ -f "$1/kept" ]; then
+        kept_differences "$1" "$base"
+        [ "$wanted" != 0 ] || faults_again "$1" "$where" "$base" "${words[@]}"
+    fi
     rm -rf "$scratch/copy"
+}
+
+# Prints what is wrong where a run is made once more over what it has left in the database: it must answer the same,
+# and keep no more.
+faults_again() {
+    local case=$1 where=$2 base=$3
+    shift 3
+    answer_in "$where" "$@" || echo "made again it ends with status $?"
+    differences "$case/report.txt" "$scratch/out"
+    kept_differences "$case" "$base"
 }
 
 # Makes a copy of a folder, and in it the tables that its script makes.

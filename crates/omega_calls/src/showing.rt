@@ -1,7 +1,7 @@
 //! How answers are put into words: amounts, tasks, places.
 ghost use Rattle.std.specs.Prelude.{◌≡◌, ◌++◌, OnOk};
 ghost use Rattle.std.specs.String.{string_bytes};
-ghost use Rattle.omega_calls.specs.Shown.{told_key, told_need, told_place, told_spec, with_next};
+ghost use Rattle.omega_calls.specs.Shown.{shown_key, shown_need, shown_place, shown_spec, with_next};
 
 use crate::fault::Fault;
 use omega_model::{Need, Spec, TaskKey};
@@ -18,7 +18,7 @@ pub fn part(answers: &mut String) -> Result<(), Fault>
 
 /// Appends an amount as `CPU,MEMORY,DISK`.
 pub fn show_need(answers: &mut String, need: Need) -> Result<(), Fault>
-    ensures { OnOk result (string_bytes answers.new ≡ string_bytes answers.old ++ told_need need) }
+    ensures { OnOk result (string_bytes answers.new ≡ string_bytes answers.old ++ shown_need need) }
 {
     let Need { cpu, mem, disk } = need;
     write!(answers, "{cpu},{mem},{disk}")?;
@@ -27,7 +27,7 @@ pub fn show_need(answers: &mut String, need: Need) -> Result<(), Fault>
 
 /// Appends a place in a list, or `-` where there is none.
 pub fn show_place(answers: &mut String, place: Option<usize>) -> Result<(), Fault>
-    ensures { OnOk result (string_bytes answers.new ≡ string_bytes answers.old ++ told_place place) }
+    ensures { OnOk result (string_bytes answers.new ≡ string_bytes answers.old ++ shown_place place) }
 {
     match place {
         Some(place) => write!(answers, "{place}")?,
@@ -38,7 +38,7 @@ pub fn show_place(answers: &mut String, place: Option<usize>) -> Result<(), Faul
 
 /// Appends the name of a task as `JOB.INDEX`.
 pub fn show_task(answers: &mut String, key: TaskKey) -> Result<(), Fault>
-    ensures { OnOk result (string_bytes answers.new ≡ string_bytes answers.old ++ told_key key) }
+    ensures { OnOk result (string_bytes answers.new ≡ string_bytes answers.old ++ shown_key key) }
 {
     let TaskKey { job, index } = key;
     write!(answers, "{job}.{index}")?;
@@ -48,7 +48,7 @@ pub fn show_task(answers: &mut String, key: TaskKey) -> Result<(), Fault>
 /// Appends an amount and a precedence, which has `/differ` behind it where no other task of the job
 /// may share the machine.
 pub fn show_spec(answers: &mut String, spec: Spec) -> Result<(), Fault>
-    ensures { OnOk result (string_bytes answers.new ≡ string_bytes answers.old ++ told_spec spec) }
+    ensures { OnOk result (string_bytes answers.new ≡ string_bytes answers.old ++ shown_spec spec) }
 {
     let Need { cpu, mem, disk } = spec.need;
     let differ = if spec.differ { "/differ" } else { "" };

@@ -1,5 +1,6 @@
-//! Tests of the keepers over a database: what they keep, what they refuse, and what a machine that stops at
-//! any call to its disk leaves, of appends and of whole runs that go on from there.
+//! Tests of runs that a keeper over a database keeps: what a machine that stops at any call to its disk leaves of them,
+//! and how they go on from there. What such a keeper does with lines is shown by `omega_keeper_cases`, and by the folders of `tests/kept` at
+//! the top of the repository what runs of the whole program leave in a file.
 //!
 //! They stand apart from `omega_sqlkeep`, since a crate with tests is proved once more with them.
 #![tactic(auto)]
@@ -7,10 +8,4 @@
 #[cfg(test)]
 mod disks;
 #[cfg(test)]
-mod files;
-#[cfg(test)]
-mod lines;
-#[cfg(test)]
-mod memory;
-#[cfg(test)]
-mod resumes;
+mod runs;

@@ -10,19 +10,19 @@ with_next [] = []
 with_next (first ∷ rest) = (first ∷ rest) ++ codes " : "
 
 -- an amount
-abbrev pub told_need : Need → List ℕ
-told_need need = decimal need.cpu ++ codes "," ++ decimal need.mem ++ codes "," ++ decimal need.disk
+abbrev pub shown_need : Need → List ℕ
+shown_need need = decimal need.cpu ++ codes "," ++ decimal need.mem ++ codes "," ++ decimal need.disk
 
 -- a place in a list, or a dash
-abbrev pub told_place : Option ℕ → List ℕ
-told_place (Some place) = decimal place
-told_place None = codes "-"
+abbrev pub shown_place : Option ℕ → List ℕ
+shown_place (Some place) = decimal place
+shown_place None = codes "-"
 
 -- the name of a task
-abbrev pub told_key : TaskKey → List ℕ
-told_key key = decimal key.job ++ codes "." ++ decimal key.index
+abbrev pub shown_key : TaskKey → List ℕ
+shown_key key = decimal key.job ++ codes "." ++ decimal key.index
 
 -- what a task asks for
-abbrev pub told_spec : Spec → List ℕ
-told_spec spec =
-    told_need spec.need ++ codes " " ++ decimal spec.prec ++ (if spec.differ then codes "/differ" else [])
+abbrev pub shown_spec : Spec → List ℕ
+shown_spec spec =
+    shown_need spec.need ++ codes " " ++ decimal spec.prec ++ (if spec.differ then codes "/differ" else [])
