@@ -69,7 +69,7 @@ numbers_more states state =
 numbers_long : (states : List MachineState) → length (numbers_of (machines_of states)) ≡ length states
 numbers_long states = length-map (machines_of states) (λ (m : Machine). m.id) ∙ length-map states (λ (s : MachineState). s.machine)
 
-numbers_at : (states : List MachineState) (i : ℕ) (state : MachineState) → slice_get states i ≡ Some state → slice_get (numbers_of (machines_of states)) i ≡ Some state.machine.id
+pub numbers_at : (states : List MachineState) (i : ℕ) (state : MachineState) → slice_get states i ≡ Some state → slice_get (numbers_of (machines_of states)) i ≡ Some state.machine.id
 numbers_at [] i state at = absurd (none-some _ at)
 numbers_at (s ∷ ss) zero state at = ap (λ o. option_map (λ (t : MachineState). t.machine.id) o) at
 numbers_at (s ∷ ss) (suc i) state at = numbers_at ss i state at

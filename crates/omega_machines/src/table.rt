@@ -1,5 +1,5 @@
 //! The table of machines.
-ghost use Rattle.std.specs.Prelude.{◌≡◌, ◌-◌, ◌<◌, ◌≤◌, ◌^◌, ◌==◌, false, [], ◌∷◌, ◌++◌, None, Some, length, take, drop, slice_get, option_map, position, is_some, IsTrue, IsSomeAnd, OnOk, OnErr};
+ghost use Rattle.std.specs.Prelude.{◌≡◌, ◌-◌, ◌<◌, ◌≤◌, ◌^◌, ◌==◌, false, [], ◌∷◌, ◌++◌, None, Some, length, take, drop, slice_get, option_map, position, is_some, IfSome, IsTrue, IsSomeAnd, OnOk, OnErr};
 ghost use Rattle.omega_model.specs.Applying.{ListsOrHasRoom};
 ghost use Rattle.omega_model.specs.Fields.{greatest};
 ghost use Rattle.omega_model.specs.Machines.{is_listed, numbers_of, removed, attr_set, attr_deleted};
@@ -21,12 +21,15 @@ use std::marker::Model;
 /// numbers and capacities of at most 1,000,000,000,000 units of each kind, and no more is in use on a machine
 /// than its capacity, nothing where it is down.
 ///
-/// A call on a machine costs one or two look-ups of its number, each the logarithm of the number of
-/// machines whatever their numbers are, and takes no memory, unless its own text says more.
+/// A call on a machine costs one or two look-ups of its number, and takes no memory, unless its own
+/// text says more. A look-up mostly finds the machine at the place that is noted for its number; where
+/// it isn't there, which numbers somebody chose may bring about, it costs the logarithm of the number
+/// of machines besides.
 #[derive(Drop)]
 pub struct MachineTable {
     states: Vec<MachineState>,
     places: BTreeMap<u64, usize>,
+    notes: Vec<u16>,
     load: Load,
 }
 
@@ -49,6 +52,54 @@ fn set_cap(state: &mut MachineState, cap: Need)
     let used = state.machine.cap.minus(state.free);
     state.free = cap.minus(used);
     state.machine.cap = cap;
+}
+
+/// How many places are noted.
+const NOTES: usize = 65_536;
+
+/// Which note is that of a number. Others may share it.
+fn note_of(id: u64) -> usize {
+    (id.wrapping_mul(0x9E37_79B9_7F4A_7C15) >> 48) as usize
+}
+
+/// The place that is noted for a number, where its machine stands there.
+fn noted(states: &[MachineState], notes: &[u16], id: u64) -> Option<usize>
+    ensures { IfSome result (λ place. slice_get (numbers_of (machines_of states.now)) place ≡ Some id) }
+{
+    let place = *notes.get(note_of(id))? as usize;
+    let state = states.get(place)?;
+    if state.machine.id == id {
+        Some(place)
+    } else {
+        None
+    }
+}
+
+/// The place of a number's machine, where it is noted or by the map.
+fn find(
+    states: &[MachineState],
+    places: &BTreeMap<u64, usize>,
+    notes: &[u16],
+    id: u64,
+) -> Option<usize>
+    requires { ArePlaced places.now (machines_of states.now) }
+    ensures { result ≡ position (λ machine. machine.id == id) (machines_of states.now) }
+{
+    if let Some(place) = noted(states, notes, id) {
+        return Some(place);
+    }
+    places.get(&id).copied()
+}
+
+/// Notes the place of a number, in the place of another number's if they share the note.
+fn note(notes: &mut Vec<u16>, id: u64, place: usize) -> Result<(), NoMemory> {
+    if notes.is_empty() {
+        notes.resize(NOTES, 0)?;
+    }
+    if let (Some(note), Ok(place)) = (notes.get_mut(note_of(id)), u16::try_from(place)) {
+        *note = place;
+    }
+    Ok(())
 }
 
 /// Puts the state of a machine behind the others, and its place into the map.
@@ -99,6 +150,7 @@ impl MachineTable {
         MachineTable {
             states: Vec::new(alloc),
             places: BTreeMap::new(alloc),
+            notes: Vec::new(alloc),
             load: Load::NONE,
         }
     }
@@ -124,7 +176,7 @@ impl MachineTable {
         ensures listed { is_some result ≡ is_listed id (machines_of self.now) }
         ensures place { result ≡ position (λ machine. machine.id == id) (machines_of self.now) }
     {
-        self.places.get(&id).copied()
+        find(&self.states, &self.places, &self.notes, id)
     }
 
     /// What is in use on all machines that are up. Costs the same for any number of machines.
@@ -163,6 +215,7 @@ impl MachineTable {
             free: Need::NOTHING,
             seq: 0,
         };
+        note(&mut self.notes, id, self.states.len())?;
         push(&mut self.states, &mut self.places, state)?;
         Ok(())
     }
@@ -353,7 +406,7 @@ impl MachineTable {
         ensures found { option_map (λ state. state.now) result ≡ state_at self.now id }
         ensures table { IsTable self.now }
     {
-        let place = self.places.get(&id).copied()?;
+        let place = find(&self.states, &self.places, &self.notes, id)?;
         self.states.get(place)
     }
 
