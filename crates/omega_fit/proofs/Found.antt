@@ -6,7 +6,7 @@ use Rattle.std.proofs.lemmas.List.Elements.{All-head, All-tail, All-weaker}
 use Rattle.omega_model.specs.declared.cells.Need.{Need}
 use Rattle.omega_model.specs.Plan.{wrapped_from}
 use Rattle.omega_fit.specs.Needs.{Holds, IsFirstWithRoom, WithRoom}
-use Rattle.omega_fit.specs.Wrapped.{positions_from, IsFirst}
+use Rattle.omega_fit.specs.Wrapped.{positions_from, FirstBetween, IsFirst}
 use Rattle.omega_fit.proofs.Middles.{below_or_not}
 
 -- the same item for answers that follow
@@ -22,6 +22,18 @@ first_follows answers others items (Some x) f follows = record {
   passed_over = All-weaker (λ y. answers y false) (λ y. others y false) (λ y. follows y false) f.before f.passed_over;
   taken = follows x true f.taken;
 }
+
+-- the same of the numbers from one up to another
+pub between_follows : (answers others : ℕ → Bool → Type 0) (from to : ℕ) (found : Option ℕ) → ((i : ℕ) (b : Bool) → answers i b → others i b)
+    → FirstBetween answers from to found → FirstBetween others from to found
+between_follows answers others from to None follows f = λ n a b. follows n false (f n a b)
+between_follows answers others from to (Some i) follows f = (f.0, f.1, follows i true f.2, λ n a b. follows n false (f.3 n a b))
+
+-- what may be answered where room counts too
+pub with_room_follows : (free : List (Option Need)) (need : Need) (answers others : ℕ → Bool → Type 0) → ((i : ℕ) (b : Bool) → answers i b → others i b)
+    → (i : ℕ) (b : Bool) → WithRoom free need answers i b → WithRoom free need others i b
+with_room_follows free need answers others follows i true w = (w.0, follows i true w.1)
+with_room_follows free need answers others follows i false w = λ h. follows i false (w h)
 
 -- a need has room or it hasn't
 pub room_or_not : {R : Type 0} (need : Need) (free : Option Need) → (Holds need free → R) → ((Holds need free → ⊥) → R) → R

@@ -7,7 +7,8 @@ ghost use Rattle.omega_model.specs.Legal.{Sound};
 ghost use Rattle.omega_model.specs.Plan.{candidates, gives_way, victims};
 ghost use Rattle.omega_running.specs.Kept.{KeysRise};
 ghost use Rattle.omega_plan.specs.Kinds.{Serves};
-ghost use Rattle.omega_plan.specs.Trying.{AreVictimsAt, IsFirstToYield, MayYield};
+ghost use Rattle.omega_plan.specs.Trying.{AreVictimsAt, IsFirstToYield, Yields};
+ghost use Rattle.omega_fit.specs.Wrapped.{FirstBetween};
 
 use crate::progress::Progress;
 use crate::trying::claim_of;
@@ -70,27 +71,36 @@ fn yielding_from(
     ensures below { IfOk result (λ found. IfSome found (λ f. f.position < length board.now.table)) }
     ensures victims { IfOk result (λ found. IfSome found (λ f. AreVictimsAt (cell_of board.now) wish.now f.position (Some f.victims))) }
 {
-    let found = freed.first(begin, wish.spec.need, |position| {
-        may_yield(alloc, board, wish, position)
-    });
-    let Some(position) = found else {
-        return Ok(None);
-    };
-    match victims_at(alloc, board, wish, position)? {
-        Some(victims) => Ok(Some(Candidate { position, victims })),
-        None => Err(NoMemory),
+    match yielding_between(alloc, board, freed, wish, begin, freed.len())? {
+        Some(found) => Ok(Some(found)),
+        None => yielding_between(alloc, board, freed, wish, 0, begin),
     }
 }
 
-/// Whether evictions make room on the machine at a position. True too where memory runs out.
-fn may_yield(alloc: Global, board: &Board, wish: &Wish, position: usize) -> bool
-    ensures { MayYield (cell_of board.now) wish.now position result }
+/// The first position of `from..to` where evictions make room.
+fn yielding_between(
+    alloc: Global,
+    board: &Board,
+    freed: &FitIndex,
+    wish: &Wish,
+    from: usize,
+    to: usize,
+) -> Result<Option<Candidate>, NoMemory>
+    requires sound { Sound (cell_of board.now) }
+    requires freed { freed.now.free ≡ freed_of wish.now.spec.prec (cell_of board.now) }
+    requires to { to ≤ length freed.now.free }
+    ensures first { IfOk result (λ found. FirstBetween (Yields (cell_of board.now) wish.now) from to (option_map (λ f. f.position) found)) }
+    ensures below { IfOk result (λ found. IfSome found (λ f. f.position < to)) }
+    ensures victims { IfOk result (λ found. IfSome found (λ f. AreVictimsAt (cell_of board.now) wish.now f.position (Some f.victims))) }
 {
-    match victims_at(alloc, board, wish, position) {
-        Ok(None) => false,
-        Ok(Some(_)) => true,
-        Err(_) => true,
+    let mut begin = from;
+    while let Some(position) = freed.next(begin, to, wish.spec.need) {
+        if let Some(victims) = victims_at(alloc, board, wish, position)? {
+            return Ok(Some(Candidate { position, victims }));
+        }
+        begin = position + 1;
     }
+    Ok(None)
 }
 
 /// The victims on the machine at a position, if it suits the wish and evictions make room there.
