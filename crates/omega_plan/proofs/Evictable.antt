@@ -1,5 +1,5 @@
 -- Where all that evictions could free is too little for a wish, the machine gets no claim of it.
-use Rattle.std.proofs.Common.{◌≡◌, ◌+◌, ◌<◌, ◌≤◌, ℕ, Bool, true, false, List, [], ◌∷◌, get_or, length, nat_eq, slice_get, Option, Some, None, IfSome, is_some, arith, refl, sym, ap, subst, ◌∙◌, not}
+use Rattle.std.proofs.Common.{◌≡◌, ◌+◌, ◌<◌, ◌≤◌, ℕ, Bool, true, false, List, [], ◌∷◌, get_or, nat_eq, slice_get, Option, Some, None, is_some, arith, refl, sym, ap, subst, ◌∙◌, not}
 use Rattle.std.specs.List.{IsDistinct, filter, find}
 use Rattle.std.specs.Prelude.{option_map}
 use Rattle.std.proofs.lemmas.Bool.{and_from, and_parts, both_ways, false_from_ne_true, or_left, or_right}
@@ -33,8 +33,6 @@ use Rattle.omega_fit.proofs.Middles.{below_or_not}
 use Rattle.omega_fit.specs.Needs.{Holds, IsNextWithRoom}
 use Rattle.omega_fit.specs.Wrapped.{FirstBetween}
 use Rattle.omega_plan.specs.Trying.{Yields, claim_on}
-
-
 
 false-true : false ≡ true → ⊥
 false-true e = both_ways false refl e

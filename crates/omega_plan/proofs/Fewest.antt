@@ -50,7 +50,7 @@ none_runs : (o : Option Task) → is_some o ≡ false → option_map (λ task. A
 none_runs None e = refl
 none_runs (Some t) e = absurd (both_ways true e refl)
 
-none_found : (p : Task → Bool) (tasks : List Task) → list_any p tasks ≡ false → find p tasks ≡ None
+pub none_found : {X : Type 0} (p : X → Bool) (tasks : List X) → list_any p tasks ≡ false → find p tasks ≡ None
 none_found p [] none = refl
 none_found p (t ∷ tasks) none = let parts = or_parts (p t) (list_any p tasks) none in rw parts.0 (none_found p tasks parts.1)
 

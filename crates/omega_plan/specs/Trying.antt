@@ -1,5 +1,5 @@
 -- What a machine does with a wish that is tried on it.
-use Rattle.std.specs.Prelude.{◌≡◌, ◌&&◌, not, ℕ, Bool, false, List, [], Option, Some, None, option_map, is_some, length, slice_get, if◌then◌else◌}
+use Rattle.std.specs.Prelude.{◌≡◌, ◌&&◌, not, ℕ, Bool, List, [], Option, Some, None, option_map, is_some, length, slice_get, if◌then◌else◌}
 use Rattle.omega_model.specs.Cell.{Cell}
 use Rattle.omega_model.specs.Judge.{has_rival}
 use Rattle.omega_model.specs.Plan.{claim_of, goes_in, victims}

@@ -66,14 +66,15 @@ fn suits_alone(alloc: Global, board: &Board, wish: &Wish, position: usize) -> bo
 {
     match board.machines().at(position) {
         Some(machine) => {
-            eligible(&wish.constraints, &machine.attrs) && !has_rival(alloc, board, wish, machine.id)
+            eligible(&wish.constraints, &machine.attrs)
+                && !has_rival(alloc, board, wish, machine.id)
         }
         None => false,
     }
 }
 
 /// Whether the wish must be alone of its job on a machine, and isn't.
-fn has_rival(alloc: Global, board: &Board, wish: &Wish, id: u64) -> bool
+pub(crate) fn has_rival(alloc: Global, board: &Board, wish: &Wish, id: u64) -> bool
     ensures { result ≡ has_rival (cell_of board.now) (claim_of wish.now [] id) [] }
 {
     wish.spec.differ

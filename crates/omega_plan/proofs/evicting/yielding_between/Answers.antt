@@ -1,4 +1,4 @@
-use Rattle.std.proofs.Common.{◌+◌, arith}
+use Rattle.std.proofs.Common.{arith}
 use Rattle.omega_board.specs.Board.{cell_of}
 use Rattle.omega_fit.specs.Needs.{IsNextWithRoom}
 use Rattle.omega_plan.proofs.Evictable.{yields_between, yields_none_between, yields_past}
