@@ -46,7 +46,7 @@ fn main(rt: HostRuntime) -> ExitCode {
     ExitCode::from(exit_status(&status))
 }
 
-// The program's name and its words. Words that can't be had as text are words that are refused.
+/// The program's name and its words. Words that can't be had as text are words that are refused.
 fn arguments(rt: &HostRuntime) -> Result<Vec<String>, Status> {
     let arguments = match env::args(rt) {
         Ok(arguments) => arguments,
@@ -62,7 +62,7 @@ fn arguments(rt: &HostRuntime) -> Result<Vec<String>, Status> {
     Ok(texts)
 }
 
-// The words after the first.
+/// The words after the first.
 fn words_of<'a>(rt: &HostRuntime, texts: &'a [String]) -> Result<Vec<&'a str>, NoMemory> {
     let mut words = Vec::new(rt.alloc());
     for text in texts.iter().skip(1) {

@@ -45,7 +45,7 @@ pub fn decide(
     Seq::of(answered)
 }
 
-// Judges claims in order, each on the board after those before it, and applies those that are placed.
+/// Judges claims in order, each on the board after those before it, and applies those that are placed.
 fn judge_all(
     board: &mut Board,
     rule: Rule,
@@ -80,7 +80,7 @@ fn judge_all(
     answered
 }
 
-// What a rule hands in of the copy, in which a machine has this sequence number.
+/// What a rule hands in of the copy, in which a machine has this sequence number.
 fn known_of(rule: Rule, copy: u64) -> Option<u64>
     ensures { (history : List Entry) (seen machine : ℕ) → copy ≡ seq (take seen history) machine → result ≡ known_of history seen rule machine }
 {
@@ -90,7 +90,7 @@ fn known_of(rule: Rule, copy: u64) -> Option<u64>
     }
 }
 
-// Judges a claim, and applies it where it is placed.
+/// Judges a claim, and applies it where it is placed.
 fn judge_one(
     board: &mut Board,
     claim: &Claim,
@@ -121,8 +121,8 @@ fn judge_one(
     }
 }
 
-// A gang with a refusal keeps no claim: the board is as it was at the reserve, and what would have
-// been placed is withdrawn for the first refusal.
+/// A gang with a refusal keeps no claim: the board is as it was at the reserve, and what would have
+/// been placed is withdrawn for the first refusal.
 fn keep_all_or_nothing(board: &mut Board, undo: &mut Undo, answered: &mut Vec<Judgement>)
     requires few { length answered.old.items < 2 ^ 32 }
     requires undo { IsUndoOf board.old undo.old }
@@ -136,7 +136,7 @@ fn keep_all_or_nothing(board: &mut Board, undo: &mut Undo, answered: &mut Vec<Ju
     }
 }
 
-// Withdraws the placed claims for the one at this place.
+/// Withdraws the placed claims for the one at this place.
 fn withdraw(alloc: Global, place: u32, judgements: &mut Vec<Judgement>)
     ensures { judgements.new.items ≡ map (withdrawn_for place) judgements.old.items }
 {
@@ -145,7 +145,7 @@ fn withdraw(alloc: Global, place: u32, judgements: &mut Vec<Judgement>)
     }
 }
 
-// A placed claim is withdrawn for the one at this place, and evicts nothing; a refusal stays.
+/// A placed claim is withdrawn for the one at this place, and evicts nothing; a refusal stays.
 fn withdraw_one(alloc: Global, place: u32, judgement: &mut Judgement)
     ensures { judgement.new ≡ withdrawn_for place judgement.old }
 {
@@ -157,7 +157,7 @@ fn withdraw_one(alloc: Global, place: u32, judgement: &mut Judgement)
     }
 }
 
-// The place of the first claim that is refused, or the length where there is none.
+/// The place of the first claim that is refused, or the length where there is none.
 fn first_refused(judgements: &[Judgement]) -> usize
     ensures { result ≡ first_refused judgements.now }
 {

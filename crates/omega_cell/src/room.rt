@@ -23,7 +23,7 @@ impl Model for KeyRoom {
 }
 
 impl KeyRoom {
-    // Room for so many names.
+    /// Room for so many names.
     fn of(alloc: Global, count: usize) -> Result<KeyRoom, NoMemory>
         ensures { IfOk result (λ room. room ≡ count) }
     {
@@ -84,7 +84,7 @@ impl<T: Drop> AnswerRoom<T> {
     }
 }
 
-// For each claim, room for as many names as it has victims.
+/// For each claim, room for as many names as it has victims.
 fn rooms_of(alloc: Global, claims: &[Claim]) -> Result<Vec<KeyRoom>, NoMemory>
     ensures { IfOk result (λ rooms. rooms.items ≡ victim_counts claims.now) }
 {

@@ -46,7 +46,7 @@ pub(crate) fn parts_at(alloc: Global, board: &Board, positions: &[usize]) -> Res
     Ok(Seq::of(parts))
 }
 
-// Notes the position of a machine, if it is in the list.
+/// Notes the position of a machine, if it is in the list.
 fn note(machines: &MachineTable, machine: u64, positions: &mut Vec<usize>) -> Result<(), NoMemory>
     requires { IsDistinct nat_eq (numbers_of (machines_of machines.now)) }
     ensures { OnOk result (Adds (is_number machine) (machines_of machines.now) positions.old.items positions.new.items) }

@@ -140,7 +140,7 @@ impl Desk {
     }
 }
 
-// The requests of jobs that aren't given up.
+/// The requests of jobs that aren't given up.
 fn still_tried(requests: Requests, failures: &Failures, settings: &Settings) -> Vec<Request>
     ensures { result.items ≡ still_tried settings.now (count_of failures.now) requests }
 {
@@ -149,7 +149,7 @@ fn still_tried(requests: Requests, failures: &Failures, settings: &Settings) -> 
     open
 }
 
-// Makes room for the counts of the jobs of these requests.
+/// Makes room for the counts of the jobs of these requests.
 fn reserve(failures: &mut Failures, requests: &[Request]) -> Result<(), NoMemory>
     ensures counts { KeepsCounts failures.old failures.new }
     ensures room { OnOk result (All (λ (request : Request). IsCounted failures.new request.job) requests.now) }
@@ -160,7 +160,7 @@ fn reserve(failures: &mut Failures, requests: &[Request]) -> Result<(), NoMemory
     Ok(())
 }
 
-// One more commit for a job, with these outcomes. Answers the job's count after it.
+/// One more commit for a job, with these outcomes. Answers the job's count after it.
 fn note(failures: &mut Failures, job: u64, outcomes: &[Outcome]) -> u64
     requires room { IsCounted failures.old job }
     requires few { count_of failures.old job + 1 < 2 ^ 64 }
@@ -171,7 +171,7 @@ fn note(failures: &mut Failures, job: u64, outcomes: &[Outcome]) -> u64
     failures.note(job, places_any(outcomes))
 }
 
-// Whether outcomes place a task.
+/// Whether outcomes place a task.
 fn places_any(outcomes: &[Outcome]) -> bool
     ensures { result ≡ list_any (λ outcome. is_placed outcome.verdict) outcomes.now }
 {

@@ -21,7 +21,7 @@ pub(crate) fn rest_of(request: Request, outcomes: &[Outcome]) -> Request
     }
 }
 
-// The wishes that stay when they are walked along the outcomes.
+/// The wishes that stay when they are walked along the outcomes.
 fn walked(wishes: Vec<Wish>, outcomes: &[Outcome]) -> Vec<Wish>
     ensures { result.items ≡ walked outcomes.now wishes.items }
 {
@@ -40,7 +40,7 @@ fn walked(wishes: Vec<Wish>, outcomes: &[Outcome]) -> Vec<Wish>
     wishes
 }
 
-// Whether a wish stays, where the first of these outcomes is the first that wasn't met yet.
+/// Whether a wish stays, where the first of these outcomes is the first that wasn't met yet.
 fn stays(ahead: &[Outcome], wish: &Wish) -> bool
     ensures { result ≡ stays ahead.now wish.now }
 {
@@ -50,7 +50,7 @@ fn stays(ahead: &[Outcome], wish: &Wish) -> bool
     }
 }
 
-// The outcomes that are met after a wish.
+/// The outcomes that are met after a wish.
 fn met_after<'a>(ahead: &'a [Outcome], wish: &Wish) -> &'a [Outcome]
     ensures { result.now ≡ met_after ahead.now wish.now }
 {
@@ -60,7 +60,7 @@ fn met_after<'a>(ahead: &'a [Outcome], wish: &Wish) -> &'a [Outcome]
     }
 }
 
-// Whether two names are of one task.
+/// Whether two names are of one task.
 fn same_key(one: &TaskKey, other: &TaskKey) -> bool
     ensures { result ≡ same_key one.now other.now }
 {

@@ -61,7 +61,7 @@ impl Model for Job {
 }
 
 impl Job {
-    // The job of the next six words.
+    /// The job of the next six words.
     fn draw<R: Rng>(words: &mut R) -> Job
         ensures job { result ≡ made_job (word_of (R.stream words.old)) 0 }
         ensures left { R.stream words.new ≡ left_after 6 (R.stream words.old) }
@@ -102,7 +102,7 @@ pub(crate) fn task_events<R: Rng>(
     Ok(Seq::of(out.into_bytes()))
 }
 
-// The rows of a job: its tasks are submitted, and finish when their life is over.
+/// The rows of a job: its tasks are submitted, and finish when their life is over.
 fn push_job(out: &mut String, job: &Job, number: u64) -> Result<(), NoMemory>
     requires { number < 2 ^ 33 }
     ensures { OnOk result (string_bytes out.new ≡ string_bytes out.old ++ job_text job.now number) }
@@ -114,7 +114,7 @@ fn push_job(out: &mut String, job: &Job, number: u64) -> Result<(), NoMemory>
     Ok(())
 }
 
-// The rows of all tasks of a job at a time, with the code of the event.
+/// The rows of all tasks of a job at a time, with the code of the event.
 fn push_tasks(
     out: &mut String,
     job: &Job,
@@ -130,7 +130,7 @@ fn push_tasks(
     Ok(())
 }
 
-// The row of a task of a job at a time, with the code of the event.
+/// The row of a task of a job at a time, with the code of the event.
 fn push_task(
     out: &mut String,
     job: &Job,
@@ -154,7 +154,7 @@ fn push_task(
     Ok(())
 }
 
-// So many thousandths.
+/// So many thousandths.
 fn push_thousandths(out: &mut String, amount: u32) -> Result<(), NoMemory>
     requires { amount < 100 }
     ensures { OnOk result (string_bytes out.new ≡ string_bytes out.old ++ thousandths amount) }

@@ -26,7 +26,7 @@ pub(crate) fn machine_events<R: Rng>(
     Ok(Seq::of(out.into_bytes()))
 }
 
-// The row of the machine at a place, with the capacity of a word.
+/// The row of the machine at a place, with the capacity of a word.
 fn push_machine(out: &mut String, word: u32, place: u32) -> Result<(), NoMemory>
     ensures { OnOk result (string_bytes out.new ≡ string_bytes out.old ++ machine_text (λ _. word) place) }
 {
@@ -36,7 +36,7 @@ fn push_machine(out: &mut String, word: u32, place: u32) -> Result<(), NoMemory>
     Ok(())
 }
 
-// The capacity that a word gives a machine.
+/// The capacity that a word gives a machine.
 fn capacity_text(word: u32) -> &'static str
     ensures { result.now ≡ capacity_text word }
 {

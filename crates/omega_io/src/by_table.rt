@@ -6,7 +6,7 @@ ghost use Rattle.omega_io.specs.Lends.{lends_one};
 
 use omega_model::Table;
 
-// One thing for each table.
+/// One thing for each table.
 #[derive(Drop)]
 pub struct ByTable<T> {
     pub machine_events: T,
@@ -18,7 +18,7 @@ pub struct ByTable<T> {
 }
 
 impl<T> ByTable<T> {
-    // The one of a table.
+    /// The one of a table.
     pub fn get(&self, table: Table) -> &T
         ensures { result.now ≡ at self.now table }
     {
@@ -32,7 +32,7 @@ impl<T> ByTable<T> {
         }
     }
 
-    // The one of a table, to be changed. The others stay.
+    /// The one of a table, to be changed. The others stay.
     pub fn get_mut(&mut self, table: Table) -> &mut T
         ensures* writes_back { sem 𝓛 (lends_one T.row self.entry table result) }
         ensures value { result.now ≡ at self.old table }

@@ -2,7 +2,7 @@
 ghost use Rattle.std.specs.Prelude.{◌≡◌, ◌≤◌, ◌↔◌, IsTrue, Some, None};
 ghost use Rattle.omega_io.specs.Edge.{Rose};
 
-// How many calls were made, and the place of the one that fails.
+/// How many calls were made, and the place of the one that fails.
 #[derive(Clone, Copy)]
 pub struct Calls {
     pub made: u64,
@@ -10,7 +10,7 @@ pub struct Calls {
 }
 
 impl Calls {
-    // No call was made and none fails.
+    /// No call was made and none fails.
     pub fn new() -> Calls
         ensures { result ≡ record { made = 0; failing = None } }
     {
@@ -20,7 +20,7 @@ impl Calls {
         }
     }
 
-    // Whether the call that is made now fails.
+    /// Whether the call that is made now fails.
     pub fn next_fails(&mut self) -> bool
         ensures fails { IsTrue result ↔ (self.old.failing ≡ Some self.old.made) }
         ensures failing { self.new.failing ≡ self.old.failing }
@@ -31,7 +31,7 @@ impl Calls {
     }
 }
 
-// One more fault. A count stops at 2^64 - 1.
+/// One more fault. A count stops at 2^64 - 1.
 pub fn count_one(faults: &mut u64)
     ensures cause { Rose faults.old faults.new }
     ensures later { faults.old ≤ faults.new }

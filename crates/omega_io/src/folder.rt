@@ -12,7 +12,7 @@ use std::io;
 use std::io::{ErrorKind, Read};
 use std::path::{Path, PathBuf};
 
-// How far a table's file was opened.
+/// How far a table's file was opened.
 #[derive(Drop)]
 enum Access {
     Unopened,
@@ -20,7 +20,7 @@ enum Access {
     Missing,
 }
 
-// The file of one table.
+/// The file of one table.
 #[derive(Drop)]
 struct TableFile {
     path: PathBuf,
@@ -29,7 +29,7 @@ struct TableFile {
 }
 
 impl TableFile {
-    // The file of this name in a folder, not opened yet.
+    /// The file of this name in a folder, not opened yet.
     fn new(alloc: Global, folder: &str, name: &str, needed: bool) -> Result<TableFile, NoMemory> {
         Ok(TableFile {
             path: Path::new(folder).join(alloc, name)?,
@@ -38,7 +38,7 @@ impl TableFile {
         })
     }
 
-    // Opens the file. One that is missing and isn't needed is an empty table.
+    /// Opens the file. One that is missing and isn't needed is an empty table.
     fn open(&self, rt: &HostRuntime) -> io::Result<Access> {
         match File::open(rt, self.path.as_path()) {
             Ok(file) => Ok(Access::Open(file)),
@@ -49,7 +49,7 @@ impl TableFile {
         }
     }
 
-    // Reads on, and opens the file before its first read.
+    /// Reads on, and opens the file before its first read.
     fn read(&mut self, rt: &HostRuntime, piece: &mut [u8]) -> io::Result<usize>
         ensures { IfOk result (λ count. count ≤ length piece.new) }
     {
@@ -63,7 +63,7 @@ impl TableFile {
     }
 }
 
-// The files of the six tables in a folder.
+/// The files of the six tables in a folder.
 fn files_in(alloc: Global, folder: &str) -> Result<ByTable<TableFile>, NoMemory> {
     Ok(ByTable {
         machine_events: TableFile::new(alloc, folder, "machine_events.csv", true)?,

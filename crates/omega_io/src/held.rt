@@ -9,7 +9,7 @@ use std::marker::Model;
 use std::sync::atomic::{AtomicBool, Ordering};
 use std::thread;
 
-// A scheduler is held at a point until another has come to a point, which is noted in `ended`.
+/// A scheduler is held at a point until another has come to a point, which is noted in `ended`.
 #[derive(Drop)]
 pub struct Hold {
     scheduler: u32,
@@ -20,7 +20,7 @@ pub struct Hold {
 }
 
 impl Hold {
-    // A hold that nobody has ended.
+    /// A hold that nobody has ended.
     fn new(order: (u32, Point, u32, Point)) -> Hold
         ensures { hold_of result ≡ order }
     {
@@ -34,21 +34,21 @@ impl Hold {
         }
     }
 
-    // Whether it holds a scheduler at a point.
+    /// Whether it holds a scheduler at a point.
     fn holds(&self, scheduler: u32, point: Point) -> bool
         ensures { IsTrue result ↔ ((self.now.scheduler ≡ scheduler) × (self.now.point ≡ point)) }
     {
         self.scheduler == scheduler && self.point == point
     }
 
-    // Whether a scheduler ends it that comes to a point.
+    /// Whether a scheduler ends it that comes to a point.
     fn is_ended_by(&self, scheduler: u32, point: Point) -> bool
         ensures { IsTrue result ↔ ((self.now.until_scheduler ≡ scheduler) × (self.now.until_point ≡ point)) }
     {
         self.until_scheduler == scheduler && self.until_point == point
     }
 
-    // Looks at most so many times whether it has ended, and answers whether it has.
+    /// Looks at most so many times whether it has ended, and answers whether it has.
     fn wait(&self, looks: u64) -> bool {
         for _ in 0..looks {
             if self.ended.load(Ordering::SeqCst) {
@@ -109,7 +109,7 @@ impl HeldGate {
         self.ran_out.load(Ordering::SeqCst)
     }
 
-    // Ends the holds that wait for this scheduler at this point.
+    /// Ends the holds that wait for this scheduler at this point.
     fn end(&self, scheduler: u32, point: Point) {
         for hold in &self.holds {
             if hold.is_ended_by(scheduler, point) {

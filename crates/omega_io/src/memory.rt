@@ -9,7 +9,7 @@ use crate::unread::Unread;
 use omega_model::{Bytes, NoMemory, Seq, Table, Text};
 use std::alloc::Global;
 
-// The unread bytes of one table, and its faults.
+/// The unread bytes of one table, and its faults.
 #[derive(Drop)]
 pub struct TableInMemory {
     unread: Unread,
@@ -196,7 +196,7 @@ impl MemorySink {
         Seq::of(bytes)
     }
 
-    // Counts a fault.
+    /// Counts a fault.
     fn fault(&mut self) -> Failed
         ensures stays { self.new.bytes ≡ self.old.bytes }
         ensures cause { Rose self.old.faults self.new.faults }

@@ -15,7 +15,7 @@ pub struct StdoutSink<'a> {
     faults: u64,
 }
 
-// Writes the first bytes of a piece and flushes.
+/// Writes the first bytes of a piece and flushes.
 fn write_some(rt: &HostRuntime, piece: &[u8]) -> io::Result<usize>
     ensures { IfOk result (λ count. count ≤ length piece.now) }
 {

@@ -10,33 +10,33 @@ use std::sync::atomic::{AtomicU64, Ordering};
 use std::test::Fail;
 use std::thread::{Threads, join};
 
-// What is written in these tests.
+/// What is written in these tests.
 const TEXT: &[u8] = b"report";
 
-// The bytes of a text.
+/// The bytes of a text.
 fn bytes(alloc: Global, text: &[u8]) -> Result<Bytes, AllocError> {
     Ok(Seq::of(Vec::from_slice(alloc, text)?))
 }
 
-// What stands in six tables, of which two are empty.
+/// What stands in six tables, of which two are empty.
 const TEXTS: [&[u8]; 6] = [b"abc", b"", b"de", b"", b"f", b"gh"];
 
-// The six tables.
+/// The six tables.
 fn six(alloc: Global) -> Result<[Bytes; 6], AllocError> {
     TEXTS.try_map(|text| bytes(alloc, text))
 }
 
-// What a read of a table in a piece of four bytes answers, and the piece after it.
+/// What a read of a table in a piece of four bytes answers, and the piece after it.
 fn read_piece<T: Tables>(tables: &mut T, table: Table) -> (Result<usize, Failed>, [u8; 4]) {
     let mut piece = [0; 4];
     let answer = tables.read(table, &mut piece);
     (answer, piece)
 }
 
-// A table, and what a read of it in a piece of four bytes is to answer, with the piece after it.
+/// A table, and what a read of it in a piece of four bytes is to answer, with the piece after it.
 type Wanted = (Table, Result<usize, Failed>, [u8; 4]);
 
-// The place of the first of these reads that answers something else.
+/// The place of the first of these reads that answers something else.
 fn first_wrong<T: Tables>(tables: &mut T, reads: &[Wanted]) -> Option<usize> {
     for (place, (table, answer, piece)) in reads.iter().enumerate() {
         if read_piece(tables, *table) != (*answer, *piece) {
@@ -46,10 +46,10 @@ fn first_wrong<T: Tables>(tables: &mut T, reads: &[Wanted]) -> Option<usize> {
     None
 }
 
-// A folder that is entered, if any, and the reads then.
+/// A folder that is entered, if any, and the reads then.
 type Visit = (Option<&'static str>, &'static [Wanted]);
 
-// The places of the first visit with a read that answers something else, and of that read in it.
+/// The places of the first visit with a read that answers something else, and of that read in it.
 fn first_wrong_visit<T: Tables>(
     tables: &mut T,
     visits: &[Visit],
@@ -65,7 +65,7 @@ fn first_wrong_visit<T: Tables>(
     Ok(None)
 }
 
-// How many reads of each table have failed.
+/// How many reads of each table have failed.
 fn faults_of<T: Tables>(tables: &T) -> [u64; 6] {
     [
         tables.faults(Table::MachineEvents),
@@ -77,7 +77,7 @@ fn faults_of<T: Tables>(tables: &T) -> [u64; 6] {
     ]
 }
 
-// Reads of the six tables in pieces of two bytes, of which the second fails.
+/// Reads of the six tables in pieces of two bytes, of which the second fails.
 const CUT_READS: [Wanted; 12] = [
     (Table::MachineEvents, Ok(2), *b"ab\0\0"),
     (Table::MachineEvents, Err(Failed), [0; 4]),
@@ -93,7 +93,7 @@ const CUT_READS: [Wanted; 12] = [
     (Table::MachineDisk, Ok(0), [0; 4]),
 ];
 
-// Reads of the six tables, none of which fails.
+/// Reads of the six tables, none of which fails.
 const WHOLE_READS: [Wanted; 5] = [
     (Table::MachineEvents, Ok(3), *b"abc\0"),
     (Table::MachineEvents, Ok(0), [0; 4]),
@@ -102,7 +102,7 @@ const WHOLE_READS: [Wanted; 5] = [
     (Table::MachineDisk, Ok(2), *b"gh\0\0"),
 ];
 
-// What `first_wrong_visit` answers, and the faults after it.
+/// What `first_wrong_visit` answers, and the faults after it.
 type Told = (Option<(usize, usize)>, [u64; 6]);
 
 fn told<T: Tables + Drop>(tables: T, visits: &[Visit]) -> Result<Told, NoMemory> {
@@ -111,13 +111,13 @@ fn told<T: Tables + Drop>(tables: T, visits: &[Visit]) -> Result<Told, NoMemory>
     Ok((wrong, faults_of(&tables)))
 }
 
-// The six tables in memory. A read gives two bytes at most, and the second one fails.
+/// The six tables in memory. A read gives two bytes at most, and the second one fails.
 fn cut_tables(alloc: Global) -> Result<MemoryTables, AllocError> {
     let tables = MemoryTables::new(alloc, six(alloc)?);
     Ok(tables.fail_at(3).cut(2).fail_at(1))
 }
 
-// What is told of them.
+/// What is told of them.
 fn cut_reads(alloc: Global) -> Result<Told, NoMemory> {
     let tables = cut_tables(alloc)?;
     told(tables, &[(Some("folder"), &CUT_READS)])
@@ -129,12 +129,12 @@ fn tables_in_memory(rt: HostRuntime) -> Result<(), Fail> {
     Ok(())
 }
 
-// The six tables, which never fail.
+/// The six tables, which never fail.
 fn steady_tables(alloc: Global) -> Result<SteadyTables, AllocError> {
     Ok(SteadyTables::new(alloc, six(alloc)?))
 }
 
-// What is told of them.
+/// What is told of them.
 fn whole_reads(alloc: Global) -> Result<Told, NoMemory> {
     let tables = steady_tables(alloc)?;
     told(tables, &[(Some("folder"), &WHOLE_READS)])
@@ -146,13 +146,13 @@ fn tables_that_never_fail(rt: HostRuntime) -> Result<(), Fail> {
     Ok(())
 }
 
-// What is answered to a whole text, and how many writes failed.
+/// What is answered to a whole text, and how many writes failed.
 fn write_text<S: Sink>(sink: &mut S) -> (Result<(), Failed>, u64) {
     let answer = write_all(sink, TEXT);
     (answer, sink.faults())
 }
 
-// The same of a sink in memory, and how many bytes of the text, from the front on, were written.
+/// The same of a sink in memory, and how many bytes of the text, from the front on, were written.
 type Written = (Result<(), Failed>, u64, Option<usize>);
 
 fn write_within(sink: MemorySink) -> Written {
@@ -161,25 +161,25 @@ fn write_within(sink: MemorySink) -> Written {
     (answer, faults, front_len(sink))
 }
 
-// How many bytes were written, if the text begins with them.
+/// How many bytes were written, if the text begins with them.
 fn front_len(sink: MemorySink) -> Option<usize> {
     let bytes = sink.into_bytes();
     TEXT.starts_with(bytes.as_slice()).then_some(bytes.len())
 }
 
-// What is told where there is room for so many bytes.
+/// What is told where there is room for so many bytes.
 fn write_small(alloc: Global, room: u64) -> Result<Written, NoMemory> {
     let sink = MemorySink::new(alloc, room)?.cut(4);
     Ok(write_within(sink))
 }
 
-// What is told where each write takes one byte, and this one fails.
+/// What is told where each write takes one byte, and this one fails.
 fn write_failing(alloc: Global, call: u64) -> Result<Written, NoMemory> {
     let sink = MemorySink::new(alloc, 6)?.fail_at(0).cut(1).fail_at(call);
     Ok(write_within(sink))
 }
 
-// What is told where so many bytes can be written before a write fails.
+/// What is told where so many bytes can be written before a write fails.
 fn written(bytes: u64) -> Written {
     if bytes < 6 {
         (Err(Failed), 1, Some(bytes as usize))
@@ -218,7 +218,7 @@ fn outside(rt: HostRuntime) {
     PassGate.at(1, Point::Planned);
 }
 
-// Reads in a folder that has a table of machines alone.
+/// Reads in a folder that has a table of machines alone.
 const READS_THERE: [Wanted; 7] = [
     (Table::MachineEvents, Ok(2), *b"ab\0\0"),
     (Table::MachineAttributes, Ok(0), [0; 4]),
@@ -229,7 +229,7 @@ const READS_THERE: [Wanted; 7] = [
     (Table::MachineEvents, Ok(0), [0; 4]),
 ];
 
-// Reads in a folder that isn't there.
+/// Reads in a folder that isn't there.
 const READS_NOWHERE: [Wanted; 6] = [
     (Table::MachineEvents, Err(Failed), [0; 4]),
     (Table::MachineAttributes, Ok(0), [0; 4]),
@@ -239,10 +239,10 @@ const READS_NOWHERE: [Wanted; 6] = [
     (Table::MachineDisk, Ok(0), [0; 4]),
 ];
 
-// The first read in a folder that was left in the middle and is entered again.
+/// The first read in a folder that was left in the middle and is entered again.
 const READS_AGAIN: [Wanted; 1] = [(Table::MachineEvents, Ok(2), *b"ab\0\0")];
 
-// A read before the first folder.
+/// A read before the first folder.
 const READS_NO_FOLDER: [Wanted; 1] = [(Table::TaskConstraints, Err(Failed), [0; 4])];
 
 const VISITS: [Visit; 5] = [
@@ -253,14 +253,14 @@ const VISITS: [Visit; 5] = [
     (Some("trace"), &READS_AGAIN),
 ];
 
-// Makes the folder that has a table of machines alone.
+/// Makes the folder that has a table of machines alone.
 fn make_folder(rt: &HostRuntime) -> Result<(), Fail> {
     fs::create_dir(rt, "trace")?;
     fs::write(rt, "trace/machine_events.csv", "ab")?;
     Ok(())
 }
 
-// What is told of the visits while the folder is there.
+/// What is told of the visits while the folder is there.
 fn folder_reads(rt: &HostRuntime) -> Result<Told, Fail> {
     make_folder(rt)?;
     let told = told(FolderTables::new(rt), &VISITS)?;
@@ -274,8 +274,8 @@ fn tables_of_a_folder(rt: HostRuntime) -> Result<(), Fail> {
     Ok(())
 }
 
-// The order in which two schedulers get on at a point, each on a thread of its own, where the first
-// is held until the second has come to it. The second counts before it comes there.
+/// The order in which two schedulers get on at a point, each on a thread of its own, where the first
+/// is held until the second has come to it. The second counts before it comes there.
 fn held_until(rt: &(impl Threads + Sync), gate: &HeldGate) -> (u64, u64) {
     let passed = AtomicU64::new(0);
     join(
@@ -292,7 +292,7 @@ fn held_until(rt: &(impl Threads + Sync), gate: &HeldGate) -> (u64, u64) {
     )
 }
 
-// The first scheduler is held until the second has come to its point.
+/// The first scheduler is held until the second has come to its point.
 const HELD: [(u32, Point, u32, Point); 1] = [(0, Point::Planned, 1, Point::Planned)];
 
 #[test]
@@ -303,7 +303,7 @@ fn holds_at_a_gate(rt: HostRuntime) -> Result<(), Fail> {
     Ok(())
 }
 
-// Whether a gate has run out where nobody was held at it, and where the first was held in vain.
+/// Whether a gate has run out where nobody was held at it, and where the first was held in vain.
 fn run_out(gate: &HeldGate) -> (bool, bool) {
     gate.at(1, Point::Synced);
     gate.at(0, Point::Synced);

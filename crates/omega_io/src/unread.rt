@@ -4,7 +4,7 @@ ghost use Rattle.std.specs.Prelude.{◌≡◌, ◌++◌, ◌<◌, ◌≤◌, ◌
 use omega_model::Bytes;
 use std::marker::Model;
 
-// Bytes of which the first were read. A contract sees those that are left.
+/// Bytes of which the first were read. A contract sees those that are left.
 #[derive(Drop)]
 pub struct Unread {
     bytes: Bytes,
@@ -22,14 +22,14 @@ impl Model for Unread {
 }
 
 impl Unread {
-    // All the bytes.
+    /// All the bytes.
     pub fn new(bytes: Bytes) -> Unread
         ensures { result ≡ bytes }
     {
         Unread { bytes, taken: 0 }
     }
 
-    // Copies the next bytes into the front of the piece, at most so many, and answers how many.
+    /// Copies the next bytes into the front of the piece, at most so many, and answers how many.
     pub fn hand_over(&mut self, most: usize, piece: &mut [u8]) -> usize
         requires most { 0 < most }
         requires piece { 0 < length piece.old }

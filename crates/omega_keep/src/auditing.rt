@@ -49,7 +49,7 @@ pub fn audit(alloc: Global, lines: &Lines) -> Result<Cell, AuditRefusal>
     Ok(cell)
 }
 
-// Takes the entry of a line, where it is possible.
+/// Takes the entry of a line, where it is possible.
 fn take_line(alloc: Global, cell: &mut Cell, touches: &mut Touches, line: &[u8]) -> Result<(), Stop>
     requires { AreTouches touches.old.places cell.old.history }
     ensures takes { OnOk result (Takes line.now cell.old.history cell.new.history) }
@@ -63,7 +63,7 @@ fn take_line(alloc: Global, cell: &mut Cell, touches: &mut Touches, line: &[u8])
     note_last(alloc, cell, touches)
 }
 
-// Notes which machines the last entry touches.
+/// Notes which machines the last entry touches.
 fn note_last(alloc: Global, cell: &Cell, touches: &mut Touches) -> Result<(), Stop>
     ensures notes { OnOk result ((before : List Entry) (entry : Entry) → cell.now.history ≡ before ++ entry ∷ [] → AreTouches touches.old.places before → AreTouches touches.new.places cell.now.history) }
     ensures stops { IfErr result (λ stop. stop ≡ OutOfMemory) }

@@ -6,7 +6,7 @@ use omega_model::{Copied, NoMemory, Seq, Text};
 use std::alloc::Global;
 use std::mem;
 
-// A path and a list of lines in memory.
+/// A path and a list of lines in memory.
 #[derive(Drop)]
 pub struct Listed {
     pub alloc: Global,
@@ -15,7 +15,7 @@ pub struct Listed {
 }
 
 impl Listed {
-    // These lines, and no path yet.
+    /// These lines, and no path yet.
     pub fn new(alloc: Global, lines: Lines) -> Listed
         ensures lines { result.lines ≡ lines }
         ensures path { result.path ≡ None }
@@ -27,7 +27,7 @@ impl Listed {
         }
     }
 
-    // Takes another path.
+    /// Takes another path.
     pub fn enter(&mut self, path: &str) -> Result<(), NoMemory>
         ensures enters { OnOk result (self.new.path ≡ Some path.now) }
         ensures stays { OnErr result (self.new.path ≡ self.old.path) }
@@ -38,14 +38,14 @@ impl Listed {
         Ok(())
     }
 
-    // A copy of the list.
+    /// A copy of the list.
     pub fn copied(&self) -> Result<Lines, NoMemory>
         ensures { IfOk result (λ lines. lines ≡ self.now.lines) }
     {
         self.lines.copy(self.alloc)
     }
 
-    // Puts a copy of all the lines at the end, or of none where memory runs out.
+    /// Puts a copy of all the lines at the end, or of none where memory runs out.
     pub fn append(&mut self, lines: &Lines) -> Result<(), NoMemory>
         ensures adds { OnOk result (self.new.lines ≡ self.old.lines ++ lines.now) }
         ensures stays { OnErr result (self.new.lines ≡ self.old.lines) }

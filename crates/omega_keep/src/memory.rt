@@ -7,7 +7,7 @@ use crate::listed::Listed;
 use omega_model::{NoMemory, Seq};
 use std::alloc::Global;
 
-// How many loads and appends were made, and which of them fails, counted from 0.
+/// How many loads and appends were made, and which of them fails, counted from 0.
 #[derive(Clone, Copy)]
 pub struct Calls {
     made: u64,
@@ -16,7 +16,7 @@ pub struct Calls {
 }
 
 impl Calls {
-    // No call was made and none fails.
+    /// No call was made and none fails.
     fn new() -> Calls
         ensures failing { result.failing ≡ None }
         ensures faults { result.faults ≡ 0 }
@@ -28,7 +28,7 @@ impl Calls {
         }
     }
 
-    // Counts a call, which fails where its turn has come. A count stops at 2^64 - 1.
+    /// Counts a call, which fails where its turn has come. A count stops at 2^64 - 1.
     fn next(&mut self) -> Result<(), KeepRefusal>
         ensures fails { IsErr result ↔ (self.old.failing ≡ Some self.old.made) }
         ensures failing { self.new.failing ≡ self.old.failing }

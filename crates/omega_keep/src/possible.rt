@@ -18,14 +18,14 @@ pub fn is_possible(cell: &Cell, entry: &Entry) -> bool
     has_capacity(entry) && has_room(cell, entry) && ends_running(cell, entry)
 }
 
-// The greatest capacity.
+/// The greatest capacity.
 const GREATEST: Need = Need {
     cpu: GREATEST_QUANTITY,
     mem: GREATEST_QUANTITY,
     disk: GREATEST_QUANTITY,
 };
 
-// Whether the capacity of an entry, if it has one, is at most the greatest one.
+/// Whether the capacity of an entry, if it has one, is at most the greatest one.
 fn has_capacity(entry: &Entry) -> bool
     ensures { IsTrue result ↔ CapacityIsInRange entry.now }
 {
@@ -35,7 +35,7 @@ fn has_capacity(entry: &Entry) -> bool
     }
 }
 
-// The machine that an entry puts into the list.
+/// The machine that an entry puts into the list.
 fn machine_in(entry: &Entry) -> Option<u64>
     ensures { result ≡ machine_in entry.now }
 {
@@ -49,7 +49,7 @@ fn machine_in(entry: &Entry) -> Option<u64>
     }
 }
 
-// Whether the list has the machine of an entry, if it has one, or room for it.
+/// Whether the list has the machine of an entry, if it has one, or room for it.
 fn has_room(cell: &Cell, entry: &Entry) -> bool
     ensures { IsTrue result ↔ IfSome (machine_in entry.now) (ListsOrHasRoom (state cell.now.history).machines) }
 {
@@ -59,7 +59,7 @@ fn has_room(cell: &Cell, entry: &Entry) -> bool
     }
 }
 
-// Whether the list has a machine or room for one more.
+/// Whether the list has a machine or room for one more.
 fn lists_or_has_room(cell: &Cell, machine: u64) -> bool
     ensures { IsTrue result ↔ ListsOrHasRoom (state cell.now.history).machines machine }
 {
@@ -67,7 +67,7 @@ fn lists_or_has_room(cell: &Cell, machine: u64) -> bool
     machines.len() < MOST_MACHINES || machines.position(machine).is_some()
 }
 
-// Whether an entry ends no task, or one that runs on its machine.
+/// Whether an entry ends no task, or one that runs on its machine.
 fn ends_running(cell: &Cell, entry: &Entry) -> bool
     ensures { IsTrue result ↔ EndsRunning (state cell.now.history).tasks entry.now }
 {

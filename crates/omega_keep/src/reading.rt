@@ -14,7 +14,7 @@ use omega_model::{
 use omega_units::read_u64;
 use std::alloc::Global;
 
-// The number that begins a text, and what stands behind it.
+/// The number that begins a text, and what stands behind it.
 #[tactic(auto, unfolding(crate::specs::Reading::number_at))]
 fn number_at(text: &[u8]) -> Result<(u64, &[u8]), Unread>
     ensures { Gives (λ x. (x.0, x.1.now)) result (number_at text.now) }
@@ -26,7 +26,7 @@ fn number_at(text: &[u8]) -> Result<(u64, &[u8]), Unread>
     }
 }
 
-// The same of a smaller number.
+/// The same of a smaller number.
 #[tactic(auto, unfolding(crate::specs::Reading::short_at))]
 fn short_at(text: &[u8]) -> Result<(u32, &[u8]), Unread>
     ensures { Gives (λ x. (x.0, x.1.now)) result (short_at text.now) }
@@ -38,7 +38,7 @@ fn short_at(text: &[u8]) -> Result<(u32, &[u8]), Unread>
     Ok((number as u32, rest))
 }
 
-// The amount that begins a text.
+/// The amount that begins a text.
 #[tactic(auto, unfolding(crate::specs::Reading::need_at))]
 fn need_at(text: &[u8]) -> Result<(Need, &[u8]), Unread>
     ensures { Gives (λ x. (x.0, x.1.now)) result (need_at text.now) }
@@ -49,7 +49,7 @@ fn need_at(text: &[u8]) -> Result<(Need, &[u8]), Unread>
     Ok((Need { cpu, mem, disk }, rest))
 }
 
-// The name of a task that begins a text.
+/// The name of a task that begins a text.
 #[tactic(auto, unfolding(crate::specs::Reading::key_at))]
 fn key_at(text: &[u8]) -> Result<(TaskKey, &[u8]), Unread>
     ensures { Gives (λ x. (x.0, x.1.now)) result (key_at text.now) }
@@ -59,7 +59,7 @@ fn key_at(text: &[u8]) -> Result<(TaskKey, &[u8]), Unread>
     Ok((TaskKey { job, index }, rest))
 }
 
-// The bytes of a word.
+/// The bytes of a word.
 #[tactic(auto, unfolding(crate::specs::Reading::bytes_of))]
 fn bytes_of(alloc: Global, word: &[u8]) -> Result<Bytes, Unread>
     ensures { Gives (λ x. x) result (bytes_of word.now) }
@@ -74,7 +74,7 @@ fn bytes_of(alloc: Global, word: &[u8]) -> Result<Bytes, Unread>
     }
 }
 
-// The name or value that begins a text.
+/// The name or value that begins a text.
 #[tactic(auto, unfolding(crate::specs::Reading::bytes_at))]
 fn bytes_at(alloc: Global, text: &[u8]) -> Result<(Bytes, &[u8]), Unread>
     ensures { Gives (λ x. (x.0, x.1.now)) result (bytes_at text.now) }
@@ -84,7 +84,7 @@ fn bytes_at(alloc: Global, text: &[u8]) -> Result<(Bytes, &[u8]), Unread>
     Ok((bytes, rest))
 }
 
-// The entry of a round, behind its keyword.
+/// The entry of a round, behind its keyword.
 #[tactic(auto, unfolding(crate::specs::Reading::round_at))]
 fn round_at(text: &[u8]) -> Result<Entry, Unread>
     ensures value { Gives (λ x. x) result (round_at text.now) }
@@ -94,7 +94,7 @@ fn round_at(text: &[u8]) -> Result<Entry, Unread>
     Ok(Entry::Round { number })
 }
 
-// That of a machine that is added.
+/// That of a machine that is added.
 #[tactic(auto, unfolding(crate::specs::Reading::add_at))]
 fn add_at(text: &[u8]) -> Result<Entry, Unread>
     ensures value { Gives (λ x. x) result (add_at text.now) }
@@ -105,7 +105,7 @@ fn add_at(text: &[u8]) -> Result<Entry, Unread>
     Ok(Entry::MachineAdd { machine, cap })
 }
 
-// That of a machine that is updated.
+/// That of a machine that is updated.
 #[tactic(auto, unfolding(crate::specs::Reading::update_at))]
 fn update_at(text: &[u8]) -> Result<Entry, Unread>
     ensures value { Gives (λ x. x) result (update_at text.now) }
@@ -116,7 +116,7 @@ fn update_at(text: &[u8]) -> Result<Entry, Unread>
     Ok(Entry::MachineUpdate { machine, cap })
 }
 
-// That of a machine that is removed.
+/// That of a machine that is removed.
 #[tactic(auto, unfolding(crate::specs::Reading::remove_at))]
 fn remove_at(text: &[u8]) -> Result<Entry, Unread>
     ensures value { Gives (λ x. x) result (remove_at text.now) }
@@ -126,7 +126,7 @@ fn remove_at(text: &[u8]) -> Result<Entry, Unread>
     Ok(Entry::MachineRemove { machine })
 }
 
-// That of an attribute that is set.
+/// That of an attribute that is set.
 #[tactic(auto, unfolding(crate::specs::Reading::set_at))]
 fn set_at(alloc: Global, text: &[u8]) -> Result<Entry, Unread>
     ensures value { Gives (λ x. x) result (set_at text.now) }
@@ -142,7 +142,7 @@ fn set_at(alloc: Global, text: &[u8]) -> Result<Entry, Unread>
     })
 }
 
-// That of an attribute that is taken away.
+/// That of an attribute that is taken away.
 #[tactic(auto, unfolding(crate::specs::Reading::unset_at))]
 fn unset_at(alloc: Global, text: &[u8]) -> Result<Entry, Unread>
     ensures value { Gives (λ x. x) result (unset_at text.now) }
@@ -153,7 +153,7 @@ fn unset_at(alloc: Global, text: &[u8]) -> Result<Entry, Unread>
     Ok(Entry::AttrDelete { machine, name })
 }
 
-// That of a task that ends.
+/// That of a task that ends.
 #[tactic(auto, unfolding(crate::specs::Reading::end_at))]
 fn end_at(text: &[u8]) -> Result<Entry, Unread>
     ensures value { Gives (λ x. x) result (end_at text.now) }
@@ -164,7 +164,7 @@ fn end_at(text: &[u8]) -> Result<Entry, Unread>
     Ok(Entry::End { key, machine })
 }
 
-// The same of a number that one byte holds.
+/// The same of a number that one byte holds.
 #[tactic(auto, unfolding(crate::specs::Reading::tiny_at))]
 fn tiny_at(text: &[u8]) -> Result<(u8, &[u8]), Unread>
     ensures { Gives (λ x. (x.0, x.1.now)) result (tiny_at text.now) }
@@ -176,7 +176,7 @@ fn tiny_at(text: &[u8]) -> Result<(u8, &[u8]), Unread>
     Ok((number as u8, rest))
 }
 
-// So many names of tasks. No memory is taken for more of them than there are.
+/// So many names of tasks. No memory is taken for more of them than there are.
 fn keys_from(alloc: Global, count: u64, text: &[u8]) -> Result<(Keys, &[u8]), Unread>
     ensures { Gives (λ x. (x.0, x.1.now)) result (keys_from count text.now) }
 {
@@ -190,7 +190,7 @@ fn keys_from(alloc: Global, count: u64, text: &[u8]) -> Result<(Keys, &[u8]), Un
     Ok((keys, rest))
 }
 
-// The number of some tasks, and their names.
+/// The number of some tasks, and their names.
 #[tactic(auto, unfolding(crate::specs::Reading::keys_at))]
 fn keys_at(alloc: Global, text: &[u8]) -> Result<(Keys, &[u8]), Unread>
     ensures { Gives (λ x. (x.0, x.1.now)) result (keys_at text.now) }
@@ -199,7 +199,7 @@ fn keys_at(alloc: Global, text: &[u8]) -> Result<(Keys, &[u8]), Unread>
     keys_from(alloc, count, rest)
 }
 
-// The rule that a word means.
+/// The rule that a word means.
 #[tactic(auto, unfolding(crate::specs::Reading::rule_of))]
 fn rule_of(word: &[u8]) -> Rule
     ensures { result ≡ rule_of word.now }
@@ -211,7 +211,7 @@ fn rule_of(word: &[u8]) -> Rule
     }
 }
 
-// The mode that a word means.
+/// The mode that a word means.
 #[tactic(auto, unfolding(crate::specs::Reading::mode_of))]
 fn mode_of(word: &[u8]) -> Mode
     ensures { result ≡ mode_of word.now }
@@ -223,7 +223,7 @@ fn mode_of(word: &[u8]) -> Mode
     }
 }
 
-// The verdict on a task that runs already, behind its keyword.
+/// The verdict on a task that runs already, behind its keyword.
 #[tactic(auto, unfolding(crate::specs::Reading::running_at))]
 fn running_at(text: &[u8]) -> Result<(Verdict, &[u8]), Unread>
     ensures { Gives (λ x. (x.0, x.1.now)) result (running_at text.now) }
@@ -232,7 +232,7 @@ fn running_at(text: &[u8]) -> Result<(Verdict, &[u8]), Unread>
     Ok((Verdict::AlreadyRunning(machine), rest))
 }
 
-// That on a claim whose machine has changed.
+/// That on a claim whose machine has changed.
 #[tactic(auto, unfolding(crate::specs::Reading::changed_at))]
 fn changed_at(text: &[u8]) -> Result<(Verdict, &[u8]), Unread>
     ensures { Gives (λ x. (x.0, x.1.now)) result (changed_at text.now) }
@@ -242,7 +242,7 @@ fn changed_at(text: &[u8]) -> Result<(Verdict, &[u8]), Unread>
     Ok((Verdict::Changed { now, copy }, rest))
 }
 
-// That on a claim with a victim whose precedence is not lower.
+/// That on a claim with a victim whose precedence is not lower.
 #[tactic(auto, unfolding(crate::specs::Reading::rank_at))]
 fn rank_at(text: &[u8]) -> Result<(Verdict, &[u8]), Unread>
     ensures { Gives (λ x. (x.0, x.1.now)) result (rank_at text.now) }
@@ -251,7 +251,7 @@ fn rank_at(text: &[u8]) -> Result<(Verdict, &[u8]), Unread>
     Ok((Verdict::VictimRank(key), rest))
 }
 
-// That on a claim whose job has a task that stays on the machine.
+/// That on a claim whose job has a task that stays on the machine.
 #[tactic(auto, unfolding(crate::specs::Reading::same_at))]
 fn same_at(text: &[u8]) -> Result<(Verdict, &[u8]), Unread>
     ensures { Gives (λ x. (x.0, x.1.now)) result (same_at text.now) }
@@ -260,7 +260,7 @@ fn same_at(text: &[u8]) -> Result<(Verdict, &[u8]), Unread>
     Ok((Verdict::SameJob(key), rest))
 }
 
-// That on a claim for which too little is free.
+/// That on a claim for which too little is free.
 #[tactic(auto, unfolding(crate::specs::Reading::full_at))]
 fn full_at(text: &[u8]) -> Result<(Verdict, &[u8]), Unread>
     ensures { Gives (λ x. (x.0, x.1.now)) result (full_at text.now) }
@@ -269,7 +269,7 @@ fn full_at(text: &[u8]) -> Result<(Verdict, &[u8]), Unread>
     Ok((Verdict::Full(free), rest))
 }
 
-// That on a claim that is withdrawn with its gang.
+/// That on a claim that is withdrawn with its gang.
 #[tactic(auto, unfolding(crate::specs::Reading::withdrawn_at))]
 fn withdrawn_at(text: &[u8]) -> Result<(Verdict, &[u8]), Unread>
     ensures { Gives (λ x. (x.0, x.1.now)) result (withdrawn_at text.now) }
@@ -278,7 +278,7 @@ fn withdrawn_at(text: &[u8]) -> Result<(Verdict, &[u8]), Unread>
     Ok((Verdict::Withdrawn(place), rest))
 }
 
-// The verdict with this keyword.
+/// The verdict with this keyword.
 #[tactic(auto, unfolding(crate::specs::Reading::verdict_named))]
 fn verdict_named<'a>(word: &[u8], rest: &'a [u8]) -> Result<(Verdict, &'a [u8]), Unread>
     ensures { Gives (λ x. (x.0, x.1.now)) result (verdict_named word.now rest.now) }
@@ -304,7 +304,7 @@ fn verdict_named<'a>(word: &[u8], rest: &'a [u8]) -> Result<(Verdict, &'a [u8]),
     }
 }
 
-// The verdict that begins a text.
+/// The verdict that begins a text.
 #[tactic(auto, unfolding(crate::specs::Reading::verdict_at))]
 fn verdict_at(text: &[u8]) -> Result<(Verdict, &[u8]), Unread>
     ensures { Gives (λ x. (x.0, x.1.now)) result (verdict_at text.now) }
@@ -313,7 +313,7 @@ fn verdict_at(text: &[u8]) -> Result<(Verdict, &[u8]), Unread>
     verdict_named(word, rest)
 }
 
-// The claim that begins a text.
+/// The claim that begins a text.
 #[tactic(auto, unfolding(crate::specs::Reading::claim_at))]
 fn claim_at(alloc: Global, text: &[u8]) -> Result<(Claim, &[u8]), Unread>
     ensures { Gives (λ x. (x.0, x.1.now)) result (claim_at text.now) }
@@ -342,7 +342,7 @@ fn claim_at(alloc: Global, text: &[u8]) -> Result<(Claim, &[u8]), Unread>
     ))
 }
 
-// What is answered to a claim, at the beginning of a text.
+/// What is answered to a claim, at the beginning of a text.
 #[tactic(auto, unfolding(crate::specs::Reading::judgement_at))]
 fn judgement_at(alloc: Global, text: &[u8]) -> Result<(Judgement, &[u8]), Unread>
     ensures { Gives (λ x. (x.0, x.1.now)) result (judgement_at text.now) }
@@ -353,7 +353,7 @@ fn judgement_at(alloc: Global, text: &[u8]) -> Result<(Judgement, &[u8]), Unread
     Ok((Judgement { verdict, evicted }, rest))
 }
 
-// All claims of a text, and what is answered to them.
+/// All claims of a text, and what is answered to them.
 #[tactic(auto, unfolding(crate::specs::Reading::claims_at))]
 fn claims_at(alloc: Global, text: &[u8]) -> Result<(Claims, Judgements), Unread>
     ensures value { Gives (λ x. x) result (claims_at text.now) }
@@ -378,7 +378,7 @@ fn claims_at(alloc: Global, text: &[u8]) -> Result<(Claims, Judgements), Unread>
     Ok((claims, reply))
 }
 
-// The entry of a commit, behind its keyword.
+/// The entry of a commit, behind its keyword.
 #[tactic(auto, unfolding(crate::specs::Reading::commit_at))]
 fn commit_at(alloc: Global, text: &[u8]) -> Result<Entry, Unread>
     ensures value { Gives (λ x. x) result (commit_at text.now) }
@@ -404,7 +404,7 @@ fn commit_at(alloc: Global, text: &[u8]) -> Result<Entry, Unread>
     })
 }
 
-// The entry with this keyword.
+/// The entry with this keyword.
 #[tactic(auto, unfolding(crate::specs::Reading::entry_named))]
 fn entry_named(alloc: Global, word: &[u8], rest: &[u8]) -> Result<Entry, Unread>
     ensures value { Gives (λ x. x) result (entry_named word.now rest.now) }

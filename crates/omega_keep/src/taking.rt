@@ -37,7 +37,7 @@ pub fn take_entry(
     }
 }
 
-// Feeds an entry that is no commit.
+/// Feeds an entry that is no commit.
 fn feed(alloc: Global, cell: &mut Cell, entry: Entry) -> Result<(), Stop>
     requires { is_commit entry ≡ false }
     ensures goes { OnOk result (GoesOn cell.old.history entry cell.new.history) }
@@ -52,10 +52,10 @@ fn feed(alloc: Global, cell: &mut Cell, entry: Entry) -> Result<(), Stop>
     }
 }
 
-// How many claims a commit has at most.
+/// How many claims a commit has at most.
 const MOST_CLAIMS: usize = 4_294_967_295;
 
-// Commits a transaction again, and compares what is answered to it.
+/// Commits a transaction again, and compares what is answered to it.
 fn commit(
     alloc: Global,
     cell: &mut Cell,
@@ -83,7 +83,7 @@ fn commit(
     Ok(())
 }
 
-// Whether the last entry is a commit with this reply.
+/// Whether the last entry is a commit with this reply.
 fn has_reply(cell: &Cell, reply: &Judgements) -> bool
     ensures same { (before : List Entry) (scheduler seen : ℕ) (txn : Txn) (due : List Judgement) → cell.now.history ≡ before ++ Entry.Commit scheduler seen txn due ∷ [] → result ≡ true → due ≡ reply.now }
     ensures all { (before : List Entry) (scheduler seen : ℕ) (txn : Txn) (due : List Judgement) → cell.now.history ≡ before ++ Entry.Commit scheduler seen txn due ∷ [] → due ≡ reply.now → result ≡ true }
@@ -94,7 +94,7 @@ fn has_reply(cell: &Cell, reply: &Judgements) -> bool
     }
 }
 
-// Whether two replies are the same.
+/// Whether two replies are the same.
 fn are_same(due: &[Judgement], reply: &[Judgement]) -> bool
     ensures same { result ≡ true → due.now ≡ reply.now }
     ensures all { due.now ≡ reply.now → result ≡ true }
@@ -110,7 +110,7 @@ fn are_same(due: &[Judgement], reply: &[Judgement]) -> bool
     true
 }
 
-// Whether two answers to a claim are the same.
+/// Whether two answers to a claim are the same.
 fn is_same(due: &Judgement, judgement: &Judgement) -> bool
     ensures same { result ≡ true → due.now ≡ judgement.now }
     ensures all { due.now ≡ judgement.now → result ≡ true }
@@ -119,7 +119,7 @@ fn is_same(due: &Judgement, judgement: &Judgement) -> bool
         && are_tasks(due.evicted.as_slice(), judgement.evicted.as_slice())
 }
 
-// Whether two verdicts are the same.
+/// Whether two verdicts are the same.
 fn is_verdict(due: Verdict, verdict: Verdict) -> bool
     ensures same { result ≡ true → due ≡ verdict }
     ensures all { due ≡ verdict → result ≡ true }
@@ -127,7 +127,7 @@ fn is_verdict(due: Verdict, verdict: Verdict) -> bool
     due == verdict
 }
 
-// Whether two lists of tasks are the same.
+/// Whether two lists of tasks are the same.
 fn are_tasks(due: &[TaskKey], keys: &[TaskKey]) -> bool
     ensures same { result ≡ true → due.now ≡ keys.now }
     ensures all { due.now ≡ keys.now → result ≡ true }
@@ -143,7 +143,7 @@ fn are_tasks(due: &[TaskKey], keys: &[TaskKey]) -> bool
     true
 }
 
-// Whether two names of tasks are the same.
+/// Whether two names of tasks are the same.
 fn is_task(due: TaskKey, key: TaskKey) -> bool
     ensures same { result ≡ true → due ≡ key }
     ensures all { due ≡ key → result ≡ true }

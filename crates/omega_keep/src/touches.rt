@@ -40,7 +40,7 @@ impl Touches {
         Ok(seqs)
     }
 
-    // The sequence number of a machine after so many entries.
+    /// The sequence number of a machine after so many entries.
     fn seq(&self, machine: u64, seen: u64) -> u64
         ensures { (history : List Entry) → AreTouches self.now.places history → seen ≤ length history → result ≡ seq (take seen history) machine }
     {
@@ -68,7 +68,7 @@ impl Touches {
         }
     }
 
-    // Notes the machines on which claims were placed.
+    /// Notes the machines on which claims were placed.
     fn touch_placed(
         &mut self,
         alloc: Global,
@@ -84,7 +84,7 @@ impl Touches {
         Ok(())
     }
 
-    // Notes the machine of a claim, where it was placed.
+    /// Notes the machine of a claim, where it was placed.
     fn touch_claimed(
         &mut self,
         alloc: Global,
@@ -101,7 +101,7 @@ impl Touches {
         }
     }
 
-    // Notes a machine at a place, once.
+    /// Notes a machine at a place, once.
     fn touch(&mut self, alloc: Global, machine: u64, place: u64) -> Result<(), NoMemory>
         ensures { OnOk result ((id : ℕ) → places_of self.new.places id ≡ noted place (machine == id) (places_of self.old.places id)) }
     {
@@ -111,7 +111,7 @@ impl Touches {
     }
 }
 
-// Places with one more at their end, unless they end with it.
+/// Places with one more at their end, unless they end with it.
 fn with_place(places: Seq<u64>, place: u64) -> Result<Seq<u64>, NoMemory>
     ensures { IfOk result (λ more. more ≡ with_place place places) }
 {
@@ -122,14 +122,14 @@ fn with_place(places: Seq<u64>, place: u64) -> Result<Seq<u64>, NoMemory>
     Ok(places)
 }
 
-// Whether the last of some places is this one.
+/// Whether the last of some places is this one.
 fn ends_with(places: &[u64], place: u64) -> bool
     ensures { result ≡ ends_with place places.now }
 {
     places.last().is_some_and(|last| *last == place)
 }
 
-// How many places of a list in order stand below a number.
+/// How many places of a list in order stand below a number.
 fn count_below(places: &[u64], seen: u64) -> usize
     ensures { (count : ℕ) → Splits seen places.now count → result ≡ count }
 {

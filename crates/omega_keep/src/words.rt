@@ -3,7 +3,7 @@ ghost use Rattle.std.specs.Prelude.{◌≡◌, ◌≤◌, length};
 ghost use Rattle.std.specs.List.{position_or_len};
 ghost use Rattle.omega_keep.specs.Reading.{is_space, word_at, rest_at};
 
-// The place of the first space, or the length where there is none.
+/// The place of the first space, or the length where there is none.
 fn space_place(text: &[u8]) -> usize
     ensures place { result ≡ position_or_len is_space text.now }
     ensures bound { result ≤ length text.now }

@@ -11,7 +11,7 @@ use omega_model::{
 };
 use std::alloc::Global;
 
-// Appends a space and a number.
+/// Appends a space and a number.
 fn push_number(out: &mut Vec<u8>, number: u64) -> Result<(), NoMemory>
     ensures { OnOk result (out.new.items ≡ out.old.items ++ 32 ∷ decimal number) }
 {
@@ -21,14 +21,14 @@ fn push_number(out: &mut Vec<u8>, number: u64) -> Result<(), NoMemory>
     Ok(())
 }
 
-// The same for a smaller number.
+/// The same for a smaller number.
 fn push_short(out: &mut Vec<u8>, number: u32) -> Result<(), NoMemory>
     ensures { OnOk result (out.new.items ≡ out.old.items ++ 32 ∷ decimal number) }
 {
     push_number(out, u64::from(number))
 }
 
-// Appends an amount.
+/// Appends an amount.
 fn push_need(out: &mut Vec<u8>, need: Need) -> Result<(), NoMemory>
     ensures text { OnOk result (out.new.items ≡ out.old.items ++ more_text (need_words need)) }
     ensures range { OnOk result (IsNeed need) }
@@ -38,7 +38,7 @@ fn push_need(out: &mut Vec<u8>, need: Need) -> Result<(), NoMemory>
     push_number(out, need.disk)
 }
 
-// Appends the name of a task.
+/// Appends the name of a task.
 fn push_key(out: &mut Vec<u8>, key: TaskKey) -> Result<(), NoMemory>
     ensures text { OnOk result (out.new.items ≡ out.old.items ++ more_text (key_words key)) }
     ensures range { OnOk result (IsKey key) }
@@ -47,10 +47,10 @@ fn push_key(out: &mut Vec<u8>, key: TaskKey) -> Result<(), NoMemory>
     push_short(out, key.index)
 }
 
-// The digits of hexadecimal numbers.
+/// The digits of hexadecimal numbers.
 const DIGITS: &[u8; 16] = b"0123456789abcdef";
 
-// Appends a byte as two digits.
+/// Appends a byte as two digits.
 fn push_byte(out: &mut Vec<u8>, byte: u8) -> Result<(), NoMemory>
     ensures text { OnOk result (out.new.items ≡ out.old.items ++ slice_index lower_digits (byte / 16) ∷ slice_index lower_digits (byte % 16) ∷ []) }
     ensures range { OnOk result (byte < 256) }
@@ -60,7 +60,7 @@ fn push_byte(out: &mut Vec<u8>, byte: u8) -> Result<(), NoMemory>
     Ok(())
 }
 
-// Appends bytes in hexadecimal.
+/// Appends bytes in hexadecimal.
 fn push_hexadecimal(out: &mut Vec<u8>, bytes: &[u8]) -> Result<(), NoMemory>
     ensures text { OnOk result (out.new.items ≡ out.old.items ++ encode_lower bytes.now) }
     ensures range { OnOk result (IsBytes bytes.now) }
@@ -71,7 +71,7 @@ fn push_hexadecimal(out: &mut Vec<u8>, bytes: &[u8]) -> Result<(), NoMemory>
     Ok(())
 }
 
-// Appends a name or a value in hexadecimal, a dash where it is empty.
+/// Appends a name or a value in hexadecimal, a dash where it is empty.
 fn push_bytes(out: &mut Vec<u8>, bytes: &[u8]) -> Result<(), NoMemory>
     ensures text { OnOk result (out.new.items ≡ out.old.items ++ 32 ∷ bytes_text bytes.now) }
     ensures range { OnOk result (IsBytes bytes.now) }
@@ -86,7 +86,7 @@ fn push_bytes(out: &mut Vec<u8>, bytes: &[u8]) -> Result<(), NoMemory>
     }
 }
 
-// Appends a space and a keyword.
+/// Appends a space and a keyword.
 fn push_name(out: &mut Vec<u8>, name: &str) -> Result<(), NoMemory>
     ensures { OnOk result (out.new.items ≡ out.old.items ++ 32 ∷ name.now) }
 {
@@ -95,7 +95,7 @@ fn push_name(out: &mut Vec<u8>, name: &str) -> Result<(), NoMemory>
     Ok(())
 }
 
-// Appends the names of tasks.
+/// Appends the names of tasks.
 fn push_each(out: &mut Vec<u8>, keys: &[TaskKey]) -> Result<(), NoMemory>
     ensures text { OnOk result (out.new.items ≡ out.old.items ++ more_text (flat_map key_words keys.now)) }
     ensures range { OnOk result (AllByRecursion IsKey keys.now) }
@@ -106,7 +106,7 @@ fn push_each(out: &mut Vec<u8>, keys: &[TaskKey]) -> Result<(), NoMemory>
     Ok(())
 }
 
-// Appends how many tasks there are, and their names.
+/// Appends how many tasks there are, and their names.
 fn push_keys(out: &mut Vec<u8>, keys: &[TaskKey]) -> Result<(), NoMemory>
     ensures text { OnOk result (out.new.items ≡ out.old.items ++ more_text (keys_words keys.now)) }
     ensures range { OnOk result (AreKeys keys.now) }
@@ -115,7 +115,7 @@ fn push_keys(out: &mut Vec<u8>, keys: &[TaskKey]) -> Result<(), NoMemory>
     push_each(out, keys)
 }
 
-// Appends why a gang's claim is withdrawn.
+/// Appends why a gang's claim is withdrawn.
 fn push_withdrawn(out: &mut Vec<u8>, place: u32) -> Result<(), NoMemory>
     ensures text { OnOk result (out.new.items ≡ out.old.items ++ more_text (Name (codes "withdrawn") ∷ Number place ∷ [])) }
     ensures range { OnOk result (place < 2 ^ 32) }
@@ -124,7 +124,7 @@ fn push_withdrawn(out: &mut Vec<u8>, place: u32) -> Result<(), NoMemory>
     push_short(out, place)
 }
 
-// Appends a verdict.
+/// Appends a verdict.
 fn push_verdict(out: &mut Vec<u8>, verdict: Verdict) -> Result<(), NoMemory>
     ensures text { OnOk result (out.new.items ≡ out.old.items ++ more_text (verdict_words verdict)) }
     ensures range { OnOk result (IsVerdict verdict) }
@@ -157,7 +157,7 @@ fn push_verdict(out: &mut Vec<u8>, verdict: Verdict) -> Result<(), NoMemory>
     }
 }
 
-// Appends a claim up to its victims.
+/// Appends a claim up to its victims.
 fn push_head(out: &mut Vec<u8>, claim: &Claim) -> Result<(), NoMemory>
     ensures text { OnOk result (out.new.items ≡ out.old.items ++ more_text (head_words claim.now)) }
     ensures key { OnOk result (IsKey claim.now.key) }
@@ -173,7 +173,7 @@ fn push_head(out: &mut Vec<u8>, claim: &Claim) -> Result<(), NoMemory>
     push_number(out, if claim.spec.differ { 1 } else { 0 })
 }
 
-// Appends a claim, and what is answered to it.
+/// Appends a claim, and what is answered to it.
 fn push_claim(out: &mut Vec<u8>, claim: &Claim, judgement: &Judgement) -> Result<(), NoMemory>
     ensures text { OnOk result (out.new.items ≡ out.old.items ++ more_text (claim_words (claim.now, judgement.now))) }
     ensures claim { OnOk result (IsClaim claim.now) }
@@ -187,7 +187,7 @@ fn push_claim(out: &mut Vec<u8>, claim: &Claim, judgement: &Judgement) -> Result
     push_keys(out, judgement.evicted.as_slice())
 }
 
-// Appends claims in order, each with what is answered to it.
+/// Appends claims in order, each with what is answered to it.
 fn push_claims(out: &mut Vec<u8>, claims: &[Claim], reply: &[Judgement]) -> Result<(), NoMemory>
     requires { length reply.now ≡ length claims.now }
     ensures text { OnOk result (out.new.items ≡ out.old.items ++ more_text (flat_map claim_words (zip claims.now reply.now))) }
@@ -200,7 +200,7 @@ fn push_claims(out: &mut Vec<u8>, claims: &[Claim], reply: &[Judgement]) -> Resu
     Ok(())
 }
 
-// The keyword of a rule.
+/// The keyword of a rule.
 fn rule_name(rule: Rule) -> &'static str
     ensures { result.now ≡ rule_text rule }
 {
@@ -210,7 +210,7 @@ fn rule_name(rule: Rule) -> &'static str
     }
 }
 
-// The keyword of a mode.
+/// The keyword of a mode.
 fn mode_name(mode: Mode) -> &'static str
     ensures { result.now ≡ mode_text mode }
 {
@@ -220,7 +220,7 @@ fn mode_name(mode: Mode) -> &'static str
     }
 }
 
-// Appends a transaction, with what is answered to its claims.
+/// Appends a transaction, with what is answered to its claims.
 fn push_txn(out: &mut Vec<u8>, txn: &Txn, reply: &[Judgement]) -> Result<(), NoMemory>
     requires { length reply.now ≡ length txn.now.claims }
     ensures text { OnOk result (out.new.items ≡ out.old.items ++ more_text (Number txn.now.job ∷ Name (rule_text txn.now.rule) ∷ Name (mode_text txn.now.mode) ∷ flat_map claim_words (zip txn.now.claims reply.now))) }
@@ -234,7 +234,7 @@ fn push_txn(out: &mut Vec<u8>, txn: &Txn, reply: &[Judgement]) -> Result<(), NoM
     push_claims(out, txn.claims.as_slice(), reply)
 }
 
-// Appends the keyword of an entry, and the number behind it.
+/// Appends the keyword of an entry, and the number behind it.
 fn push_first(out: &mut Vec<u8>, name: &[u8], number: u64) -> Result<(), NoMemory>
     ensures text { OnOk result (out.new.items ≡ out.old.items ++ name.now ++ 32 ∷ decimal number) }
     ensures range { OnOk result (number < 2 ^ 64) }
@@ -243,7 +243,7 @@ fn push_first(out: &mut Vec<u8>, name: &[u8], number: u64) -> Result<(), NoMemor
     push_number(out, number)
 }
 
-// Appends the keyword of an entry, a machine and its capacity.
+/// Appends the keyword of an entry, a machine and its capacity.
 fn push_capacity(out: &mut Vec<u8>, name: &[u8], machine: u64, cap: Need) -> Result<(), NoMemory>
     ensures text { OnOk result (out.new.items ≡ out.old.items ++ name.now ++ more_text (Number machine ∷ need_words cap)) }
     ensures machine { OnOk result (machine < 2 ^ 64) }
@@ -253,7 +253,7 @@ fn push_capacity(out: &mut Vec<u8>, name: &[u8], machine: u64, cap: Need) -> Res
     push_need(out, cap)
 }
 
-// Appends the words of an entry.
+/// Appends the words of an entry.
 fn push_entry(out: &mut Vec<u8>, entry: &Entry) -> Result<(), NoMemory>
     requires { IsAnswered entry.now }
     ensures text { OnOk result (out.new.items ≡ out.old.items ++ spaced (entry_words entry.now)) }

@@ -61,7 +61,7 @@ impl<'a> Ahead<'a> {
         }
     }
 
-    // What is noted behind the beginning of a round.
+    /// What is noted behind the beginning of a round.
     fn past_round(self) -> Ahead<'a>
         ensures usages { (first : Usage) (rest : List Usage) → self.entry.usages.now ≡ first ∷ rest → result.usages.now ≡ rest }
         ensures displaced { result.displaced.now ≡ self.entry.displaced.now }
@@ -73,7 +73,7 @@ impl<'a> Ahead<'a> {
         }
     }
 
-    // What is noted at an entry of a machine, and behind it.
+    /// What is noted at an entry of a machine, and behind it.
     fn past_machine(self) -> (&'a [TaskKey], Ahead<'a>)
         ensures stopped { (keys : List TaskKey) (rest : List (List TaskKey)) → self.entry.displaced.now ≡ keys ∷ rest → result.0.now ≡ keys }
         ensures displaced { (keys : List TaskKey) (rest : List (List TaskKey)) → self.entry.displaced.now ≡ keys ∷ rest → result.1.displaced.now ≡ rest }

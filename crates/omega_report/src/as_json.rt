@@ -23,7 +23,7 @@ pub fn push_json(alloc: Global, out: &mut Vec<u8>, words: &[Word]) -> Result<(),
     Ok(())
 }
 
-// The array of the words.
+/// The array of the words.
 fn line_value(alloc: Global, words: &[Word]) -> Result<Value, NoMemory>
     ensures value { IfOk result (λ value. view value ≡ line_data (map word_of words.now)) }
     ensures numbers { OnOk result (IsTrue (are_short (map word_of words.now))) }
@@ -35,7 +35,7 @@ fn line_value(alloc: Global, words: &[Word]) -> Result<Value, NoMemory>
     Ok(Value::Array(items))
 }
 
-// A name as a string, and a number.
+/// A name as a string, and a number.
 fn word_value(alloc: Global, word: Word) -> Result<Value, NoMemory>
     ensures value { IfOk result (λ value. view value ≡ word_data (word_of word)) }
     ensures numbers { OnOk result (IsTrue (is_short (word_of word))) }

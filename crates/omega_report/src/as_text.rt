@@ -17,7 +17,7 @@ pub fn push_text(out: &mut Vec<u8>, words: &[Word]) -> Result<(), NoMemory>
     Ok(())
 }
 
-// The words with one space between two of them.
+/// The words with one space between two of them.
 fn push_words(out: &mut Vec<u8>, words: &[Word]) -> Result<(), NoMemory>
     ensures bytes { OnOk result (out.new.items ≡ out.old.items ++ join_with_byte 32 (map word_text (map word_of words.now))) }
     ensures numbers { OnOk result (IsTrue (are_short (map word_of words.now))) }
@@ -32,7 +32,7 @@ fn push_words(out: &mut Vec<u8>, words: &[Word]) -> Result<(), NoMemory>
     }
 }
 
-// Some words, each after a space.
+/// Some words, each after a space.
 fn push_more(out: &mut Vec<u8>, words: &[Word]) -> Result<(), NoMemory>
     ensures bytes { OnOk result (out.new.items ≡ out.old.items ++ more_text (map word_of words.now)) }
     ensures numbers { OnOk result (IsTrue (are_short (map word_of words.now))) }
@@ -44,7 +44,7 @@ fn push_more(out: &mut Vec<u8>, words: &[Word]) -> Result<(), NoMemory>
     Ok(())
 }
 
-// A word.
+/// A word.
 fn push_word(out: &mut Vec<u8>, word: Word) -> Result<(), NoMemory>
     ensures bytes { OnOk result (out.new.items ≡ out.old.items ++ word_text (word_of word)) }
     ensures numbers { OnOk result (IsTrue (is_short (word_of word))) }

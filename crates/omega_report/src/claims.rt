@@ -33,7 +33,7 @@ impl Page {
         self.claims(txn.claims.as_slice(), reply)
     }
 
-    // The lines of claims and what was answered to them.
+    /// The lines of claims and what was answered to them.
     fn claims(&mut self, claims: &[Claim], reply: &[Judgement]) -> Result<(), NoMemory>
         ensures format { self.new.format ≡ self.old.format }
         ensures lines { OnOk result (self.new.lines ≡ self.old.lines ++ flat_map claim_lines (zip claims.now reply.now)) }
@@ -57,7 +57,7 @@ impl Page {
         self.refused(claim, judgement.verdict)
     }
 
-    // A line for each task that stops to make room for a placed claim.
+    /// A line for each task that stops to make room for a placed claim.
     fn evicted(&mut self, claim: &Claim, keys: &[TaskKey]) -> Result<(), NoMemory>
         ensures format { self.new.format ≡ self.old.format }
         ensures lines { OnOk result (self.new.lines ≡ self.old.lines ++ map (evict_line claim.now) keys.now) }
@@ -65,7 +65,7 @@ impl Page {
         self.tasks("evict", keys, claim.machine)
     }
 
-    // The line of a placed claim.
+    /// The line of a placed claim.
     fn placed(&mut self, claim: &Claim) -> Result<(), NoMemory>
         ensures format { self.new.format ≡ self.old.format }
         ensures lines { OnOk result (self.new.lines ≡ self.old.lines ++ place_line claim.now ∷ []) }
@@ -73,7 +73,7 @@ impl Page {
         self.task("place", claim.key, claim.machine)
     }
 
-    // The line of a claim that isn't placed, with its reason.
+    /// The line of a claim that isn't placed, with its reason.
     fn refused(&mut self, claim: &Claim, verdict: Verdict) -> Result<(), NoMemory>
         requires unplaced { is_placed verdict ≡ false }
         ensures format { self.new.format ≡ self.old.format }
@@ -110,7 +110,7 @@ impl Page {
         }
     }
 
-    // The line of a claim that is refused for a task.
+    /// The line of a claim that is refused for a task.
     fn refused_for(
         &mut self,
         claim: &Claim,
@@ -133,7 +133,7 @@ impl Page {
         ])
     }
 
-    // The line of a claim that is refused with a number.
+    /// The line of a claim that is refused with a number.
     fn refused_with(
         &mut self,
         claim: &Claim,

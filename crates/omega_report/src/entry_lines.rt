@@ -24,7 +24,7 @@ pub fn push_entry(
     push_lines(page, entry, stopped)
 }
 
-// The same where they are printed.
+/// The same where they are printed.
 fn push_lines(page: &mut Page, entry: &Entry, stopped: &[TaskKey]) -> Result<(), NoMemory>
     ensures format { OnOk result (page.new.format ≡ page.old.format) }
     ensures lines { OnOk result ((cell : Cell) → stopped.now ≡ keys_of (displaced cell.tasks entry.now) → page.new.lines ≡ page.old.lines ++ lines_on cell entry.now) }

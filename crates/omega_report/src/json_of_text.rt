@@ -56,7 +56,7 @@ impl Model for Writing {
 }
 
 impl Writing {
-    // Nothing is read yet.
+    /// Nothing is read yet.
     fn new(alloc: Global) -> Writing
         ensures { result ≡ record { json = []; word = []; position = Beginning } }
     {
@@ -67,7 +67,7 @@ impl Writing {
         }
     }
 
-    // Reads the next byte.
+    /// Reads the next byte.
     fn read(&mut self, byte: u8) -> Result<(), NoMemory>
         ensures { OnOk result (self.new ≡ after_byte self.old byte) }
     {
@@ -86,7 +86,7 @@ impl Writing {
         Ok(())
     }
 
-    // Writes the word under way.
+    /// Writes the word under way.
     fn end_word(&mut self) -> Result<(), NoMemory>
         ensures { OnOk result (self.new ≡ record { json = with_word self.old; word = []; position = self.old.position }) }
     {
@@ -96,7 +96,7 @@ impl Writing {
         Ok(())
     }
 
-    // The JSON with the end of its array.
+    /// The JSON with the end of its array.
     fn finish(self) -> Result<Bytes, NoMemory>
         ensures { IfOk result (λ json. json ≡ self.json ++ ending self.position) }
     {
@@ -106,7 +106,7 @@ impl Writing {
     }
 }
 
-// What stands before a word.
+/// What stands before a word.
 fn lead(position: Position) -> &'static [u8]
     ensures { result.now ≡ lead position }
 {
@@ -117,7 +117,7 @@ fn lead(position: Position) -> &'static [u8]
     }
 }
 
-// What ends the array of lines.
+/// What ends the array of lines.
 fn ending(position: Position) -> &'static [u8]
     ensures { result.now ≡ ending position }
 {
@@ -127,7 +127,7 @@ fn ending(position: Position) -> &'static [u8]
     }
 }
 
-// Appends a word as JSON.
+/// Appends a word as JSON.
 fn push_word(json: &mut Vec<u8>, word: &[u8]) -> Result<(), NoMemory>
     ensures { OnOk result (json.new.items ≡ json.old.items ++ text_json word.now) }
 {
@@ -141,7 +141,7 @@ fn push_word(json: &mut Vec<u8>, word: &[u8]) -> Result<(), NoMemory>
     Ok(())
 }
 
-// Whether a word is digits alone, of a number below 2^64.
+/// Whether a word is digits alone, of a number below 2^64.
 fn is_short_number(word: &[u8]) -> bool
     ensures { result ≡ is_short_number word.now }
 {
@@ -155,7 +155,7 @@ fn is_short_number(word: &[u8]) -> bool
     true
 }
 
-// A number with one more digit, if the byte is one and 64 bits hold the number.
+/// A number with one more digit, if the byte is one and 64 bits hold the number.
 fn with_digit(value: u64, byte: u8) -> Option<u64>
     ensures { result ≡ with_digit value byte }
 {

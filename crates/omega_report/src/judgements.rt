@@ -74,21 +74,21 @@ fn one_if(test: bool) -> u64
     if test { 1 } else { 0 }
 }
 
-// Whether a claim is placed.
+/// Whether a claim is placed.
 pub fn places_some(reply: &[Judgement]) -> bool
     ensures { result ≡ list_any admits reply.now }
 {
     reply.iter().any(|judgement| judgement.verdict.is_placed())
 }
 
-// Whether a claim isn't placed.
+/// Whether a claim isn't placed.
 fn leaves_some(reply: &[Judgement]) -> bool
     ensures { result ≡ list_any (λ judgement. not (admits judgement)) reply.now }
 {
     reply.iter().any(|judgement| !judgement.verdict.is_placed())
 }
 
-// How many claims are placed.
+/// How many claims are placed.
 fn placed_in(reply: &[Judgement]) -> u64
     ensures { result ≡ count_by (λ judgement. is_placed judgement.verdict) reply.now }
 {
@@ -98,7 +98,7 @@ fn placed_in(reply: &[Judgement]) -> u64
         .count() as u64
 }
 
-// How many claims are refused.
+/// How many claims are refused.
 fn refused_in(reply: &[Judgement]) -> u64
     ensures { result ≡ count_by (λ judgement. is_refused judgement.verdict) reply.now }
 {
@@ -108,7 +108,7 @@ fn refused_in(reply: &[Judgement]) -> u64
         .count() as u64
 }
 
-// How many claims are withdrawn.
+/// How many claims are withdrawn.
 fn withdrawn_in(reply: &[Judgement]) -> u64
     ensures { result ≡ count_by (λ judgement. is_withdrawn judgement.verdict) reply.now }
 {
@@ -118,7 +118,7 @@ fn withdrawn_in(reply: &[Judgement]) -> u64
         .count() as u64
 }
 
-// How many tasks the placed claims evict.
+/// How many tasks the placed claims evict.
 fn evicted_in(reply: &[Judgement]) -> Result<u64, NoMemory>
     ensures { IfOk result (λ count. count ≡ length (evicted_by reply.now)) }
 {

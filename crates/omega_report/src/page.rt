@@ -79,7 +79,7 @@ impl Page {
     }
 }
 
-// The bytes that a line adds to a page.
+/// The bytes that a line adds to a page.
 fn write_line(
     alloc: Global,
     format: Format,
@@ -101,7 +101,7 @@ fn write_line(
     }
 }
 
-// Ends the array of the lines.
+/// Ends the array of the lines.
 fn close(bytes: &mut Vec<u8>) -> Result<(), NoMemory>
     ensures { OnOk result ((lines : List Line) → bytes.old.items ≡ open_json lines → bytes.new.items ≡ json_of lines) }
 {
@@ -110,7 +110,7 @@ fn close(bytes: &mut Vec<u8>) -> Result<(), NoMemory>
     Ok(())
 }
 
-// What ends the array of the lines, where it may have none.
+/// What ends the array of the lines, where it may have none.
 fn end_of_array(is_empty: bool) -> &'static [u8]
     ensures { result.now ≡ end_of_array is_empty }
 {

@@ -69,7 +69,7 @@ pub fn report_as(
     summed_up(settings, history, effects.last, left, walk)?.finish()
 }
 
-// The page of a walk over a history, with what it comes to, where `last` is the usage at its end.
+/// The page of a walk over a history, with what it comes to, where `last` is the usage at its end.
 fn summed_up(
     settings: &Settings,
     history: &[Entry],
@@ -98,7 +98,7 @@ fn summed_up(
     Ok(page)
 }
 
-// How many rounds a history begins.
+/// How many rounds a history begins.
 fn count_rounds(history: &[Entry]) -> u64
     ensures { result ≡ count_by begins_round history.now }
 {
@@ -111,7 +111,7 @@ fn begins_round(entry: &Entry) -> bool
     matches!(entry, Entry::Round { .. })
 }
 
-// Appends the line of each scheduler with its counts.
+/// Appends the line of each scheduler with its counts.
 fn push_counts(page: &mut Page, counts: &[Counts]) -> Result<(), NoMemory>
     requires { length counts.now < 2 ^ 32 }
     ensures format { OnOk result (page.new.format ≡ page.old.format) }
@@ -123,7 +123,7 @@ fn push_counts(page: &mut Page, counts: &[Counts]) -> Result<(), NoMemory>
     Ok(())
 }
 
-// How many of these jobs are given up after so many commits that failed.
+/// How many of these jobs are given up after so many commits that failed.
 fn count_given_up(jobs: &[u64], give_up: u32, failures: &Failures) -> u64
     ensures { result ≡ count_by (λ job. nat_le give_up (count_of failures.now job)) jobs.now }
 {

@@ -60,7 +60,7 @@ impl Tally {
         }
     }
 
-    // Adds counts to those of a scheduler, if it is known.
+    /// Adds counts to those of a scheduler, if it is known.
     fn add(&mut self, scheduler: usize, more: &Counts) -> Result<(), NoMemory>
         ensures { OnOk result (self.new ≡ added_at scheduler (counts_in more.now) self.old) }
     {

@@ -61,8 +61,8 @@ pub fn walked(
 }
 
 impl Walk {
-    // Takes in the next entry, which displaces the tasks of these names, and whose lines go on the page
-    // if they are printed.
+    /// Takes in the next entry, which displaces the tasks of these names, and whose lines go on the page
+    /// if they are printed.
     fn take_in(&mut self, entry: &Entry, stopped: &[TaskKey], prints: bool) -> Result<(), NoMemory>
         ensures format { OnOk result (self.new.page.format ≡ self.old.page.format) }
         ensures lines { OnOk result ((cell : Cell) → stopped.now ≡ keys_of (displaced cell.tasks entry.now) → self.new.page.lines ≡ self.old.page.lines ++ if_printed prints (lines_on cell entry.now)) }
@@ -75,7 +75,7 @@ impl Walk {
         Ok(())
     }
 
-    // Appends the line that says how much of the cell is used, if it is due.
+    /// Appends the line that says how much of the cell is used, if it is due.
     fn push_use_if(&mut self, due: bool, usage: Usage) -> Result<(), NoMemory>
         ensures format { OnOk result (self.new.page.format ≡ self.old.page.format) }
         ensures lines { OnOk result (self.new.page.lines ≡ self.old.page.lines ++ usage_if due usage) }
@@ -90,8 +90,8 @@ impl Walk {
     }
 }
 
-// Notes the next entry, which counts for its job if it is a commit. So many commits that a count can't
-// hold them don't fit into memory either.
+/// Notes the next entry, which counts for its job if it is a commit. So many commits that a count can't
+/// hold them don't fit into memory either.
 fn note_entry(failures: &mut Failures, entry: &Entry) -> Result<(), NoMemory>
     ensures { OnOk result ((job : ℕ) → count_of failures.new job ≡ failed_after job (count_of failures.old job) entry.now) }
 {
@@ -103,7 +103,7 @@ fn note_entry(failures: &mut Failures, entry: &Entry) -> Result<(), NoMemory>
     }
 }
 
-// One more commit for a job, which placed something or nothing.
+/// One more commit for a job, which placed something or nothing.
 fn note_commit(failures: &mut Failures, job: u64, placed: bool) -> Result<(), NoMemory>
     ensures { OnOk result (Notes failures.old failures.new job placed) }
 {
@@ -115,7 +115,7 @@ fn note_commit(failures: &mut Failures, job: u64, placed: bool) -> Result<(), No
     Ok(())
 }
 
-// Whether a command prints the lines of the rounds.
+/// Whether a command prints the lines of the rounds.
 fn prints_rounds(command: Command) -> bool
     ensures { result ≡ prints_rounds command }
 {
@@ -125,14 +125,14 @@ fn prints_rounds(command: Command) -> bool
     }
 }
 
-// Whether the use is printed after so many entries.
+/// Whether the use is printed after so many entries.
 fn use_is_due(prints: bool, history: &[Entry], count: usize) -> bool
     ensures { result ≡ (prints && is_round_end (slice_get history.now count)) }
 {
     prints && ends_at(history, count)
 }
 
-// Whether a round ends after so many entries.
+/// Whether a round ends after so many entries.
 fn ends_at(history: &[Entry], count: usize) -> bool
     ensures { result ≡ is_round_end (slice_get history.now count) }
 {

@@ -48,7 +48,7 @@ pub fn in_time(world: World) -> Result<(World, Times), NoMemory>
     }
 }
 
-// Plays the round that is under way to its end, and appends the times of its commits.
+/// Plays the round that is under way to its end, and appends the times of its commits.
 fn play_round(world: World, times: &mut Times) -> Result<World, NoMemory>
     requires begins { (timed : TimedRound) × BeginsInTime timed world times.old }
     ensures stage { IfOk result (λ after. after.stage ≡ world.stage) }
@@ -62,8 +62,8 @@ fn play_round(world: World, times: &mut Times) -> Result<World, NoMemory>
     Ok(world)
 }
 
-// When the round that is under way begins, after these commits: at the greatest time of its rows, or when the
-// last of the commits was made, if that is later.
+/// When the round that is under way begins, after these commits: at the greatest time of its rows, or when the
+/// last of the commits was made, if that is later.
 fn base_of(world: &World, times: &[Timed]) -> u128
     ensures { result ≡ max (until_after 0 times.now) (unwrap_or (rows_time world.now.stage) 0) }
 {
@@ -71,14 +71,14 @@ fn base_of(world: &World, times: &[Timed]) -> u128
     last_time(times).max(rows)
 }
 
-// When the last of these commits was made, or 0 where there is none.
+/// When the last of these commits was made, or 0 where there is none.
 fn last_time(times: &[Timed]) -> u128
     ensures { result ≡ until_after 0 times.now }
 {
     times.last().map_or(0, |last| last.time)
 }
 
-// Where a round begins all schedulers that have work sync.
+/// Where a round begins all schedulers that have work sync.
 fn sync_all(world: &mut World, agenda: &mut Agenda, base: u128) -> Result<(), NoMemory>
     requires count { length agenda.old ≡ schedulers world.old.stage.settings }
     ensures stage { OnOk result (world.new.stage ≡ world.old.stage) }
@@ -92,7 +92,7 @@ fn sync_all(world: &mut World, agenda: &mut Agenda, base: u128) -> Result<(), No
     Ok(())
 }
 
-// One commit after the other, until nobody has work.
+/// One commit after the other, until nobody has work.
 fn commit_all(world: &mut World, agenda: &mut Agenda, times: &mut Times) -> Result<(), NoMemory>
     requires some { (timed : TimedRound) × GoesByClock timed world.old agenda.old times.old }
     ensures stage { OnOk result (world.new.stage ≡ world.old.stage) }
@@ -105,7 +105,7 @@ fn commit_all(world: &mut World, agenda: &mut Agenda, times: &mut Times) -> Resu
     Ok(())
 }
 
-// The scheduler that is the first of the agenda commits at its time, and syncs if it has work left.
+/// The scheduler that is the first of the agenda commits at its time, and syncs if it has work left.
 fn commit_first(
     world: &mut World,
     agenda: &mut Agenda,
@@ -134,7 +134,7 @@ fn commit_first(
     Ok(())
 }
 
-// A scheduler syncs now, if it has work, and the agenda gets the time of its next commit.
+/// A scheduler syncs now, if it has work, and the agenda gets the time of its next commit.
 fn sync_next(
     world: &mut World,
     agenda: &mut Agenda,
@@ -161,7 +161,7 @@ fn sync_next(
     Ok(())
 }
 
-// When a scheduler commits next that syncs now with so many wishes of its request left, if there are any.
+/// When a scheduler commits next that syncs now with so many wishes of its request left, if there are any.
 fn next_at(
     settings: &Settings,
     scheduler: u32,
@@ -179,7 +179,7 @@ fn next_at(
     Ok(Some(time))
 }
 
-// How long a scheduler takes to decide on so many wishes, in microseconds.
+/// How long a scheduler takes to decide on so many wishes, in microseconds.
 fn decision(settings: &Settings, scheduler: u32, wishes: usize) -> u128
     ensures { result ≡ decision settings.now scheduler wishes }
 {

@@ -80,8 +80,8 @@ pub(crate) fn take_round<P: Keeper>(
     }
 }
 
-// Compares the lines of some entries, which stand in a history from a place on, with those that are kept from
-// there on.
+/// Compares the lines of some entries, which stand in a history from a place on, with those that are kept from
+/// there on.
 fn check_lines(
     alloc: Global,
     entries: &[Entry],
@@ -101,7 +101,7 @@ fn check_lines(
     }
 }
 
-// How many of the first kept lines are those of these entries in order.
+/// How many of the first kept lines are those of these entries in order.
 fn in_common(alloc: Global, kept: &[Bytes], entries: &[Entry]) -> Result<usize, NoMemory>
     requires { All IsAnswered entries.now }
     ensures count { IfOk result (λ count. count ≡ in_common kept.now entries.now) }
@@ -118,7 +118,7 @@ fn in_common(alloc: Global, kept: &[Bytes], entries: &[Entry]) -> Result<usize, 
     Ok(entries.len())
 }
 
-// Whether a kept line is the line of an entry.
+/// Whether a kept line is the line of an entry.
 fn is_line(alloc: Global, line: &Bytes, entry: &Entry) -> Result<bool, NoMemory>
     requires { IsAnswered entry.now }
     ensures { IfOk result (λ is. is ≡ bytes_eq line.now (entry_text entry.now)) }
@@ -127,7 +127,7 @@ fn is_line(alloc: Global, line: &Bytes, entry: &Entry) -> Result<bool, NoMemory>
     Ok(line.as_slice() == own.as_slice())
 }
 
-// Appends the lines of these entries, in one call.
+/// Appends the lines of these entries, in one call.
 fn append_lines<P: Keeper>(
     alloc: Global,
     entries: &[Entry],
@@ -149,7 +149,7 @@ fn append_lines<P: Keeper>(
     }
 }
 
-// The lines of these entries.
+/// The lines of these entries.
 fn lines_of(alloc: Global, entries: &[Entry]) -> Result<Lines, NoMemory>
     requires { All IsAnswered entries.now }
     ensures { IfOk result (λ lines. lines ≡ lines_of entries.now) }

@@ -57,9 +57,9 @@ pub(crate) fn open_round(
     Ok(())
 }
 
-// Appends a round's entry and those of its rows in order. Of the jobs that aren't open, those of which
-// something may have to be placed then are opened. More machines than a table holds are answered as
-// want of memory. Costs the rows, and what their entries change.
+/// Appends a round's entry and those of its rows in order. Of the jobs that aren't open, those of which
+/// something may have to be placed then are opened. More than `MOST_MACHINES` machines are answered as
+/// want of memory. Costs the rows, and what their entries change.
 fn open(
     alloc: Global,
     cell: &mut Cell,
@@ -89,7 +89,7 @@ fn open(
     Ok(())
 }
 
-// Appends the entries of the row that was taken last.
+/// Appends the entries of the row that was taken last.
 fn apply_row(
     alloc: Global,
     cell: &mut Cell,
@@ -106,7 +106,7 @@ fn apply_row(
     feed_all(alloc, cell, wanted, open_jobs, entries)
 }
 
-// Appends entries in order, and opens the jobs of the tasks that each of them may stop.
+/// Appends entries in order, and opens the jobs of the tasks that each of them may stop.
 fn feed_all(
     alloc: Global,
     cell: &mut Cell,
@@ -125,7 +125,7 @@ fn feed_all(
     Ok(())
 }
 
-// Appends an entry, and opens the jobs of the tasks that it may stop.
+/// Appends an entry, and opens the jobs of the tasks that it may stop.
 fn feed_one(
     alloc: Global,
     cell: &mut Cell,
@@ -143,7 +143,7 @@ fn feed_one(
     Ok(())
 }
 
-// Appends an entry.
+/// Appends an entry.
 fn feed(alloc: Global, cell: &mut Cell, entry: Entry) -> Result<(), NoMemory>
     requires { MayFeed cell.old.history entry }
     ensures { OnOk result (cell.new.history ≡ cell.old.history ++ entry ∷ []) }
@@ -157,7 +157,7 @@ fn feed(alloc: Global, cell: &mut Cell, entry: Entry) -> Result<(), NoMemory>
     }
 }
 
-// Whether a board has the machine of an entry, or room for it.
+/// Whether a board has the machine of an entry, or room for it.
 fn has_room(board: &Board, entry: &Entry) -> bool
     ensures { IsTrue result → IfSome (machine_in entry.now) (ListsOrHasRoom (cell_of board.now).machines) }
 {
@@ -171,7 +171,7 @@ fn has_room(board: &Board, entry: &Entry) -> bool
     }
 }
 
-// Whether a board has a machine, or room for it.
+/// Whether a board has a machine, or room for it.
 fn has_room_for(board: &Board, machine: u64) -> bool
     ensures { IsTrue result → ListsOrHasRoom (cell_of board.now).machines machine }
 {
@@ -179,8 +179,8 @@ fn has_room_for(board: &Board, machine: u64) -> bool
     machines.len() < MOST_MACHINES || machines.position(machine).is_some()
 }
 
-// Hands each scheduler what it is asked to place on the cell. Costs the wanted tasks of the open jobs,
-// also those that run, the extra tasks, and for each scheduler a look at the open jobs.
+/// Hands each scheduler what it is asked to place on the cell. Costs the wanted tasks of the open jobs,
+/// also those that run, the extra tasks, and for each scheduler a look at the open jobs.
 fn begin_all(
     alloc: Global,
     workers: &mut Vec<Worker>,

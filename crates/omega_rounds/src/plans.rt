@@ -55,8 +55,8 @@ pub(crate) fn plan_first(
     plan
 }
 
-// The attempt, planned on the board of the cell, which is lent to a copy with these indexes. They are told of
-// these machines, for whose places they have room.
+/// The attempt, planned on the board of the cell, which is lent to a copy with these indexes. They are told of
+/// these machines, for whose places they have room.
 fn plan_apart(
     alloc: Global,
     settings: &Settings,
@@ -84,7 +84,7 @@ fn plan_apart(
     (plan, indexes, Cell::joined(board, log))
 }
 
-// The attempt, planned on a copy.
+/// The attempt, planned on a copy.
 fn plan_on(
     alloc: Global,
     settings: &Settings,

@@ -46,7 +46,7 @@ impl Player {
         }
     }
 
-    // One attempt on the first request that is left, in two turns. Asks the gate after each step.
+    /// One attempt on the first request that is left, in two turns. Asks the gate after each step.
     fn attempt<R: Wait, G: Gate>(
         &mut self,
         rt: &R,
@@ -74,7 +74,7 @@ impl Player {
         Ok(())
     }
 
-    // A turn in which the copy takes over the history. Where memory runs out the scheduler hasn't synced.
+    /// A turn in which the copy takes over the history. Where memory runs out the scheduler hasn't synced.
     fn sync<R: Wait>(&mut self, rt: &R, alloc: Global, shared: &SharedCell) -> Result<(), NoMemory>
         requires of { self.old.pass.of ≡ shared.now.of }
         requires left { 0 < self.old.pass.turns }
@@ -92,8 +92,8 @@ impl Player {
         Ok(())
     }
 
-    // The transaction of an attempt on the first request that is left, planned on the copy. One of
-    // 2^32 claims or more is want of memory, and so is one after 2^64 - 1 entries.
+    /// The transaction of an attempt on the first request that is left, planned on the copy. One of
+    /// 2^32 claims or more is want of memory, and so is one after 2^64 - 1 entries.
     fn plan(&mut self, alloc: Global, settings: &Settings) -> Result<Txn, NoMemory>
         requires range { IsInRange settings.now }
         requires known { self.old.pass.number < schedulers settings.now }
@@ -117,8 +117,8 @@ impl Player {
         Ok(txn)
     }
 
-    // A turn in which an attempt's transaction is committed, after which the desk moves on by what was
-    // answered. Where memory runs out the worker is as before.
+    /// A turn in which an attempt's transaction is committed, after which the desk moves on by what was
+    /// answered. Where memory runs out the worker is as before.
     fn commit<R: Wait>(
         &mut self,
         rt: &R,

@@ -32,7 +32,7 @@ pub(crate) fn reopen_since(
     reopen_all(open_jobs, wanted, &cell.history()[opened_at..])
 }
 
-// Opens the jobs of the tasks that commits evicted.
+/// Opens the jobs of the tasks that commits evicted.
 fn reopen_all(open_jobs: &mut OpenJobs, wanted: &Wanted, entries: &[Entry]) -> Result<(), NoMemory>
     requires { All (λ entry. is_commit entry ≡ true) entries.now }
     ensures { (before : CellBefore) → OthersAreQuiet open_jobs.old wanted.now before.tasks
@@ -44,7 +44,7 @@ fn reopen_all(open_jobs: &mut OpenJobs, wanted: &Wanted, entries: &[Entry]) -> R
     Ok(())
 }
 
-// Opens the jobs of the tasks that a commit evicted.
+/// Opens the jobs of the tasks that a commit evicted.
 fn reopen_evicted(open_jobs: &mut OpenJobs, wanted: &Wanted, entry: &Entry) -> Result<(), NoMemory>
     requires { is_commit entry.now ≡ true }
     ensures { (tasks : List Task) → OnOk result (OpensJobs open_jobs.old open_jobs.new wanted.now (may_stop tasks entry.now)) }
@@ -55,7 +55,7 @@ fn reopen_evicted(open_jobs: &mut OpenJobs, wanted: &Wanted, entry: &Entry) -> R
     Ok(())
 }
 
-// Opens the jobs of the tasks that judgements evicted.
+/// Opens the jobs of the tasks that judgements evicted.
 fn reopen_judged(
     open_jobs: &mut OpenJobs,
     wanted: &Wanted,
@@ -69,7 +69,7 @@ fn reopen_judged(
     Ok(())
 }
 
-// Opens the jobs of these tasks.
+/// Opens the jobs of these tasks.
 fn reopen_jobs(open_jobs: &mut OpenJobs, wanted: &Wanted, keys: &[TaskKey]) -> Result<(), NoMemory>
     ensures { OnOk result (OpensJobs open_jobs.old open_jobs.new wanted.now keys.now) }
 {
@@ -81,8 +81,8 @@ fn reopen_jobs(open_jobs: &mut OpenJobs, wanted: &Wanted, keys: &[TaskKey]) -> R
 
 /// Opens the jobs of the tasks that an entry may stop when it is fed to the cell of a board, where they may
 /// be missed: of all tasks on a machine that changes, and of one that ends. Most that end are wanted no
-/// more, so that their jobs aren't looked at again. Costs what the machine has, and the logarithm of the number of jobs and of
-/// wanted tasks for each.
+/// more, so that their jobs aren't looked at again. Costs what the machine has, and the logarithm of the
+/// number of jobs and of wanted tasks for each.
 pub(crate) fn reopen_stopped(
     alloc: Global,
     open_jobs: &mut OpenJobs,
@@ -107,7 +107,7 @@ pub(crate) fn reopen_stopped(
     }
 }
 
-// Opens the job of a task, if its end may let something of the job wait.
+/// Opens the job of a task, if its end may let something of the job wait.
 fn reopen_missed(open_jobs: &mut OpenJobs, wanted: &Wanted, key: TaskKey) -> Result<(), NoMemory>
     ensures { OnOk result (OpensJobs open_jobs.old open_jobs.new wanted.now (key ∷ [])) }
 {
@@ -118,7 +118,7 @@ fn reopen_missed(open_jobs: &mut OpenJobs, wanted: &Wanted, key: TaskKey) -> Res
     Ok(())
 }
 
-// Opens the jobs of all tasks on a machine.
+/// Opens the jobs of all tasks on a machine.
 fn reopen_on(
     alloc: Global,
     open_jobs: &mut OpenJobs,

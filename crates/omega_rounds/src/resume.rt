@@ -66,7 +66,7 @@ pub fn resume_turns<P: Keeper>(
     }
 }
 
-// Plays the round that is under way to its end and takes it. The history before it has so many entries.
+/// Plays the round that is under way to its end and takes it. The history before it has so many entries.
 fn resume_round<P: Keeper>(
     world: World,
     from: usize,
@@ -88,7 +88,7 @@ fn resume_round<P: Keeper>(
     Ok(world)
 }
 
-// Refuses kept lines of which there are more than entries in the whole history of a world.
+/// Refuses kept lines of which there are more than entries in the whole history of a world.
 fn end_kept(world: &World, kept: &Lines) -> Result<(), ResumeRefusal>
     ensures all { OnOk result (length kept.now ≤ length world.now.history) }
     ensures refused { IfErr result (IsPastEnd world.now kept.now) }

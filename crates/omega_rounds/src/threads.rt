@@ -92,8 +92,8 @@ pub(crate) fn play_shared<R: Threads + Wait + Sync, G: Gate + Sync>(
     Ok((shared.close(passes), workers))
 }
 
-// Two turns for each attempt that a scheduler can make: as many as for all tries of as many requests as
-// the desk with most has. More than a number of turns can be is want of memory.
+/// Two turns for each attempt that a scheduler can make: as many as for all tries of as many requests as
+/// the desk with most has. More than a number of turns can be is want of memory.
 fn turns_for(settings: &Settings, workers: &[Worker]) -> Result<u32, NoMemory>
     ensures { IfOk result (Suffice settings.now workers.now) }
 {
@@ -107,7 +107,7 @@ fn turns_for(settings: &Settings, workers: &[Worker]) -> Result<u32, NoMemory>
     }
 }
 
-// The number of requests at the desk that has most.
+/// The number of requests at the desk that has most.
 fn most_requests(workers: &[Worker]) -> u128
     ensures { All (λ worker. length worker.desk.requests ≤ result) workers.now }
 {
@@ -118,7 +118,7 @@ fn most_requests(workers: &[Worker]) -> u128
     most
 }
 
-// The players of the schedulers, by number. There is room for them.
+/// The players of the schedulers, by number. There is room for them.
 fn players_of(workers: Vec<Worker>, passes: Vec<Pass>, mut players: Vec<Player>) -> Vec<Player>
     requires as_many { length passes.items ≡ length workers.items }
     requires room { (players.items ≡ []) × (length workers.items ≤ vec_capacity players) }
@@ -140,14 +140,14 @@ fn players_of(workers: Vec<Worker>, passes: Vec<Pass>, mut players: Vec<Player>)
     players
 }
 
-// Whether a player has met want of memory.
+/// Whether a player has met want of memory.
 fn any_failed(players: &[Player]) -> bool
     ensures { result ≡ list_any (λ player. player.failed) players.now }
 {
     players.iter().any(|player| player.failed)
 }
 
-// The workers and the passes of players. There is room for them.
+/// The workers and the passes of players. There is room for them.
 fn apart(
     players: Vec<Player>,
     mut workers: Vec<Worker>,
@@ -166,7 +166,7 @@ fn apart(
     (workers, passes)
 }
 
-// Shares a cell. Where memory runs out the cell is gone.
+/// Shares a cell. Where memory runs out the cell is gone.
 fn share<R: Wait>(
     rt: &R,
     alloc: Global,

@@ -52,7 +52,7 @@ pub(crate) fn play_round(world: World) -> Result<World, NoMemory>
     }
 }
 
-// A turn: all that have work sync, and then all commit. Answers whether anybody has committed.
+/// A turn: all that have work sync, and then all commit. Answers whether anybody has committed.
 fn take_turn(world: &mut World) -> Result<bool, NoMemory>
     ensures stage { OnOk result (world.new.stage ≡ world.old.stage) }
     ensures turn { IfOk result (λ committed. TakesTurnFrom world.old world.new committed) }
@@ -63,7 +63,7 @@ fn take_turn(world: &mut World) -> Result<bool, NoMemory>
     Ok(committed)
 }
 
-// The first half of a turn: a step of each scheduler, none of which has synced.
+/// The first half of a turn: a step of each scheduler, none of which has synced.
 fn sync_all(world: &mut World) -> Result<(), NoMemory>
     ensures stage { OnOk result (world.new.stage ≡ world.old.stage) }
     ensures synced { OnOk result (SyncsTurn world.old world.new) }
@@ -75,8 +75,8 @@ fn sync_all(world: &mut World) -> Result<(), NoMemory>
     Ok(())
 }
 
-// The second half of a turn: a step of each scheduler, in order. Answers whether anybody has
-// committed.
+/// The second half of a turn: a step of each scheduler, in order. Answers whether anybody has
+/// committed.
 fn commit_all(world: &mut World) -> Result<bool, NoMemory>
     ensures stage { OnOk result (world.new.stage ≡ world.old.stage) }
     ensures committed { IfOk result (λ committed. CommitsTurn world.old world.new committed) }

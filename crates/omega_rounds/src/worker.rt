@@ -110,8 +110,8 @@ impl Worker {
         Ok(Stepped::Committed(place))
     }
 
-    // The scheduler has seen the history to its end, and plans its attempt on the first request that is left.
-    // Where memory runs out it hasn't synced.
+    /// The scheduler has seen the history to its end, and plans its attempt on the first request that is left.
+    /// Where memory runs out it hasn't synced.
     fn sync(
         &mut self,
         alloc: Global,
@@ -140,8 +140,8 @@ impl Worker {
         Ok(())
     }
 
-    // Commits the plan, which was made after so many entries that were seen. Answers the place of the commit.
-    // Where memory runs out nothing has changed but the cell's room.
+    /// Commits the plan, which was made after so many entries that were seen. Answers the place of the commit.
+    /// Where memory runs out nothing has changed but the cell's room.
     fn commit(
         &mut self,
         alloc: Global,

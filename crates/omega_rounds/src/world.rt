@@ -51,7 +51,7 @@ pub struct World {
     /// The place in the history after the rows of the last round that has begun.
     opened_at: usize,
     wanted: Wanted,
-    /// The jobs of which something may have to be placed. All others were quiet at that place.
+    /// The jobs of which something may have to be placed. All others were quiet at `opened_at`.
     open_jobs: OpenJobs,
     cell: Cell,
     workers: Vec<Worker>,
@@ -178,7 +178,7 @@ impl World {
         Ok((world, RoundStep::Begun(number)))
     }
 
-    // The next round begins. Answers its number.
+    /// The next round begins. Answers its number.
     fn begin_round(self) -> Result<(World, u64), NoMemory>
         requires no_work { self.to_do ≡ 0 }
         requires more { self.stage.begun < length self.stage.source.rounds }
@@ -347,7 +347,7 @@ impl World {
     }
 }
 
-// A worker for each scheduler.
+/// A worker for each scheduler.
 fn new_workers(alloc: Global, settings: &Settings) -> Result<Vec<Worker>, NoMemory>
     requires { IsInRange settings.now }
     ensures { IfOk result (λ workers. AreNewWorkers settings.now (schedulers settings.now) workers.items) }

@@ -43,7 +43,7 @@ fn task_row(job: u64, amount: u32) -> TaskRow {
     }
 }
 
-// A machine of (10, 10), and two jobs with a task each.
+/// A machine of (10, 10), and two jobs with a task each.
 fn tables(alloc: Global) -> Result<TraceTables, NoMemory> {
     let mut tables = TraceTables::new(alloc);
     tables.machines.push(machine_row(10))?;
@@ -53,7 +53,7 @@ fn tables(alloc: Global) -> Result<TraceTables, NoMemory> {
     Ok(tables)
 }
 
-// The world of these tables before its only round, if there is memory.
+/// The world of these tables before its only round, if there is memory.
 fn world(alloc: Global, settings: &Settings) -> Result<World, NoMemory>
     requires { IsInRange settings.now }
     ensures { IfOk result (λ world. world.stage.begun ≡ 0) }
@@ -62,7 +62,7 @@ fn world(alloc: Global, settings: &Settings) -> Result<World, NoMemory>
     World::new(alloc, settings, &tables)
 }
 
-// Lets a scheduler do a step, if there is one of this number.
+/// Lets a scheduler do a step, if there is one of this number.
 fn step(world: &mut World, scheduler: u32) -> Result<Option<Stepped>, NoMemory> {
     if scheduler >= world.schedulers() {
         return Ok(None);
@@ -70,19 +70,19 @@ fn step(world: &mut World, scheduler: u32) -> Result<Option<Stepped>, NoMemory> 
     Ok(Some(world.step(scheduler)?))
 }
 
-// The world of these tables in its only round.
+/// The world of these tables in its only round.
 fn begun(alloc: Global) -> Result<World, NoMemory> {
     let world = world(alloc, &Settings::default())?;
     let (world, _begun) = world.next_round()?;
     Ok(world)
 }
 
-// The second of two.
+/// The second of two.
 fn second<T: Drop, U>(pair: (T, U)) -> U {
     pair.1
 }
 
-// Whether three schedulers are there, and do these steps.
+/// Whether three schedulers are there, and do these steps.
 fn does_steps(world: &mut World, steps: &[(u32, Stepped)]) -> Result<bool, NoMemory> {
     for (scheduler, stepped) in steps {
         if step(world, *scheduler)? != Some(*stepped) {
@@ -92,12 +92,12 @@ fn does_steps(world: &mut World, steps: &[(u32, Stepped)]) -> Result<bool, NoMem
     Ok(world.schedulers() == 3)
 }
 
-// How the world goes on.
+/// How the world goes on.
 fn round_step(world: World) -> Result<RoundStep, NoMemory> {
     Ok(second(world.next_round()?))
 }
 
-// Whether the world does these steps in its round, and how it goes on then.
+/// Whether the world does these steps in its round, and how it goes on then.
 fn after_steps(alloc: Global, steps: &[(u32, Stepped)]) -> Result<(bool, RoundStep), NoMemory> {
     let mut world = begun(alloc)?;
     let done = does_steps(&mut world, steps);
@@ -105,7 +105,7 @@ fn after_steps(alloc: Global, steps: &[(u32, Stepped)]) -> Result<(bool, RoundSt
     Ok((done?, next?))
 }
 
-// What schedulers do in their steps.
+/// What schedulers do in their steps.
 const STEPS: [(u32, Stepped); 3] = [
     (0, Stepped::Idle),
     (1, Stepped::Synced),
@@ -120,7 +120,7 @@ fn a_scheduler_step_by_step(rt: HostRuntime) -> Result<(), NoMemory> {
     Ok(())
 }
 
-// How many entries the history has at the end, where the schedulers take turns.
+/// How many entries the history has at the end, where the schedulers take turns.
 fn entries_in_turns(alloc: Global) -> Result<usize, NoMemory> {
     let world = in_turns(world(alloc, &Settings::default())?)?;
     Ok(world.into_history().len())
@@ -132,7 +132,7 @@ fn schedulers_in_turns(rt: HostRuntime) -> Result<(), NoMemory> {
     Ok(())
 }
 
-// Whether the commits are those of scheduler 1 at these places, each with its sync and its own time.
+/// Whether the commits are those of scheduler 1 at these places, each with its sync and its own time.
 fn commit_at(times: &[Timed], expected: &[(u64, u128, u128)]) -> bool {
     times.len() == expected.len()
         && times.iter().zip(expected).all(|(timed, (place, sync, time))| {
@@ -143,11 +143,11 @@ fn commit_at(times: &[Timed], expected: &[(u64, u128, u128)]) -> bool {
         })
 }
 
-// The commits of the one batch scheduler by the clock: each job has one task, and so takes it 105,000
-// microseconds.
+/// The commits of the one batch scheduler by the clock: each job has one task, and so takes it 105,000
+/// microseconds.
 const BY_THE_CLOCK: [(u64, u128, u128); 2] = [(2, 0, 105_000), (3, 105_000, 210_000)];
 
-// Whether the commits by the clock are these.
+/// Whether the commits by the clock are these.
 fn commits_by_the_clock(alloc: Global) -> Result<bool, NoMemory> {
     let times = second(in_time(world(alloc, &Settings::default())?)?);
     Ok(commit_at(times.as_slice(), &BY_THE_CLOCK))
@@ -159,7 +159,7 @@ fn schedulers_by_the_clock(rt: HostRuntime) -> Result<(), NoMemory> {
     Ok(())
 }
 
-// How many entries it has where each scheduler, two of them for batch jobs, has its own thread.
+/// How many entries it has where each scheduler, two of them for batch jobs, has its own thread.
 fn entries_on_threads<R: Threads + Wait + Sync>(rt: &R, alloc: Global) -> Result<usize, NoMemory>
     requires { IsSync R.row }
 {
@@ -171,8 +171,8 @@ fn entries_on_threads<R: Threads + Wait + Sync>(rt: &R, alloc: Global) -> Result
     Ok(world.into_history().len())
 }
 
-// Two jobs of the one machine's size together fit in whatever order their schedulers commit, so each
-// is placed by one commit.
+/// Two jobs of the one machine's size together fit in whatever order their schedulers commit, so each
+/// is placed by one commit.
 #[test]
 fn schedulers_on_threads(rt: HostRuntime) -> Result<(), NoMemory> {
     assert_eq!(rt; entries_on_threads(&rt, rt.alloc())?, 4);

@@ -13,7 +13,7 @@ use std::process::Abort;
 use std::sync::Wait;
 use std::thread::{Threads, join};
 
-// Syncs a copy, and commits a transaction without claims.
+/// Syncs a copy, and commits a transaction without claims.
 fn attempt<R: Wait>(
     rt: &R,
     alloc: Global,
@@ -43,7 +43,7 @@ fn attempt<R: Wait>(
     }
 }
 
-// Takes all turns of a pass in attempts, as long as there is memory.
+/// Takes all turns of a pass in attempts, as long as there is memory.
 fn attempt_all<R: Wait>(
     rt: &R,
     alloc: Global,
@@ -63,7 +63,7 @@ fn attempt_all<R: Wait>(
     }
 }
 
-// The same from a copy that has seen nothing. Hands the pass back.
+/// The same from a copy that has seen nothing. Hands the pass back.
 fn take_turns<R: Wait>(rt: &R, alloc: Global, shared: &SharedCell, mut pass: Pass) -> Pass
     requires { pass.of ≡ shared.now.of }
     ensures { result.of ≡ shared.now.of }
@@ -73,7 +73,7 @@ fn take_turns<R: Wait>(rt: &R, alloc: Global, shared: &SharedCell, mut pass: Pas
     pass
 }
 
-// The history that one caller leaves who takes all its turns, if there is memory.
+/// The history that one caller leaves who takes all its turns, if there is memory.
 fn commit_alone<R: Wait>(rt: &R, alloc: Global, turns: u32) -> Option<Entries> {
     let made = SharedCell::share(rt, alloc, Cell::new(alloc), 1, turns);
     let (shared, mut passes) = made.ok()?;
@@ -89,7 +89,7 @@ fn one_pass(rt: HostRuntime) {
     assert_eq!(rt; history.len(), 10);
 }
 
-// The first and the second of two.
+/// The first and the second of two.
 fn both<T: Drop>(mut items: Vec<T>) -> Option<(T, T)>
     ensures { IfSome result (λ pair. items.items ≡ pair.0 ∷ pair.1 ∷ []) }
 {
@@ -101,7 +101,7 @@ fn both<T: Drop>(mut items: Vec<T>) -> Option<(T, T)>
     Some((first, second))
 }
 
-// A cell that is shared by two callers with so many turns each, and their passes, if there is memory.
+/// A cell that is shared by two callers with so many turns each, and their passes, if there is memory.
 fn share_by_two<R: Wait>(
     rt: &R,
     alloc: Global,
@@ -118,8 +118,8 @@ fn share_by_two<R: Wait>(
     Some((shared, first, second))
 }
 
-// The history that two callers leave who each take all their turns on a thread of their own, if
-// there is memory.
+/// The history that two callers leave who each take all their turns on a thread of their own, if
+/// there is memory.
 fn commit_together<R: Threads + Wait + Sync>(rt: &R, alloc: Global, turns: u32) -> Option<Entries> {
     let (shared, first, second) = share_by_two(rt, alloc, Cell::new(alloc), turns)?;
     let (first, second) = join(
@@ -137,7 +137,7 @@ fn commit_together<R: Threads + Wait + Sync>(rt: &R, alloc: Global, turns: u32) 
     Some(shared.close(passes).into_history())
 }
 
-// How many commits of a scheduler a history has.
+/// How many commits of a scheduler a history has.
 fn commits_of(history: &[Entry], number: u32) -> usize {
     history
         .iter()
@@ -154,7 +154,7 @@ fn two_passes_on_threads(rt: HostRuntime) {
     }
 }
 
-// What each task needs that is claimed. Machine 1 has room for ten of them.
+/// What each task needs that is claimed. Machine 1 has room for ten of them.
 const SPEC: Spec = Spec {
     need: Need {
         cpu: 1,
@@ -165,7 +165,7 @@ const SPEC: Spec = Spec {
     differ: false,
 };
 
-// A cell with machine 1, which is up, as its only entry, if there is memory.
+/// A cell with machine 1, which is up, as its only entry, if there is memory.
 fn one_machine(alloc: Global) -> Option<Cell>
     ensures { IfSome result (λ cell. length cell.history ≡ 1) }
 {
@@ -181,21 +181,21 @@ fn one_machine(alloc: Global) -> Option<Cell>
     }
 }
 
-// What a scheduler does: it syncs, or commits a claim of a job's task on machine 1.
+/// What a scheduler does: it syncs, or commits a claim of a job's task on machine 1.
 #[derive(Clone, Copy)]
 enum Step {
     Sync,
     Claim(u64, Rule),
 }
 
-// What is answered: how many entries the copy has seen then, or the verdict.
+/// What is answered: how many entries the copy has seen then, or the verdict.
 #[derive(Clone, Copy, PartialEq, Eq)]
 enum Answer {
     Seen(u64),
     Told(Verdict),
 }
 
-// Syncs a copy, if there is memory.
+/// Syncs a copy, if there is memory.
 fn sync<R: Wait>(
     rt: &R,
     alloc: Global,
@@ -217,7 +217,7 @@ fn sync<R: Wait>(
     }
 }
 
-// A transaction with a claim of a job's task on machine 1.
+/// A transaction with a claim of a job's task on machine 1.
 fn claim_of(alloc: Global, job: u64, rule: Rule) -> Option<Txn>
     ensures { IfSome result (λ txn. length txn.claims < 2 ^ 32) }
 {
@@ -239,7 +239,7 @@ fn claim_of(alloc: Global, job: u64, rule: Rule) -> Option<Txn>
     })
 }
 
-// Commits a transaction, and answers the verdict on its first claim, if there is memory.
+/// Commits a transaction, and answers the verdict on its first claim, if there is memory.
 fn commit<R: Wait>(
     rt: &R,
     alloc: Global,
@@ -261,7 +261,7 @@ fn commit<R: Wait>(
     }
 }
 
-// Lets a scheduler do a step, if it has a turn left and there is memory.
+/// Lets a scheduler do a step, if it has a turn left and there is memory.
 fn take_step<R: Wait>(
     rt: &R,
     alloc: Global,
@@ -289,7 +289,7 @@ fn take_step<R: Wait>(
     }
 }
 
-// Two schedulers that share a cell, each with a pass and a private copy.
+/// Two schedulers that share a cell, each with a pass and a private copy.
 #[derive(Drop)]
 struct Pair {
     shared: SharedCell,
@@ -303,8 +303,8 @@ struct Pair {
 }
 
 impl Pair {
-    // Schedulers with so many turns each, whose copies have seen nothing, and a cell with machine 1,
-    // if there is memory. In a box, since a check costs by all parts of what a function lets go.
+    /// Schedulers with so many turns each, whose copies have seen nothing, and a cell with machine 1,
+    /// if there is memory. In a box, since a check costs by all parts of what a function lets go.
     fn new<R: Wait>(rt: &R, alloc: Global, turns: u32) -> Option<Box<Pair>> {
         let cell = one_machine(alloc)?;
         let (shared, first, second) = share_by_two(rt, alloc, cell, turns)?;
@@ -318,7 +318,7 @@ impl Pair {
         Box::new(alloc, pair).ok()
     }
 
-    // Lets the first or the second scheduler do a step, if it has a turn left and there is memory.
+    /// Lets the first or the second scheduler do a step, if it has a turn left and there is memory.
     fn step<R: Wait>(&mut self, rt: &R, alloc: Global, number: u32, step: Step) -> Option<Answer> {
         let shared = &self.shared;
         match number {
@@ -328,7 +328,7 @@ impl Pair {
     }
 }
 
-// Lets two schedulers go through a story, and sees that each step is answered so.
+/// Lets two schedulers go through a story, and sees that each step is answered so.
 fn expect_story<R: Wait + Abort>(
     rt: &R,
     alloc: Global,
@@ -340,9 +340,9 @@ fn expect_story<R: Wait + Abort>(
     }
 }
 
-// Two copies have seen the machine alone. One scheduler places two tasks there, so the machine has
-// changed twice for the other, whose claim is refused by the coarse rule and placed by the fine one.
-// Then each syncs, and sees what the other did.
+/// Two copies have seen the machine alone. One scheduler places two tasks there, so the machine has
+/// changed twice for the other, whose claim is refused by the coarse rule and placed by the fine one.
+/// Then each syncs, and sees what the other did.
 #[test]
 fn a_sync_sees_what_others_did(rt: HostRuntime) {
     let placed = Answer::Told(Verdict::Placed);
@@ -361,8 +361,8 @@ fn a_sync_sees_what_others_did(rt: HostRuntime) {
     expect_story(&rt, rt.alloc(), &mut pair, &story);
 }
 
-// Commits a transaction, and where memory runs out commits what is handed back once more. Answers
-// the verdict on its first claim, if there is memory by then.
+/// Commits a transaction, and where memory runs out commits what is handed back once more. Answers
+/// the verdict on its first claim, if there is memory by then.
 fn commit_at_last<R: Wait>(
     rt: &R,
     alloc: Global,
@@ -382,8 +382,8 @@ fn commit_at_last<R: Wait>(
     }
 }
 
-// Commits a claim from a copy that has synced, in at most two attempts. The outer answer is missing
-// where there is no memory for what comes before the commit.
+/// Commits a claim from a copy that has synced, in at most two attempts. The outer answer is missing
+/// where there is no memory for what comes before the commit.
 fn commit_in_two<R: Wait>(rt: &R, alloc: Global) -> Option<Option<Answer>> {
     let (shared, mut first, _second) = share_by_two(rt, alloc, one_machine(alloc)?, 3)?;
     let mut copy = PrivateCopy::new(alloc);
@@ -395,8 +395,8 @@ fn commit_in_two<R: Wait>(rt: &R, alloc: Global) -> Option<Option<Answer>> {
     Some(commit_at_last(rt, alloc, &shared, &mut first, &copy, txn))
 }
 
-// Where each allocation is refused in turn, from outside, a commit that is made again after want of
-// memory, of the transaction that was handed back, answers its reply.
+/// Where each allocation is refused in turn, from outside, a commit that is made again after want of
+/// memory, of the transaction that was handed back, answers its reply.
 #[test]
 fn a_commit_that_is_made_again(rt: HostRuntime) {
     let answer = commit_in_two(&rt, rt.alloc()).expect(&rt, "memory");

@@ -19,7 +19,7 @@ pub fn stands_in(tasks: &[Task], task: &Task) -> bool
     }
 }
 
-// The task of this key among tasks in order of key.
+/// The task of this key among tasks in order of key.
 fn task_in(tasks: &[Task], key: TaskKey) -> Option<&Task>
     requires { KeysRise tasks.now }
     ensures { option_map (λ task. task.now) result ≡ task_at tasks.now key }
@@ -37,7 +37,7 @@ fn task_in(tasks: &[Task], key: TaskKey) -> Option<&Task>
     Some(task)
 }
 
-// The tasks before the one in the middle, that one, and those behind it.
+/// The tasks before the one in the middle, that one, and those behind it.
 fn parted(tasks: &[Task]) -> (&[Task], &Task, &[Task])
     requires { 0 < length tasks.now }
     ensures { tasks.now ≡ result.0.now ++ result.1.now ∷ result.2.now }

@@ -65,8 +65,8 @@ impl Agenda {
     }
 }
 
-// Of one scheduler with its time, and another with a greater number and its time, the one that commits
-// first.
+/// Of one scheduler with its time, and another with a greater number and its time, the one that commits
+/// first.
 fn sooner(first: Option<(u32, u128)>, scheduler: u32, time: Option<u128>) -> Option<(u32, u128)>
     ensures { result ≡ sooner first scheduler time }
 {

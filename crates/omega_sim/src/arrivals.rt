@@ -53,7 +53,7 @@ impl Arrivals {
     }
 }
 
-// The greatest time of the first round's rows, and that of the last one's.
+/// The greatest time of the first round's rows, and that of the last one's.
 fn bases(rounds: &[Round]) -> Option<(u64, u64)>
     ensures { result ≡ bases rounds.now }
 {
@@ -76,7 +76,7 @@ pub fn greatest_time(rows: &[Row]) -> u64
     greatest
 }
 
-// Notes the jobs of some rows, each with its first time.
+/// Notes the jobs of some rows, each with its first time.
 fn note_rows(first_times: &mut FirstTimes, rows: &[Row]) -> Result<(), NoMemory>
     ensures arrive { OnOk result ((before : List Row) → Arrive before first_times.old → Arrive (before ++ rows.now) first_times.new) }
     ensures early { OnOk result (All (λ row. time_of row < 2 ^ 64) rows.now) }
@@ -87,7 +87,7 @@ fn note_rows(first_times: &mut FirstTimes, rows: &[Row]) -> Result<(), NoMemory>
     Ok(())
 }
 
-// Notes the job of a row, if it has one.
+/// Notes the job of a row, if it has one.
 fn note_row(first_times: &mut FirstTimes, row: &Row) -> Result<(), NoMemory>
     ensures arrive { OnOk result ((before : List Row) → Arrive before first_times.old → Arrive (before ++ row.now ∷ []) first_times.new) }
     ensures early { time_of row.now < 2 ^ 64 }
@@ -100,7 +100,7 @@ fn note_row(first_times: &mut FirstTimes, row: &Row) -> Result<(), NoMemory>
     Ok(())
 }
 
-// The job of a task row.
+/// The job of a task row.
 fn job_of(row: &Row) -> Option<u64>
     ensures { result ≡ job_of_row row.now }
 {

@@ -44,7 +44,7 @@ pub fn time_lines(
     Ok(Seq::of(text.into_bytes()))
 }
 
-// Appends the line of how long a scheduler decided.
+/// Appends the line of how long a scheduler decided.
 fn push_busy(text: &mut String, scheduler: u32, decided: u128, span: u128) -> Result<(), NoMemory>
     ensures { OnOk result (string_bytes text.new ≡ string_bytes text.old ++ text_of (busy_line scheduler decided span ∷ [])) }
 {
@@ -52,7 +52,7 @@ fn push_busy(text: &mut String, scheduler: u32, decided: u128, span: u128) -> Re
     Ok(())
 }
 
-// Appends the line of how long the jobs of a scheduler waited.
+/// Appends the line of how long the jobs of a scheduler waited.
 fn push_wait(text: &mut String, scheduler: u32, jobs: usize, waited: u128) -> Result<(), NoMemory>
     ensures { OnOk result (string_bytes text.new ≡ string_bytes text.old ++ text_of (wait_line scheduler jobs waited ∷ [])) }
 {

@@ -55,7 +55,7 @@ pub fn committed_jobs(
     each_once(alloc, &jobs)
 }
 
-// Appends a job, if there is one.
+/// Appends a job, if there is one.
 fn push_if(jobs: &mut Vec<u64>, job: Option<u64>) -> Result<(), NoMemory>
     ensures { OnOk result (jobs.new.items ≡ jobs.old.items ++ cons_option job []) }
 {
@@ -80,7 +80,7 @@ pub fn first_syncs(
     Ok(syncs)
 }
 
-// Notes when the scheduler of a commit synced for it, if it is the first one for its job.
+/// Notes when the scheduler of a commit synced for it, if it is the first one for its job.
 fn note_sync(syncs: &mut FirstTimes, history: &[Entry], timed: &Timed) -> Result<(), NoMemory>
     ensures { OnOk result ((before : List CommitTime) → AreFirstSyncs history.now before syncs.old → AreFirstSyncs history.now (before ++ timed.now ∷ []) syncs.new) }
 {
@@ -105,7 +105,7 @@ pub fn waited(jobs: &[u64], came: &FirstTimes, synced: &FirstTimes) -> u128
     total
 }
 
-// How long a job waited.
+/// How long a job waited.
 fn waited_by(job: u64, came: &FirstTimes, synced: &FirstTimes) -> u128
     requires { AreEarly synced.now }
     ensures time { result ≡ waited_between came.now synced.now job }
@@ -115,7 +115,7 @@ fn waited_by(job: u64, came: &FirstTimes, synced: &FirstTimes) -> u128
     until.saturating_sub(came.of(job).unwrap_or(0))
 }
 
-// The job of a commit.
+/// The job of a commit.
 fn job_at(history: &[Entry], timed: &Timed) -> Option<u64>
     ensures { result ≡ job_at history.now timed.now }
 {

@@ -9,12 +9,12 @@ use sqlite::{Connection, Error, ErrorCode, File, FileStore};
 use std::io::ErrorKind;
 use std::{fs, io};
 
-// A connection to a file and its log.
+/// A connection to a file and its log.
 type FileConnection = Connection<FileStore<File>>;
 
 const CANNOT_OPEN: Error = Error::SqliteFailure(ErrorCode::CannotOpen);
 
-// Whether nothing stands at a path.
+/// Whether nothing stands at a path.
 fn is_missing(rt: &HostRuntime, path: &str) -> bool {
     match fs::metadata(rt, path) {
         Ok(_) => false,
@@ -22,7 +22,7 @@ fn is_missing(rt: &HostRuntime, path: &str) -> bool {
     }
 }
 
-// The connection to the file at a path, made where there is none yet.
+/// The connection to the file at a path, made where there is none yet.
 fn opened<'c>(
     rt: &HostRuntime,
     path: &str,
@@ -37,7 +37,7 @@ fn opened<'c>(
     }
 }
 
-// The lines of the file at a path. A file that isn't there has none, and isn't made.
+/// The lines of the file at a path. A file that isn't there has none, and isn't made.
 fn load_at(
     rt: &HostRuntime,
     path: &Option<Text>,
@@ -52,7 +52,7 @@ fn load_at(
     load_from(rt.alloc(), opened(rt, path.as_str(), connection)?)
 }
 
-// Puts lines at the end of the file at a path, which is made where it isn't there.
+/// Puts lines at the end of the file at a path, which is made where it isn't there.
 fn append_at(
     rt: &HostRuntime,
     path: &Option<Text>,
@@ -65,10 +65,10 @@ fn append_at(
     append_to(opened(rt, path.as_str(), connection)?, lines)
 }
 
-// Below this length a log has no page, so that nothing is lost with it.
+/// Below this length a log has no page, so that nothing is lost with it.
 const SHORT_LOG: u64 = 512;
 
-// Removes the log of the file at a path where it has nothing.
+/// Removes the log of the file at a path where it has nothing.
 fn remove_log(rt: &HostRuntime, path: &str) -> io::Result<()> {
     let real = fs::canonicalize(rt, path)?;
     let log = format!(in rt.alloc(); "{}-wal", real.as_str())?;
@@ -78,8 +78,8 @@ fn remove_log(rt: &HostRuntime, path: &str) -> io::Result<()> {
     Ok(())
 }
 
-// Copies the log into the file and removes it, while nobody else can have the file. A log that can't be
-// removed stays.
+/// Copies the log into the file and removes it, while nobody else can have the file. A log that can't be
+/// removed stays.
 fn close_at(rt: &HostRuntime, path: &str, connection: FileConnection) -> Result<(), Error> {
     match connection.close_files() {
         Ok(files) => {

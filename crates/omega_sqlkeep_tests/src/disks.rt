@@ -8,17 +8,17 @@ use sqlite_disk::{Crash, Fuse, Memory};
 use std::alloc::Global;
 use std::test::Fail;
 
-// A disk that can stop.
+/// A disk that can stop.
 pub type Disk = Fuse<Memory>;
 
-// Whichever file is stopped.
+/// Whichever file is stopped.
 #[derive(Clone, Copy)]
 pub enum Stopped {
     Log,
     Database,
 }
 
-// The two files of a new database, one of which passes so many calls.
+/// The two files of a new database, one of which passes so many calls.
 pub fn files_of(alloc: Global, stopped: Stopped, calls: u64) -> Files<Disk> {
     let (log, db) = match stopped {
         Stopped::Log => (calls, u64::MAX),
@@ -30,7 +30,7 @@ pub fn files_of(alloc: Global, stopped: Stopped, calls: u64) -> Files<Disk> {
     }
 }
 
-// The files once the machine is up again: what was never synced is lost.
+/// The files once the machine is up again: what was never synced is lost.
 pub fn up_again(files: Files<Disk>) -> Files<Disk> {
     let Files { mut log, mut db } = files;
     log.crash();
@@ -38,7 +38,7 @@ pub fn up_again(files: Files<Disk>) -> Files<Disk> {
     Files { log, db }
 }
 
-// A keeper over two files, or the files where one of them can't be used or the database can't be opened.
+/// A keeper over two files, or the files where one of them can't be used or the database can't be opened.
 pub fn keeper_over(
     alloc: Global,
     files: Files<Disk>,
@@ -52,7 +52,7 @@ pub fn keeper_over(
     }
 }
 
-// Loads and then appends twice; answers how many of the appends were done.
+/// Loads and then appends twice; answers how many of the appends were done.
 fn appends(keeper: &mut SqlKeeper<FileStore<Disk>>, first: &Lines, more: &Lines) -> usize {
     if keeper.load().is_err() || keeper.append(first).is_err() {
         return 0;
@@ -60,7 +60,7 @@ fn appends(keeper: &mut SqlKeeper<FileStore<Disk>>, first: &Lines, more: &Lines)
     if keeper.append(more).is_err() { 1 } else { 2 }
 }
 
-// Runs over files one of which stops, and answers how many appends were done, and the files.
+/// Runs over files one of which stops, and answers how many appends were done, and the files.
 fn stopped_run(
     alloc: Global,
     files: Files<Disk>,
@@ -76,7 +76,7 @@ fn stopped_run(
     }
 }
 
-// How many of the appends a keeper has whole: none if it has other lines.
+/// How many of the appends a keeper has whole: none if it has other lines.
 fn appends_kept<P: Keeper>(keeper: &mut P, wholes: &[Lines; 3]) -> Option<usize> {
     let found = match keeper.load() {
         Ok(found) => found,
@@ -85,8 +85,8 @@ fn appends_kept<P: Keeper>(keeper: &mut P, wholes: &[Lines; 3]) -> Option<usize>
     wholes.iter().position(|whole| are_same(whole, &found))
 }
 
-// Whether a stop of one file after so many calls leaves the lines of whole appends, no fewer than were
-// answered as done; and whether the run ended without a stop.
+/// Whether a stop of one file after so many calls leaves the lines of whole appends, no fewer than were
+/// answered as done; and whether the run ended without a stop.
 fn stop_at(
     alloc: Global,
     stopped: Stopped,
@@ -103,8 +103,8 @@ fn stop_at(
     Ok((kept.is_some_and(|kept| kept >= done), done == 2))
 }
 
-// Stops one file after every number of calls until a run ends without a stop. Answers how many calls
-// that run made at most, and nothing where a stop left anything but whole appends.
+/// Stops one file after every number of calls until a run ends without a stop. Answers how many calls
+/// that run made at most, and nothing where a stop left anything but whole appends.
 fn stop_everywhere(alloc: Global, stopped: Stopped) -> Result<Option<u64>, Fail> {
     let wholes = [
         lines_of(alloc, &[])?,

@@ -6,14 +6,14 @@ use omega_sqlkeep::FileKeeper;
 use std::fs;
 use std::test::Fail;
 
-// An empty folder of this name.
+/// An empty folder of this name.
 fn new_folder(rt: &HostRuntime, name: &str) -> Result<(), Fail> {
     let _ = fs::remove_dir_all(rt, name);
     fs::create_dir(rt, name)?;
     Ok(())
 }
 
-// A keeper that has entered a path.
+/// A keeper that has entered a path.
 fn keeper_at<'a>(rt: &'a HostRuntime, path: &str) -> Result<FileKeeper<'a>, Fail> {
     let mut keeper = FileKeeper::new(rt);
     keeper.enter(path)?;

@@ -5,12 +5,12 @@ use omega_model::{NoMemory, Seq};
 use std::alloc::Global;
 use std::process::Abort;
 
-// Three lines, as two rounds might leave them.
+/// Three lines, as two rounds might leave them.
 pub const FIRST: [&str; 3] = ["add 1 5 5 5", "commit 1 2 10 fine incremental", "round 0"];
 
 pub const MORE: [&str; 2] = ["round 1", "remove 1"];
 
-// The first and then the others.
+/// The first and then the others.
 pub const ALL: [&str; 5] = [
     "add 1 5 5 5",
     "commit 1 2 10 fine incremental",
@@ -19,7 +19,7 @@ pub const ALL: [&str; 5] = [
     "remove 1",
 ];
 
-// Lines of these texts.
+/// Lines of these texts.
 pub fn lines_of(alloc: Global, texts: &[&str]) -> Result<Lines, NoMemory> {
     let mut lines = Lines::new(alloc);
     for text in texts {
@@ -28,7 +28,7 @@ pub fn lines_of(alloc: Global, texts: &[&str]) -> Result<Lines, NoMemory> {
     Ok(lines)
 }
 
-// Whether two lists have the same lines.
+/// Whether two lists have the same lines.
 pub fn are_same(lines: &Lines, others: &Lines) -> bool {
     lines.len() == others.len()
         && lines
@@ -38,7 +38,7 @@ pub fn are_same(lines: &Lines, others: &Lines) -> bool {
             .all(|(line, other)| line.as_slice() == other.as_slice())
 }
 
-// Sees that a keeper has these lines.
+/// Sees that a keeper has these lines.
 pub fn expect_lines<P: Keeper>(
     rt: &impl Abort,
     alloc: Global,
@@ -54,7 +54,7 @@ pub fn expect_lines<P: Keeper>(
     Ok(())
 }
 
-// Sees that a keeper takes lines of these texts.
+/// Sees that a keeper takes lines of these texts.
 pub fn expect_append<P: Keeper>(
     rt: &impl Abort,
     alloc: Global,
@@ -66,7 +66,7 @@ pub fn expect_append<P: Keeper>(
     Ok(())
 }
 
-// Sees that a keeper fails to load.
+/// Sees that a keeper fails to load.
 pub fn expect_no_load<P: Keeper>(rt: &impl Abort, keeper: &mut P) {
     let before = keeper.faults();
     let failed = matches!(keeper.load(), Err(KeepRefusal::Failed));
@@ -74,7 +74,7 @@ pub fn expect_no_load<P: Keeper>(rt: &impl Abort, keeper: &mut P) {
     assert!(rt; before.checked_add(1) == Some(keeper.faults()));
 }
 
-// Sees that a keeper fails to append.
+/// Sees that a keeper fails to append.
 pub fn expect_no_append<P: Keeper>(
     rt: &impl Abort,
     alloc: Global,

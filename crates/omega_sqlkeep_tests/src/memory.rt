@@ -9,7 +9,7 @@ use sqlite::{Connection, MemStore};
 use std::alloc::Global;
 use std::test::Fail;
 
-// A keeper over a database that these statements have made.
+/// A keeper over a database that these statements have made.
 fn keeper_over(alloc: Global, statements: &str) -> Result<SqlKeeper<MemStore>, Fail> {
     let mut connection = Connection::open_in_memory(alloc)?;
     connection.execute_batch(statements)?;

@@ -16,7 +16,7 @@ use std::sync::Wait;
 use std::test::Fail;
 use std::thread::Threads;
 
-// A machine that becomes smaller in the second round, and three tasks of one job.
+/// A machine that becomes smaller in the second round, and three tasks of one job.
 const MACHINES: &str = "0,1,0,p,1,1\n300000000,1,2,p,0.5,0.5\n";
 
 const TASKS: &str = "0,,10,0,,0,u,0,2,0.3,0.3,,0
@@ -24,7 +24,7 @@ const TASKS: &str = "0,,10,0,,0,u,0,2,0.3,0.3,,0
 0,,10,2,,0,u,0,1,0.3,0.3,,0
 ";
 
-// What is kept of the run.
+/// What is kept of the run.
 const KEPT: [&str; 6] = [
     "round 0",
     "add 1 1000000000 1000000000 1000000000000",
@@ -34,19 +34,19 @@ const KEPT: [&str; 6] = [
     "commit 1 5 10 fine incremental",
 ];
 
-// How a run ended, and what it wrote.
+/// How a run ended, and what it wrote.
 #[derive(Drop)]
 struct Ran {
     status: Status,
     written: Bytes,
 }
 
-// Bytes of a text.
+/// Bytes of a text.
 fn bytes(alloc: Global, text: &str) -> Result<Bytes, NoMemory> {
     Ok(Seq::of(Vec::from_slice(alloc, text.as_bytes())?))
 }
 
-// The tables of the run.
+/// The tables of the run.
 fn tables_of(alloc: Global) -> Result<MemoryTables, NoMemory> {
     let tables = [
         bytes(alloc, MACHINES)?,
@@ -59,7 +59,7 @@ fn tables_of(alloc: Global) -> Result<MemoryTables, NoMemory> {
     Ok(MemoryTables::new(alloc, tables))
 }
 
-// A run with these words over these tables.
+/// A run with these words over these tables.
 fn run_over<R: Threads + Wait + Sync, T: Tables, P: Keeper>(
     rt: &R,
     alloc: Global,
@@ -77,7 +77,7 @@ fn run_over<R: Threads + Wait + Sync, T: Tables, P: Keeper>(
     })
 }
 
-// A run of this command over the tables above.
+/// A run of this command over the tables above.
 fn run<R: Threads + Wait + Sync, P: Keeper>(
     rt: &R,
     alloc: Global,
@@ -90,7 +90,7 @@ fn run<R: Threads + Wait + Sync, P: Keeper>(
     run_over(rt, alloc, &[command], &mut tables, keeper)
 }
 
-// What a replay writes.
+/// What a replay writes.
 fn replayed<R: Threads + Wait + Sync>(rt: &R, alloc: Global) -> Result<Bytes, NoMemory>
     requires { IsSync R.row }
 {
@@ -98,7 +98,7 @@ fn replayed<R: Threads + Wait + Sync>(rt: &R, alloc: Global) -> Result<Bytes, No
     Ok(run(rt, alloc, "replay", &mut keeper)?.written)
 }
 
-// Whether a run was done and wrote this report.
+/// Whether a run was done and wrote this report.
 fn is_done(ran: &Ran, report: &Bytes) -> bool {
     ran.status == Status::Done && ran.written.as_slice() == report.as_slice()
 }
@@ -117,7 +117,7 @@ fn a_run_is_kept_and_gone_on_with(rt: HostRuntime) -> Result<(), Fail> {
     Ok(())
 }
 
-// Whether lines are none, those of the first round, or all.
+/// Whether lines are none, those of the first round, or all.
 fn are_whole_rounds(alloc: Global, lines: &Lines) -> Result<bool, NoMemory> {
     let first = [KEPT[0], KEPT[1], KEPT[2]];
     Ok(
@@ -127,7 +127,7 @@ fn are_whole_rounds(alloc: Global, lines: &Lines) -> Result<bool, NoMemory> {
     )
 }
 
-// Keeps a run over two files one of which may stop. Answers whether it was done, and the files.
+/// Keeps a run over two files one of which may stop. Answers whether it was done, and the files.
 fn kept_run<R: Threads + Wait + Sync>(
     rt: &R,
     alloc: Global,
@@ -147,7 +147,7 @@ fn kept_run<R: Threads + Wait + Sync>(
     ))
 }
 
-// Whether what a stop has left is the lines of whole rounds, and a run goes on from them to the report.
+/// Whether what a stop has left is the lines of whole rounds, and a run goes on from them to the report.
 fn goes_on<R: Threads + Wait + Sync>(
     rt: &R,
     alloc: Global,
@@ -166,8 +166,8 @@ fn goes_on<R: Threads + Wait + Sync>(
     Ok(are_whole_rounds(alloc, &lines)? && is_done(&ran, report))
 }
 
-// Stops one file after every number of calls until a run ends without a stop. Answers how many calls that
-// took, and nothing where a run didn't go on.
+/// Stops one file after every number of calls until a run ends without a stop. Answers how many calls that
+/// took, and nothing where a run didn't go on.
 fn stop_everywhere<R: Threads + Wait + Sync>(
     rt: &R,
     alloc: Global,
@@ -227,7 +227,7 @@ fn a_line_that_was_changed(rt: HostRuntime) -> Result<(), Fail> {
     Ok(())
 }
 
-// A run of these words over the tables that stand in their folder, kept in a file.
+/// A run of these words over the tables that stand in their folder, kept in a file.
 fn run_in_folder<R: Threads + Wait + Sync>(
     rt: &R,
     host: &HostRuntime,

@@ -19,13 +19,13 @@ use std::alloc::Global;
 /// of fields.
 pub type BadColumn = (u32, Cause);
 
-// The greatest time.
+/// The greatest time.
 const LAST_TIME: u64 = 9_223_372_036_854_775_807;
 
-// The greatest index of a task.
+/// The greatest index of a task.
 const LAST_INDEX: u64 = 2_147_483_647;
 
-// The field in a column, counted from 1, and nothing where there is none.
+/// The field in a column, counted from 1, and nothing where there is none.
 fn column(fields: &ByteRecord, number: u32) -> &[u8]
     requires { 0 < number }
     ensures { result.now ≡ column (fields_of fields.now) number }
@@ -33,7 +33,7 @@ fn column(fields: &ByteRecord, number: u32) -> &[u8]
     fields.get(number as usize - 1).unwrap_or(&[])
 }
 
-// The whole number of a text, up to the greatest.
+/// The whole number of a text, up to the greatest.
 fn bounded(greatest: u64, text: &[u8]) -> Result<u64, Cause>
     ensures value { result ≡ bounded greatest text.now }
     ensures most { IfOk result (λ number. number ≤ greatest) }
@@ -47,7 +47,7 @@ fn bounded(greatest: u64, text: &[u8]) -> Result<u64, Cause>
     Ok(number)
 }
 
-// The whole number in a column, up to the greatest.
+/// The whole number in a column, up to the greatest.
 fn number_in(greatest: u64, number: u32, fields: &ByteRecord) -> Result<u64, BadColumn>
     requires { 0 < number }
     ensures value { result ≡ number_in greatest number (fields_of fields.now) }
@@ -59,7 +59,7 @@ fn number_in(greatest: u64, number: u32, fields: &ByteRecord) -> Result<u64, Bad
     }
 }
 
-// The whole number in a column that may be blank, which is 0.
+/// The whole number in a column that may be empty, which stands for 0.
 fn number_or_blank_in(greatest: u64, number: u32, fields: &ByteRecord) -> Result<u64, BadColumn>
     requires { 0 < number }
     ensures value { result ≡ number_or_blank_in greatest number (fields_of fields.now) }
@@ -71,7 +71,7 @@ fn number_or_blank_in(greatest: u64, number: u32, fields: &ByteRecord) -> Result
     number_in(greatest, number, fields)
 }
 
-// The time in a column.
+/// The time in a column.
 fn time_in(number: u32, fields: &ByteRecord) -> Result<u64, BadColumn>
     requires { 0 < number }
     ensures value { result ≡ time_in number (fields_of fields.now) }
@@ -80,7 +80,7 @@ fn time_in(number: u32, fields: &ByteRecord) -> Result<u64, BadColumn>
     number_in(LAST_TIME, number, fields)
 }
 
-// The number of a machine or of a job.
+/// The number of a machine or of a job.
 fn id_in(number: u32, fields: &ByteRecord) -> Result<u64, BadColumn>
     requires { 0 < number }
     ensures { result ≡ id_in number (fields_of fields.now) }
@@ -88,7 +88,7 @@ fn id_in(number: u32, fields: &ByteRecord) -> Result<u64, BadColumn>
     number_in(u64::MAX, number, fields)
 }
 
-// The units of a capacity in a column, rounded down.
+/// The units of a capacity in a column, rounded down.
 fn amount_down_in(number: u32, fields: &ByteRecord) -> Result<u64, BadColumn>
     requires { 0 < number }
     ensures value { result ≡ amount_down_in number (fields_of fields.now) }
@@ -100,7 +100,7 @@ fn amount_down_in(number: u32, fields: &ByteRecord) -> Result<u64, BadColumn>
     }
 }
 
-// The units of a request in a column, rounded up.
+/// The units of a request in a column, rounded up.
 fn amount_up_in(number: u32, fields: &ByteRecord) -> Result<u64, BadColumn>
     requires { 0 < number }
     ensures value { result ≡ amount_up_in number (fields_of fields.now) }
@@ -112,7 +112,7 @@ fn amount_up_in(number: u32, fields: &ByteRecord) -> Result<u64, BadColumn>
     }
 }
 
-// The CPU and memory of a machine, in a column and the next. Its table says nothing of disk.
+/// The CPU and memory of a machine, in a column and the next. Its table says nothing of disk.
 fn capacity_in(number: u32, fields: &ByteRecord) -> Result<Need, BadColumn>
     requires first { 0 < number }
     requires last { number < 100 }
@@ -127,7 +127,7 @@ fn capacity_in(number: u32, fields: &ByteRecord) -> Result<Need, BadColumn>
     })
 }
 
-// The CPU, memory and disk that a task asks for, in a column and the next two.
+/// The CPU, memory and disk that a task asks for, in a column and the next two.
 fn request_in(number: u32, fields: &ByteRecord) -> Result<Need, BadColumn>
     requires first { 0 < number }
     requires last { number < 100 }
@@ -141,7 +141,7 @@ fn request_in(number: u32, fields: &ByteRecord) -> Result<Need, BadColumn>
     })
 }
 
-// The name of a task, in a column and the next.
+/// The name of a task, in a column and the next.
 fn key_in(number: u32, fields: &ByteRecord) -> Result<TaskKey, BadColumn>
     requires first { 0 < number }
     requires last { number < 100 }
@@ -154,7 +154,7 @@ fn key_in(number: u32, fields: &ByteRecord) -> Result<TaskKey, BadColumn>
     })
 }
 
-// The specification of a task.
+/// The specification of a task.
 fn spec_of(fields: &ByteRecord) -> Result<Spec, BadColumn>
     ensures value { result ≡ spec_of (fields_of fields.now) }
     ensures most { IfOk result (λ spec. Fits spec.need most_units) }
@@ -165,7 +165,7 @@ fn spec_of(fields: &ByteRecord) -> Result<Spec, BadColumn>
     Ok(Spec { need, prec, differ })
 }
 
-// Refuses a record of another number of fields.
+/// Refuses a record of another number of fields.
 fn has_fields(number: usize, fields: &ByteRecord) -> Result<(), BadColumn>
     ensures { result ≡ has_fields number (fields_of fields.now) }
 {
@@ -224,7 +224,7 @@ pub fn disk_row(fields: &ByteRecord) -> Result<DiskRow, BadColumn>
     })
 }
 
-// A copy of the field in a column.
+/// A copy of the field in a column.
 fn bytes_in(alloc: Global, number: u32, fields: &ByteRecord) -> Result<Bytes, NoMemory>
     requires { 0 < number }
     ensures { IfOk result (λ bytes. bytes ≡ column (fields_of fields.now) number) }
@@ -232,7 +232,7 @@ fn bytes_in(alloc: Global, number: u32, fields: &ByteRecord) -> Result<Bytes, No
     Ok(Seq::of(Vec::from_slice(alloc, column(fields, number))?))
 }
 
-// The time, the machine and whether the attribute is deleted.
+/// The time, the machine and whether the attribute is deleted.
 fn attr_numbers(fields: &ByteRecord) -> Result<(u64, u64, bool), BadColumn>
     ensures value { result ≡ attr_numbers (fields_of fields.now) }
     ensures time { IfOk result (λ (time, machine, deleted). time < 2 ^ 63) }
@@ -263,7 +263,7 @@ pub fn attr_row(alloc: Global, fields: &ByteRecord) -> Result<Result<AttrRow, Ba
     }))
 }
 
-// The operator with a number.
+/// The operator with a number.
 fn operator(number: u64) -> Op
     ensures { result ≡ operator number }
 {
@@ -275,7 +275,7 @@ fn operator(number: u64) -> Op
     }
 }
 
-// The task and the operator of a constraint.
+/// The task and the operator of a constraint.
 fn constraint_numbers(fields: &ByteRecord) -> Result<(TaskKey, Op), BadColumn>
     ensures value { result ≡ constraint_numbers (fields_of fields.now) }
     ensures index { IfOk result (λ (key, op). key.index < 2 ^ 31) }

@@ -10,7 +10,7 @@ use omega_model::{AttrRow, Kind, MOST_MACHINES, MOST_ROWS, MachineRow, NoMemory,
 use std::alloc::Global;
 use std::collections::BTreeSet;
 
-// How many rows the six tables have.
+/// How many rows the six tables have.
 fn row_count(tables: &TraceTables) -> usize
     ensures { result ≡ row_count tables.now }
 {
@@ -22,7 +22,7 @@ fn row_count(tables: &TraceTables) -> usize
         + tables.disks.as_slice().len()
 }
 
-// Adds the machines of some rows to those that were named before.
+/// Adds the machines of some rows to those that were named before.
 fn add_machines(rows: &[MachineRow], named: &mut BTreeSet<u64>) -> Result<(), NoMemory>
     ensures { (before : List ℕ) → Holds named.old before → OnOk result (Holds named.new (before ++ map (λ row. row.machine) rows.now)) }
 {
@@ -32,7 +32,7 @@ fn add_machines(rows: &[MachineRow], named: &mut BTreeSet<u64>) -> Result<(), No
     Ok(())
 }
 
-// Adds the machines of some rows of attributes to those that were named before.
+/// Adds the machines of some rows of attributes to those that were named before.
 fn add_attr_machines(rows: &[AttrRow], named: &mut BTreeSet<u64>) -> Result<(), NoMemory>
     ensures { (before : List ℕ) → Holds named.old before → OnOk result (Holds named.new (before ++ map (λ row. row.machine) rows.now)) }
 {
@@ -42,7 +42,7 @@ fn add_attr_machines(rows: &[AttrRow], named: &mut BTreeSet<u64>) -> Result<(), 
     Ok(())
 }
 
-// How many different machines the rows of machines and of attributes name.
+/// How many different machines the rows of machines and of attributes name.
 fn machine_count(alloc: Global, tables: &TraceTables) -> Result<usize, NoMemory>
     ensures { IfOk result (λ number. number ≡ machine_count tables.now) }
 {

@@ -18,7 +18,7 @@ use omega_model::{
 use std::alloc::Global;
 use std::mem;
 
-// A typed row, read from the fields of a record.
+/// A typed row, read from the fields of a record.
 trait FromRecord: Sized {
     ghost use Rattle.std.specs.Prelude.{◌≡◌, ℕ, List, Result, IfOk};
     ghost use Rattle.csv.specs.Records.{fields_of};
@@ -26,7 +26,7 @@ trait FromRecord: Sized {
 
     ghost row_of: { List (List ℕ) → Result Self BadColumn };
 
-    // The row, or the first bad column of the record.
+    /// The row, or the first bad column of the record.
     fn from_record(alloc: Global, fields: &ByteRecord) -> Result<Result<Self, BadColumn>, NoMemory>
         ensures { IfOk result (λ row. row ≡ row_of (fields_of fields.now)) };
 }
@@ -109,7 +109,7 @@ impl FromRecord for DiskRow {
     }
 }
 
-// The rows of a table's text, or the first bad record. Holds one record at a time.
+/// The rows of a table's text, or the first bad record. Holds one record at a time.
 fn read_rows<R: FromRecord + Drop>(
     alloc: Global,
     table: Table,
@@ -144,7 +144,7 @@ fn read_rows<R: FromRecord + Drop>(
     Err(ReadRefusal::NoMemory)
 }
 
-// Appends the rows of a table's text to a list. An empty list takes them over without a copy.
+/// Appends the rows of a table's text to a list. An empty list takes them over without a copy.
 fn append_rows<R: FromRecord + Drop>(
     alloc: Global,
     table: Table,

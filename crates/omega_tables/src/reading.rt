@@ -14,7 +14,7 @@ use omega_io::Tables;
 use omega_model::{Bytes, LONGEST_TABLE, Seq, Table, TraceTables};
 use std::alloc::Global;
 
-// The order in which the tables are read.
+/// The order in which the tables are read.
 const IN_ORDER: [Table; 6] = [
     Table::MachineEvents,
     Table::MachineAttributes,
@@ -55,7 +55,7 @@ pub fn read_bytes<T: Tables>(
     Err(ReadRefusal::TooLong(table))
 }
 
-// Reads one table to its end and appends its rows.
+/// Reads one table to its end and appends its rows.
 fn read_table<T: Tables>(
     alloc: Global,
     tables: &mut T,

@@ -8,19 +8,19 @@ use omega_model::{Bytes, NoMemory, Seq, Status, Table, TraceTables};
 use std::alloc::{AllocError, Global};
 use std::test::Fail;
 
-// One machine of the example, and one task.
+/// One machine of the example, and one task.
 const MACHINES: &[u8] = b"0,1,0,p,0.5,0.25\n";
 
 const TASKS: &[u8] = b"0,,10,0,,0,u,1,9,0.25,0.125,0.001,0\n";
 
-// What is read of the example.
+/// What is read of the example.
 const EXAMPLE: &str = "[MachineRow { time: 0, machine: 1, code: 0, \
 cap: Need { cpu: 500000000, mem: 250000000, disk: 0 } }] \
 [TaskRow { time: 0, key: TaskKey { job: 10, index: 0 }, code: 0, class: 1, \
 spec: Spec { need: Need { cpu: 250000000, mem: 125000000, disk: 1000000 }, \
 prec: 9, differ: false } }] 0";
 
-// Six tables, of which the others are empty.
+/// Six tables, of which the others are empty.
 fn six(alloc: Global, machines: &[u8], tasks: &[u8]) -> Result<[Bytes; 6], AllocError> {
     Ok([
         Seq::of(Vec::from_slice(alloc, machines)?),
@@ -32,7 +32,7 @@ fn six(alloc: Global, machines: &[u8], tasks: &[u8]) -> Result<[Bytes; 6], Alloc
     ])
 }
 
-// The rows of machines and of tasks and the number of the others, or the refusal.
+/// The rows of machines and of tasks and the number of the others, or the refusal.
 fn printed(alloc: Global, answer: Result<TraceTables, ReadRefusal>) -> Result<String, AllocError> {
     match answer {
         Ok(trace) => {
@@ -45,7 +45,7 @@ fn printed(alloc: Global, answer: Result<TraceTables, ReadRefusal>) -> Result<St
     }
 }
 
-// What is read of the example in pieces of at most so many bytes.
+/// What is read of the example in pieces of at most so many bytes.
 fn read_cut(alloc: Global, largest: usize) -> Result<String, AllocError>
     requires { 0 < largest }
 {
@@ -62,8 +62,8 @@ fn reads_that_are_cut(rt: HostRuntime) -> Result<(), Fail> {
     Ok(())
 }
 
-// The table whose read fails where the call of this number fails, of the 59 calls that read the
-// example in single bytes.
+/// The table whose read fails where the call of this number fails, of the 59 calls that read the
+/// example in single bytes.
 fn failing_table(call: u64) -> Option<Table> {
     match call {
         0..=17 => Some(Table::MachineEvents),
@@ -76,7 +76,7 @@ fn failing_table(call: u64) -> Option<Table> {
     }
 }
 
-// The refusal of the example where this call fails, and the faults of a table.
+/// The refusal of the example where this call fails, and the faults of a table.
 fn read_failing(
     alloc: Global,
     call: u64,

@@ -58,7 +58,7 @@ pub fn load<P: Keeper>(keeper: &mut P) -> Result<Lines, Status>
     }
 }
 
-// The cell whose history is the entries of these lines.
+/// The cell whose history is the entries of these lines.
 fn replay_lines(alloc: Global, lines: &Lines) -> Result<Cell, Status>
     ensures audited { IfOk result (λ cell. IsAudited lines.now cell.history) }
     ensures stops { IfErr result (AuditStops lines.now) }

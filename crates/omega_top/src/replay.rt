@@ -30,8 +30,8 @@ use std::alloc::Global;
 use std::sync::Wait;
 use std::thread::Threads;
 
-/// The history of a whole run, what its entries did, what waits at its end, and on `simulate` how long all
-/// took.
+/// The history of a whole run, what its entries did, what waits at its end, and on `simulate` the lines of
+/// time.
 #[derive(Drop)]
 pub struct WholeRun {
     /// The history.
@@ -47,7 +47,7 @@ pub struct WholeRun {
 
 /// The history of a trace under these settings, what its entries did, and what waits at its end: on
 /// `run` with each scheduler on a thread of its own, which passes the gate; on `simulate` by a virtual
-/// clock, and with how long all took; else with the schedulers taking turns. On `run` it may wait.
+/// clock, and with the lines of time; else with the schedulers taking turns. On `run` it may wait.
 pub fn replayed<R: Threads + Wait + Sync, G: Gate + Sync>(
     rt: &R,
     alloc: Global,
@@ -92,7 +92,7 @@ pub fn whole_run(world: World, time: Option<Bytes>) -> Result<WholeRun, NoMemory
     })
 }
 
-// Runs all rounds of a new world as a command has it. Of a simulated run it answers the times of its commits.
+/// Runs all rounds of a new world as a command has it. Of a simulated run it answers the times of its commits.
 fn run_to_end<R: Threads + Wait + Sync, G: Gate + Sync>(
     rt: &R,
     command: Command,
@@ -126,8 +126,8 @@ fn run_to_end<R: Threads + Wait + Sync, G: Gate + Sync>(
     }
 }
 
-// The lines that say how long the schedulers of a run decided and how long its jobs waited, if its commits
-// have these times.
+/// The lines that say how long the schedulers of a run decided and how long its jobs waited, if its commits
+/// have these times.
 fn lines_of_time(
     alloc: Global,
     settings: &Settings,
@@ -150,7 +150,7 @@ fn lines_of_time(
     }
 }
 
-// The lines that say how long the schedulers of a simulated run decided and how long its jobs waited.
+/// The lines that say how long the schedulers of a simulated run decided and how long its jobs waited.
 fn lines_of_simulated(
     alloc: Global,
     settings: &Settings,
@@ -169,7 +169,7 @@ fn lines_of_simulated(
     time_lines(alloc, settings, &arrivals, world.history(), times)
 }
 
-// No job has more activities than a row can say: the type of a row keeps it.
+/// No job has more activities than a row can say: the type of a row keeps it.
 fn activities_are_few(rows: &[ActivityRow])
     ensures { All (λ row. row.activities ≤ most_activities) rows.now }
 {

@@ -34,7 +34,7 @@ pub fn report_of_run(alloc: Global, settings: &Settings, run: &WholeRun) -> Resu
     }
 }
 
-// The report of a simulated run with these lines of time.
+/// The report of a simulated run with these lines of time.
 fn timed_report(
     alloc: Global,
     settings: &Settings,
@@ -55,7 +55,7 @@ fn timed_report(
     }
 }
 
-// The lines of a run's report as text, and then these lines.
+/// The lines of a run's report as text, and then these lines.
 fn with_lines(
     alloc: Global,
     settings: &Settings,

@@ -67,7 +67,7 @@ pub fn run_of<R: Threads + Wait + Sync, G: Gate + Sync, P: Keeper>(
     }
 }
 
-// The run of a trace with the schedulers taking turns, which goes on from what a keeper has.
+/// The run of a trace with the schedulers taking turns, which goes on from what a keeper has.
 fn resumed<P: Keeper>(
     alloc: Global,
     settings: &Settings,

@@ -110,7 +110,7 @@ pub fn fault_line(status: &Status) -> Line
     }
 }
 
-// An empty line, and then the place of a row.
+/// An empty line, and then the place of a row.
 fn with_row(line: Line, table: Table, row: u64) -> Line
     requires { length line ≡ 0 }
     ensures line { result ≡ line ++ codes "omega: " ++ table_name table ++ codes " row " ++ decimal row }
@@ -122,7 +122,7 @@ fn with_row(line: Line, table: Table, row: u64) -> Line
         .with_number(row)
 }
 
-// A line, and then why a row is bad.
+/// A line, and then why a row is bad.
 fn with_cause(line: Line, column: u32, cause: Cause) -> Line
     requires { length line ≤ 50 }
     ensures { result ≡ line ++ cause_text column cause }
@@ -135,7 +135,7 @@ fn with_cause(line: Line, column: u32, cause: Cause) -> Line
     }
 }
 
-// A line, and then a column and what is wrong there.
+/// A line, and then a column and what is wrong there.
 fn with_reason(line: Line, column: u32, reason: &str) -> Line
     requires line { length line ≤ 50 }
     requires reason { length reason.now ≤ 20 }
@@ -144,7 +144,7 @@ fn with_reason(line: Line, column: u32, reason: &str) -> Line
     line.with(" column ").with_column(column).with(reason)
 }
 
-// The name of a table.
+/// The name of a table.
 fn table_name(table: Table) -> &'static str
     ensures name { result.now ≡ table_name table }
     ensures len { length result.now ≤ 18 }
@@ -159,7 +159,7 @@ fn table_name(table: Table) -> &'static str
     }
 }
 
-// The words for what there is too much of.
+/// The words for what there is too much of.
 fn kind_name(kind: Kind) -> &'static str
     ensures name { result.now ≡ kind_name kind }
     ensures len { length result.now ≤ 8 }

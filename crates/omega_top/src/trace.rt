@@ -52,14 +52,14 @@ pub fn trace_of_run<T: Tables>(
     }
 }
 
-// Whether the command makes its tables of a seed.
+/// Whether the command makes its tables of a seed.
 fn makes_tables(command: Command) -> bool
     ensures { result ≡ makes_tables command }
 {
     matches!(command, Command::Generate)
 }
 
-// The trace of the tables that are made of the seed.
+/// The trace of the tables that are made of the seed.
 fn generated_trace(alloc: Global, settings: &Settings) -> Result<TraceTables, ReadRefusal>
     requires { IsInRange settings.now }
     ensures trace { IfOk result (λ trace. trace ≡ trace_of (generated settings.now.seed settings.now.machines settings.now.jobs)) }

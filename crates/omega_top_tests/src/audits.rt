@@ -11,29 +11,29 @@ use std::process::Abort;
 use std::sync::Wait;
 use std::thread::Threads;
 
-// The lines of a machine that takes a task and becomes smaller.
+/// The lines of a machine that takes a task and becomes smaller.
 const LINES: &str = "add 1 1000000000 1000000000 1000000000000
 commit 0 1 10 fine incremental claim 10 0 1 300000000 300000000 0 2 0 victims 0 placed evicted 0
 round 1
 update 1 500000000 500000000 1000000000000";
 
-// What the audit of these lines writes.
+/// What the audit of these lines writes.
 const REPORT: &str = "omega 2
 legal 4
 use cpu 300000000 500000000 mem 300000000 500000000 disk 0 1000000000000
 ";
 
-// What the audit of no lines writes.
+/// What the audit of no lines writes.
 const NOTHING: &str = "omega 2
 legal 0
 use cpu 0 0 mem 0 0 disk 0 0
 ";
 
-// The same as JSON.
+/// The same as JSON.
 const NOTHING_AS_JSON: &str =
     "[[\"omega\",2],[\"legal\",0],[\"use\",\"cpu\",0,0,\"mem\",0,0,\"disk\",0,0]]\n";
 
-// The lines of a text.
+/// The lines of a text.
 fn lines_of(alloc: Global, text: &str) -> Result<Lines, NoMemory> {
     let mut lines = Lines::new(alloc);
     for line in text.lines() {
@@ -42,7 +42,7 @@ fn lines_of(alloc: Global, text: &str) -> Result<Lines, NoMemory> {
     Ok(lines)
 }
 
-// Sees that an audit of a keeper ends so, with room for so many bytes.
+/// Sees that an audit of a keeper ends so, with room for so many bytes.
 fn expect_audit<R: Threads + Wait + Sync + Abort>(
     rt: &R,
     alloc: Global,
@@ -59,7 +59,7 @@ fn expect_audit<R: Threads + Wait + Sync + Abort>(
     Ok(())
 }
 
-// The end of an audit of so many entries.
+/// The end of an audit of so many entries.
 fn audited(entries: usize, report: &str) -> End {
     End {
         status: Status::Done,

@@ -12,10 +12,10 @@ use std::process::Abort;
 use std::sync::Wait;
 use std::thread::Threads;
 
-// Room for every report of these tests, in bytes.
+/// Room for every report of these tests, in bytes.
 const ROOM: u64 = 1000;
 
-// Sees that a replay ends so, over tables that are gone then.
+/// Sees that a replay ends so, over tables that are gone then.
 fn expect_replay<R: Threads + Wait + Sync + Abort, T: Tables + Drop>(
     rt: &R,
     alloc: Global,
@@ -30,13 +30,13 @@ fn expect_replay<R: Threads + Wait + Sync + Abort, T: Tables + Drop>(
     Ok(())
 }
 
-// Sees that a run was whole over the machine and its task, and answers these settings.
+/// Sees that a run was whole over the machine and its task, and answers these settings.
 fn expect_done(rt: &impl Abort, ran: &Ran, settings: &Settings) {
     assert!(rt; ends_so(ran, &End::done()));
     assert!(rt; ran.done.settings.as_ref() == Some(settings));
 }
 
-// Sees that a run with these words is so, over tables that are gone then.
+/// Sees that a run with these words is so, over tables that are gone then.
 fn expect_settings<R: Threads + Wait + Sync + Abort, T: Tables + Drop>(
     rt: &R,
     alloc: Global,
@@ -51,7 +51,7 @@ fn expect_settings<R: Threads + Wait + Sync + Abort, T: Tables + Drop>(
     Ok(())
 }
 
-// Words that ask for two tries, and their settings.
+/// Words that ask for two tries, and their settings.
 const TWO_TRIES: [&str; 5] = ["replay", "--tries", "2", "--tables", "a b"];
 
 fn two_tries() -> Settings {
@@ -67,13 +67,13 @@ fn answers_the_settings_of_its_words(rt: HostRuntime) -> Result<(), NoMemory> {
     expect_settings(&rt, rt.alloc(), &TWO_TRIES, tables, &two_tries())
 }
 
-// The machine and its task, of which each read gives a single byte.
+/// The machine and its task, of which each read gives a single byte.
 fn single_bytes(alloc: Global) -> Result<MemoryTables, NoMemory> {
     Ok(tables_of(alloc, MACHINE, TASK)?.cut(1))
 }
 
-// The table whose read fails where the call of this number fails, of the 57 calls that read the
-// machine and its task in single bytes.
+/// The table whose read fails where the call of this number fails, of the 57 calls that read the
+/// machine and its task in single bytes.
 fn failing_table(call: u64) -> Table {
     match call {
         0..=16 => Table::MachineEvents,
@@ -85,13 +85,13 @@ fn failing_table(call: u64) -> Table {
     }
 }
 
-// Sees that a run ended by the one read of a table that failed.
+/// Sees that a run ended by the one read of a table that failed.
 fn expect_fault<T: Tables>(rt: &impl Abort, ran: &Ran, tables: &T, table: Table) {
     assert!(rt; ends_so(ran, &End::refused(Status::ReadFault(table))));
     assert_eq!(rt; tables.faults(table), 1);
 }
 
-// Sees that a replay ends so, over tables that are gone then.
+/// Sees that a replay ends so, over tables that are gone then.
 fn expect_read_fault<R: Threads + Wait + Sync + Abort, T: Tables + Drop>(
     rt: &R,
     alloc: Global,
@@ -123,7 +123,7 @@ fn no_read_comes_behind_the_last(rt: HostRuntime) -> Result<(), NoMemory> {
     Ok(())
 }
 
-// Sees that a read of a table fails.
+/// Sees that a read of a table fails.
 fn expect_failed_read<T: Tables>(rt: &impl Abort, tables: &mut T) {
     assert!(rt; tables.read(Table::MachineEvents, &mut [0u8; 1]).is_err());
 }
@@ -135,7 +135,7 @@ fn a_read_that_failed_before_is_past(rt: HostRuntime) -> Result<(), NoMemory> {
     expect_replay(&rt, rt.alloc(), tables, ROOM, &End::done())
 }
 
-// How a replay ends whose sink has room for so many bytes.
+/// How a replay ends whose sink has room for so many bytes.
 fn end_in(room: usize) -> End<'static> {
     let report = End::done().report;
     if room >= report.len() {
@@ -157,7 +157,7 @@ fn each_size_of_sink(rt: HostRuntime) -> Result<(), NoMemory> {
     Ok(())
 }
 
-// The refusal of a row.
+/// The refusal of a row.
 fn bad_row(table: Table, row: u64, column: u32, cause: Cause) -> Status {
     Status::BadRow {
         table,
@@ -167,9 +167,9 @@ fn bad_row(table: Table, row: u64, column: u32, cause: Cause) -> Status {
     }
 }
 
-// A table of tasks where that of machines should be, and one of machines where that of tasks should
-// be: the first has a field too many, the other too few. For each the table in place of the
-// machines, the call that fails, and how the replay ends.
+/// A table of tasks where that of machines should be, and one of machines where that of tasks should
+/// be: the first has a field too many, the other too few. For each the table in place of the
+/// machines, the call that fails, and how the replay ends.
 fn bad_tables() -> [(&'static str, u64, Status); 4] {
     [
         (TASK, 1, Status::ReadFault(Table::MachineEvents)),
@@ -187,8 +187,8 @@ fn bad_tables() -> [(&'static str, u64, Status); 4] {
     ]
 }
 
-// Sees that a replay is refused so, over these machines and the machine in place of the tasks,
-// where the call of this number fails.
+/// Sees that a replay is refused so, over these machines and the machine in place of the tasks,
+/// where the call of this number fails.
 fn expect_refusal<R: Threads + Wait + Sync + Abort>(
     rt: &R,
     alloc: Global,
@@ -210,13 +210,13 @@ fn reads_fail_before_and_behind_bad_rows(rt: HostRuntime) -> Result<(), NoMemory
     Ok(())
 }
 
-// Whether this text is said of a status.
+/// Whether this text is said of a status.
 fn says(status: &Status, text: &str) -> bool {
     let line = fault_line(status);
     line.as_str() == text && line.as_bytes() == text.as_bytes()
 }
 
-// Refusals that no run in a folder shows, their exit statuses and what is said of them.
+/// Refusals that no run in a folder shows, their exit statuses and what is said of them.
 fn fault_lines() -> [(Status, u8, &'static str); 7] {
     let attributes = Table::MachineAttributes;
     [

@@ -13,24 +13,24 @@ use std::process::Abort;
 use std::sync::Wait;
 use std::thread::Threads;
 
-// A scheduler that is held at a point until another has come to a point.
+/// A scheduler that is held at a point until another has come to a point.
 type Order = (u32, Point, u32, Point);
 
-// How often a held scheduler looks at most.
+/// How often a held scheduler looks at most.
 const LOOKS: u64 = 200_000_000;
 
-// Room for each report, in bytes.
+/// Room for each report, in bytes.
 const ROOM: u64 = 2000;
 
-// The words of a run with one scheduler of batch jobs, and with two.
+/// The words of a run with one scheduler of batch jobs, and with two.
 const COARSE: [&str; 3] = ["run", "--rule", "coarse"];
 
 const COARSE_BY_THREE: [&str; 5] = ["run", "--rule", "coarse", "--batch", "2"];
 
-// One machine, on which the tasks of each run fit together.
+/// One machine, on which the tasks of each run fit together.
 const MACHINE: &str = "0,1,0,p,1,1\n";
 
-// A run with these words past a gate, over tables that are gone then.
+/// A run with these words past a gate, over tables that are gone then.
 fn run_over<R: Threads + Wait + Sync, T: Tables + Drop>(
     rt: &R,
     alloc: Global,
@@ -43,13 +43,13 @@ fn run_over<R: Threads + Wait + Sync, T: Tables + Drop>(
     run_past(rt, alloc, words, &mut tables, ROOM, gate)
 }
 
-// Sees that no hold of a gate has ended by its bound.
+/// Sees that no hold of a gate has ended by its bound.
 fn expect_ended(rt: &impl Abort, gate: &HeldGate) {
     assert!(rt; !gate.ran_out());
 }
 
-// A run of these tasks with these words past a gate of this order, which holds schedulers. Sees
-// that no hold has ended by its bound.
+/// A run of these tasks with these words past a gate of this order, which holds schedulers. Sees
+/// that no hold has ended by its bound.
 fn run_held<R: Threads + Wait + Sync + Abort>(
     rt: &R,
     alloc: Global,
@@ -66,10 +66,10 @@ fn run_held<R: Threads + Wait + Sync + Abort>(
     Ok(ran)
 }
 
-// A task of a service and one of a batch job.
+/// A task of a service and one of a batch job.
 const TWO_TASKS: &str = "0,,4,0,,0,u,2,9,0.4,0.4,,0\n0,,5,0,,0,u,0,1,0.4,0.4,,0\n";
 
-// Both plan, and then the scheduler of batch jobs commits first.
+/// Both plan, and then the scheduler of batch jobs commits first.
 const BOTH_PLAN_FIRST: [Order; 2] = [
     (1, Point::Planned, 0, Point::Planned),
     (0, Point::Planned, 1, Point::Committed),
@@ -92,7 +92,7 @@ use cpu 800000000 1000000000 mem 800000000 1000000000 disk 0 1000000000000
 waiting 0 abandoned 0
 ";
 
-// How a run of both ends.
+/// How a run of both ends.
 fn end_of_two() -> End<'static> {
     End {
         status: Status::Done,
@@ -108,7 +108,7 @@ fn two_held_schedulers_plan_beside_each_other(rt: HostRuntime) -> Result<(), NoM
     Ok(())
 }
 
-// The service's scheduler has synced before the other commits, and plans only then: on what it had seen.
+/// The service's scheduler has synced before the other commits, and plans only then: on what it had seen.
 const SYNCED_FIRST: [Order; 2] = [
     (1, Point::Planned, 0, Point::Synced),
     (0, Point::Synced, 1, Point::Committed),
@@ -121,11 +121,11 @@ fn a_held_scheduler_plans_on_what_it_synced(rt: HostRuntime) -> Result<(), NoMem
     Ok(())
 }
 
-// A task of a service and two of batch jobs, each of which has a scheduler of its own.
+/// A task of a service and two of batch jobs, each of which has a scheduler of its own.
 const THREE_TASKS: &str =
     "0,,4,0,,0,u,2,1,0.3,0.3,,0\n0,,6,0,,0,u,0,1,0.3,0.3,,0\n0,,5,0,,0,u,0,1,0.3,0.3,,0\n";
 
-// All three plan on the same state, and then commit one after the other: 2, 1, 0.
+/// All three plan on the same state, and then commit one after the other: 2, 1, 0.
 const ALL_PLAN_FIRST: [Order; 4] = [
     (2, Point::Planned, 0, Point::Planned),
     (2, Point::Planned, 1, Point::Planned),
@@ -133,8 +133,8 @@ const ALL_PLAN_FIRST: [Order; 4] = [
     (0, Point::Planned, 1, Point::Committed),
 ];
 
-// How the report of all three begins, before the first commit of scheduler 0. Scheduler 1 tries again
-// meanwhile, so nothing is said of what comes behind.
+/// How the report of all three begins, before the first commit of scheduler 0. Scheduler 1 tries again
+/// meanwhile, so nothing is said of what comes behind.
 const BEGINNING_OF_THREE: &str = "omega 2
 round 0
 commit 2 2 5
@@ -143,18 +143,18 @@ commit 1 2 6
 refuse 6 0 1 changed 2 1
 ";
 
-// How it ends: with all three tasks on the machine.
+/// How it ends: with all three tasks on the machine.
 const END_OF_THREE: &str =
     "use cpu 900000000 1000000000 mem 900000000 1000000000 disk 0 1000000000000
 waiting 0 abandoned 0
 ";
 
-// Whether the first commit of scheduler 0 was stale, and each of the three placed its task.
+/// Whether the first commit of scheduler 0 was stale, and each of the three placed its task.
 fn all_planned_first(history: &[Entry]) -> bool {
     is_first_stale(history, 0, 2) && (0..3).all(|number| placing_commits(history, number) == 1)
 }
 
-// Sees that a run of all three was done, and began and ended so.
+/// Sees that a run of all three was done, and began and ended so.
 fn expect_three(rt: &impl Abort, ran: &Ran) {
     let report = ran.written.as_slice();
     assert!(rt; ran.done.status == Status::Done);
@@ -176,7 +176,7 @@ fn three_held_schedulers_plan_beside_each_other(rt: HostRuntime) -> Result<(), N
     Ok(())
 }
 
-// Of a commit of a scheduler: how many entries its copy had seen, and what is answered.
+/// Of a commit of a scheduler: how many entries its copy had seen, and what is answered.
 fn commit_by(entry: &Entry, number: u32) -> Option<(u64, &Judgements)> {
     match entry {
         Entry::Commit {
@@ -189,8 +189,8 @@ fn commit_by(entry: &Entry, number: u32) -> Option<(u64, &Judgements)> {
     }
 }
 
-// Whether a scheduler's first commit was planned on so many entries, and has a claim that is refused
-// since its machine has changed.
+/// Whether a scheduler's first commit was planned on so many entries, and has a claim that is refused
+/// since its machine has changed.
 fn is_first_stale(history: &[Entry], number: u32, entries: u64) -> bool {
     match history.iter().find_map(|entry| commit_by(entry, number)) {
         Some((seen, reply)) => seen == entries && has_changed(reply),
@@ -198,17 +198,17 @@ fn is_first_stale(history: &[Entry], number: u32, entries: u64) -> bool {
     }
 }
 
-// Whether a claim is refused since its machine has changed.
+/// Whether a claim is refused since its machine has changed.
 fn has_changed(reply: &Judgements) -> bool {
     reply.as_slice().iter().any(|judgement| matches!(judgement.verdict, Verdict::Changed { .. }))
 }
 
-// How many commits of a scheduler place a task.
+/// How many commits of a scheduler place a task.
 fn placing_commits(history: &[Entry], number: u32) -> usize {
     history.iter().filter(|entry| places(entry, number)).count()
 }
 
-// Whether an entry is a commit of a scheduler that places a task.
+/// Whether an entry is a commit of a scheduler that places a task.
 fn places(entry: &Entry, number: u32) -> bool {
     match commit_by(entry, number) {
         Some((_, reply)) => reply

@@ -11,7 +11,7 @@ use std::process::Abort;
 use std::sync::Wait;
 use std::thread::Threads;
 
-// A machine that takes three tasks and becomes smaller in the second round.
+/// A machine that takes three tasks and becomes smaller in the second round.
 const MACHINES: &str = "0,1,0,p,1,1\n300000000,1,2,p,0.5,0.5\n";
 
 const TASKS: &str = "0,,10,0,,0,u,0,2,0.3,0.3,,0
@@ -19,7 +19,7 @@ const TASKS: &str = "0,,10,0,,0,u,0,2,0.3,0.3,,0
 0,,10,2,,0,u,0,1,0.3,0.3,,0
 ";
 
-// What `replay` writes of them.
+/// What `replay` writes of them.
 const REPORT: &str = "omega 2
 round 0
 commit 1 2 10
@@ -40,7 +40,7 @@ use cpu 300000000 500000000 mem 300000000 500000000 disk 0 1000000000000
 waiting 2 abandoned 0
 ";
 
-// The lines of the first round, of the second, and others.
+/// The lines of the first round, of the second, and others.
 const ROUND: &str = "round 0";
 
 const ADD: &str = "add 1 1000000000 1000000000 1000000000000";
@@ -56,7 +56,7 @@ const UPDATE: &str = "update 1 500000000 500000000 1000000000000";
 
 const NEXT_COMMIT: &str = "commit 1 5 10 fine incremental";
 
-// Lists that are kept: of one round and of both, one cut in a round, one of other tables, and one that goes on.
+/// Lists that are kept: of one round and of both, one cut in a round, one of other tables, and one that goes on.
 const FIRST: [&str; 3] = [ROUND, ADD, COMMIT];
 
 const BOTH: [&str; 6] = [ROUND, ADD, COMMIT, NEXT_ROUND, UPDATE, NEXT_COMMIT];
@@ -77,7 +77,7 @@ const LONGER: [&str; 7] = [
     "round 2",
 ];
 
-// What is kept, the load or append that fails, counted from 0, how the run ends, and what is kept then.
+/// What is kept, the load or append that fails, counted from 0, how the run ends, and what is kept then.
 type Case = (
     &'static [&'static str],
     u64,
@@ -85,10 +85,10 @@ type Case = (
     &'static [&'static str],
 );
 
-// No call of a keeper.
+/// No call of a keeper.
 const NONE: u64 = 1000;
 
-// Lists that are gone on from.
+/// Lists that are gone on from.
 fn accepted() -> [Case; 3] {
     [
         (&[], NONE, Status::Done, &BOTH),
@@ -97,7 +97,7 @@ fn accepted() -> [Case; 3] {
     ]
 }
 
-// Lists that are refused.
+/// Lists that are refused.
 fn refused() -> [Case; 4] {
     [
         (&CUT, NONE, Status::BadKept(4), &CUT),
@@ -107,7 +107,7 @@ fn refused() -> [Case; 4] {
     ]
 }
 
-// The load and each append fail in turn.
+/// The load and each append fail in turn.
 fn failing() -> [Case; 4] {
     [
         (&[], 0, Status::KeepFault, &[]),
@@ -117,7 +117,7 @@ fn failing() -> [Case; 4] {
     ]
 }
 
-// These texts as lines.
+/// These texts as lines.
 fn lines_of(alloc: Global, texts: &[&str]) -> Result<Lines, NoMemory> {
     let mut lines = Lines::new(alloc);
     for text in texts {
@@ -126,7 +126,7 @@ fn lines_of(alloc: Global, texts: &[&str]) -> Result<Lines, NoMemory> {
     Ok(lines)
 }
 
-// Whether these texts are what is kept.
+/// Whether these texts are what is kept.
 fn keeps(lines: &Lines, texts: &[&str]) -> bool {
     lines.as_slice().len() == texts.len()
         && lines
@@ -136,7 +136,7 @@ fn keeps(lines: &Lines, texts: &[&str]) -> bool {
             .all(|(line, text)| line.as_slice() == text.as_bytes())
 }
 
-// How a run ends: with the report of `replay` where all is done.
+/// How a run ends: with the report of `replay` where all is done.
 fn end_of(status: Status) -> End<'static> {
     match status {
         Status::Done => End {
@@ -148,7 +148,7 @@ fn end_of(status: Status) -> End<'static> {
     }
 }
 
-// Sees that a run that goes on from what a keeper has ends so.
+/// Sees that a run that goes on from what a keeper has ends so.
 fn expect_run<R: Threads + Wait + Sync + Abort>(
     rt: &R,
     alloc: Global,
@@ -171,7 +171,7 @@ fn expect_run<R: Threads + Wait + Sync + Abort>(
     Ok(())
 }
 
-// Sees that a case ends so.
+/// Sees that a case ends so.
 fn expect_case<R: Threads + Wait + Sync + Abort>(
     rt: &R,
     alloc: Global,

@@ -11,7 +11,7 @@ use std::process::Abort;
 use std::sync::Wait;
 use std::thread::Threads;
 
-// A machine, a task that goes there, and the report of both.
+/// A machine, a task that goes there, and the report of both.
 pub const MACHINE: &str = "0,1,0,p,0.5,0.5\n";
 
 pub const TASK: &str = "0,,10,0,,0,u,0,1,0.25,0.25,0.001,0\n";
@@ -29,14 +29,14 @@ use cpu 250000000 500000000 mem 250000000 500000000 disk 1000000 1000000000000
 waiting 0 abandoned 0
 ";
 
-// What came of a run.
+/// What came of a run.
 #[derive(Drop)]
 pub struct Ran {
     pub done: Done,
     pub written: Bytes,
 }
 
-// How a run is to end: with this status, a history of so many entries and these bytes written.
+/// How a run is to end: with this status, a history of so many entries and these bytes written.
 #[derive(Clone, Copy)]
 pub struct End<'a> {
     pub status: Status,
@@ -45,7 +45,7 @@ pub struct End<'a> {
 }
 
 impl End<'static> {
-    // That of a whole run over the machine and its task.
+    /// That of a whole run over the machine and its task.
     pub fn done() -> End<'static> {
         End {
             status: Status::Done,
@@ -54,7 +54,7 @@ impl End<'static> {
         }
     }
 
-    // That of a run that is refused.
+    /// That of a run that is refused.
     pub fn refused(status: Status) -> End<'static> {
         End {
             status,
@@ -64,12 +64,12 @@ impl End<'static> {
     }
 }
 
-// The bytes of a text.
+/// The bytes of a text.
 fn bytes(alloc: Global, text: &str) -> Result<Bytes, NoMemory> {
     Ok(Seq::of(Vec::from_slice(alloc, text.as_bytes())?))
 }
 
-// Tables of which all but two are empty.
+/// Tables of which all but two are empty.
 pub fn tables_of(alloc: Global, machines: &str, tasks: &str) -> Result<MemoryTables, NoMemory> {
     let tables = [
         bytes(alloc, machines)?,
@@ -82,7 +82,7 @@ pub fn tables_of(alloc: Global, machines: &str, tasks: &str) -> Result<MemoryTab
     Ok(MemoryTables::new(alloc, tables))
 }
 
-// A run with these words past a gate, whose sink has room for so many bytes.
+/// A run with these words past a gate, whose sink has room for so many bytes.
 pub fn run_past<R: Threads + Wait + Sync, T: Tables, G: Gate + Sync>(
     rt: &R,
     alloc: Global,
@@ -97,7 +97,7 @@ pub fn run_past<R: Threads + Wait + Sync, T: Tables, G: Gate + Sync>(
     run_kept(rt, alloc, words, tables, room, gate, &mut keeper)
 }
 
-// The same with this keeper. Each write takes a single byte.
+/// The same with this keeper. Each write takes a single byte.
 pub fn run_kept<R: Threads + Wait + Sync, T: Tables, G: Gate + Sync, P: Keeper>(
     rt: &R,
     alloc: Global,
@@ -117,14 +117,14 @@ pub fn run_kept<R: Threads + Wait + Sync, T: Tables, G: Gate + Sync, P: Keeper>(
     })
 }
 
-// Whether a run ended so.
+/// Whether a run ended so.
 pub fn ends_so(ran: &Ran, end: &End) -> bool {
     ran.done.status == end.status
         && ran.done.history.len() == end.entries
         && ran.written.as_slice() == end.report
 }
 
-// Sees that a run ended so.
+/// Sees that a run ended so.
 pub fn expect(rt: &impl Abort, ran: &Ran, end: &End) {
     assert!(rt; ends_so(ran, end));
 }

@@ -97,7 +97,7 @@ pub fn read_words(alloc: Global, words: &[&str]) -> Result<Parsed, WordsRefusal>
     })
 }
 
-// A text of these bytes.
+/// A text of these bytes.
 fn text_of(alloc: Global, text: &str) -> Result<Text, WordsRefusal>
     ensures value { IfOk result (λ copy. copy ≡ text.now) }
     ensures refusal { IfErr result (λ refusal. refusal ≡ WordsRefusal.NoMemory) }

@@ -131,7 +131,7 @@ fn format_of<'a>(matches: &ArgMatches<'a>) -> Format
     }
 }
 
-// Whether there is a command, and the table has it.
+/// Whether there is a command, and the table has it.
 fn has_command<'a>(matches: &ArgMatches<'a>) -> bool
     ensures { result ≡ option_map_or (is_among built_words.commands) (texts_in matches.now (codes "command")) false }
 {
@@ -141,7 +141,7 @@ fn has_command<'a>(matches: &ArgMatches<'a>) -> bool
     }
 }
 
-// The command that is named, `replay` where none is.
+/// The command that is named, `replay` where none is.
 fn named_command<'a>(matches: &ArgMatches<'a>) -> Command
     ensures { result ≡ command_of (texts_in matches.now (codes "command")) }
 {
