@@ -1,5 +1,5 @@
 -- What is left on a machine once the first of the candidates go.
-use Rattle.std.proofs.Common.{◌≡◌, ◌+◌, ◌-◌, ◌<◌, ℕ, zero, suc, Bool, true, false, not, ◌&&◌, ◌||◌, ◌==◌, List, [], ◌∷◌, ◌++◌, length, get_or, map, take, drop, position, slice_get, Option, Some, None, is_some, arith, refl, sym, ap, ap₂, subst, ◌∙◌, if◌then◌else◌}
+use Rattle.std.proofs.Common.{◌≡◌, ◌+◌, ◌-◌, ◌<◌, ◌≤◌, ℕ, zero, suc, Bool, true, false, not, ◌&&◌, ◌||◌, ◌==◌, List, [], ◌∷◌, ◌++◌, length, get_or, map, take, drop, position, slice_get, Option, Some, None, is_some, arith, refl, sym, ap, ap₂, subst, ◌∙◌}
 use Rattle.std.specs.List.{filter, find, list_any, range_with_len}
 use Rattle.std.specs.Option.{option_map, option_map_or}
 use Rattle.std.proofs.lemmas.Bool.{and_from, both_ways, false_from_ne_true, eqb-true, not_from_false, not-true}
@@ -19,7 +19,7 @@ use Rattle.omega_model.specs.declared.cells.Need.{Need}
 use Rattle.omega_model.specs.declared.cells.Task.{Task}
 use Rattle.omega_model.specs.declared.cells.TaskKey.{TaskKey}
 use Rattle.omega_model.specs.declared.wishes.Wish.{Wish}
-use Rattle.omega_model.proofs.Amounts.{fits_tested, need_is, plus-swap, rest_is, share, total-cons}
+use Rattle.omega_model.proofs.Amounts.{fits_part, fits_same, fits_tested, fits_trans, need_is, plus-swap, rest_is, share, total-cons}
 use Rattle.omega_model.proofs.InOrder.{key_same}
 use Rattle.omega_model.proofs.Lists.{by_answer, filter_and, filter_turned}
 use Rattle.omega_running.specs.Order.{Each, IsInOrder, precedes}
@@ -29,6 +29,7 @@ use Rattle.omega_running.proofs.Lists.{each_both, each_map, filter_every}
 use Rattle.omega_board.proofs.Ranks.{each_here, fits_true, use-without}
 use Rattle.omega_board.proofs.Standing.{each_take}
 use Rattle.omega_board.proofs.Tasks.{each_filter, each_passes, found_passes}
+use Rattle.omega_fit.proofs.Middles.{below_or_not}
 use Rattle.omega_plan.specs.Leaving.{evictable, leaves_enough, need_staying, stays, staying}
 use Rattle.omega_plan.proofs.Candidates.{are_candidates, candidates_yield, yields}
 use Rattle.omega_plan.proofs.Fewest.{goes_with, may_go, none_found, none_mapped, victims_by_room}
@@ -43,16 +44,7 @@ left_more p left t tasks = ap (minus left) (total-cons p t tasks) ∙ minus_twic
 pub minus_plus : (a b c : Need) → minus (minus a b) c ≡ minus a (plus b c)
 minus_plus a b c = need_is _ _ (omega arith) (omega arith) (omega arith)
 
--- one more of some tasks takes what it needs
-pub taken_more : (left next whole : Need) (tasks : List Task) (i : ℕ) (d : Task) → i < length tasks → next ≡ minus left (get_or tasks i d).spec.need
-    → minus left (total (drop i tasks)) ≡ whole → minus next (total (drop (i + 1) tasks)) ≡ whole
-taken_more left next whole tasks i d below is so =
-    ap (λ (n : Need). minus n (total (drop (i + 1) tasks))) is
-    ∙ minus_plus left (get_or tasks i d).spec.need (total (drop (i + 1) tasks))
-    ∙ ap (λ (ts : List Task). minus left (total ts)) (sym (drop_more tasks i d below))
-    ∙ so
-
--- the same of those that stay
+-- one more of those that stay takes what it needs
 pub staying_more : (wish : Wish) (left next whole : Need) (tasks : List Task) (i : ℕ) (d : Task) → i < length tasks → next ≡ minus left (need_staying wish (get_or tasks i d))
     → minus left (total (filter (stays wish) (drop i tasks))) ≡ whole → minus next (total (filter (stays wish) (drop (i + 1) tasks))) ≡ whole
 staying_more wish left next whole tasks i d below is so =
@@ -89,11 +81,53 @@ take_keys (suc n) (t ∷ tasks) = ap (λ ks. t.key ∷ ks) (take_keys n tasks)
 pub minus_nothing : (a : Need) → minus a nothing ≡ a
 minus_nothing a = need_is _ _ (omega arith) (omega arith) (omega arith)
 
--- a search from a number on asks there first
-pub find_here : (test : ℕ → Bool) (n m : ℕ) → n < m → find test (range_with_len n (m - n)) ≡ (if test n then Some n else find test (range_with_len (n + 1) (m - (n + 1))))
-find_here test n m below =
-    let one : m - n ≡ suc (m - (n + 1)) = omega (arith, below) in
-    ap (λ k. find test (range_with_len n k)) one
+-- a search finds the least number that passes
+find_least_from : (test : ℕ → Bool) (from k n : ℕ) → from ≤ n → n < from + k → test n ≡ true → ((m : ℕ) → from ≤ m → m < n → test m ≡ false) → find test (range_with_len from k) ≡ Some n
+find_least_from test from zero n le below passes fails = absurd (omega (arith, le, below))
+find_least_from test from (suc k) n le below passes fails =
+    below_or_not from n
+    (λ less. let out : test from ≡ false = fails from (omega arith) less in
+    rw out (find_least_from test (from + 1) k n (omega (arith, less)) (omega (arith, below)) passes (λ m more under. fails m (omega (arith, more)) under)))
+    (λ ge. let same : from ≡ n = omega (arith, le, ge) in
+    let here : test from ≡ true = ap test same ∙ passes in
+    rw here (ap Some same))
+
+pub find_least : (test : ℕ → Bool) (k n : ℕ) → n < k → test n ≡ true → ((m : ℕ) → m < n → test m ≡ false) → find test (range_with_len 0 k) ≡ Some n
+find_least test k n below passes fails = find_least_from test 0 k n (omega arith) (omega (arith, below)) passes (λ m more under. fails m under)
+
+-- what is left when the last task but these takes its need too
+pub less_before : (whole left less : Need) (tasks : List Task) (n : ℕ) (d : Task) → 0 < n → n ≤ length tasks → left ≡ minus whole (total (drop n tasks))
+    → less ≡ minus left (get_or tasks (n - 1) d).spec.need → less ≡ minus whole (total (drop (n - 1) tasks))
+less_before whole left less tasks n d some within is taken =
+    let t = get_or tasks (n - 1) d in
+    let next : n - 1 + 1 ≡ n = omega (arith, some) in
+    let here : drop (n - 1) tasks ≡ t ∷ drop n tasks = drop_more tasks (n - 1) d (omega (arith, some, within)) ∙ ap (λ k. t ∷ drop k tasks) next in
+    taken
+    ∙ ap (λ (m : Need). minus m t.spec.need) is
+    ∙ minus_plus whole (total (drop n tasks)) t.spec.need
+    ∙ ap (minus whole) (turned (total (drop n tasks)) t.spec.need)
+    ∙ ap (λ (ts : List Task). minus whole (total ts)) (sym here)
+  where
+    turned : (a b : Need) → plus a b ≡ plus b a
+    turned a b = need_is _ _ (omega arith) (omega arith) (omega arith)
+
+-- more tasks take no less
+total_later : (m n : ℕ) (tasks : List Task) → m ≤ n → Fits (total (drop n tasks)) (total (drop m tasks))
+total_later zero zero tasks le = fits_same (total tasks)
+total_later zero (suc n) [] le = fits_same nothing
+total_later zero (suc n) (t ∷ tasks) le = fits_trans _ _ _ (total_later zero n tasks (omega arith)) (fits_part t.spec.need (total tasks))
+total_later (suc m) zero tasks le = absurd (omega (arith, le))
+total_later (suc m) (suc n) [] le = fits_same nothing
+total_later (suc m) (suc n) (t ∷ tasks) le = total_later m n tasks (omega (arith, le))
+
+-- so where these leave too little, more do
+pub little_before : (need left : Need) (tasks : List Task) (m n : ℕ) → m ≤ n → leaves_enough need left tasks n ≡ false → leaves_enough need left tasks m ≡ false
+little_before need left tasks m n le little =
+    false_from_ne_true _ (λ t.
+    let more = total_later m n tasks le in
+    let room : Fits need (minus left (total (drop m tasks))) = fits_tested _ _ t in
+    both_ways _ little (fits_true need (minus left (total (drop n tasks)))
+    (omega (arith, more.0, room.0), (omega (arith, more.1.0, room.1.0), omega (arith, more.1.1, room.1.1)))))
 
 module _ (cell : Cell) (id : ℕ) (wish : Wish) (order : IsInOrder ByKey cell.tasks) (n : ℕ) where
   abbrev gone : List TaskKey

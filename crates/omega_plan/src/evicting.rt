@@ -132,8 +132,7 @@ fn victims_at(
 /// beginning of its tasks of other jobs with lower precedence, in order of precedence, job and
 /// index. Empty where none must go; `Ok(None)` exactly where no beginning makes room.
 ///
-/// Costs the machine's tasks. Where all that may go make room these are sorted, and as many times as
-/// there are victims what the others leave is counted.
+/// Costs the machine's tasks; where all that may go make room, these are sorted.
 pub fn victims(
     alloc: Global,
     board: &Board,
@@ -207,30 +206,23 @@ fn left_by(wish: &Wish, task: &Task, amount: Need) -> Need
     amount.minus(task.spec.need)
 }
 
-/// What is left of an amount when each of some tasks has taken its need.
-fn left_by_all(tasks: &[Task], amount: Need) -> Need
-    ensures { result ≡ minus amount (total tasks.now) }
-{
-    let mut left = amount;
-    for task in tasks {
-        let less = left.minus(task.spec.need);
-        left = less;
-    }
-    left
-}
-
 /// How many of these tasks must go at least, in their order, for the others to leave enough for a need;
-/// there is enough where all go.
+/// there is enough where all go. Begins with the last one and stops where one takes too much.
 fn fewest(need: Need, left: Need, tasks: &[Task]) -> usize
     requires room { IsTrue (fits need left) }
     ensures { find (leaves_enough need left tasks.now) (range_with_len 0 (length tasks.now + 1)) ≡ Some result }
 {
-    for count in 0..tasks.len() {
-        if need.fits(left_by_all(&tasks[count..], left)) {
+    let mut left = left;
+    let mut count = tasks.len();
+    while count > 0 {
+        let less = left.minus(tasks[count - 1].spec.need);
+        if !need.fits(less) {
             return count;
         }
+        left = less;
+        count -= 1;
     }
-    tasks.len()
+    0
 }
 
 /// Whether a task gives way to a wish: it is of another job, and its precedence is lower.
