@@ -246,37 +246,11 @@ fn place_on_trial(
 ) -> Result<(), Fault>
     requires { copy.old.trial ≡ None }
 {
-    make_room(copy, alloc, claim)?;
+    copy.begin_trial(alloc, 1)?;
     place_there(copy, alloc, claim)?;
     let told = show_around(copy, claim, answers);
     copy.end_trial();
     told
-}
-
-/// Makes room for a trial of one wish.
-fn make_room(copy: &mut PrivateCopy, alloc: Global, claim: &Claim) -> Result<(), Fault>
-    requires { copy.old.trial ≡ None }
-    ensures { OnOk result (IsSomeAnd copy.new.trial (λ trial. 0 < trial.room)) }
-{
-    let request = alone(alloc, claim)?;
-    copy.begin_trial(alloc, &request)?;
-    Ok(())
-}
-
-/// The request for a claim's task alone.
-fn alone(alloc: Global, claim: &Claim) -> Result<Request, Fault>
-    ensures { IfOk result (λ request. length request.wishes ≡ 1) }
-{
-    let mut wishes = Wishes::new(alloc);
-    wishes.push(Wish {
-        key: claim.key,
-        spec: claim.spec,
-        constraints: Constraints::new(alloc),
-    })?;
-    Ok(Request {
-        job: claim.key.job,
-        wishes,
-    })
 }
 
 /// Places a claim on trial.

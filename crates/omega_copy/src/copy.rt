@@ -23,7 +23,7 @@ use crate::telling::{tell_all, tell_entry, tell_parts};
 use crate::trial::Trial;
 use omega_board::Board;
 use omega_fit::FitIndex;
-use omega_model::{Claim, Delta, Entry, NoMemory, Part, Request};
+use omega_model::{Claim, Delta, Entry, NoMemory, Part};
 use std::alloc::Global;
 use std::marker::Model;
 
@@ -254,18 +254,16 @@ impl PrivateCopy {
         Ok(())
     }
 
-    /// Begins a trial with room for a claim on each wish of a request. Where memory runs out, none
-    /// has begun.
-    pub fn begin_trial(&mut self, alloc: Global, request: &Request) -> Result<(), NoMemory>
+    /// Begins a trial with room for so many claims. Where memory runs out, none has begun.
+    pub fn begin_trial(&mut self, alloc: Global, claims: usize) -> Result<(), NoMemory>
         requires no_trial { self.old.trial ≡ None }
         ensures board { self.new.board ≡ self.old.board }
         ensures seen { self.new.seen ≡ self.old.seen }
-        ensures trial { OnOk result (self.new.trial ≡ Some (record { before = self.old.board; room = length request.now.wishes })) }
+        ensures trial { OnOk result (self.new.trial ≡ Some (record { before = self.old.board; room = claims })) }
         ensures err { OnErr result (self.new ≡ self.old) }
     {
-        let count = request.wishes.len();
-        let machines = Vec::with_capacity(alloc, count)?;
-        let undo = self.board.reserve_room(alloc, count, 0)?;
+        let machines = Vec::with_capacity(alloc, claims)?;
+        let undo = self.board.reserve_room(alloc, claims, 0)?;
         self.trial = Some(Trial { undo, machines });
         Ok(())
     }

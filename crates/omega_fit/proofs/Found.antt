@@ -5,8 +5,8 @@ use Rattle.std.specs.List.{All, AllZip, find, range_with_len, slice_get}
 use Rattle.std.proofs.lemmas.List.Elements.{All-head, All-tail, All-weaker}
 use Rattle.omega_model.specs.declared.cells.Need.{Need}
 use Rattle.omega_model.specs.Plan.{wrapped_from}
-use Rattle.omega_fit.specs.Needs.{Holds, IsFirstWithRoom, WithRoom}
-use Rattle.omega_fit.specs.Wrapped.{positions_from, IsFirst}
+use Rattle.omega_fit.specs.Needs.{Holds, WithRoom}
+use Rattle.omega_fit.specs.Wrapped.{positions_from, FirstBetween, IsFirst}
 use Rattle.omega_fit.proofs.Middles.{below_or_not}
 
 -- the same item for answers that follow
@@ -23,6 +23,18 @@ first_follows answers others items (Some x) f follows = record {
   taken = follows x true f.taken;
 }
 
+-- the same of the numbers from one up to another
+pub between_follows : (answers others : ℕ → Bool → Type 0) (from to : ℕ) (found : Option ℕ) → ((i : ℕ) (b : Bool) → answers i b → others i b)
+    → FirstBetween answers from to found → FirstBetween others from to found
+between_follows answers others from to None follows f = λ n a b. follows n false (f n a b)
+between_follows answers others from to (Some i) follows f = (f.0, f.1, follows i true f.2, λ n a b. follows n false (f.3 n a b))
+
+-- what may be answered where room counts too
+pub with_room_follows : (free : List (Option Need)) (need : Need) (answers others : ℕ → Bool → Type 0) → ((i : ℕ) (b : Bool) → answers i b → others i b)
+    → (i : ℕ) (b : Bool) → WithRoom free need answers i b → WithRoom free need others i b
+with_room_follows free need answers others follows i true w = (w.0, follows i true w.1)
+with_room_follows free need answers others follows i false w = λ h. follows i false (w h)
+
 -- a need has room or it hasn't
 pub room_or_not : {R : Type 0} (need : Need) (free : Option Need) → (Holds need free → R) → ((Holds need free → ⊥) → R) → R
 room_or_not need None room none = none (λ h. h)
@@ -31,14 +43,6 @@ room_or_not need (Some free) room none =
     (λ cpu. below_or_not free.mem need.mem (λ lt. none (λ h. absurd (omega (arith, lt, h.1.0))))
     (λ mem. below_or_not free.disk need.disk (λ lt. none (λ h. absurd (omega (arith, lt, h.1.1))))
     (λ disk. room (cpu, (mem, disk)))))
-
--- a test that can't be true without room is the only one that counts
-pub room_is_tested : (answers others : ℕ → Bool → Type 0) (free : List (Option Need)) (need : Need)
-    → ((i : ℕ) (b : Bool) → answers i b → others i b) → ((i : ℕ) → (Holds need (get_or free i None) → ⊥) → others i false)
-    → (i : ℕ) (b : Bool) → WithRoom free need answers i b → others i b
-room_is_tested answers others free need follows none i true w = follows i true w.1
-room_is_tested answers others free need follows none i false w =
-    room_or_not need (get_or free i None) (λ h. follows i false (w h)) (none i)
 
 -- over the items that stand at the positions
 find_none : {X : Type 0} (p : X → Bool) (at : ℕ → Option X) (is : List ℕ) (xs : List X) → AllZip (λ i x. at i ≡ Some x) is xs
@@ -105,17 +109,6 @@ zip_wrapped xs start =
 -- what a test of items says of a position
 abbrev pub OfItem : {X : Type 0} → (X → Bool) → List X → ℕ → Bool → Type 0
 OfItem {X} p items i b = (x : X) → slice_get items i ≡ Some x → p x ≡ b
-
--- a search with room, said of the items that stand at the positions
-pub of_items : {X : Type 0} (p : X → Bool) (items : List X) (free : List (Option Need)) (need : Need) (answers : ℕ → Bool → Type 0) (start : ℕ)
-    (found : Option ℕ) → IsFirstWithRoom free need answers start found → length items ≡ length free
-    → ((i : ℕ) (b : Bool) → answers i b → OfItem p items i b) → ((i : ℕ) → (Holds need (get_or free i None) → ⊥) → OfItem p items i false)
-    → IsFirst (OfItem p items) (positions_from start (length items)) found
-unfolding IsFirstWithRoom
-of_items p items free need answers start found f same follows none =
-    subst (λ n. IsFirst (OfItem p items) (positions_from start n) found) (sym same)
-    (first_follows (WithRoom free need answers) (OfItem p items) (positions_from start (length free)) found f
-    (room_is_tested answers (OfItem p items) free need follows none))
 
 -- the first position round from a start has the first item of the round
 pub find_wrapped : {X : Type 0} (p : X → Bool) (items : List X) (start i : ℕ) (x : X) → slice_get items i ≡ Some x

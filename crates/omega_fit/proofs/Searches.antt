@@ -5,10 +5,11 @@ use Rattle.std.proofs.Math.Nat.{le-max_left, le-max_right}
 use Rattle.std.proofs.lemmas.List.{length-take-le, length-drop, take-append-drop, length-map}
 use Rattle.omega_model.specs.declared.cells.Need.{Need}
 use Rattle.omega_fit.specs.declared.nodes.Slot.{Slot}
-use Rattle.omega_fit.specs.Needs.{greater, Holds, IsFirstWithRoom, WithRoom}
+use Rattle.omega_fit.specs.Needs.{greater, Holds, IsFirstWithRoom, IsNextWithRoom, WithRoom}
 use Rattle.omega_fit.specs.Wrapped.{positions_from, IsFirst, FirstBetween}
 use Rattle.omega_fit.specs.Tree.{frees, middle, most_of, root, Tree, FirstWithin}
 use Rattle.omega_fit.proofs.Firsts.{found_from_start, none_from_start}
+use Rattle.omega_fit.proofs.Found.{between_follows, with_room_follows}
 use Rattle.omega_fit.proofs.Middles.{middle_within}
 use Rattle.omega_fit.proofs.Trees.{tree_parts}
 
@@ -226,3 +227,11 @@ none_wrapped answers need slots start found le none f =
     subst (λ n. IsFirst (WithRoom (frees slots) need answers) (positions_from start n) found) (sym e)
     (none_from_start (WithRoom (frees slots) need answers) start (length slots) found le
     (whole answers need slots start (length slots) None none) (whole answers need slots 0 start found f))
+
+-- a search that tests nothing finds the next with room
+pub next_with_room : (answers : ℕ → Bool → Type 0) (need : Need) (slots : List Slot) (from to : ℕ) (found : Option ℕ) → FirstWithin answers need slots 0 from to found
+    → ((i : ℕ) (b : Bool) → answers (0 + i) b → b ≡ true) → IsNextWithRoom (frees slots) need from to found
+unfolding FirstWithin IsNextWithRoom
+next_with_room answers need slots from to found f tested =
+    between_follows (WithRoom (frees slots) need (λ i. answers (0 + i))) (WithRoom (frees slots) need (λ i b. b ≡ true)) from to found
+    (with_room_follows (frees slots) need (λ i. answers (0 + i)) (λ i b. b ≡ true) tested) f

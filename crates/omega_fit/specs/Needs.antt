@@ -1,8 +1,8 @@
 -- Amounts that hold a need.
-use Rattle.std.specs.Prelude.{ℕ, Bool, true, false, List, Option, Some, None, get_or, length, max}
+use Rattle.std.specs.Prelude.{◌≡◌, ℕ, Bool, true, false, List, Option, Some, None, get_or, length, max}
 use Rattle.omega_model.specs.Need.{Fits}
 use Rattle.omega_model.specs.declared.cells.Need.{Need}
-use Rattle.omega_fit.specs.Wrapped.{positions_from, IsFirst}
+use Rattle.omega_fit.specs.Wrapped.{positions_from, FirstBetween, IsFirst}
 
 -- there is an amount, and the need fits it
 abbrev pub Holds : Need → Option Need → Type 0
@@ -19,6 +19,10 @@ WithRoom free need answers position false = Holds need (get_or free position Non
 unfoldable pub IsFirstWithRoom : List (Option Need) → Need → (ℕ → Bool → Type 0) → ℕ → Option ℕ → Type 0
 IsFirstWithRoom free need answers start found =
     IsFirst (WithRoom free need answers) (positions_from start (length free)) found
+
+-- the first of the positions from one up to another with room
+unfoldable pub IsNextWithRoom : List (Option Need) → Need → ℕ → ℕ → Option ℕ → Type 0
+IsNextWithRoom free need from to found = FirstBetween (WithRoom free need (λ position answer. answer ≡ true)) from to found
 
 -- the greater of two amounts, component by component; nothing is less than any amount
 abbrev pub greater : Option Need → Option Need → Option Need

@@ -1,10 +1,10 @@
 //! First fit by a tree.
-ghost use Rattle.std.specs.Prelude.{◌≡◌, ◌+◌, ◌++◌, ◌∷◌, ◌<◌, ◌≤◌, ℕ, [], length, map, set, IfOk, IfSome, IsOk, OnOk, vec_capacity, vec_len};
-ghost use Rattle.omega_fit.specs.Needs.{IsFirstWithRoom};
+ghost use Rattle.std.specs.Prelude.{◌≡◌, ◌+◌, ◌++◌, ◌∷◌, ◌<◌, ◌≤◌, ℕ, [], None, get_or, length, map, set, IfOk, IfSome, IsOk, OnOk, vec_capacity, vec_len};
+ghost use Rattle.omega_fit.specs.Needs.{IsFirstWithRoom, IsNextWithRoom};
 ghost use Rattle.omega_fit.specs.Tree.{frees};
 
 use crate::nodes::{Slot, put_in, settle, settle_last};
-use crate::searching::search_wrapped;
+use crate::searching::{search_between, search_wrapped};
 use omega_model::{Need, NoMemory};
 use std::alloc::Global;
 use std::marker::Model;
@@ -87,6 +87,24 @@ impl FitIndex {
         ensures spare { self.new.spare ≡ self.old.spare }
     {
         put_in(&mut self.slots, position, free);
+    }
+
+    /// What is free at a position.
+    pub fn at(&self, position: usize) -> Option<Need>
+        requires { position < length self.now.free }
+        ensures { result ≡ get_or self.now.free position None }
+    {
+        self.slots[position].free
+    }
+
+    /// The first position of `from..to` whose amount holds `need`; `None` exactly where there is none.
+    /// Looks where `first` looks.
+    pub fn next(&self, from: usize, to: usize, need: Need) -> Option<usize>
+        requires to { to ≤ length self.now.free }
+        ensures next { IsNextWithRoom self.now.free need from to result }
+        ensures below { IfSome result (λ position. position < to) }
+    {
+        search_between(&self.slots, from, to, need)
     }
 
     /// The first position whose amount holds `need` and that passes the test, from `start` up to the

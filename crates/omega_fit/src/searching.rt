@@ -1,6 +1,6 @@
 //! The search in the tree.
 ghost use Rattle.std.specs.Prelude.{◌≡◌, ◌+◌, ◌<◌, ◌≤◌, ◌^◌, ℕ, IsTrue, IfSome, length, false, true};
-ghost use Rattle.omega_fit.specs.Needs.{Holds, IsFirstWithRoom};
+ghost use Rattle.omega_fit.specs.Needs.{Holds, IsFirstWithRoom, IsNextWithRoom};
 ghost use Rattle.omega_fit.specs.Tree.{frees, FirstWithin, Tree};
 
 use crate::needs::holds;
@@ -24,6 +24,16 @@ pub(crate) fn search_wrapped<F: Fn(usize) -> bool>(
         Some(found) => Some(found),
         None => search_in(slots, 0, 0, start, need, test),
     }
+}
+
+/// The first position of `from..to` with room.
+pub(crate) fn search_between(slots: &[Slot], from: usize, to: usize, need: Need) -> Option<usize>
+    requires tree { Tree slots.now }
+    requires to { to ≤ length slots.now }
+    ensures next { IsNextWithRoom (frees slots.now) need from to result }
+    ensures below { IfSome result (λ position. position < to) }
+{
+    search_in(slots, 0, from, to, need, &|_position: usize| true)
 }
 
 /// The first position of `from..to` with room that passes the test, which is asked for the position

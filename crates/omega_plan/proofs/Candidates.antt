@@ -1,5 +1,5 @@
 -- The tasks of a machine that may be evicted for a wish.
-use Rattle.std.proofs.Common.{nat_lt, ◌≡◌, ℕ, Bool, true, false, not, List, [], ◌∷◌, nat_le, ◌<◌, ◌≤◌, Option, Some, None, arith, refl, sym, ap, subst, ◌∙◌, ◌==◌, inl, inr}
+use Rattle.std.proofs.Common.{nat_lt, ◌≡◌, ℕ, Bool, true, false, not, List, [], ◌∷◌, ◌&&◌, nat_le, ◌<◌, ◌≤◌, Option, Some, None, arith, refl, sym, ap, subst, ◌∙◌, ◌==◌, inl, inr}
 use Rattle.std.specs.List.{filter}
 use Rattle.std.specs.Option.{option_map_or}
 use Rattle.std.proofs.lemmas.Bool.{and_parts, both_ways, false_from_ne_true, leb-true, ltb-true, not-true, not_from_false, or_cases}
@@ -16,7 +16,7 @@ use Rattle.omega_model.proofs.Lists.{by_answer, filter_and, filter_turned}
 use Rattle.omega_running.specs.Order.{Each, IsInOrder, Rises}
 use Rattle.omega_running.specs.declared.orders.Order.TheVariants.{ByKey}
 use Rattle.omega_running.proofs.InOrder.{rank_strict}
-use Rattle.omega_running.proofs.Lists.{each_map}
+use Rattle.omega_running.proofs.Lists.{each_map, each_of, filter_none}
 use Rattle.omega_running.proofs.Ranked.{each_put}
 use Rattle.omega_board.proofs.Parts.{withstands_is}
 use Rattle.omega_board.proofs.Ranks.{Apart, ranked_apart, ranked_found}
@@ -25,7 +25,7 @@ use Rattle.omega_board.proofs.Tasks.{each_filter, each_passes}
 use Rattle.omega_board.proofs.Untouched.{each_keys, ranked_run}
 
 -- whether the running task of this name gives way to a wish
-abbrev yields : List Task → Wish → TaskKey → Bool
+abbrev pub yields : List Task → Wish → TaskKey → Bool
 yields tasks wish key = option_map_or (gives_way wish) (task_at tasks key) false
 
 -- whether the second of two tasks doesn't go before the first
@@ -112,6 +112,24 @@ candidates_are cell id wish order =
     ∙ ap keys_of
     (rank_kept (gives_way wish) (filter (is_on id) cell.tasks)
     ∙ ap by_rank (filter_turned (gives_way wish) (is_on id) cell.tasks ∙ filter_and (is_on id) (gives_way wish) cell.tasks))
+
+-- for a wish of the least precedence there is none
+pub candidates_least : (cell : Cell) (id : ℕ) (wish : Wish) → wish.spec.prec ≡ 0 → candidates cell id wish ≡ []
+candidates_least cell id wish least =
+    ap (λ ts. keys_of (by_rank ts))
+    (filter_none (λ task. is_on id task && gives_way wish task) cell.tasks (each_of (λ task. (is_on id task && gives_way wish task) ≡ false) none cell.tasks))
+  where
+    none : (t : Task) → (is_on id t && gives_way wish t) ≡ false
+    none t =
+        false_from_ne_true _ (λ h.
+        let way = and_parts _ _ (and_parts _ _ h).1 in
+        let less : t.spec.prec < wish.spec.prec = ltb-true t.spec.prec wish.spec.prec way.1 in
+        absurd (omega (arith, less, least)))
+
+-- each of the candidates yields
+pub candidates_yield : (cell : Cell) (id : ℕ) (wish : Wish) → IsInOrder ByKey cell.tasks → Each (λ key. yields cell.tasks wish key ≡ true) (candidates cell id wish)
+candidates_yield cell id wish order =
+    subst (Each (λ key. yields cell.tasks wish key ≡ true)) (candidates_are cell id wish order) (each_passes (yields cell.tasks wish) (keys_of (ranked_on id cell.tasks)))
 
 -- what is known of candidates: they run on the machine, their precedence is lower, and none is named twice
 pub record AreCandidates (cell : Cell) (id : ℕ) (wish : Wish) (keys : List TaskKey) : Type 0 where

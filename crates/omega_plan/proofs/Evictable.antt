@@ -1,10 +1,8 @@
 -- Where all that evictions could free is too little for a wish, the machine gets no claim of it.
-use Rattle.std.proofs.Common.{◌≡◌, ℕ, Bool, true, false, List, [], ◌∷◌, get_or, length, nat_eq, slice_get, Option, Some, None, IfSome, is_some, arith, refl, sym, ap, subst, ◌∙◌, not}
+use Rattle.std.proofs.Common.{◌≡◌, ◌+◌, ◌<◌, ◌≤◌, ℕ, Bool, true, false, List, [], ◌∷◌, get_or, nat_eq, slice_get, Option, Some, None, is_some, arith, refl, sym, ap, subst, ◌∙◌, not}
 use Rattle.std.specs.List.{IsDistinct, filter, find}
 use Rattle.std.specs.Prelude.{option_map}
 use Rattle.std.proofs.lemmas.Bool.{and_from, and_parts, both_ways, false_from_ne_true, or_left, or_right}
-use Rattle.std.proofs.lemmas.List.Elements.{All-weaker}
-use Rattle.std.proofs.lemmas.List.{length-map}
 use Rattle.std.proofs.lemmas.Option.{get_or_from_slice_get, none-some, slice_get-map}
 use Rattle.omega_model.specs.Cell.{Cell, is_on, machine_at, rest_on, task_at, total}
 use Rattle.omega_model.specs.Judge.{already_running, capacity_of, free_without, full, is_up, no_machine, same_job, standing_victims, verdict_given, victim_rank, withstands}
@@ -31,10 +29,13 @@ use Rattle.omega_board.proofs.Numbered.{machine_there}
 use Rattle.omega_board.proofs.Parts.{not_refused}
 use Rattle.omega_board.proofs.Placed.{is_placed-Placed, passes, placeable_fine}
 use Rattle.omega_copy.specs.Telling.{freed_of, freed_on}
-use Rattle.omega_fit.proofs.Found.{first_follows, room_is_tested}
-use Rattle.omega_fit.specs.Needs.{Holds, IsFirstWithRoom, WithRoom}
-use Rattle.omega_fit.specs.Wrapped.{IsFirst, positions_from}
-use Rattle.omega_plan.specs.Trying.{IsFirstToYield, MayYield, Yields, claim_on}
+use Rattle.omega_fit.proofs.Middles.{below_or_not}
+use Rattle.omega_fit.specs.Needs.{Holds, IsNextWithRoom}
+use Rattle.omega_fit.specs.Wrapped.{FirstBetween}
+use Rattle.omega_plan.specs.Trying.{Yields, claim_on}
+
+false-true : false ≡ true → ⊥
+false-true e = both_ways false refl e
 
 -- a search that nothing passes
 pub none_passing : {X : Type 0} (test : X → Bool) → ((x : X) → test x ≡ false) → (xs : List X) → find test xs ≡ None
@@ -131,27 +132,34 @@ yields_where_freed cell wish distinct frees told place none machine is =
     (slice_get-map (freed_on wish.spec.prec cell.tasks) cell.machines place ∙ ap (option_map (freed_on wish.spec.prec cell.tasks)) is) in
     ap is_some (too_little cell wish distinct place machine is (λ h. none (subst (λ (o : Option Need). Holds wish.spec.need o) (sym here) h)))
 
--- a search whose test may be true for another cause finds the first where evictions make room, if they do there
-found_first : (cell : Cell) (wish : Wish) (items : List ℕ) (found : Option ℕ) → IsFirst (MayYield cell wish) items found → IfSome found (λ place. Yields cell wish place true)
-    → IsFirst (Yields cell wish) items found
-unfolding IsFirst
-found_first cell wish items None first own = All-weaker (λ i. MayYield cell wish i false) (λ i. Yields cell wish i false) (λ i may. may refl) items first
-found_first cell wish items (Some place) first own = record {
-  before = first.before;
-  after = first.after;
-  split = first.split;
-  passed_over = All-weaker (λ i. MayYield cell wish i false) (λ i. Yields cell wish i false) (λ i may. may refl) first.before first.passed_over;
-  taken = own;
-}
+-- between two positions evictions make room nowhere
+abbrev pub YieldsNowhere : Cell → Wish → ℕ → ℕ → Type 0
+YieldsNowhere cell wish from to = (n : ℕ) → from ≤ n → n < to → Yields cell wish n false
 
-pub first_to_yield : (cell : Cell) (wish : Wish) → IsDistinct nat_eq (numbers_of cell.machines) → (frees : List (Option Need)) → frees ≡ freed_of wish.spec.prec cell
-    → (answers : ℕ → Bool → Type 0) (begin : ℕ) (found : Option ℕ) → IsFirstWithRoom frees wish.spec.need answers begin found
-    → ((i : ℕ) (b : Bool) → answers i b → MayYield cell wish i b) → IfSome found (λ place. Yields cell wish place true) → IsFirstToYield cell wish begin found
-unfolding IsFirstWithRoom IsFirstToYield
-first_to_yield cell wish distinct frees told answers begin found first follows own =
-    let same : length frees ≡ length cell.machines = ap length told ∙ length-map cell.machines (freed_on wish.spec.prec cell.tasks) in
-    subst (λ n. IsFirst (Yields cell wish) (positions_from begin n) found) same
-    (found_first cell wish (positions_from begin (length frees)) found
-    (first_follows (WithRoom frees wish.spec.need answers) (MayYield cell wish) (positions_from begin (length frees)) found first
-    (room_is_tested answers (MayYield cell wish) frees wish.spec.need follows (λ i none _. yields_where_freed cell wish distinct frees told i none)))
-    own)
+module _ (cell : Cell) (wish : Wish) (distinct : IsDistinct nat_eq (numbers_of cell.machines)) (frees : List (Option Need)) (told : frees ≡ freed_of wish.spec.prec cell)
+    (from begin to : ℕ) (before : YieldsNowhere cell wish from begin) where
+  -- nor where none of the positions from there on has room
+  pub yields_none_between : IsNextWithRoom frees wish.spec.need begin to None → FirstBetween (Yields cell wish) from to None
+  unfolding IsNextWithRoom
+  yields_none_between none n after below = below_or_not n begin
+      (λ less. before n after less)
+      (λ more. yields_where_freed cell wish distinct frees told n (λ h. absurd (false-true (none n more below h))))
+
+  module _ (position : ℕ) (next : IsNextWithRoom frees wish.spec.need begin to (Some position)) where
+    -- or between there and the first that has
+    up_to_next : YieldsNowhere cell wish from position
+    unfolding IsNextWithRoom
+    up_to_next n after below = below_or_not n begin
+        (λ less. before n after less)
+        (λ more. yields_where_freed cell wish distinct frees told n (λ h. absurd (false-true (next.3 n more below h))))
+
+    -- that is the first if they do there
+    pub yields_between : from ≤ begin → Yields cell wish position true → FirstBetween (Yields cell wish) from to (Some position)
+    unfolding IsNextWithRoom
+    yields_between within own = (omega (arith, within, next.0), next.1, own, up_to_next)
+
+    -- or else behind it they do nowhere so far
+    pub yields_past : Yields cell wish position false → YieldsNowhere cell wish from (position + 1)
+    yields_past none n after below = below_or_not n position
+        (λ less. up_to_next n after less)
+        (λ more. let same : position ≡ n = omega (arith, more, below) in subst (λ k. Yields cell wish k false) same none)

@@ -1,10 +1,10 @@
--- A claim that names all candidates is placed exactly where a beginning of them makes room, and evicts the shortest.
+-- The victims of a wish are the shortest beginning of the candidates that makes room.
 use Rattle.std.proofs.Common.{◌≡◌, ◌+◌, ℕ, zero, suc, Bool, true, false, not, ◌&&◌, List, [], ◌∷◌, length, map, take, Option, Some, None, is_some, arith, refl, sym, ap, subst, ◌∙◌, if◌then◌else◌}
 use Rattle.std.specs.List.{filter, find, list_any, range_with_len}
-use Rattle.std.specs.Option.{option_map, unwrap_or}
+use Rattle.std.specs.Option.{option_map}
 use Rattle.std.proofs.lemmas.Bool.{and_from, and_parts, both_ways, false_from_ne_true, not-true, not_from_false, or_from, or_parts}
 use Rattle.omega_model.specs.Cell.{Cell, machine_at, rest_on, stays_on, task_at}
-use Rattle.omega_model.specs.Judge.{already_running, capacity_of, evicted_for, first_that_applies, free_without, full, has_rival, is_up, judge_fine, makes_room, no_machine, refusal_if, rival, runs_on, same_job, standing_victims, verdict_given, victim_rank, withstands, would_be_placed}
+use Rattle.omega_model.specs.Judge.{already_running, capacity_of, first_that_applies, free_without, full, has_rival, is_up, makes_room, no_machine, refusal_if, rival, runs_on, same_job, standing_victims, victim_rank, withstands, would_be_placed}
 use Rattle.omega_model.specs.Jobs.{stays_of_job}
 use Rattle.omega_model.specs.Keys.{beginnings, is_among, same_key}
 use Rattle.omega_model.specs.Need.{Fits, minus}
@@ -14,12 +14,10 @@ use Rattle.omega_model.specs.declared.cells.Need.{Need}
 use Rattle.omega_model.specs.declared.cells.Task.{Task}
 use Rattle.omega_model.specs.declared.cells.TaskKey.{TaskKey}
 use Rattle.omega_model.specs.declared.claims.Claim.{Claim}
-use Rattle.omega_model.specs.declared.claims.Judgement.{Judgement}
-use Rattle.omega_model.specs.declared.claims.Verdict.{Verdict}
-use Rattle.omega_model.specs.declared.claims.Verdict.TheVariants.{AlreadyRunning, Full, NoMachine, Placed, SameJob, VictimRank}
+use Rattle.omega_model.specs.declared.claims.Verdict.TheVariants.{AlreadyRunning, Full, NoMachine, SameJob, VictimRank}
 use Rattle.omega_model.specs.declared.wishes.Wish.{Wish}
 use Rattle.omega_model.proofs.Amounts.{fits_tested, total_fewer}
-use Rattle.omega_model.proofs.Lists.{beginning_found, by_answer}
+use Rattle.omega_model.proofs.Lists.{by_answer}
 use Rattle.omega_running.proofs.Lists.{filter_every, find_none}
 use Rattle.omega_board.proofs.Evicted.{any_more, same_answer}
 use Rattle.omega_board.proofs.Parts.{not_refused}
@@ -50,7 +48,7 @@ none_runs : (o : Option Task) → is_some o ≡ false → option_map (λ task. A
 none_runs None e = refl
 none_runs (Some t) e = absurd (both_ways true e refl)
 
-none_found : (p : Task → Bool) (tasks : List Task) → list_any p tasks ≡ false → find p tasks ≡ None
+pub none_found : {X : Type 0} (p : X → Bool) (tasks : List X) → list_any p tasks ≡ false → find p tasks ≡ None
 none_found p [] none = refl
 none_found p (t ∷ tasks) none = let parts = or_parts (p t) (list_any p tasks) none in rw parts.0 (none_found p tasks parts.1)
 
@@ -159,38 +157,3 @@ victims_by_room cell id wish keys are is =
     ap (λ ks. find (λ some. goes_in cell wish some id) (beginnings ks)) (sym is)
     ∙ find_mapped (λ some. goes_in cell wish some id) (goes_with cell id wish keys) (λ n. take n keys)
     (λ n. goes_where_room cell id wish (take n keys) (first_candidates cell id wish n keys are)) (range_with_len 0 (length keys + 1))
-
--- what a placed claim of all candidates evicts are the victims
-pub victims_placed : (cell : Cell) (id : ℕ) (wish : Wish) (keys : List TaskKey) → AreCandidates cell id wish keys → keys ≡ candidates cell id wish
-    → (verdict : Verdict) (evicted : List TaskKey) → judge_fine cell (claim_of wish keys id) ≡ record { verdict = verdict; evicted = evicted }
-    → is_placed verdict ≡ true → Some evicted ≡ victims cell id wish
-victims_placed cell id wish keys are is verdict evicted judged placed =
-    let claim = claim_of wish keys id in
-    let goes : goes_in cell wish keys id ≡ true = ap (λ (j : Judgement). is_placed j.verdict) judged ∙ placed in
-    let both = and_parts _ _ (sym (goes_where_room cell id wish keys are) ∙ goes) in
-    let found = beginning_found (makes_room cell claim) keys both.1 in
-    let given : verdict_given None cell claim ≡ Placed = is_placed-Placed _ goes in
-    let named : evicted_for cell claim ≡ evicted =
-    ap (λ v. if is_placed v then evicted_for cell claim else []) (sym given) ∙ ap (λ (j : Judgement). j.evicted) judged in
-    let shortest : evicted_for cell claim ≡ found.0 =
-    ap (λ ks. unwrap_or (find (makes_room cell claim) (beginnings ks)) []) (all_stand cell id wish keys are)
-    ∙ ap (λ (o : Option (List TaskKey)). unwrap_or o []) found.1.0 in
-    ap Some (sym named ∙ shortest)
-    ∙ sym (victims_by_room cell id wish keys are is
-    ∙ ap (λ b. find (λ some. b && makes_room cell claim some) (beginnings keys)) both.0
-    ∙ found.1.0)
-
--- where such a claim isn't placed there are none
-pub victims_refused : (cell : Cell) (id : ℕ) (wish : Wish) (keys : List TaskKey) → AreCandidates cell id wish keys → keys ≡ candidates cell id wish
-    → (verdict : Verdict) (evicted : List TaskKey) → judge_fine cell (claim_of wish keys id) ≡ record { verdict = verdict; evicted = evicted }
-    → is_placed verdict ≡ false → None ≡ victims cell id wish
-victims_refused cell id wish keys are is verdict evicted judged refused =
-    let claim = claim_of wish keys id in
-    let stays : goes_with cell id wish keys keys ≡ false =
-    sym (goes_where_room cell id wish keys are) ∙ ap (λ (j : Judgement). is_placed j.verdict) judged ∙ refused in
-    sym (victims_by_room cell id wish keys are is
-    ∙ none_mapped (goes_with cell id wish keys) (λ n. take n keys)
-    (λ n. false_from_ne_true _ (λ h.
-    let parts = and_parts _ _ h in
-    both_ways _ stays (and_from _ _ parts.0 (room_for_all cell claim n keys parts.1))))
-    (range_with_len 0 (length keys + 1)))

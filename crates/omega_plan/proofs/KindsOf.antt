@@ -21,7 +21,7 @@ use Rattle.omega_running.specs.declared.orders.Order.TheVariants.{ByKey}
 use Rattle.omega_board.proofs.Numbered.{machine_there}
 use Rattle.omega_plan.specs.Kinds.{IsFull, StaysFull, has_room}
 use Rattle.omega_plan.specs.Trying.{Takes, Yields, claim_on, takes}
-use Rattle.omega_plan.proofs.Candidates.{are_candidates}
+use Rattle.omega_plan.proofs.Candidates.{are_candidates, candidates_least}
 use Rattle.omega_plan.proofs.Elsewhere.{candidates_same, on_other, room_same}
 use Rattle.omega_plan.proofs.Fewest.{goes_where_room, goes_with, none_mapped, room_for_all, victims_by_room}
 
@@ -66,6 +66,11 @@ module _ (cell : Cell) (wish : Wish) (absent : task_at cell.tasks wish.key ≡ N
       mapped : (o : Option (List TaskKey)) → is_some (option_map (λ keys. claim_of wish keys machine.id) o) ≡ is_some o
       mapped None = refl
       mapped (Some keys) = refl
+
+  -- for a wish of the least precedence they make room where there is room as it is
+  pub yields_least : IsInOrder ByKey cell.tasks → wish.spec.prec ≡ 0 → (machine : Machine) → is_some (claim_on cell wish machine) ≡ takes cell wish machine
+  yields_least order least machine =
+      yields_is order machine ∙ ap (λ keys. has_room cell wish keys machine) (candidates_least cell machine.id wish least) ∙ sym (takes_is machine)
 
   pub takes_where_full : (i : ℕ) → IsFull cell wish i → Takes cell wish i false
   takes_where_full i full machine at = takes_is machine ∙ full machine at

@@ -9,3 +9,4 @@ pub mod KindsOf
 pub mod Rooms
 pub mod StepsOf
 pub mod Trials
+pub mod Leaving

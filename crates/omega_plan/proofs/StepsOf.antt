@@ -18,7 +18,8 @@ use Rattle.omega_model.specs.declared.wishes.Wish.{Wish}
 use Rattle.omega_running.specs.Order.{IsInOrder}
 use Rattle.omega_running.specs.declared.orders.Order.TheVariants.{ByKey}
 use Rattle.omega_board.proofs.Placed.{is_placed-Placed, placeable_fine}
-use Rattle.omega_fit.specs.Wrapped.{IsFirst}
+use Rattle.omega_fit.specs.Wrapped.{IsFirst, positions_from}
+use Rattle.omega_fit.proofs.Found.{first_follows}
 use Rattle.omega_plan.specs.Kinds.{IsFull, Serves, StaysFull, has_room}
 use Rattle.omega_plan.specs.Steps.{IsStep}
 use Rattle.omega_plan.specs.Trying.{AreVictimsAt, IsClaimAt, IsFirstToTake, IsFirstToYield, Takes, Yields, claim_on, takes}
@@ -26,7 +27,7 @@ use Rattle.omega_plan.specs.declared.progress.Progress.{Progress}
 use Rattle.omega_plan.proofs.AsIs.{as_is_found, as_is_none}
 use Rattle.omega_plan.proofs.Begins.{begins_still, begins_where_found}
 use Rattle.omega_plan.proofs.FirstYields.{yield_found, yield_none}
-use Rattle.omega_plan.proofs.KindsOf.{full_as_is, full_still, full_where_taken, full_where_yielded, room_emptied, stays_full_still, takes_is, yields_is}
+use Rattle.omega_plan.proofs.KindsOf.{full_as_is, full_still, full_where_taken, full_where_yielded, room_emptied, stays_full_still, takes_is, yields_is, yields_least}
 use Rattle.omega_plan.proofs.Trials.{planned_goes}
 
 -- a machine stands at each place of the list
@@ -85,6 +86,19 @@ module _ (cell : Cell) (wish : Wish) (progress : Progress) (serves : Serves cell
   pub step_full : IsFirstToTake cell wish progress.start None → IsStep cell wish false progress (record { claim = None; progress = progress })
   step_full full = record {
     claim = sym (ap (λ o. or_else o None) (sym (as_is_none cell progress.start wish full)));
+    start = refl;
+    serves = serves;
+  }
+
+  -- nor for one of the least precedence, to which no task gives way
+  pub step_least : IsInOrder ByKey cell.tasks → task_at cell.tasks wish.key ≡ None → wish.spec.prec ≡ 0 → IsFirstToTake cell wish progress.start None → (preempts : Bool)
+      → IsStep cell wish preempts progress (record { claim = None; progress = progress })
+  unfolding IsFirstToTake IsFirstToYield
+  step_least order absent least full preempts = record {
+    claim = sym (no_claim preempts (sym (as_is_none cell progress.start wish full))
+        (yield_none cell progress.start wish
+        (first_follows (Takes cell wish) (Yields cell wish) (positions_from progress.start (length cell.machines)) None full
+        (λ i b taken machine at. yields_least cell wish absent order least machine ∙ taken machine at))));
     start = refl;
     serves = serves;
   }

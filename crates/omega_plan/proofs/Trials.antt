@@ -2,7 +2,7 @@
 use Rattle.std.proofs.Common.{◌≡◌, ◌<◌, ◌+◌, ◌-◌, ◌≤◌, ℕ, Bool, true, false, List, [], ◌∷◌, ◌++◌, drop, length, get_or, Option, Some, None, IsSomeAnd, arith, refl, sym, ap, subst, ◌∙◌, if◌then◌else◌}
 use Rattle.std.specs.List.{cons_option, filter_map, find}
 use Rattle.std.specs.Prelude.{option_map}
-use Rattle.std.proofs.lemmas.List.{drop_more, append_assoc, append-nil}
+use Rattle.std.proofs.lemmas.List.{drop_all, drop_more, append_assoc, append-nil}
 use Rattle.omega_model.specs.Cell.{Cell}
 use Rattle.omega_model.specs.Judge.{would_be_placed}
 use Rattle.omega_model.specs.Keys.{beginnings}
@@ -58,10 +58,10 @@ pub planned_goes : (cell : Cell) (start : ℕ) (preempts : Bool) (wish : Wish) (
     → would_be_placed cell claim ≡ true
 planned_goes cell start preempts wish claim is = subst (GoesIn cell) (sym is) (claim_goes cell start preempts wish)
 
--- the claims so far and those of the wishes that remain are those of all, a trial leads back to where all
+-- the claims so far and those of the wishes that remain, a last one behind them, are those of all, a trial leads back to where all
 -- began, and the progress serves wishes of the kind of the last one
-pub record Planned (copy first : CopyState) (claims : List Claim) (start : ℕ) (preempts : Bool) (wishes : List Wish) (place : ℕ) (kind : Wish) (progress : Progress) : Type 0 where
-  pub planned : claims ++ claims_for_wishes (cell_of copy.board) start preempts (drop place wishes) ≡ claims_for_wishes (cell_of first.board) start preempts wishes
+pub record Planned (copy first : CopyState) (claims : List Claim) (start : ℕ) (preempts : Bool) (wishes : List Wish) (last : Wish) (place : ℕ) (kind : Wish) (progress : Progress) : Type 0 where
+  pub planned : claims ++ claims_for_wishes (cell_of copy.board) start preempts (drop place wishes ++ last ∷ []) ≡ claims_for_wishes (cell_of first.board) start preempts (wishes ++ last ∷ [])
   pub back : after_trial copy copy.trial ≡ after_trial first first.trial
   pub room : IsSomeAnd copy.trial (λ trial. length wishes ≤ trial.room + place)
   pub began : progress.start ≡ start
@@ -99,15 +99,15 @@ more_room wanted place None some = absurd some
 more_room wanted place (Some t) some = omega (arith, some)
 
 -- one more wish is planned
-pub planned_more : (copy first after : CopyState) (claims more : List Claim) (start : ℕ) (preempts : Bool) (wishes : List Wish) (place : ℕ) (kind wish : Wish)
-    (progress turned : Progress) (step : Step) → Planned copy first claims start preempts wishes place kind progress
+pub planned_more : (copy first after : CopyState) (claims more : List Claim) (start : ℕ) (preempts : Bool) (wishes : List Wish) (last : Wish) (place : ℕ) (kind wish : Wish)
+    (progress turned : Progress) (step : Step) → Planned copy first claims start preempts wishes last place kind progress
     → place < length wishes → wish ≡ get_or wishes place wish → turned.start ≡ progress.start → IsStep (cell_of copy.board) wish preempts turned step
     → cell_of after.board ≡ after_planned (cell_of copy.board) step.claim → more ≡ claims ++ and_claims step.claim []
     → after_trial after after.trial ≡ after_trial copy copy.trial → IsSomeAnd after.trial (λ trial. length wishes ≤ trial.room + (place + 1))
-    → Planned after first more start preempts wishes (place + 1) wish step.progress
-planned_more copy first after claims more start preempts wishes place kind wish progress turned step so below is advance now cell grown back room =
+    → Planned after first more start preempts wishes last (place + 1) wish step.progress
+planned_more copy first after claims more start preempts wishes last place kind wish progress turned step so below is advance now cell grown back room =
     let one = cell_of copy.board in
-    let rest = drop (place + 1) wishes in
+    let rest = drop (place + 1) wishes ++ last ∷ [] in
     let began : turned.start ≡ start = advance ∙ so.began in
     let claim : step.claim ≡ claim_for_wish one start preempts wish = now.claim ∙ ap (λ n. claim_for_wish one n preempts wish) began in
     record {
@@ -116,7 +116,7 @@ planned_more copy first after claims more start preempts wishes place kind wish 
           ∙ ap (λ cs. cs ++ claims_for_wishes (after_planned one step.claim) start preempts rest) grown
           ∙ joined claims (claims_for_wishes (after_planned one step.claim) start preempts rest) step.claim
           ∙ ap (λ o. claims ++ and_claims o (claims_for_wishes (after_planned one o) start preempts rest)) claim
-          ∙ ap (λ ws. claims ++ claims_for_wishes one start preempts ws) (sym (next_wish wishes place wish below is))
+          ∙ ap (λ ws. claims ++ claims_for_wishes one start preempts (ws ++ last ∷ [])) (sym (next_wish wishes place wish below is))
           ∙ so.planned;
       back = back ∙ so.back;
       room = room;
@@ -125,11 +125,23 @@ planned_more copy first after claims more start preempts wishes place kind wish 
     }
 
 -- the same of what is equal
-pub planned_as : (copy was first : CopyState) (claims others : List Claim) (start : ℕ) (preempts : Bool) (wishes : List Wish) (place : ℕ) (kind wish : Wish)
+pub planned_as : (copy was first : CopyState) (claims others : List Claim) (start : ℕ) (preempts : Bool) (wishes : List Wish) (last : Wish) (place : ℕ) (kind wish : Wish)
     (progress next : Progress) → copy ≡ was → claims ≡ others → kind ≡ wish → progress ≡ next
-    → Planned was first others start preempts wishes place wish next → Planned copy first claims start preempts wishes place kind progress
-planned_as copy was first claims others start preempts wishes place kind wish progress next one two three four so =
-    subst (λ c. Planned c first claims start preempts wishes place kind progress) (sym one)
-    (subst (λ cs. Planned was first cs start preempts wishes place kind progress) (sym two)
-    (subst (λ k. Planned was first others start preempts wishes place k progress) (sym three)
-    (subst (λ p. Planned was first others start preempts wishes place wish p) (sym four) so)))
+    → Planned was first others start preempts wishes last place wish next → Planned copy first claims start preempts wishes last place kind progress
+planned_as copy was first claims others start preempts wishes last place kind wish progress next one two three four so =
+    subst (λ c. Planned c first claims start preempts wishes last place kind progress) (sym one)
+    (subst (λ cs. Planned was first cs start preempts wishes last place kind progress) (sym two)
+    (subst (λ k. Planned was first others start preempts wishes last place k progress) (sym three)
+    (subst (λ p. Planned was first others start preempts wishes last place wish p) (sym four) so)))
+
+-- the claim for the last wish ends a plan
+pub planned_last : (copy first : CopyState) (claims all : List Claim) (start : ℕ) (preempts : Bool) (wishes : List Wish) (last : Wish) (place : ℕ) (kind : Wish) (progress turned : Progress)
+    (step : Step) → Planned copy first claims start preempts wishes last place kind progress → length wishes ≤ place → turned.start ≡ progress.start
+    → IsStep (cell_of copy.board) last preempts turned step → all ≡ claims ++ and_claims step.claim [] → all ≡ claims_for_wishes (cell_of first.board) start preempts (wishes ++ last ∷ [])
+planned_last copy first claims all start preempts wishes last place kind progress turned step so done turn now grown =
+    let one = cell_of copy.board in
+    let claim : step.claim ≡ claim_for_wish one start preempts last = now.claim ∙ ap (λ n. claim_for_wish one n preempts last) (turn ∙ so.began) in
+    grown
+    ∙ ap (λ o. claims ++ and_claims o []) claim
+    ∙ ap (λ ws. claims ++ claims_for_wishes one start preempts (ws ++ last ∷ [])) (sym (drop_all place wishes done))
+    ∙ so.planned

@@ -1,6 +1,7 @@
 -- What a machine does with a wish that is tried on it.
-use Rattle.std.specs.Prelude.{◌≡◌, ◌&&◌, ℕ, Bool, false, List, [], Option, Some, None, option_map, is_some, length, slice_get, if◌then◌else◌}
+use Rattle.std.specs.Prelude.{◌≡◌, ◌&&◌, not, ℕ, Bool, List, [], Option, Some, None, option_map, is_some, length, slice_get, if◌then◌else◌}
 use Rattle.omega_model.specs.Cell.{Cell}
+use Rattle.omega_model.specs.Judge.{has_rival}
 use Rattle.omega_model.specs.Plan.{claim_of, goes_in, victims}
 use Rattle.omega_model.specs.Planning.{suits}
 use Rattle.omega_model.specs.declared.cells.Machine.{Machine}
@@ -12,6 +13,15 @@ use Rattle.omega_fit.specs.Wrapped.{IsFirst, positions_from}
 -- whether a machine suits a wish and takes it as it is
 abbrev pub takes : Cell → Wish → Machine → Bool
 takes cell wish machine = suits wish machine.attrs && goes_in cell wish [] machine.id
+
+-- whether a machine suits a wish that doesn't have to be alone of its job there, or would be
+abbrev pub suits_alone : Cell → Wish → Machine → Bool
+suits_alone cell wish machine = suits wish machine.attrs && not (has_rival cell (claim_of wish [] machine.id) [])
+
+-- what is answered at a position: whether the machine that stands there suits the wish so
+abbrev pub SuitsAlone : Cell → Wish → ℕ → Bool → Type 0
+SuitsAlone cell wish position answer =
+    (machine : Machine) → slice_get cell.machines position ≡ Some machine → suits_alone cell wish machine ≡ answer
 
 -- what is answered at a position: whether the machine that stands there takes the wish
 abbrev pub Takes : Cell → Wish → ℕ → Bool → Type 0
@@ -31,10 +41,6 @@ claim_on cell wish machine =
 abbrev pub Yields : Cell → Wish → ℕ → Bool → Type 0
 Yields cell wish position answer =
     (machine : Machine) → slice_get cell.machines position ≡ Some machine → is_some (claim_on cell wish machine) ≡ answer
-
--- what is answered at a position where an answer may be true for another cause too
-abbrev pub MayYield : Cell → Wish → ℕ → Bool → Type 0
-MayYield cell wish position answer = answer ≡ false → Yields cell wish position false
 
 -- the first position, round from a start, on whose machine evictions make room; none where they do nowhere
 unfoldable pub IsFirstToYield : Cell → Wish → ℕ → Option ℕ → Type 0

@@ -1,21 +1,25 @@
 //! The tasks that make room for a wish, and the first machine on which they do.
-ghost use Rattle.std.specs.Prelude.{◌≡◌, ◌≤◌, ◌<◌, None, Some, IfOk, IfSome, option_map, length};
+ghost use Rattle.std.specs.Prelude.{◌≡◌, ◌≤◌, ◌<◌, ◌+◌, None, Some, IfOk, IfSome, IsTrue, option_map, length};
 ghost use Rattle.omega_board.specs.Board.{cell_of};
 ghost use Rattle.omega_copy.specs.Telling.{freed_of};
-ghost use Rattle.omega_model.specs.Cell.{task_at};
+ghost use Rattle.std.specs.List.{filter, find, range_with_len};
+ghost use Rattle.omega_model.specs.Cell.{machine_at, task_at, total};
 ghost use Rattle.omega_model.specs.Legal.{Sound};
-ghost use Rattle.omega_model.specs.Plan.{candidates, gives_way, victims};
+ghost use Rattle.omega_model.specs.Need.{fits, minus};
+ghost use Rattle.omega_model.specs.Plan.{gives_way, victims};
 ghost use Rattle.omega_running.specs.Kept.{KeysRise};
 ghost use Rattle.omega_plan.specs.Kinds.{Serves};
-ghost use Rattle.omega_plan.specs.Trying.{AreVictimsAt, IsFirstToYield, MayYield};
+ghost use Rattle.omega_plan.specs.Trying.{AreVictimsAt, IsFirstToYield, Yields};
+ghost use Rattle.omega_plan.specs.Leaving.{leaves_enough, need_staying, stays};
+ghost use Rattle.omega_fit.specs.Wrapped.{FirstBetween};
 
 use crate::progress::Progress;
-use crate::trying::claim_of;
+use crate::trying::has_rival;
 use omega_attrs::eligible;
 use omega_board::Board;
 use omega_copy::PrivateCopy;
 use omega_fit::FitIndex;
-use omega_model::{Keys, NoMemory, Seq, Task, Wish};
+use omega_model::{Keys, Machine, Need, NoMemory, Task, Wish};
 use omega_running::keys_of;
 use std::alloc::Global;
 
@@ -65,32 +69,43 @@ fn yielding_from(
 ) -> Result<Option<Candidate>, NoMemory>
     requires sound { Sound (cell_of board.now) }
     requires freed { freed.now.free ≡ freed_of wish.now.spec.prec (cell_of board.now) }
+    requires absent { task_at board.now.tasks wish.now.key ≡ None }
     requires begin { begin ≤ length (cell_of board.now).machines }
     ensures first { IfOk result (λ found. IsFirstToYield (cell_of board.now) wish.now begin (option_map (λ f. f.position) found)) }
     ensures below { IfOk result (λ found. IfSome found (λ f. f.position < length board.now.table)) }
     ensures victims { IfOk result (λ found. IfSome found (λ f. AreVictimsAt (cell_of board.now) wish.now f.position (Some f.victims))) }
 {
-    let found = freed.first(begin, wish.spec.need, |position| {
-        may_yield(alloc, board, wish, position)
-    });
-    let Some(position) = found else {
-        return Ok(None);
-    };
-    match victims_at(alloc, board, wish, position)? {
-        Some(victims) => Ok(Some(Candidate { position, victims })),
-        None => Err(NoMemory),
+    match yielding_between(alloc, board, freed, wish, begin, freed.len())? {
+        Some(found) => Ok(Some(found)),
+        None => yielding_between(alloc, board, freed, wish, 0, begin),
     }
 }
 
-/// Whether evictions make room on the machine at a position. True too where memory runs out.
-fn may_yield(alloc: Global, board: &Board, wish: &Wish, position: usize) -> bool
-    ensures { MayYield (cell_of board.now) wish.now position result }
+/// The first position of `from..to` where evictions make room.
+fn yielding_between(
+    alloc: Global,
+    board: &Board,
+    freed: &FitIndex,
+    wish: &Wish,
+    from: usize,
+    to: usize,
+) -> Result<Option<Candidate>, NoMemory>
+    requires sound { Sound (cell_of board.now) }
+    requires freed { freed.now.free ≡ freed_of wish.now.spec.prec (cell_of board.now) }
+    requires absent { task_at board.now.tasks wish.now.key ≡ None }
+    requires to { to ≤ length freed.now.free }
+    ensures first { IfOk result (λ found. FirstBetween (Yields (cell_of board.now) wish.now) from to (option_map (λ f. f.position) found)) }
+    ensures below { IfOk result (λ found. IfSome found (λ f. f.position < to)) }
+    ensures victims { IfOk result (λ found. IfSome found (λ f. AreVictimsAt (cell_of board.now) wish.now f.position (Some f.victims))) }
 {
-    match victims_at(alloc, board, wish, position) {
-        Ok(None) => false,
-        Ok(Some(_)) => true,
-        Err(_) => true,
+    let mut begin = from;
+    while let Some(position) = freed.next(begin, to, wish.spec.need) {
+        if let Some(victims) = victims_at(alloc, board, wish, position)? {
+            return Ok(Some(Candidate { position, victims }));
+        }
+        begin = position + 1;
     }
+    Ok(None)
 }
 
 /// The victims on the machine at a position, if it suits the wish and evictions make room there.
@@ -100,23 +115,24 @@ fn victims_at(
     wish: &Wish,
     position: usize,
 ) -> Result<Option<Keys>, NoMemory>
+    requires absent { task_at board.now.tasks wish.now.key ≡ None }
     ensures { IfOk result (λ keys. AreVictimsAt (cell_of board.now) wish.now position keys) }
 {
-    let Some(machine) = board.machines().at(position) else {
+    let machines = board.machines();
+    let Some(machine) = machines.at(position) else {
         return Ok(None);
     };
     if !eligible(&wish.constraints, &machine.attrs) {
         return Ok(None);
     }
-    victims(alloc, board, wish, machine.id)
+    victims_on(alloc, board, wish, machine)
 }
 
 /// The fewest tasks on a machine that must go for a fine claim of the wish to be placed there: a
 /// beginning of its tasks of other jobs with lower precedence, in order of precedence, job and
 /// index. Empty where none must go; `Ok(None)` exactly where no beginning makes room.
 ///
-/// Sorts those of the machine's tasks that may go, judges one claim that names them all, and compares
-/// each candidate with those before it.
+/// Costs the machine's tasks; where all that may go make room, these are sorted.
 pub fn victims(
     alloc: Global,
     board: &Board,
@@ -125,26 +141,88 @@ pub fn victims(
 ) -> Result<Option<Keys>, NoMemory>
     ensures { IfOk result (λ keys. keys ≡ victims (cell_of board.now) machine wish.now) }
 {
-    let candidates = candidates(alloc, board, wish, machine)?;
-    let mut evicted = Vec::with_capacity(alloc, candidates.len())?;
-    let claim = claim_of(wish, candidates, machine);
-    if board.judge(&claim, None, &mut evicted).is_placed() {
-        Ok(Some(Seq::of(evicted)))
-    } else {
-        Ok(None)
+    let running = board.running();
+    let machines = board.machines();
+    let Some(position) = machines.position(machine) else {
+        return Ok(None);
+    };
+    let Some(listed) = machines.at(position) else {
+        return Ok(None);
+    };
+    if running.get(wish.key).is_some() {
+        return Ok(None);
     }
+    victims_on(alloc, board, wish, listed)
 }
 
-/// The tasks on a machine that may be evicted for a wish, in order of eviction.
-fn candidates(alloc: Global, board: &Board, wish: &Wish, machine: u64) -> Result<Keys, NoMemory>
-    ensures keys { IfOk result (λ keys. keys ≡ candidates (cell_of board.now) machine wish.now) }
-    ensures ordered { KeysRise board.now.tasks }
+/// The same on a listed machine, of a wish whose task doesn't run.
+fn victims_on(
+    alloc: Global,
+    board: &Board,
+    wish: &Wish,
+    machine: &Machine,
+) -> Result<Option<Keys>, NoMemory>
+    requires absent { task_at board.now.tasks wish.now.key ≡ None }
+    requires listed { machine_at (cell_of board.now).machines machine.now.id ≡ Some machine.now }
+    ensures { IfOk result (λ keys. keys ≡ victims (cell_of board.now) machine.now.id wish.now) }
 {
     let running = board.running();
-    let mut tasks = running.tasks_on(alloc, machine)?.into_items();
+    if !machine.up {
+        return Ok(None);
+    }
+    if has_rival(alloc, board, wish, machine.id) {
+        return Ok(None);
+    }
+    let mut tasks = running.tasks_on(alloc, machine.id)?.into_items();
+    let left = left_by_staying(wish, &tasks, machine.cap);
+    if !wish.spec.need.fits(left) {
+        return Ok(None);
+    }
     tasks.retain(|task| gives_way(wish, task));
     tasks.sort_unstable_by_key(|task| (task.spec.prec, task.key.job, task.key.index));
-    keys_of(alloc, &tasks)
+    let count = fewest(wish.spec.need, left, &tasks);
+    tasks.truncate(count);
+    Ok(Some(keys_of(alloc, &tasks)?))
+}
+
+/// What is left of an amount when each of some tasks that doesn't give way to a wish has taken its need.
+fn left_by_staying(wish: &Wish, tasks: &[Task], amount: Need) -> Need
+    ensures { result ≡ minus amount (total (filter (stays wish.now) tasks.now)) }
+{
+    let mut left = amount;
+    for task in tasks {
+        left = left_by(wish, task, left);
+    }
+    left
+}
+
+/// What is left of an amount when a task that doesn't give way to a wish has taken its need.
+fn left_by(wish: &Wish, task: &Task, amount: Need) -> Need
+    ensures { result ≡ minus amount (need_staying wish.now task.now) }
+{
+    if gives_way(wish, task) {
+        return amount;
+    }
+    amount.minus(task.spec.need)
+}
+
+/// How many of these tasks must go at least, in their order, for the others to leave enough for a need;
+/// there is enough where all go. Begins with the last one and stops where one takes too much.
+fn fewest(need: Need, left: Need, tasks: &[Task]) -> usize
+    requires room { IsTrue (fits need left) }
+    ensures { find (leaves_enough need left tasks.now) (range_with_len 0 (length tasks.now + 1)) ≡ Some result }
+{
+    let mut left = left;
+    let mut count = tasks.len();
+    while count > 0 {
+        let less = left.minus(tasks[count - 1].spec.need);
+        if !need.fits(less) {
+            return count;
+        }
+        left = less;
+        count -= 1;
+    }
+    0
 }
 
 /// Whether a task gives way to a wish: it is of another job, and its precedence is lower.

@@ -1,8 +1,8 @@
 //! The plan of a request.
-ghost use Rattle.std.specs.Prelude.{◌≡◌, ◌≤◌, None, length, IfOk, IsSomeAnd};
+ghost use Rattle.std.specs.Prelude.{◌≡◌, ◌≤◌, ◌+◌, ◌++◌, [], None, length, IfOk, IsSomeAnd};
 ghost use Rattle.omega_board.specs.Board.{cell_of};
 ghost use Rattle.omega_copy.specs.Copies.{after_trial};
-ghost use Rattle.omega_model.specs.Plan.{whole_or_none};
+ghost use Rattle.omega_model.specs.Plan.{and_claims, whole_or_none};
 ghost use Rattle.omega_model.specs.Cell.{task_at};
 ghost use Rattle.omega_model.specs.Legal.{Sound};
 ghost use Rattle.omega_model.specs.Planning.{claims_for_wishes, plan_for};
@@ -42,7 +42,7 @@ pub fn plan(
     ensures copy { copy.new ≡ copy.old }
 {
     let wishes = request.wishes.as_slice();
-    copy.begin_trial(alloc, request)?;
+    copy.begin_trial(alloc, wishes.len().saturating_sub(1))?;
     let claims = claims_for_wishes(alloc, copy, wishes, start, policy.preempt);
     copy.end_trial();
     Ok(Txn {
@@ -54,7 +54,8 @@ pub fn plan(
 }
 
 /// The claims for the wishes in order, each on the copy after the claims before it, for which its
-/// trial has room. The claims stay on the copy until the trial ends.
+/// trial has room: the claim for the last one needn't be placed. The claims stay on the copy until
+/// the trial ends.
 fn claims_for_wishes(
     alloc: Global,
     copy: &mut PrivateCopy,
@@ -63,17 +64,17 @@ fn claims_for_wishes(
     preempts: bool,
 ) -> Result<Vec<Claim>, NoMemory>
     requires start { start ≤ length copy.old.board.table }
-    requires room { IsSomeAnd copy.old.trial (λ trial. length wishes.now ≤ trial.room) }
+    requires room { IsSomeAnd copy.old.trial (λ trial. length wishes.now ≤ trial.room + 1) }
     ensures claims { IfOk result (λ claims. claims.items ≡ claims_for_wishes (cell_of copy.old.board) start preempts wishes.now) }
     ensures back { after_trial copy.new copy.new.trial ≡ after_trial copy.old copy.old.trial }
 {
     let mut claims = Vec::new(alloc);
-    let Some(first) = wishes.first() else {
+    let Some((last, others)) = wishes.split_last() else {
         return Ok(claims);
     };
-    let mut previous = first;
+    let mut previous = last;
     let mut progress = Progress::at(start);
-    for wish in wishes {
+    for wish in others {
         let Step {
             claim,
             progress: next,
@@ -91,7 +92,20 @@ fn claims_for_wishes(
         previous = wish;
         progress = next;
     }
-    Ok(claims)
+    let progress = progress.advance(previous, last);
+    let step = claim_for_wish(alloc, copy, last, preempts, progress)?;
+    with_claim(claims, step.claim)
+}
+
+/// Claims with one more, if there is one.
+fn with_claim(claims: Vec<Claim>, claim: Option<Claim>) -> Result<Vec<Claim>, NoMemory>
+    ensures { IfOk result (λ all. all.items ≡ claims.items ++ and_claims claim []) }
+{
+    let mut all = claims;
+    if let Some(claim) = claim {
+        all.push(claim)?;
+    }
+    Ok(all)
 }
 
 /// The claim for one wish: without victims where that goes, else with them if it preempts. A wish
@@ -123,7 +137,8 @@ fn claim_for_wish(
     }
 }
 
-/// The claim for a wish that no machine takes as it is. The copy is as before.
+/// The claim for a wish that no machine takes as it is: for one of the least precedence no task gives
+/// way. The copy is as before.
 fn claim_by_evicting(
     alloc: Global,
     copy: &mut PrivateCopy,
@@ -140,6 +155,12 @@ fn claim_by_evicting(
     ensures copy { copy.new ≡ copy.old }
 {
     if !preempts {
+        return Ok(Step {
+            claim: None,
+            progress,
+        });
+    }
+    if wish.spec.prec == 0 {
         return Ok(Step {
             claim: None,
             progress,

@@ -4,9 +4,10 @@ ghost use Rattle.omega_board.specs.Board.{cell_of};
 ghost use Rattle.omega_copy.specs.Telling.{frees_of};
 ghost use Rattle.omega_model.specs.Cell.{task_at};
 ghost use Rattle.omega_model.specs.Legal.{Sound};
-ghost use Rattle.omega_model.specs.Plan.{claim_of, goes_in};
+ghost use Rattle.omega_model.specs.Judge.{has_rival};
+ghost use Rattle.omega_model.specs.Plan.{claim_of};
 ghost use Rattle.omega_plan.specs.Kinds.{Serves};
-ghost use Rattle.omega_plan.specs.Trying.{IsClaimAt, IsFirstToTake, Takes};
+ghost use Rattle.omega_plan.specs.Trying.{IsClaimAt, IsFirstToTake, SuitsAlone};
 
 use crate::progress::Progress;
 use omega_attrs::eligible;
@@ -48,34 +49,39 @@ fn first_from(
 ) -> Option<usize>
     requires sound { Sound (cell_of board.now) }
     requires index { index.now.free ≡ frees_of (cell_of board.now) }
+    requires absent { task_at board.now.tasks wish.now.key ≡ None }
     requires begin { begin ≤ length (cell_of board.now).machines }
     ensures first { IsFirstToTake (cell_of board.now) wish.now begin result }
     ensures below { IfSome result (λ position. position < length board.now.table) }
 {
     index.first(begin, wish.spec.need, |position| {
-        takes(alloc, board, wish, position)
+        suits_alone(alloc, board, wish, position)
     })
 }
 
-/// Whether the machine at a position suits the wish and takes it as it is.
-fn takes(alloc: Global, board: &Board, wish: &Wish, position: usize) -> bool
-    ensures { Takes (cell_of board.now) wish.now position result }
+/// Whether the machine at a position suits the wish, and has no other task of its job where the wish must
+/// be alone. Looks in the running tasks only then.
+fn suits_alone(alloc: Global, board: &Board, wish: &Wish, position: usize) -> bool
+    ensures { SuitsAlone (cell_of board.now) wish.now position result }
 {
     match board.machines().at(position) {
         Some(machine) => {
-            eligible(&wish.constraints, &machine.attrs) && goes_in(alloc, board, wish, machine.id)
+            eligible(&wish.constraints, &machine.attrs)
+                && !has_rival(alloc, board, wish, machine.id)
         }
         None => false,
     }
 }
 
-/// Whether a machine takes the wish as it is, whatever its attributes.
-fn goes_in(alloc: Global, board: &Board, wish: &Wish, id: u64) -> bool
-    ensures { result ≡ goes_in (cell_of board.now) wish.now [] id }
+/// Whether the wish must be alone of its job on a machine, and isn't.
+pub(crate) fn has_rival(alloc: Global, board: &Board, wish: &Wish, id: u64) -> bool
+    ensures { result ≡ has_rival (cell_of board.now) (claim_of wish.now [] id) [] }
 {
-    let claim = claim_of(wish, Seq::new(alloc), id);
-    let mut evicted = Vec::new(alloc);
-    board.judge(&claim, None, &mut evicted).is_placed()
+    wish.spec.differ
+        && board
+            .running()
+            .other_of_job(wish.key.job, id, &Seq::new(alloc))
+            .is_some()
 }
 
 /// The claim of a wish on the machine at a position, with these victims.

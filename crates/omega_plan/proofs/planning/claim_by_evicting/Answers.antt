@@ -11,7 +11,7 @@ use Rattle.omega_plan.specs.Steps.{IsStep}
 use Rattle.omega_plan.specs.Trying.{AreVictimsAt, IsClaimAt, IsFirstToYield}
 use Rattle.omega_plan.specs.declared.evicting.Candidate.{Candidate}
 use Rattle.omega_plan.specs.declared.progress.Progress.{Progress}
-use Rattle.omega_plan.proofs.StepsOf.{step_evicting, step_full, step_stays_full}
+use Rattle.omega_plan.proofs.StepsOf.{step_evicting, step_full, step_least, step_stays_full}
 use Rattle.omega_plan.proofs.planning.claim_by_evicting.Goals as goal
 
 pub returns-then-not-preempts-clause-step : goal.returns-then-not-preempts-clause-step
@@ -55,3 +55,7 @@ returns-in-None-clause-step c =
     subst (λ (p : Progress). IsStep cell wish c.args.preempts progress (record { claim = None; progress = p })) (sym c.stays_full.ensures)
     (subst (λ (b : Bool). IsStep cell wish b progress (record { claim = None; progress = record progress { evicting = None } })) (sym c.if-not-preempts.false)
     (step_stays_full cell wish progress c.requires.serves c.requires.ordered c.requires.absent c.requires.full none))
+
+pub returns-then-wish-eq0-clause-step : goal.returns-then-wish-eq0-clause-step
+returns-then-wish-eq0-clause-step c =
+    step_least (cell_of c.args.copy.now.board) c.args.wish.now c.args.progress c.requires.serves c.requires.ordered c.requires.absent c.if-wish-eq0.true c.requires.full c.args.preempts

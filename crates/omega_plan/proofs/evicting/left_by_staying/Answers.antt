@@ -1,0 +1,20 @@
+use Rattle.std.proofs.Common.{List, sym, ap, ◌∙◌}
+use Rattle.std.specs.List.{filter}
+use Rattle.std.proofs.lemmas.List.{drop_all}
+use Rattle.omega_model.specs.Cell.{total}
+use Rattle.omega_model.specs.Need.{minus}
+use Rattle.omega_model.specs.declared.cells.Task.{Task}
+use Rattle.omega_plan.specs.Leaving.{stays}
+use Rattle.omega_plan.proofs.Leaving.{minus_nothing, staying_more}
+use Rattle.omega_plan.proofs.evicting.left_by_staying.Goals as goal
+
+pub loop-task-preserved : goal.loop-task-preserved
+loop-task-preserved c =
+    staying_more c.args.wish.now c.loop-task.left c.left_by-left.result (minus c.args.amount (total (filter (stays c.args.wish.now) c.args.tasks.now))) c.args.tasks.now c.loop-task.task-index _ c.loop-task-test.true c.left_by-left.ensures c.loop-task.invariant
+
+pub returns : goal.returns
+returns c =
+    let wish = c.args.wish.now in
+    sym (minus_nothing c.loop-task.left)
+    ∙ ap (λ (ts : List Task). minus c.loop-task.left (total (filter (stays wish) ts))) (sym (drop_all c.loop-task.task-index c.args.tasks.now c.loop-task-test.false))
+    ∙ c.loop-task.invariant
