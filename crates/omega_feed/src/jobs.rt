@@ -116,6 +116,17 @@ impl Jobs {
         Ok(())
     }
 
+    /// The numbers of the jobs, in their order.
+    pub fn numbers(&self, alloc: Global) -> Result<Vec<u64>, NoMemory>
+        ensures { IfOk result (λ numbers. numbers.items ≡ map (λ job. job.job) self.now) }
+    {
+        let mut numbers = Vec::with_capacity(alloc, self.list.len())?;
+        for job in self.list.as_slice() {
+            numbers.push(job.job)?;
+        }
+        Ok(numbers)
+    }
+
     /// The place of a job: the only one at which it stands, `None` exactly where there is none. Costs
     /// the logarithm of their number.
     pub fn place(&self, job: u64) -> Option<usize>

@@ -76,13 +76,15 @@ impl Wanted {
         ensures { IfOk result (λ wanted. wanted ≡ asked_after settings.now tables.now []) }
     {
         let activities = JobActivities::new(alloc, &tables.activities)?;
+        let jobs = Jobs::of(alloc, rows, settings, &activities)?;
+        let tasks = WantedTasks::of_jobs(alloc, jobs.numbers(alloc)?)?;
         Ok(Wanted {
-            jobs: Jobs::of(alloc, rows, settings, &activities)?,
+            jobs,
             constraints: TaskConstraints::new(alloc, &tables.constraints)?,
             disks: MachineDisks::new(alloc, &tables.disks)?,
             activities,
             extra: settings.extra,
-            tasks: WantedTasks::new(alloc),
+            tasks,
         })
     }
 

@@ -3,7 +3,7 @@ use Rattle.std.specs.List.{list_any}
 use Rattle.omega_model.specs.ExtraTasks.{is_wanted}
 use Rattle.omega_feed.specs.Asked.{is_task_of}
 use Rattle.omega_feed.proofs.TaskMap.{first_is, low_wanted, some_left, between_at}
-use Rattle.omega_feed.proofs.tasks.WantedTasks.has_job.Goals as goal
+use Rattle.omega_feed.proofs.task_tree.TaskTree.has_job.Goals as goal
 
 pub returns-clause-any : goal.returns-clause-any
 returns-clause-any c =

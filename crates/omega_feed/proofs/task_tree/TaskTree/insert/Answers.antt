@@ -3,7 +3,7 @@ use Rattle.std.proofs.lemmas.Map.Views.{All-keys-insert_entry}
 use Rattle.omega_model.specs.ExtraTasks.{first_extra}
 use Rattle.omega_model.specs.Wanted.{with_wanted}
 use Rattle.omega_feed.specs.Index.{wanted_task, key_cmp}
-use Rattle.omega_feed.proofs.tasks.WantedTasks.insert.Goals as goal
+use Rattle.omega_feed.proofs.task_tree.TaskTree.insert.Goals as goal
 use Rattle.omega_feed.proofs.TaskMap.{low_tasks, put_is}
 
 pub invariant_of-self-2 : goal.invariant_of-self-2

@@ -2,7 +2,7 @@ use Rattle.std.proofs.Common.{◌++◌, map, ap, sym, ◌∙◌, append-nil}
 use Rattle.std.specs.List.{filter}
 use Rattle.omega_model.specs.ReportCounts.{waits}
 use Rattle.omega_feed.proofs.AtEnd.{idle_jobs, waiting_idle}
-use Rattle.omega_feed.proofs.tasks.WantedTasks.waiting_jobs.Goals as goal
+use Rattle.omega_feed.proofs.task_tree.TaskTree.waiting_jobs.Goals as goal
 
 pub returns : goal.returns
 returns c machines =

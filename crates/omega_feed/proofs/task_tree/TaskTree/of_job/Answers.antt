@@ -2,7 +2,7 @@ use Rattle.std.proofs.Common.{◌++◌, map, ap, sym, ◌∙◌, append-nil}
 use Rattle.omega_model.specs.ExtraTasks.{wanted_of}
 use Rattle.omega_feed.specs.Index.{wanted_task}
 use Rattle.omega_feed.proofs.TaskMap.{between_at, of_job_is}
-use Rattle.omega_feed.proofs.tasks.WantedTasks.of_job.Goals as goal
+use Rattle.omega_feed.proofs.task_tree.TaskTree.of_job.Goals as goal
 
 pub returns : goal.returns
 returns c =

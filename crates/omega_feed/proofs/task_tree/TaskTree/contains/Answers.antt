@@ -2,7 +2,7 @@ use Rattle.std.proofs.Common.{ap, ◌∙◌}
 use Rattle.std.specs.List.{list_any}
 use Rattle.omega_model.specs.Wanted.{is_named}
 use Rattle.omega_feed.proofs.TaskMap.{has_is}
-use Rattle.omega_feed.proofs.tasks.WantedTasks.contains.Goals as goal
+use Rattle.omega_feed.proofs.task_tree.TaskTree.contains.Goals as goal
 
 pub returns : goal.returns
 returns c =

@@ -6,7 +6,7 @@ use Rattle.omega_model.specs.ExtraTasks.{first_extra}
 use Rattle.omega_model.specs.Wanted.{is_named}
 use Rattle.omega_feed.specs.Index.{wanted_task, key_cmp}
 use Rattle.omega_feed.proofs.TaskMap.{drop_is, low_tasks}
-use Rattle.omega_feed.proofs.tasks.WantedTasks.remove.Goals as goal
+use Rattle.omega_feed.proofs.task_tree.TaskTree.remove.Goals as goal
 
 pub invariant_of-self : goal.invariant_of-self
 invariant_of-self c = record {

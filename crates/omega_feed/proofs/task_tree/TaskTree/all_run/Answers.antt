@@ -6,7 +6,7 @@ use Rattle.omega_model.specs.Cell.{task_at}
 use Rattle.omega_feed.specs.Open.{RunsIfOf}
 use Rattle.omega_feed.proofs.Quiet.{all_run_from, none_found, one_idle}
 use Rattle.omega_feed.proofs.TaskMap.{between_at, idle}
-use Rattle.omega_feed.proofs.tasks.WantedTasks.all_run.Goals as goal
+use Rattle.omega_feed.proofs.task_tree.TaskTree.all_run.Goals as goal
 
 pub returns : goal.returns
 returns c =
