@@ -1,7 +1,10 @@
 -- The wanted tasks of many jobs, those of each job by themselves.
-use Rattle.std.specs.Prelude.{◌≡◌, ◌<◌, ◌≤◌, ◌++◌, ℕ, List, [], ◌∷◌, get_or, length}
+use Rattle.std.specs.Prelude.{◌≡◌, ◌<◌, ◌≤◌, ◌++◌, ℕ, List, [], ◌∷◌, get_or, is_some, length, map, not}
+use Rattle.std.specs.List.{filter}
+use Rattle.omega_model.specs.Cell.{task_at}
 use Rattle.omega_model.specs.ExtraTasks.{HasLowIndex}
 use Rattle.omega_model.specs.Wanted.{WantedTask}
+use Rattle.omega_model.specs.declared.cells.Task.{Task}
 use Rattle.omega_running.specs.Order.{Each}
 
 -- the tasks of all jobs
@@ -32,3 +35,7 @@ StandsAt jobs job place = (place < length jobs) × (get_or jobs place 0 ≡ job)
 abbrev pub BelongsAt : List ℕ → ℕ → ℕ → Type 0
 BelongsAt jobs job place =
     (place ≤ length jobs) × ((k : ℕ) → k < place → get_or jobs k 0 < job) × ((k : ℕ) → place ≤ k → k < length jobs → job < get_or jobs k 0)
+
+-- the jobs of those tasks that don't run
+abbrev pub waiting_jobs : List Task → List WantedTask → List ℕ
+waiting_jobs running tasks = map (λ task. task.key.job) (filter (λ task. not (is_some (task_at running task.key))) tasks)

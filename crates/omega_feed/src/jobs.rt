@@ -120,11 +120,7 @@ impl Jobs {
     pub fn numbers(&self, alloc: Global) -> Result<Vec<u64>, NoMemory>
         ensures { IfOk result (λ numbers. numbers.items ≡ map (λ job. job.job) self.now) }
     {
-        let mut numbers = Vec::with_capacity(alloc, self.list.len())?;
-        for job in self.list.as_slice() {
-            numbers.push(job.job)?;
-        }
-        Ok(numbers)
+        numbers_of(alloc, &self.list)
     }
 
     /// The place of a job: the only one at which it stands, `None` exactly where there is none. Costs
@@ -141,6 +137,17 @@ impl Jobs {
     {
         self.list.get(place).copied()
     }
+}
+
+/// The numbers of some jobs, in their order.
+fn numbers_of(alloc: Global, jobs: &[RoutedJob]) -> Result<Vec<u64>, NoMemory>
+    ensures { IfOk result (λ numbers. numbers.items ≡ map (λ job. job.job) jobs.now) }
+{
+    let mut numbers = Vec::with_capacity(alloc, jobs.len())?;
+    for job in jobs {
+        numbers.push(job.job)?;
+    }
+    Ok(numbers)
 }
 
 /// The scheduler of a job with a task of this class: the last one where it has activities, else that

@@ -1,13 +1,12 @@
 //! Wanted tasks in one tree.
-ghost use Rattle.std.specs.Prelude.{◌≡◌, ◌↔◌, ◌++◌, [], All, List, not, map, ◌<◌, IfOk, IsTrue, OnOk, OnErr};
+ghost use Rattle.std.specs.Prelude.{◌≡◌, ◌↔◌, ◌++◌, [], All, not, map, ◌<◌, IfOk, IsTrue, OnOk, OnErr};
 ghost use Rattle.std.specs.List.{filter, list_any};
 ghost use Rattle.omega_model.specs.ExtraTasks.{HasLowIndex, first_extra, is_wanted, wanted_of};
-ghost use Rattle.omega_model.specs.ReportCounts.{waits};
 ghost use Rattle.omega_model.specs.Wanted.{with_wanted, is_named};
-ghost use Rattle.omega_model.specs.declared.cells.Machine.{Machine};
 ghost use Rattle.omega_feed.specs.Asked.{is_task_of};
 ghost use Rattle.omega_feed.specs.Index.{wanted_task};
 ghost use Rattle.omega_feed.specs.Open.{RunsIfOf};
+ghost use Rattle.omega_feed.specs.Parts.{waiting_jobs};
 
 use omega_model::{NoMemory, Spec, TaskKey};
 use omega_running::Running;
@@ -84,7 +83,7 @@ impl TaskTree {
     /// Appends the job of each task that doesn't run, in order of the tasks' keys. Costs the tasks, each
     /// times the logarithm of the number of those that run.
     pub fn push_waiting(&self, running: &Running, jobs: &mut Vec<u64>) -> Result<(), NoMemory>
-        ensures { OnOk result ((machines : List Machine) → jobs.new.items ≡ jobs.old.items ++ map (λ task. task.key.job) (filter (waits (record { machines = machines; tasks = running.now.tasks })) self.now)) }
+        ensures { OnOk result (jobs.new.items ≡ jobs.old.items ++ waiting_jobs running.now.tasks self.now) }
     {
         for (key, _spec) in self.specs.iter() {
             if running.get(*key).is_some() {

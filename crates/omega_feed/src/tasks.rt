@@ -1,6 +1,6 @@
 //! The wanted tasks.
-ghost use Rattle.std.specs.Prelude.{◌≡◌, ◌↔◌, [], All, IfOk, IfSome, IsTrue, List, MatchResult, None, OnErr, OnOk, map, not, ◌<◌};
-ghost use Rattle.std.specs.List.{filter, list_any};
+ghost use Rattle.std.specs.Prelude.{◌≡◌, ◌↔◌, [], All, IfNone, IfOk, IfSome, IsTrue, List, MatchResult, OnErr, OnOk, map, not, ◌<◌};
+ghost use Rattle.std.specs.List.{filter, flat_map, list_any};
 ghost use Rattle.omega_model.specs.ExtraTasks.{HasLowIndex, first_extra, is_wanted, wanted_of};
 ghost use Rattle.omega_model.specs.ReportCounts.{waits};
 ghost use Rattle.omega_model.specs.Wanted.{wanted_after_task, with_wanted, is_named};
@@ -8,7 +8,7 @@ ghost use Rattle.omega_model.specs.declared.cells.Machine.{Machine};
 ghost use Rattle.omega_feed.specs.Asked.{is_task_of};
 ghost use Rattle.omega_feed.specs.Index.{changed_by, wanted_task};
 ghost use Rattle.omega_feed.specs.Open.{RunsIfOf};
-ghost use Rattle.omega_feed.specs.Parts.{AreParts, BelongsAt, Rise, StandsAt, joined};
+ghost use Rattle.omega_feed.specs.Parts.{AreParts, BelongsAt, Rise, StandsAt, joined, waiting_jobs};
 
 use crate::task_tree::TaskTree;
 use omega_model::{NoMemory, Spec, TaskKey, TaskRow};
@@ -90,12 +90,12 @@ impl WantedTasks {
 
     /// The tasks of a job; `None` only where it has none.
     fn find(&self, job: u64) -> Option<&TaskTree>
-        ensures none { result ≡ None → filter (is_task_of job) self.now ≡ [] }
+        ensures none { IfNone result (filter (is_task_of job) self.now ≡ []) }
         ensures part { IfSome result (λ tree. tree.now ≡ filter (is_task_of job) self.now) }
     {
         match place_of(&self.jobs, self.last, job) {
             Ok(place) => Some(&self.parts[place]),
-            Err(_) => None,
+            Err(_gap) => None,
         }
     }
 
@@ -110,7 +110,8 @@ impl WantedTasks {
     {
         let place = place_for(self.alloc, &mut self.jobs, &mut self.parts, self.last, key.job)?;
         self.last = place;
-        self.parts[place].insert(key, spec)
+        self.parts[place].insert(key, spec)?;
+        Ok(())
     }
 
     /// Takes a task out, if it is there. Costs the logarithms of the number of jobs and of the job's
@@ -119,9 +120,12 @@ impl WantedTasks {
         ensures tasks { self.new ≡ filter (λ task. not (is_named key task)) self.old }
         ensures low { All HasLowIndex self.new }
     {
-        if let Ok(place) = place_of(&self.jobs, self.last, key.job) {
-            self.last = place;
-            self.parts[place].remove(key);
+        match place_of(&self.jobs, self.last, key.job) {
+            Ok(place) => {
+                self.last = place;
+                self.parts[place].remove(key);
+            }
+            Err(_gap) => {}
         }
     }
 
@@ -165,11 +169,7 @@ impl WantedTasks {
     pub fn waiting_jobs(&self, alloc: Global, running: &Running) -> Result<Vec<u64>, NoMemory>
         ensures { IfOk result (λ jobs. (machines : List Machine) → jobs.items ≡ map (λ task. task.key.job) (filter (waits (record { machines = machines; tasks = running.now.tasks })) self.now)) }
     {
-        let mut jobs = Vec::new(alloc);
-        for tasks in self.parts.as_slice() {
-            tasks.push_waiting(running, &mut jobs)?;
-        }
-        Ok(jobs)
+        waiting_in(alloc, &self.parts, running)
     }
 
     /// Whether each wanted task of a job runs. Costs the wanted tasks of the job up to the first that
@@ -192,6 +192,17 @@ impl WantedTasks {
             None => Ok(Vec::new(alloc)),
         }
     }
+}
+
+/// The job of each task of these trees that doesn't run, in their order.
+fn waiting_in(alloc: Global, parts: &[TaskTree], running: &Running) -> Result<Vec<u64>, NoMemory>
+    ensures { IfOk result (λ jobs. jobs.items ≡ flat_map (waiting_jobs running.now.tasks) parts.now) }
+{
+    let mut jobs = Vec::new(alloc);
+    for tasks in parts {
+        tasks.push_waiting(running, &mut jobs)?;
+    }
+    Ok(jobs)
 }
 
 /// Where a job stands among these, which rise, or else where it would stand. The place `last` is
@@ -246,8 +257,9 @@ fn put_place(
     ensures place { OnOk result (StandsAt jobs.new.items job place) }
 {
     jobs.reserve(1)?;
-    parts.reserve(1)?;
-    jobs.insert_reserved(place, job);
-    parts.insert_reserved(place, TaskTree::new(alloc));
-    Ok(())
+    parts.insert(place, TaskTree::new(alloc))?;
+    match jobs.insert(place, job) {
+        Ok(()) => Ok(()),
+        Err(_) => unreachable!(),
+    }
 }
