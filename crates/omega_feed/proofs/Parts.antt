@@ -1,5 +1,5 @@
 -- The wanted tasks of many jobs, those of each job by themselves: what changes at the place of one, and what is found there.
-use Rattle.std.proofs.Common.{◌≡◌, ℕ, ◌<◌, ◌≤◌, ◌+◌, Bool, true, false, cond, not, ◌&&◌, ◌||◌, ◌==◌, List, [], ◌∷◌, ◌++◌, length, get_or, set, take, drop, zero, suc, refl, ap, sym, subst, ◌∙◌, inl, inr, arith, append_assoc, append-nil, nat_lt}
+use Rattle.std.proofs.Common.{◌≡◌, ℕ, ◌<◌, ◌≤◌, Bool, true, false, cond, not, ◌&&◌, ◌||◌, ◌==◌, List, [], ◌∷◌, ◌++◌, length, get_or, set, take, drop, zero, suc, refl, ap, sym, subst, ◌∙◌, inl, inr, arith, append_assoc, append-nil, nat_lt}
 use Rattle.std.specs.List.{All, filter, flat_map, insert, list_any}
 use Rattle.std.specs.Prelude.{is_some}
 use Rattle.std.proofs.lemmas.Bool.{and_parts, both_ways, cases_Bool, eq-eqb, ne_eqb}
@@ -8,7 +8,7 @@ use Rattle.std.proofs.lemmas.List.Elements.{All-cons, All-head, All-nil, All-tai
 use Rattle.omega_model.proofs.Lists.{by_answer}
 use Rattle.omega_model.specs.ExtraTasks.{HasLowIndex, first_extra, is_wanted, wanted_of}
 use Rattle.omega_model.specs.Cell.{task_at}
-use Rattle.omega_model.specs.Keys.{key_lt, same_key}
+use Rattle.omega_model.specs.Keys.{key_lt}
 use Rattle.omega_model.specs.Wanted.{WantedTask, with_wanted, is_named}
 use Rattle.omega_model.specs.declared.cells.Spec.{Spec}
 use Rattle.omega_model.specs.declared.cells.Task.{Task}

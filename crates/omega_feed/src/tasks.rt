@@ -108,7 +108,13 @@ impl WantedTasks {
         ensures err { OnErr result (self.new ≡ self.old) }
         ensures low { All HasLowIndex self.new }
     {
-        let place = place_for(self.alloc, &mut self.jobs, &mut self.parts, self.last, key.job)?;
+        let place = place_for(
+            self.alloc,
+            &mut self.jobs,
+            &mut self.parts,
+            self.last,
+            key.job,
+        )?;
         self.last = place;
         self.parts[place].insert(key, spec)?;
         Ok(())

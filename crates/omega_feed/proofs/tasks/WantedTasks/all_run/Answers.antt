@@ -9,8 +9,7 @@ use Rattle.omega_feed.proofs.tasks.WantedTasks.all_run.Goals as goal
 pub returns-in-Some : goal.returns-in-Some
 returns-in-Some c =
     let job = c.args.job in
-    let running = c.args.running.now.tasks in
-    (
+    let running = c.args.running.now.tasks in (
       λ runs. run_in_part job running c.args.self.now (subst (All (RunsIfOf job running)) c.in-Some.ensures.part (c.all_run.ensures.0 runs)),
       λ all. c.all_run.ensures.1 (subst (All (RunsIfOf job running)) (sym c.in-Some.ensures.part) (All-filter (is_task_of job) (RunsIfOf job running) c.args.self.now all)),
     )

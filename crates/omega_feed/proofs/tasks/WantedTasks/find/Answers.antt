@@ -1,6 +1,5 @@
 use Rattle.std.proofs.Common.{◌<◌, ◌∙◌, ℕ, List, ap, arith, length, subst, sym}
 use Rattle.std.specs.List.{filter}
-use Rattle.std.specs.Prelude.{vec_len}
 use Rattle.omega_feed.specs.Asked.{is_task_of}
 use Rattle.omega_feed.specs.Parts.{BelongsAt, Rise, StandsAt}
 use Rattle.omega_feed.proofs.Parts.{as_many, found_at, no_part, part_is, rise}

@@ -1,4 +1,4 @@
-use Rattle.std.proofs.Common.{◌≡◌, ◌∙◌, ap, arith}
+use Rattle.std.proofs.Common.{◌∙◌, ap, arith}
 use Rattle.omega_model.specs.Wanted.{with_wanted}
 use Rattle.omega_feed.proofs.Parts.{all_low, as_many, kept_now, put_now}
 use Rattle.omega_feed.proofs.tasks.WantedTasks.insert.Goals as goal

@@ -1,4 +1,4 @@
-use Rattle.std.proofs.Common.{◌≡◌, ◌∙◌, ℕ, List, ap, arith, not, subst, sym}
+use Rattle.std.proofs.Common.{◌∙◌, ℕ, List, ap, arith, not, subst, sym}
 use Rattle.std.specs.List.{filter}
 use Rattle.omega_model.specs.Wanted.{is_named}
 use Rattle.omega_feed.specs.Parts.{BelongsAt, Rise, StandsAt, joined}
