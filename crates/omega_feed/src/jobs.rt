@@ -10,9 +10,9 @@ ghost use Rattle.omega_feed.specs.Asked.{home, is_job, routed, with_job};
 ghost use Rattle.omega_feed.specs.Index.{job_at};
 
 use crate::activities::JobActivities;
+use indexmap::IndexMap;
 use omega_model::{NoMemory, Row, Settings, TaskRow};
 use std::alloc::Global;
-use std::collections::BTreeMap;
 use std::marker::Model;
 
 /// A job and the scheduler that works on it.
@@ -22,15 +22,16 @@ pub struct RoutedJob {
     pub scheduler: u32,
 }
 
-/// Jobs in an order, found by place and by number.
+/// Jobs in an order, found by place and by number, each at the same cost for any number of jobs.
 #[derive(Drop)]
 pub struct Jobs {
     list: Vec<RoutedJob>,
-    places: BTreeMap<u64, usize>,
+    places: IndexMap<u64, usize>,
 }
 
 impl Model for Jobs {
-    ghost use Rattle.std.specs.Prelude.{List};
+    ghost use Rattle.std.specs.Prelude.{List, nat_eq};
+    ghost use Rattle.indexmap.specs.IndexMap.{get};
     ghost use Rattle.omega_feed.specs.declared.jobs.RoutedJob.{RoutedJob};
 
     ghost Value = { List RoutedJob };
@@ -39,7 +40,7 @@ impl Model for Jobs {
 
     ghost view = { λ jobs. jobs.list.items };
 
-    ghost invariant = { λ jobs. AreFound jobs.places jobs.list.items };
+    ghost invariant = { λ jobs. AreFound (get nat_eq jobs.places) jobs.list.items };
 }
 
 impl Jobs {
@@ -49,7 +50,7 @@ impl Jobs {
     {
         Jobs {
             list: Vec::new(alloc),
-            places: BTreeMap::new(alloc),
+            places: IndexMap::new(alloc),
         }
     }
 
@@ -108,11 +109,9 @@ impl Jobs {
             return Ok(());
         }
         let place = self.list.len();
+        self.list.reserve(1)?;
         self.places.insert(job.job, place)?;
-        if self.list.push(job).is_err() {
-            self.places.remove(&job.job);
-            return Err(NoMemory);
-        }
+        self.list.push_reserved(job);
         Ok(())
     }
 
