@@ -5,8 +5,10 @@ from typing import Dict, List, NamedTuple, Optional, Sequence, Tuple
 
 from .common import Refusal, shown
 
-# Those that end in a report of a run.
+# Those that end in a report of a run and keep nothing, so that a tool may call them.
 COMMANDS = ('replay', 'run', 'simulate', 'generate')
+# Those whose report may be read.
+REPORTS = COMMANDS + ('resume',)
 
 # Each option with its default. One without a default has that of another option.
 OPTIONS: Dict[str, Optional[str]] = {
@@ -65,16 +67,16 @@ def split_words(words: Sequence[str]) -> Tuple[List[str], Dict[str, str]]:
     return commands, options
 
 
-def words_of(words: Sequence[str]) -> Words:
+def words_of(words: Sequence[str], allowed: Sequence[str] = COMMANDS) -> Words:
     commands, options = split_words(words)
-    if len(commands) != 1 or commands[0] not in COMMANDS:
-        raise Refusal('there has to be one command: %s or %s' % (', '.join(COMMANDS[:-1]), COMMANDS[-1]))
+    if len(commands) != 1 or commands[0] not in allowed:
+        raise Refusal('there has to be one command: %s or %s' % (', '.join(allowed[:-1]), allowed[-1]))
     return Words(commands[0], options)
 
 
 def words_beside(report: Path) -> Optional[Words]:
     """The words of a run from the file `words` beside its report, a word a line, if there is one."""
     try:
-        return words_of((report.parent / 'words').read_text().splitlines())
+        return words_of((report.parent / 'words').read_text().splitlines(), REPORTS)
     except (OSError, UnicodeDecodeError, Refusal):
         return None

@@ -286,7 +286,8 @@ class Shown(Reported):
     def test_words_beside(self) -> None:
         path = self.written(SIMULATED)
         for text, expected in (('simulate\n--window=600000000\n--tables\nx', 600_000_000), ('simulate', 300_000_000),
-                               ('--window\n7\nsimulate', 7), ('--nothing\n7\nsimulate', None), ('', None)):
+                               ('--window\n7\nsimulate', 7), ('resume\n--kept\nk\n--window\n8', 8),
+                               ('audit\n--kept\nk', None), ('--nothing\n7\nsimulate', None), ('', None)):
             (self.folder / 'words').write_text(text)
             found = words.words_beside(path)
             self.assertEqual(found and found.window(), expected)

@@ -56,7 +56,7 @@ with_fields number fields row = if length fields == number then row else Err (0,
 abbrev pub number_in : ℕ → ℕ → List (List ℕ) → Result ℕ BadColumn
 number_in greatest number fields = in_column number (bounded greatest (column fields number))
 
--- a whole number in a column that may be blank
+-- a whole number in a column that may be empty
 abbrev pub number_or_blank_in : ℕ → ℕ → List (List ℕ) → Result ℕ BadColumn
 number_or_blank_in greatest number fields = in_column number (blank_or_bounded greatest (column fields number))
 

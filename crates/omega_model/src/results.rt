@@ -58,7 +58,8 @@ pub enum Status {
 #[derive(Debug, Drop)]
 pub struct Done {
     pub status: Status,
-    /// The settings of the words. `None` where the words were refused.
+    /// The settings of the words. `None` where the words weren't read: they were refused, or memory ran out.
     pub settings: Option<Settings>,
+    /// The history whose report was made, or nothing where none was.
     pub history: Entries,
 }

@@ -23,7 +23,7 @@ use Rattle.omega_laws.proofs.RoundsAdd.{round_begins, rounds_add}
 use Rattle.omega_laws.proofs.TurnOrder.{turns_front, turns_order}
 use Rattle.omega_rounds.specs.Going.{OpensRound, ReachesRound}
 use Rattle.omega_rounds.specs.Playing.{IsAtStart, IsInSomeRun, PlaysRound}
-use Rattle.omega_rounds.specs.Resuming.{Agree, AppendsRounds, AreRoundsInTurns, BeginsAgreed, IsPastEnd, IsRunInTurns, LeavesKept, RefusesKept, RefusesRound, StopsRound, TakesRound, lines_behind}
+use Rattle.omega_rounds.specs.Resuming.{Agree, AppendsRounds, AreRoundsInTurns, BeginsAgreed, IsPastEnd, IsRunOfStage, LeavesKept, RefusesKept, RefusesRound, StopsRound, TakesRound, lines_behind}
 use Rattle.omega_rounds.specs.Stages.{AllHaveBegun, IsInRunOf, Source, Stage, WorldState, next_stage, rows_begun}
 use Rattle.omega_rounds.specs.declared.kept.ResumeRefusal.{ResumeRefusal}
 use Rattle.omega_rounds.specs.declared.kept.ResumeRefusal.TheVariants.{BadKept, KeepFault, NoMemory}
@@ -88,7 +88,7 @@ pub record StandsKept (kept : List (List ℕ)) (first : Option (List (List ℕ))
       → Remains now trace history
   pub agree : Agree kept now.history
   pub adds : Adds (lines_behind kept now.history) first keeps
-  pub ended : length kept ≤ length now.history → (history : List Entry) → IsRunInTurns now.stage history → refused_for history kept ≡ None
+  pub ended : length kept ≤ length now.history → (history : List Entry) → IsRunOfStage now.stage history → refused_for history kept ≡ None
 
 -- so it is once some round has begun, and the rounds that have were played
 pub record HasResumed (kept : List (List ℕ)) (first : Option (List (List ℕ))) (start now : WorldState) (keeps : Option (List (List ℕ))) : Type 0 where
@@ -137,7 +137,7 @@ stands_now kept first start now keeps has begins = by now.stage.begun refl
     by (suc n) some = has.some (omega (arith, some))
 
 -- a history of the run at its start is one of the run now
-run_now : (start now : WorldState) → HasEnded start now → (history : List Entry) → IsRunInTurns start.stage history → IsRunInTurns now.stage history
+run_now : (start now : WorldState) → HasEnded start now → (history : List Entry) → IsRunOfStage start.stage history → IsRunOfStage now.stage history
 run_now start now has history is = record {
   trace = is.trace;
   made = same_run start now has is.trace is.made;
@@ -316,7 +316,7 @@ module _ (kept : List (List ℕ)) (first : Option (List (List ℕ))) (start now 
         ap (take (length now.history)) more.1 ∙ take-append_seam now.history _
 
     -- where the kept lines end with the round, none is refused
-    ends_with : length kept ≡ length after.history → Agree kept after.history → (history : List Entry) → IsRunInTurns after.stage history
+    ends_with : length kept ≡ length after.history → Agree kept after.history → (history : List Entry) → IsRunOfStage after.stage history
         → refused_for history kept ≡ None
     ends_with all agree history is =
         let lawful : Lawful now.stage.settings is.trace history = subst (λ (s : Stage). Lawful s.settings is.trace history) there is.lawful in
@@ -359,7 +359,7 @@ module _ (kept : List (List ℕ)) (first : Option (List (List ℕ))) (start now 
 
     -- a line of the round that isn't kept, or that is the first one that isn't, is the one that is refused
     refused_round : (from : ℕ) → from ≡ length now.history → (place : ℕ) → from < length kept → place ≡ in_common kept after.history → place < length after.history
-        → (history : List Entry) → IsRunInTurns now.stage history → refused_for history kept ≡ Some place
+        → (history : List Entry) → IsRunOfStage now.stage history → refused_for history kept ≡ Some place
     refused_round from is place more place_is within history run =
         let remains = remains_then run.trace run.made history run.lawful run.turns in
         let later = rest_of_run after run.trace history remains in
@@ -410,7 +410,7 @@ module _ (kept : List (List ℕ)) (first : Option (List (List ℕ))) (start now 
   stands_at_end = stands_now kept first start now keeps has begins
 
   -- nothing remains
-  over : (history : List Entry) → IsRunInTurns start.stage history → history ≡ now.history
+  over : (history : List Entry) → IsRunOfStage start.stage history → history ≡ now.history
   over history run =
       let here = run_now start now has.played.ended history run in
       let begun : now.stage.begun ≡ length now.stage.source.rounds = subst (λ (w : WorldState). AllHaveBegun w.stage) same all in

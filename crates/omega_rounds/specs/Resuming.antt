@@ -19,7 +19,7 @@ use Rattle.omega_rounds.specs.declared.kept.ResumeRefusal.TheVariants.{BadKept, 
 
 -- a history is lawful and in turns for a trace in whose run a world at this stage is: there is one, and of it
 -- the kept lines must be
-pub record IsRunInTurns (stage : Stage) (history : List Entry) : Type 0 where
+pub record IsRunOfStage (stage : Stage) (history : List Entry) : Type 0 where
   pub trace : TraceTables
   pub made : IsInRunOf stage trace
   pub lawful : Lawful stage.settings trace history
@@ -38,8 +38,8 @@ status_of NoMemory = status.NoMemory
 -- why kept lines of a run are refused: for the place at which they are no lines of whole rounds of its
 -- history. Where the keeper failed they are such lines
 abbrev pub RefusesKept : Stage → List (List ℕ) → ResumeRefusal → Type 0
-RefusesKept stage kept (BadKept place) = (history : List Entry) → IsRunInTurns stage history → refused_for history kept ≡ Some place
-RefusesKept stage kept KeepFault = (history : List Entry) → IsRunInTurns stage history → refused_for history kept ≡ None
+RefusesKept stage kept (BadKept place) = (history : List Entry) → IsRunOfStage stage history → refused_for history kept ≡ Some place
+RefusesKept stage kept KeepFault = (history : List Entry) → IsRunOfStage stage history → refused_for history kept ≡ None
 RefusesKept stage kept NoMemory = ⊤
 
 -- lines are those of the first rounds of a trace, so many of them, in which the schedulers take turns
@@ -52,16 +52,16 @@ pub record AreRoundsInTurns (settings : Settings) (trace : TraceTables) (lines :
 
 -- lines are those of the first rounds of a run, and the first lines of its whole history, up to the end of a
 -- round
-pub record AreRoundsOf (stage : Stage) (lines : List (List ℕ)) : Type 0 where
+pub record AreRoundsOfStage (stage : Stage) (lines : List (List ℕ)) : Type 0 where
   pub played : (trace : TraceTables) → IsInRunOf stage trace → AreRoundsInTurns stage.settings trace lines
-  pub front : (history : List Entry) → IsRunInTurns stage history → AreWholeRounds history lines
+  pub front : (history : List Entry) → IsRunOfStage stage history → AreWholeRounds history lines
 
 -- to a keeper's list some lines were added: none, or such that with the kept ones before them they are those of
 -- the run's first rounds
 pub record AppendsRounds (stage : Stage) (kept : List (List ℕ)) (before now : Option (List (List ℕ))) : Type 0 where
   pub added : List (List ℕ)
   pub adds : Adds added before now
-  pub whole : (added ≡ []) ⊎ AreRoundsOf stage (kept ++ added)
+  pub whole : (added ≡ []) ⊎ AreRoundsOfStage stage (kept ++ added)
 
 -- what a run that goes on from kept lines leaves at its keeper where it is refused: whole rounds more, and
 -- nothing more where the kept lines are refused

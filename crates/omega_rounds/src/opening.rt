@@ -58,7 +58,7 @@ pub(crate) fn open_round(
 }
 
 /// Appends a round's entry and those of its rows in order. Of the jobs that aren't open, those of which
-/// something may have to be placed then are opened. More machines than a table holds are answered as
+/// something may have to be placed then are opened. More than `MOST_MACHINES` machines are answered as
 /// want of memory. Costs the rows, and what their entries change.
 fn open(
     alloc: Global,

@@ -51,7 +51,7 @@ pub struct World {
     /// The place in the history after the rows of the last round that has begun.
     opened_at: usize,
     wanted: Wanted,
-    /// The jobs of which something may have to be placed. All others were quiet at that place.
+    /// The jobs of which something may have to be placed. All others were quiet at `opened_at`.
     open_jobs: OpenJobs,
     cell: Cell,
     workers: Vec<Worker>,

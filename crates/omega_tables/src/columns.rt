@@ -59,7 +59,7 @@ fn number_in(greatest: u64, number: u32, fields: &ByteRecord) -> Result<u64, Bad
     }
 }
 
-/// The whole number in a column that may be blank, which is 0.
+/// The whole number in a column that may be empty, which stands for 0.
 fn number_or_blank_in(greatest: u64, number: u32, fields: &ByteRecord) -> Result<u64, BadColumn>
     requires { 0 < number }
     ensures value { result ≡ number_or_blank_in greatest number (fields_of fields.now) }

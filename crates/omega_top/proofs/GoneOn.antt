@@ -18,7 +18,7 @@ use Rattle.omega_model.specs.declared.settings.Settings.{Settings}
 use Rattle.omega_keep.specs.Keeping.{Adds}
 use Rattle.omega_keep.specs.KeptLines.{entry_text}
 use Rattle.omega_keep.specs.Resumed.{AreWholeRounds, ends_round, in_common, lines_of, refused_for}
-use Rattle.omega_rounds.specs.Resuming.{AppendsRounds, AreRoundsInTurns, AreRoundsOf as RoundsOfStage, IsRunInTurns as RunOfStage, LeavesKept, RefusesKept, lines_behind, status_of}
+use Rattle.omega_rounds.specs.Resuming.{AppendsRounds, AreRoundsInTurns, AreRoundsOfStage, IsRunOfStage, LeavesKept, RefusesKept, lines_behind, status_of}
 use Rattle.omega_rounds.specs.Stages.{IsInRunOf, Stage, first_stage}
 use Rattle.omega_rounds.specs.declared.kept.ResumeRefusal.{ResumeRefusal}
 use Rattle.omega_rounds.specs.declared.kept.ResumeRefusal.TheVariants.{BadKept, KeepFault, NoMemory}
@@ -111,7 +111,7 @@ module _ (settings : Settings) (trace : TraceTables) where
   -- ---- the run itself
 
   -- the run of a trace is that of a world at its first stage
-  run_of_stage : (stage : Stage) → stage ≡ first_stage settings trace → (history : List Entry) → IsRunInTurns settings trace history → RunOfStage stage history
+  run_of_stage : (stage : Stage) → stage ≡ first_stage settings trace → (history : List Entry) → IsRunInTurns settings trace history → IsRunOfStage stage history
   run_of_stage stage is history run = record {
     trace = trace;
     made = subst (λ (at : Stage). IsInRunOf at trace) (sym is) refl;
@@ -120,7 +120,7 @@ module _ (settings : Settings) (trace : TraceTables) where
   }
 
   -- and so are its first rounds
-  rounds_of_stage : (stage : Stage) → stage ≡ first_stage settings trace → (lines : List (List ℕ)) → RoundsOfStage stage lines → AreRoundsOf settings trace lines
+  rounds_of_stage : (stage : Stage) → stage ≡ first_stage settings trace → (lines : List (List ℕ)) → AreRoundsOfStage stage lines → AreRoundsOf settings trace lines
   rounds_of_stage stage is lines of = record {
     played = subst (λ (at : Stage). AreRoundsInTurns at.settings trace lines) is (of.played trace (subst (λ (at : Stage). IsInRunOf at trace) (sym is) refl));
     front = λ history run. of.front history (run_of_stage stage is history run);

@@ -30,8 +30,8 @@ use std::alloc::Global;
 use std::sync::Wait;
 use std::thread::Threads;
 
-/// The history of a whole run, what its entries did, what waits at its end, and on `simulate` how long all
-/// took.
+/// The history of a whole run, what its entries did, what waits at its end, and on `simulate` the lines of
+/// time.
 #[derive(Drop)]
 pub struct WholeRun {
     /// The history.
@@ -47,7 +47,7 @@ pub struct WholeRun {
 
 /// The history of a trace under these settings, what its entries did, and what waits at its end: on
 /// `run` with each scheduler on a thread of its own, which passes the gate; on `simulate` by a virtual
-/// clock, and with how long all took; else with the schedulers taking turns. On `run` it may wait.
+/// clock, and with the lines of time; else with the schedulers taking turns. On `run` it may wait.
 pub fn replayed<R: Threads + Wait + Sync, G: Gate + Sync>(
     rt: &R,
     alloc: Global,

@@ -35,16 +35,19 @@ use std::sync::Wait;
 use std::thread::Threads;
 
 /// Does what the words say with the tables of their folder, or with those that it makes on
-/// `generate`: replays them and writes the report of the history that it answers. On `audit` it reads no
-/// tables: it replays the lines that the keeper hands out, and writes how many entries they are and what is
-/// used after the last one.
+/// `generate`: replays them and writes the report of the history that it answers. On `resume` it compares the
+/// lines that the keeper hands out with those of the history, and appends the others to the keeper's list,
+/// round by round. On `audit` it reads no tables: it replays the lines that the keeper hands out, and writes
+/// how many entries they are and what is used after the last one.
 ///
 /// Of the refusals the first that stands is answered: that of the words, then for each table in
 /// order that of its reading, its length and its rows, then that of the limits over all tables, then
-/// that of the writing; on `audit` that of the words, of the loading, of the first kept line that is refused,
-/// and of the writing. Want of memory alone may be answered at any place before the first write.
-/// After a refusal of one table none behind it was read. On `generate` and `audit` the folder is entered too,
-/// but none of its tables is read; the keeper's path is entered on every command, and its list always stays.
+/// that of the writing; on `resume`, before the writing, that of the loading, of the first kept line that
+/// isn't the run's, and of the appending; on `audit` that of the words, of the loading, of the first kept
+/// line that is refused, and of the writing. Want of memory alone may be answered at any place before the
+/// first write. After a refusal of one table none behind it was read. On `generate` and `audit` the folder is
+/// entered too, but none of its tables is read; the keeper's path is entered on every command, and its list
+/// stays on all but `resume`.
 /// Settings are answered unless the words weren't read; then no folder and no path was entered, and all tables
 /// are as they were. On `run` each scheduler has a thread of its own, which passes the gate, and the call may
 /// wait; on `simulate` the commits stand in the order of a virtual clock; on the other commands that run a
@@ -201,66 +204,10 @@ pub fn omega_with<R: Threads + Wait + Sync, T: Tables, K: Sink, G: Gate + Sync, 
 {
     match settings.command {
         Command::Audit => audit_and_write(alloc, settings, out, keeper),
-        _ => run_and_write(rt, alloc, settings, tables, out, gate, keeper),
-    }
-}
-
-/// Reads the tables of a run, replays them and writes the report.
-fn run_and_write<R: Threads + Wait + Sync, T: Tables, K: Sink, G: Gate + Sync, P: Keeper>(
-    rt: &R,
-    alloc: Global,
-    settings: &Settings,
-    tables: &mut T,
-    out: &mut K,
-    gate: &G,
-    keeper: &mut P,
-) -> Done
-    requires range { IsInRange settings.now }
-    requires run { settings.now.command ≢ Audit }
-    requires sync { IsSync R.row × IsSync G.row }
-    ensures settings { result.settings ≡ Some settings.now }
-    ensures folder { T.entered tables.new ≡ T.entered tables.old }
-
-    ensures first { (bytes : Table → List ℕ) → Reads settings.now (T.rest tables.old) bytes → Answers bytes result.status }
-    ensures not_usage { result.status ≢ Usage }
-    ensures not_kept { settings.now.command ≢ Resume → IsNotOfKept result.status }
-    ensures resume { settings.now.command ≡ Resume → (bytes : Table → List ℕ) → Reads settings.now (T.rest tables.old) bytes
-        → IsResume settings.now (trace_of bytes) (P.kept keeper.old) (P.kept keeper.new) result.history result.status }
-    ensures some_resume { settings.now.command ≡ Resume
-        → IsSomeResume settings.now (P.kept keeper.old) (P.kept keeper.new) result.history result.status }
-    ensures keeper { settings.now.command ≢ Resume
-        → StaysAtKeeper (P.kept keeper.old) (P.kept keeper.new) (P.faults keeper.old) (P.faults keeper.new) }
-    ensures keep_fault { result.status ≡ KeepFault → RoseOfKeeper (P.faults keeper.old) (P.faults keeper.new) }
-    ensures kept_path { P.entered keeper.new ≡ P.entered keeper.old }
-    ensures kept_later { P.faults keeper.old ≤ P.faults keeper.new }
-    ensures made { makes_tables settings.now.command ≡ true → EndsRun result.status }
-    ensures unread { reads_tables settings.now.command ≡ false
-        → StayUnread (T.rest tables.old) (T.rest tables.new) (T.faults tables.old) (T.faults tables.new) }
-    ensures no_further { ReadsNoFurther (T.rest tables.old) (T.rest tables.new) (T.faults tables.old) (T.faults tables.new) result.status }
-    ensures read_fault { HasReadCause (T.faults tables.old) (T.faults tables.new) result.status }
-    ensures write_fault { result.status ≡ WriteFault → Rose (K.faults out.old) (K.faults out.new) }
-
-    ensures lawful { (bytes : Table → List ℕ) → Reads settings.now (T.rest tables.old) bytes
-        → IsWholeRun settings.now (trace_of bytes) result.history result.status }
-    ensures only { settings.now.command ≢ Run → (bytes : Table → List ℕ) → Reads settings.now (T.rest tables.old) bytes
-        → IsOnlyRun settings.now (trace_of bytes) result.history result.status }
-    ensures ordered { (bytes : Table → List ℕ) → Reads settings.now (T.rest tables.old) bytes
-        → IsOrderedRun settings.now (trace_of bytes) result.history result.status }
-    ensures turns { takes_turns settings.now.command ≡ true → InTurns result.history }
-    ensures whole_commits { (bytes : Table → List ℕ) → Reads settings.now (T.rest tables.old) bytes
-        → HasWholeCommits settings.now (trace_of bytes) result.history result.status }
-    ensures some_run { IsSomeRun settings.now result.history result.status (K.written out.old) (K.written out.new) }
-    ensures sound { IsSoundHistory result.history }
-    ensures history { HasHistory result.history result.status }
-    ensures written { (bytes : Table → List ℕ) → Reads settings.now (T.rest tables.old) bytes
-        → IsWritten settings.now (trace_of bytes) result.history result.status (K.written out.old) (K.written out.new) }
-    ensures nothing { WritesNothing (K.written out.old) (K.written out.new) result.status }
-    ensures to_end { (bytes : Table → List ℕ) → Tells (T.rest tables.old) bytes → result.status ≡ Status.Done
-        → Tells (T.rest tables.new) (left_by settings.now.command bytes) }
-{
-    match trace_of_run(alloc, settings, tables) {
-        Ok(trace) => replay_and_write(rt, alloc, settings, &trace, out, gate, keeper),
-        Err(refusal) => refused(alloc, Status::from(refusal), Some(*settings)),
+        _ => match trace_of_run(alloc, settings, tables) {
+            Ok(trace) => replay_and_write(rt, alloc, settings, &trace, out, gate, keeper),
+            Err(refusal) => refused(alloc, Status::from(refusal), Some(*settings)),
+        },
     }
 }
 
