@@ -123,7 +123,7 @@ impl Jobs {
     }
 
     /// The place of a job: the only one at which it stands, `None` exactly where there is none. Costs
-    /// the logarithm of their number.
+    /// the same for any number of them.
     pub fn place(&self, job: u64) -> Option<usize>
         ensures { (place : ℕ) → (result ≡ Some place) ↔ (job_at self.now place ≡ Some job) }
     {

@@ -62,9 +62,9 @@ impl Model for Wanted {
 }
 
 impl Wanted {
-    /// What a trace with this feed asks for before its first row: no task is wanted. Costs two look-ups
-    /// for each task row, two or three for each constraint, and one for each row of disks and of
-    /// activities.
+    /// What a trace with this feed asks for before its first row: no task is wanted. Costs a look-up
+    /// for each task row, two or three for each constraint, one for each row of disks and of activities, and
+    /// the jobs, each times the logarithm of their number.
     pub fn new(
         alloc: Global,
         tables: &TraceTables,
@@ -90,8 +90,8 @@ impl Wanted {
 
     /// Applies a row: what it submits, schedules or updates is wanted as it says, and what ends in it is not
     /// wanted any more. Its job is opened if the task is a new one or the job has activities, and no other. A
-    /// refused call leaves what is wanted, and may have opened the job. Costs the logarithm of the number of
-    /// tasks and of jobs.
+    /// refused call leaves what is wanted, and may have opened the job. Costs the logarithms of the number of
+    /// jobs and of the job's tasks.
     pub fn take(&mut self, row: &Row, open_jobs: &mut OpenJobs) -> Result<(), NoMemory>
         ensures ok { OnOk result (self.new ≡ record self.old { tasks = wanted_after self.old.tasks row.now }) }
         ensures err { OnErr result (self.new ≡ self.old) }
@@ -172,7 +172,8 @@ impl Wanted {
     }
 
     /// Whether the end of a task may let something of its job wait: the task is wanted, or it is an extra
-    /// and a task of its job is wanted. Costs the logarithm of the number of wanted tasks.
+    /// and a task of its job is wanted. Costs the logarithms of the number of jobs
+    /// and of the job's tasks.
     pub fn misses(&self, key: TaskKey) -> bool
         ensures { result ≡ is_missed self.now key }
     {
@@ -180,7 +181,7 @@ impl Wanted {
     }
 
     /// The place of a job among all jobs of the trace: the only one at which it stands, `None` exactly
-    /// where there is none. Costs the logarithm of their number.
+    /// where there is none. Costs the same for any number of them.
     pub(crate) fn place(&self, job: u64) -> Option<usize>
         ensures { (place : ℕ) → (result ≡ Some place) ↔ (job_at self.now.jobs place ≡ Some job) }
     {
