@@ -1,8 +1,11 @@
 -- Jobs in order of their first task row, and the places at which they are found.
-use Rattle.std.proofs.Common.{◌≡◌, ℕ, zero, suc, Bool, true, false, cond, not, ◌&&◌, ◌||◌, ◌==◌, List, [], ◌∷◌, ◌++◌, Option, Some, None, map, length, nat_eq, refl, ap, sym, ◌∙◌, ◌⊎◌, inl, inr, arith, append_assoc, append-nil}
+use Rattle.std.proofs.Common.{◌≡◌, ℕ, zero, suc, Bool, true, false, cond, not, ◌&&◌, ◌||◌, ◌==◌, List, [], ◌∷◌, ◌++◌, Option, Some, None, map, length, refl, ap, sym, ◌∙◌, ◌⊎◌, inl, inr, arith, append_assoc, append-nil}
 use Rattle.std.specs.Prelude.{is_some}
+use Rattle.std.specs.BTreeMap as tree
+use Rattle.std.specs.BTreeMap.{BTreeMap}
 use Rattle.std.specs.List.{filter, filter_map, fold, list_any}
-use Rattle.std.proofs.lemmas.Bool.{eq-eqb, ne_eqb, eqb-true, cases_eq, cases_Bool}
+use Rattle.std.specs.Ordering.{nat_cmp}
+use Rattle.std.proofs.lemmas.Bool.{eq-eqb, ne_eqb, eqb-true, le-ltb, lt-ltb, cases_eq, cases_order, cases_Bool}
 use Rattle.std.proofs.lemmas.List.Folds.{list_any-append}
 use Rattle.omega_model.specs.Feed.{feed, each_once}
 use Rattle.omega_model.specs.Fields.{ActivityFields}
@@ -52,14 +55,14 @@ which_at job (other ∷ jobs) new zero is = inl is
 which_at job (other ∷ jobs) new (suc place) is =
     elim (which_at job jobs new place is) [ inl e ↦ inl e | inr e ↦ inr (ap suc e.0, e.1) ]
 
-pub known : (find : ℕ → Option ℕ) (jobs : List RoutedJob) → AreFound find jobs → (job : ℕ) → is_some (find job) ≡ true → list_any (is_job job) jobs ≡ true
-known find jobs found job has = by_cases (find job) refl has where
-  by_cases : (o : Option ℕ) → find job ≡ o → is_some o ≡ true → list_any (is_job job) jobs ≡ true
+pub known : (places : BTreeMap ℕ ℕ) (jobs : List RoutedJob) → AreFound places jobs → (job : ℕ) → is_some (tree.get nat_cmp places job) ≡ true → list_any (is_job job) jobs ≡ true
+known places jobs found job has = by_cases (tree.get nat_cmp places job) refl has where
+  by_cases : (o : Option ℕ) → tree.get nat_cmp places job ≡ o → is_some o ≡ true → list_any (is_job job) jobs ≡ true
   by_cases None is e = absurd (cc)
   by_cases (Some place) is e = any_at job jobs place ((found job place).0 is)
 
-pub unknown : (find : ℕ → Option ℕ) (jobs : List RoutedJob) → AreFound find jobs → (job : ℕ) → find job ≡ None → list_any (is_job job) jobs ≡ false
-unknown find jobs found job none =
+pub unknown : (places : BTreeMap ℕ ℕ) (jobs : List RoutedJob) → AreFound places jobs → (job : ℕ) → tree.get nat_cmp places job ≡ None → list_any (is_job job) jobs ≡ false
+unknown places jobs found job none =
     elim (cases_Bool (list_any (is_job job) jobs)) [
       | inl e ↦ let at = at_any job jobs e in let some = (found job at.0).1 at.1 in absurd (nothing at.0 (sym none ∙ some))
       | inr e ↦ e
@@ -67,51 +70,58 @@ unknown find jobs found job none =
       nothing : (place : ℕ) → None ≡ Some place → ⊥
       nothing place e = cc
 
+apart : (a b : ℕ) → (a ≡ b → ⊥) → tree.is_at (nat_cmp a) b ≡ false
+apart a b ne =
+    elim (cases_order a b) [
+      | inl e ↦ absurd (ne e)
+      | inr (inl less) ↦ rw (lt-ltb a b less) refl
+      | inr (inr more) ↦ rw (le-ltb a b (omega arith), ne_eqb a b ne) refl
+    ]
+
 pub none_from : {X : Type 0} (o : Option X) → is_some o ≡ false → o ≡ None
 none_from None e = refl
 none_from (Some x) e = absurd (cc)
 
 -- whether a job has a place is whether it is among the jobs
-pub has_known : (find : ℕ → Option ℕ) (jobs : List RoutedJob) → AreFound find jobs → (job : ℕ)
-    → is_some (find job) ≡ list_any (is_job job) jobs
-has_known find jobs found job =
-    elim (cases_Bool (is_some (find job))) [
-      | inl there ↦ there ∙ sym (known find jobs found job there)
-      | inr gone ↦ gone ∙ sym (unknown find jobs found job (none_from _ gone))
+pub has_known : (places : BTreeMap ℕ ℕ) (jobs : List RoutedJob) → AreFound places jobs → (job : ℕ)
+    → is_some (tree.get nat_cmp places job) ≡ list_any (is_job job) jobs
+has_known places jobs found job =
+    elim (cases_Bool (is_some (tree.get nat_cmp places job))) [
+      | inl there ↦ there ∙ sym (known places jobs found job there)
+      | inr gone ↦ gone ∙ sym (unknown places jobs found job (none_from _ gone))
     ]
 
 -- one more job is found at the end
-pub found_more : (find more : ℕ → Option ℕ) (jobs : List RoutedJob) (new : RoutedJob) (n : ℕ) → AreFound find jobs
-    → find new.job ≡ None
+pub found_more : (places more : BTreeMap ℕ ℕ) (jobs : List RoutedJob) (new : RoutedJob) (n : ℕ) → AreFound places jobs
+    → tree.get nat_cmp places new.job ≡ None
     → n ≡ length jobs
-    → more new.job ≡ Some n
-    → ((other : ℕ) → nat_eq new.job other ≡ false → more other ≡ find other)
+    → tree.Updates nat_cmp places more new.job (Some n)
     → AreFound more (jobs ++ new ∷ [])
-found_more find more jobs new n found none end here_now others job place =
+found_more places more jobs new n found none end u job place =
     elim (cases_eq new.job job) [
       | inl same ↦ (λ is. there same is, λ is. here same is)
-      | inr ne ↦ (λ is. kept_at job jobs new place ((found job place).0 (sym (others job (ne_eqb _ _ ne)) ∙ is)), λ is. back ne is)
+      | inr ne ↦ (λ is. kept_at job jobs new place ((found job place).0 (sym (u.2 job (apart _ _ ne)) ∙ is)), λ is. back ne is)
     ] where
-      there : new.job ≡ job → more job ≡ Some place → job_at (jobs ++ new ∷ []) place ≡ Some job
+      there : new.job ≡ job → tree.get nat_cmp more job ≡ Some place → job_at (jobs ++ new ∷ []) place ≡ Some job
       there same is =
-          let one : Some n ≡ Some place = sym here_now ∙ ap (λ z. more z) same ∙ is in
+          let one : Some n ≡ Some place = sym u.1 ∙ ap (λ z. tree.get nat_cmp more z) same ∙ is in
           let at : length jobs ≡ place = cc in
           ap (λ z. job_at (jobs ++ new ∷ []) z) (sym at) ∙ new_at jobs new ∙ ap Some same
 
       nothing : None ≡ Some place → ⊥
       nothing e = cc
 
-      here : new.job ≡ job → job_at (jobs ++ new ∷ []) place ≡ Some job → more job ≡ Some place
+      here : new.job ≡ job → job_at (jobs ++ new ∷ []) place ≡ Some job → tree.get nat_cmp more job ≡ Some place
       here same is =
           elim (which_at job jobs new place is) [
-            | inl e ↦ absurd (nothing (sym none ∙ ap (λ z. find z) same ∙ (found job place).1 e))
-            | inr e ↦ ap (λ z. more z) (sym same) ∙ here_now ∙ ap Some (end ∙ sym e.0)
+            | inl e ↦ absurd (nothing (sym none ∙ ap (λ z. tree.get nat_cmp places z) same ∙ (found job place).1 e))
+            | inr e ↦ ap (λ z. tree.get nat_cmp more z) (sym same) ∙ u.1 ∙ ap Some (end ∙ sym e.0)
           ]
 
-      back : (new.job ≡ job → ⊥) → job_at (jobs ++ new ∷ []) place ≡ Some job → more job ≡ Some place
+      back : (new.job ≡ job → ⊥) → job_at (jobs ++ new ∷ []) place ≡ Some job → tree.get nat_cmp more job ≡ Some place
       back ne is =
           elim (which_at job jobs new place is) [
-            | inl e ↦ others job (ne_eqb _ _ ne) ∙ (found job place).1 e
+            | inl e ↦ u.2 job (apart _ _ ne) ∙ (found job place).1 e
             | inr e ↦ absurd (ne e.1)
           ]
 

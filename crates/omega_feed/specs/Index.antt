@@ -42,9 +42,9 @@ changed_by Keep row tasks = tasks
 abbrev pub job_at : List RoutedJob → ℕ → Option ℕ
 job_at jobs place = option_map (λ job. job.job) (slice_get jobs place)
 
--- this finds for each job the place at which it stands, which is the only one
-abbrev pub AreFound : (ℕ → Option ℕ) → List RoutedJob → Type 0
-AreFound find jobs = (job place : ℕ) → (find job ≡ Some place) ↔ (job_at jobs place ≡ Some job)
+-- the map gives for each job the place at which it stands, which is the only one
+abbrev pub AreFound : BTreeMap ℕ ℕ → List RoutedJob → Type 0
+AreFound places jobs = (job place : ℕ) → (tree.get nat_cmp places job ≡ Some place) ↔ (job_at jobs place ≡ Some job)
 
 -- the request of a job, if there is one and it is this scheduler's
 abbrev pub routed_request : Asked → Cell → ℕ → Option RoutedJob → Option Request

@@ -10,9 +10,9 @@ ghost use Rattle.omega_feed.specs.Asked.{home, is_job, routed, with_job};
 ghost use Rattle.omega_feed.specs.Index.{job_at};
 
 use crate::activities::JobActivities;
-use indexmap::IndexMap;
 use omega_model::{NoMemory, Row, Settings, TaskRow};
 use std::alloc::Global;
+use std::collections::BTreeMap;
 use std::marker::Model;
 
 /// A job and the scheduler that works on it.
@@ -22,16 +22,15 @@ pub struct RoutedJob {
     pub scheduler: u32,
 }
 
-/// Jobs in an order, found by place and by number, each at the same cost for any number of jobs.
+/// Jobs in an order, found by place and by number.
 #[derive(Drop)]
 pub struct Jobs {
     list: Vec<RoutedJob>,
-    places: IndexMap<u64, usize>,
+    places: BTreeMap<u64, usize>,
 }
 
 impl Model for Jobs {
-    ghost use Rattle.std.specs.Prelude.{List, nat_eq};
-    ghost use Rattle.indexmap.specs.IndexMap.{get};
+    ghost use Rattle.std.specs.Prelude.{List};
     ghost use Rattle.omega_feed.specs.declared.jobs.RoutedJob.{RoutedJob};
 
     ghost Value = { List RoutedJob };
@@ -40,7 +39,7 @@ impl Model for Jobs {
 
     ghost view = { λ jobs. jobs.list.items };
 
-    ghost invariant = { λ jobs. AreFound (get nat_eq jobs.places) jobs.list.items };
+    ghost invariant = { λ jobs. AreFound jobs.places jobs.list.items };
 }
 
 impl Jobs {
@@ -50,7 +49,7 @@ impl Jobs {
     {
         Jobs {
             list: Vec::new(alloc),
-            places: IndexMap::new(alloc),
+            places: BTreeMap::new(alloc),
         }
     }
 
@@ -109,9 +108,11 @@ impl Jobs {
             return Ok(());
         }
         let place = self.list.len();
-        self.list.reserve(1)?;
         self.places.insert(job.job, place)?;
-        self.list.push_reserved(job);
+        if self.list.push(job).is_err() {
+            self.places.remove(&job.job);
+            return Err(NoMemory);
+        }
         Ok(())
     }
 
@@ -123,7 +124,7 @@ impl Jobs {
     }
 
     /// The place of a job: the only one at which it stands, `None` exactly where there is none. Costs
-    /// the same for any number of them.
+    /// the logarithm of their number.
     pub fn place(&self, job: u64) -> Option<usize>
         ensures { (place : ℕ) → (result ≡ Some place) ↔ (job_at self.now place ≡ Some job) }
     {

@@ -63,8 +63,8 @@ impl Model for Wanted {
 
 impl Wanted {
     /// What a trace with this feed asks for before its first row: no task is wanted. Costs a look-up
-    /// for each task row, two or three for each constraint, one for each row of disks and of activities, and
-    /// the jobs, each times the logarithm of their number.
+    /// for each task row, two more for each job, two or three for each constraint, and one for each row of
+    /// disks and of activities.
     pub fn new(
         alloc: Global,
         tables: &TraceTables,
@@ -181,7 +181,7 @@ impl Wanted {
     }
 
     /// The place of a job among all jobs of the trace: the only one at which it stands, `None` exactly
-    /// where there is none. Costs the same for any number of them.
+    /// where there is none. Costs the logarithm of their number.
     pub(crate) fn place(&self, job: u64) -> Option<usize>
         ensures { (place : ℕ) → (result ≡ Some place) ↔ (job_at self.now.jobs place ≡ Some job) }
     {
