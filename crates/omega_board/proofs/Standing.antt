@@ -1,14 +1,14 @@
 -- The victims of a claim that stand.
-use Rattle.std.proofs.Common.{◌≡◌, ℕ, zero, suc, ◌+◌, ◌<◌, ◌≤◌, Bool, true, false, not, ◌&&◌, ◌||◌, List, [], ◌∷◌, ◌++◌, length, get_or, take, drop, slice_get, Option, Some, None, refl, sym, ap, ◌∙◌, subst, arith, append_assoc, append-nil, ◌==◌, if◌then◌else◌}
+use Rattle.std.proofs.Common.{◌≡◌, ℕ, zero, suc, ◌+◌, ◌<◌, ◌≤◌, Bool, true, false, not, ◌&&◌, ◌||◌, List, [], ◌∷◌, ◌++◌, length, get_or, take, drop, slice_get, Option, Some, None, refl, sym, ap, ◌∙◌, subst, arith, append_assoc, append-nil, inl, inr, ◌==◌, if◌then◌else◌}
 use Rattle.std.specs.List.{filter, find}
 use Rattle.std.specs.Option.{option_map}
 use Rattle.std.proofs.Math.Bool.{or-false}
-use Rattle.std.proofs.lemmas.Bool.{or_from, or_right, not-true}
+use Rattle.std.proofs.lemmas.Bool.{both_ways, or_cases, or_from, or_right, not-true}
 use Rattle.std.proofs.lemmas.List.{drop_more, drop_all}
 use Rattle.std.proofs.lemmas.List.Folds.{list_any-append}
 use Rattle.std.proofs.lemmas.Option.{none-some, same_Some}
 use Rattle.omega_model.specs.Keys.{same_key, is_among, first_mentions}
-use Rattle.omega_model.specs.Cell.{Cell, stays_on}
+use Rattle.omega_model.specs.Cell.{Cell, goes_before, stays_on, task_at}
 use Rattle.omega_model.specs.Jobs.{other_of_job, stays_of_job}
 use Rattle.omega_model.specs.Judge.{runs_on, standing_victims, rival, same_job}
 use Rattle.omega_model.specs.declared.cells.TaskKey.{TaskKey}
@@ -17,7 +17,10 @@ use Rattle.omega_model.specs.declared.claims.Claim.{Claim}
 use Rattle.omega_model.specs.declared.claims.Verdict.TheVariants.{SameJob}
 use Rattle.omega_running.specs.Order.{Each}
 use Rattle.omega_running.proofs.Lists.{each_map, each_both, each_of, filter_every}
+use Rattle.omega_running.proofs.InOrder.{rank_strict}
+use Rattle.omega_running.proofs.Kept.{irreflexive}
 use Rattle.omega_board.specs.Board.{Stand}
+use Rattle.omega_board.specs.Judging.{comes_behind, ComesLast}
 use Rattle.omega_board.proofs.Tasks.{each_filter, each_passes, filter_and, filter_alike}
 use Rattle.omega_model.proofs.InOrder.{key_itself, key_same}
 use Rattle.omega_model.proofs.Lists.{by_answer}
@@ -266,3 +269,48 @@ pub gathered_all : (tasks : List Task) (id : ℕ) (keys : List TaskKey) (i : ℕ
     → found ≡ filter (runs_on tasks id) (first_mentions keys)
 gathered_all tasks id keys i found past so =
     sym (append-nil found) ∙ ap (λ ks. found ++ filter (stands_behind tasks id found) (first_mentions ks)) (sym (drop_all i keys past)) ∙ so
+
+-- a task that comes behind the last of some isn't among them
+pub behind_last : (tasks : List Task) (keys : List TaskKey) (last : Option Task) (key : TaskKey) (task : Task) → ComesLast tasks keys last → task_at tasks key ≡ Some task
+    → comes_behind last task ≡ true → is_among key keys ≡ false
+behind_last tasks keys None key task none at behind = ap (is_among key) none
+behind_last tasks keys (Some last) key task each at behind = by keys each
+  where
+    by : (ks : List TaskKey) → Each (λ k. (t : Task) → task_at tasks k ≡ Some t → goes_before last t ≡ false) ks → is_among key ks ≡ false
+    by [] each = refl
+    by (k ∷ ks) each =
+        by_answer (same_key key k)
+        (λ t. absurd (both_ways _ (each.0 task (ap (task_at tasks) (sym (key_same key k t)) ∙ at)) behind))
+        (λ f. rw f (by ks each.1))
+
+each_push : {X : Type 0} (P : X → Type 0) (xs : List X) (x : X) → Each P xs → P x → Each P (xs ++ x ∷ [])
+each_push P [] x each here = (here, tt)
+each_push P (y ∷ xs) x each here = (each.0, each_push P xs x each.1 here)
+
+-- it comes last of them and itself
+pub last_behind : (tasks : List Task) (keys : List TaskKey) (last : Option Task) (key : TaskKey) (task : Task) → ComesLast tasks keys last → task_at tasks key ≡ Some task
+    → comes_behind last task ≡ true → ComesLast tasks (keys ++ key ∷ []) (Some task)
+last_behind tasks keys None key task none at behind =
+    subst (λ ks. ComesLast tasks (ks ++ key ∷ []) (Some task)) (sym none) (own tasks key task at, tt)
+  where
+    own : (ts : List Task) (k : TaskKey) (t : Task) → task_at ts k ≡ Some t → (x : Task) → task_at ts k ≡ Some x → goes_before t x ≡ false
+    own ts k t at x is = subst (λ (y : Task). goes_before t y ≡ false) (same_Some _ _ (sym at ∙ is)) (irreflexive goes_before rank_strict t)
+last_behind tasks keys (Some last) key task each at behind =
+    each_push (λ k. (t : Task) → task_at tasks k ≡ Some t → goes_before task t ≡ false) keys key
+    (each_map (λ k. (t : Task) → task_at tasks k ≡ Some t → goes_before last t ≡ false) (λ k. (t : Task) → task_at tasks k ≡ Some t → goes_before task t ≡ false)
+    (λ k not_behind t is. further t (not_behind t is)) keys each)
+    (λ x is. subst (λ (y : Task). goes_before task y ≡ false) (same_Some _ _ (sym at ∙ is)) (irreflexive goes_before rank_strict task))
+  where
+    further : (t : Task) → goes_before last t ≡ false → goes_before task t ≡ false
+    further t earlier = elim (or_cases (goes_before last t) (goes_before t task) (rank_strict.link last task t behind)) [
+      | inl e ↦ absurd (both_ways _ earlier e)
+      | inr e ↦ rank_strict.asym t task e
+    ]
+
+-- and one that doesn't comes no later than the last
+pub last_still : (tasks : List Task) (keys : List TaskKey) (last : Option Task) (key : TaskKey) (task : Task) → ComesLast tasks keys last → task_at tasks key ≡ Some task
+    → comes_behind last task ≡ false → ComesLast tasks (keys ++ key ∷ []) last
+last_still tasks keys None key task none at behind = absurd (both_ways _ behind refl)
+last_still tasks keys (Some last) key task each at behind =
+    each_push (λ k. (t : Task) → task_at tasks k ≡ Some t → goes_before last t ≡ false) keys key each
+    (λ x is. subst (λ (y : Task). goes_before last y ≡ false) (same_Some _ _ (sym at ∙ is)) behind)

@@ -172,9 +172,7 @@ impl Board {
         }
         let ranked = self.running.on_machine(alloc, machine)?;
         let count = self.excess_len(machine, ranked.as_slice(), used, cap);
-        let mut keys = ranked.into_items();
-        keys.truncate(count);
-        Ok(Seq::of(keys))
+        Ok(Seq::of(Vec::from_slice(alloc, &ranked.as_slice()[..count])?))
     }
 
     // How many of a machine's tasks stop where it has this capacity.
@@ -182,7 +180,8 @@ impl Board {
         requires ordered { KeysRise self.now.tasks }
         requires ranked { ranked.now ≡ keys_of (ranked_on machine self.now.tasks) }
         requires used { used ≡ use_on self.now.tasks machine }
-        ensures { result ≡ length (excess cap (ranked_on machine self.now.tasks)) }
+        ensures count { result ≡ length (excess cap (ranked_on machine self.now.tasks)) }
+        ensures few { result ≤ length ranked.now }
     {
         let mut left = used;
         for (i, key) in ranked.iter().enumerate() {

@@ -1,10 +1,10 @@
 //! What is answered to a claim, part by part.
-ghost use Rattle.std.specs.Prelude.{◌≡◌, ◌≤◌, ◌&&◌, ◌==◌, ℕ, List, [], None, Some, not, take, length, option_map, is_some, vec_capacity, IsTrue, if◌then◌else◌};
+ghost use Rattle.std.specs.Prelude.{◌≡◌, ◌≤◌, ◌&&◌, ◌==◌, ℕ, List, [], None, Some, not, take, length, option_map, is_some, vec_capacity, IfSome, IsTrue, ◌++◌, ◌∷◌, if◌then◌else◌};
 ghost use Rattle.std.specs.List.{list_any};
 ghost use Rattle.omega_machines.specs.Table.{seq_at};
-ghost use Rattle.omega_model.specs.Cell.{task_at};
+ghost use Rattle.omega_model.specs.Cell.{goes_before, task_at};
 ghost use Rattle.omega_model.specs.Judge.{known_of, no_machine, already_running, victim_rank, same_job, full, free_without, runs_on, withstands, standing_victims, evicted_for, verdict_given, would_be_placed, judge};
-ghost use Rattle.omega_board.specs.Judging.{changed_on, judge_on};
+ghost use Rattle.omega_board.specs.Judging.{changed_on, comes_behind, ComesLast, judge_on};
 ghost use Rattle.omega_model.specs.Keys.{is_among};
 ghost use Rattle.omega_model.specs.Need.{fits};
 ghost use Rattle.omega_model.specs.Touches.{is_placed, seq};
@@ -14,8 +14,8 @@ ghost use Rattle.omega_running.specs.Kept.{KeysRise};
 ghost use Rattle.omega_board.specs.Board.{cell_of, Stand};
 
 use crate::Board;
-use omega_model::{Claim, Need, TaskKey, Verdict};
-use omega_running::is_among;
+use omega_model::{Claim, Need, Task, TaskKey, Verdict};
+use omega_running::{is_among, key_lt};
 
 impl Board {
     /// The verdict on a claim, never `Withdrawn`, and in `evicted`, which is empty before, the
@@ -24,8 +24,9 @@ impl Board {
     /// `Changed` where the machine has another one now, and exists and is up, and the task doesn't
     /// run.
     ///
-    /// Costs the claim's victims, each looked up among those before it, and with the
-    /// different-machines flag the tasks of the job on the machine.
+    /// Costs the claim's victims, each of them looked up; one that doesn't come behind all those before
+    /// it, in order of eviction, is looked for among them too. With the different-machines flag it
+    /// costs the tasks of the job on the machine besides.
     pub fn judge(&self, claim: &Claim, copy_seq: Option<u64>, evicted: &mut Vec<TaskKey>) -> Verdict
         requires empty { evicted.old.items ≡ [] }
         requires room { length claim.now.victims ≤ vec_capacity evicted.old }
@@ -107,26 +108,48 @@ impl Board {
         ensures standing { standing.new.items ≡ standing_victims self.now.tasks claim.now }
         ensures capacity { vec_capacity standing.new ≡ vec_capacity standing.old }
     {
+        let mut last = None;
         for key in claim.victims.as_slice() {
-            if self.stands(claim.machine, key, standing.as_slice()) {
+            if self.stands(claim.machine, *key, standing.as_slice(), &mut last) {
                 standing.push_reserved(*key);
             }
         }
     }
 
-    // Whether a victim runs on the machine and isn't among those before it.
-    fn stands(&self, machine: u64, key: &TaskKey, before: &[TaskKey]) -> bool
-        ensures { result ≡ (runs_on self.now.tasks machine key.now && not (is_among key.now before.now)) }
+    // Whether a victim runs on the machine and isn't among those before it. `last` is which of those
+    // comes last in order of eviction, and then which of those and the victim, where it stands. A
+    // victim behind it in this order isn't among them, and costs no look at each.
+    fn stands(
+        &self,
+        machine: u64,
+        key: TaskKey,
+        before: &[TaskKey],
+        last: &mut Option<Task>,
+    ) -> bool
+        requires { ComesLast self.now.tasks before.now last.old }
+        ensures stands { result ≡ (runs_on self.now.tasks machine key && not (is_among key before.now)) }
+        ensures last { ComesLast self.now.tasks (if result then before.now ++ key ∷ [] else before.now) last.new }
     {
-        self.runs_on(machine, *key) && !is_among(*key, before)
+        let Some(task) = self.task_on(machine, key) else {
+            return false;
+        };
+        if comes_behind(*last, &task) {
+            *last = Some(task);
+            return true;
+        }
+        !is_among(key, before)
     }
 
-    fn runs_on(&self, machine: u64, key: TaskKey) -> bool
-        ensures { result ≡ runs_on self.now.tasks machine key }
+    // The task of this key, where it runs on the machine.
+    fn task_on(&self, machine: u64, key: TaskKey) -> Option<Task>
+        ensures runs { is_some result ≡ runs_on self.now.tasks machine key }
+        ensures task { IfSome result (λ task. task_at self.now.tasks key ≡ Some task) }
     {
-        match self.running.get(key) {
-            Some(task) => task.machine == machine,
-            None => false,
+        let task = *self.running.get(key)?;
+        if task.machine == machine {
+            Some(task)
+        } else {
+            None
         }
     }
 
@@ -234,13 +257,29 @@ impl Board {
     }
 }
 
+// Whether a task comes behind another in order of eviction, if there is another.
+fn comes_behind(other: Option<Task>, task: &Task) -> bool
+    ensures { result ≡ comes_behind other task.now }
+{
+    match other {
+        Some(other) => goes_before(&other, task),
+        None => true,
+    }
+}
+
+// Whether the first task comes before the second in order of eviction.
+fn goes_before(a: &Task, b: &Task) -> bool
+    ensures { result ≡ goes_before a.now b.now }
+{
+    a.spec.prec < b.spec.prec || (a.spec.prec == b.spec.prec && key_lt(a.key, b.key))
+}
+
 // Whether a claim needs no more than this, and none of its job is among those that are spared where
 // it must be alone of its job.
 fn makes_room(claim: &Claim, free: Need, spared: &[TaskKey]) -> bool
     ensures { result ≡ (fits claim.now.spec.need free && not (claim.now.spec.differ && list_any (λ key. key.job == claim.now.key.job) spared.now)) }
 {
-    let alone = !claim.spec.differ || !has_job(claim.key.job, spared);
-    claim.spec.need.fits(free) && alone
+    claim.spec.need.fits(free) && !(claim.spec.differ && has_job(claim.key.job, spared))
 }
 
 fn has_job(job: u64, keys: &[TaskKey]) -> bool

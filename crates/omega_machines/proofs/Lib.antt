@@ -1,4 +1,5 @@
 pub mod Places
+mod Finding
 mod Rewriting
 pub mod Bounds
 mod Growing

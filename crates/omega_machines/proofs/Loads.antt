@@ -1,23 +1,23 @@
 -- Sums over the machines of a table.
-use Rattle.std.proofs.Common.{◌≡◌, ℕ, zero, suc, ◌+◌, ◌-◌, ◌*◌, ◌≤◌, Bool, false, List, [], ◌∷◌, ◌++◌, map, set, length, take, drop, slice_get, Some, refl, sym, ap, ◌∙◌, subst, arith, if◌then◌else◌}
+use Rattle.std.proofs.Common.{◌≡◌, ℕ, zero, suc, ◌+◌, ◌-◌, ◌*◌, ◌≤◌, Bool, false, List, [], ◌∷◌, ◌++◌, map, set, length, take, drop, slice_get, Some, sym, ap, ◌∙◌, subst, arith, if◌then◌else◌}
+use Rattle.std.specs.BTreeMap.{BTreeMap}
 use Rattle.std.specs.List.{All}
-use Rattle.std.specs.Map.{values_of}
-use Rattle.std.proofs.lemmas.List.{map-append, take-map, take-append-drop, drop_all}
+use Rattle.std.proofs.lemmas.List.{take-append-drop, drop_all}
 use Rattle.std.proofs.lemmas.List.Elements.{All-head, All-tail}
 use Rattle.std.proofs.lemmas.Option.{none-some, same_Some}
-use Rattle.indexmap.specs.IndexMap.{set_value_at}
 use Rattle.omega_model.specs.ExtraTasks.{sum_of}
 use Rattle.omega_model.specs.Fields.{greatest, greatest_quantity}
 use Rattle.omega_model.specs.Limits.{most_machines}
 use Rattle.omega_model.specs.Need.{Fits, nothing, plus, minus}
 use Rattle.omega_model.specs.declared.cells.Need.{Need}
 use Rattle.omega_machines.specs.Load.{AreSummed, AreWords, IsInWords, less, load_of, load_of_all, replaced}
-use Rattle.omega_machines.specs.Rows.{IsKept}
-use Rattle.omega_machines.specs.Table.{MachineState, IsBounded, IsTable, used, used_if_up, cap_if_up, used_by_all, capacity_of_all}
+use Rattle.omega_machines.specs.Places.{IsKept}
+use Rattle.omega_machines.specs.Table.{MachineState, machines_of, IsBounded, IsTable, used, used_if_up, cap_if_up, used_by_all, capacity_of_all}
 use Rattle.omega_machines.specs.declared.load.Load.{Load}
 use Rattle.omega_model.proofs.Amounts.{need_is, plus-nothing, plus-assoc}
 use Rattle.omega_model.proofs.Lists.{by_answer}
-use Rattle.omega_machines.proofs.Rewriting.{row_stands, values-set_value_at}
+use Rattle.omega_machines.proofs.Finding.{placed_still}
+use Rattle.omega_machines.proofs.Rewriting.{IsRewritten}
 
 -- the sum of an amount over all states of a table
 abbrev sum_by : (MachineState → Need) → List MachineState → Need
@@ -131,39 +131,36 @@ load_more (s ∷ ss) state down =
     let rest = load_more ss state down in
     λ j. record { used = plus (used_if_up s) (rest j).used; capacity = plus (cap_if_up s) (rest j).capacity }
 
--- the load computed for a row that is written anew fits, and is that of the rows
-module _ (rows : List (ℕ × MachineState)) (place key : ℕ) (state next : MachineState) (load before after : Load)
-    (summed : AreSummed rows load) (row : slice_get rows place ≡ Some (key, state)) (was : before ≡ load_of state) (is : after ≡ load_of next)
-    (kept : IsKept (set_value_at rows place next)) where
-  load_is : replaced load before after ≡ load_of_all (values_of (set_value_at rows place next))
-  load_is =
-      (λ i. replaced (summed.sum i) (was i) (is i))
-      ∙ load_set (values_of rows) place state next (row_stands rows (values_of rows) place key state refl row)
-      ∙ ap load_of_all (sym (values-set_value_at rows place next))
+-- the load computed for a state that is written anew fits, and is that of the states
+module _ (places : BTreeMap ℕ ℕ) (states table : List MachineState) (place : ℕ) (state next : MachineState) (load before after : Load)
+    (kept : IsKept places states load) (at : slice_get states place ≡ Some state) (was : before ≡ load_of state) (is : after ≡ load_of next)
+    (rewritten : IsRewritten states place next table) where
+  load_is : replaced load before after ≡ load_of_all (set states place next)
+  load_is = (λ i. replaced (kept.summed.sum i) (was i) (is i)) ∙ load_set states place state next at
 
   pub load_fits : IsInWords (replaced load before after)
-  load_fits = subst IsInWords (sym load_is) (load_in_words (values_of (set_value_at rows place next)) kept.table)
+  load_fits = subst IsInWords (sym load_is) (load_in_words (set states place next) rewritten.held)
 
-  pub rows_summed : (now : Load) → now ≡ replaced load before after → AreSummed (set_value_at rows place next) now
-  rows_summed now computed = record { kept = kept; sum = computed ∙ load_is }
+  pub kept_anew : (now : Load) → now ≡ replaced load before after → IsKept places (set states place next) now
+  kept_anew now computed = record {
+    placed = placed_still places (machines_of states) (machines_of (set states place next)) rewritten.numbers kept.placed;
+    summed = record { table = rewritten.held; sum = computed ∙ load_is };
+  }
 
--- and where the new row adds as much as the old one the load stays
-pub rows_kept : (rows : List (ℕ × MachineState)) (place key : ℕ) (state next : MachineState) (load : Load) → AreSummed rows load → slice_get rows place ≡ Some (key, state)
-    → load_of next ≡ load_of state → IsKept (set_value_at rows place next) → AreSummed (set_value_at rows place next) load
-rows_kept rows place key state next load summed row same kept = record {
-  kept = kept;
-  sum = summed.sum ∙ sym (ap load_of_all (values-set_value_at rows place next)
-      ∙ load_kept (values_of rows) place state next (row_stands rows (values_of rows) place key state refl row) same);
+-- and where the new state adds as much as the old one the load stays
+pub kept_same : (places : BTreeMap ℕ ℕ) (states table : List MachineState) (place : ℕ) (state next : MachineState) (load : Load) → IsKept places states load
+    → slice_get states place ≡ Some state → load_of next ≡ load_of state → IsRewritten states place next table → IsKept places (set states place next) load
+kept_same places states table place state next load kept at same rewritten = record {
+  placed = placed_still places (machines_of states) (machines_of (set states place next)) rewritten.numbers kept.placed;
+  summed = record { table = rewritten.held; sum = kept.summed.sum ∙ sym (load_kept states place state next at same) };
 }
 
--- a row of a new machine, which isn't up, leaves the load
-pub rows_more : (rows next : List (ℕ × MachineState)) (id : ℕ) (state : MachineState) (load : Load) → AreSummed rows load → state.machine.up ≡ false
-    → next ≡ rows ++ (id, state) ∷ [] → IsKept next → AreSummed next load
-rows_more rows next id state load summed down is kept = record {
-  kept = kept;
-  sum = summed.sum ∙ sym (ap (λ (r : List (ℕ × MachineState)). load_of_all (values_of r)) is
-      ∙ ap load_of_all (map-append (λ (e : ℕ × MachineState). e.1) rows ((id, state) ∷ []))
-      ∙ load_more (values_of rows) state down);
+-- a new machine, which isn't up, leaves the load
+pub summed_more : (states next : List MachineState) (state : MachineState) (load : Load) → AreSummed states load → state.machine.up ≡ false
+    → next ≡ states ++ state ∷ [] → IsTable next → AreSummed next load
+summed_more states next state load summed down is held = record {
+  table = held;
+  sum = summed.sum ∙ sym (ap load_of_all is ∙ load_more states state down);
 }
 
 -- of a sum of some machines and others that of the others is left
@@ -179,16 +176,15 @@ less_rest first rest = λ j. record { used = sum_rest used_if_up first j; capaci
         ap (λ (n : Need). minus n (sum_by f rest)) (sum_both f xs)
         ∙ need_is (minus (plus (sum_by f xs) (sum_by f rest)) (sum_by f rest)) (sum_by f xs) (omega arith) (omega arith) (omega arith)
 
--- the first rows have what is left when the others go
-pub rows_first : (rows next : List (ℕ × MachineState)) (n : ℕ) (load now : Load) → AreSummed rows load → next ≡ take n rows
-    → now ≡ less load (load_of_all (drop n (values_of rows))) → IsKept next → AreSummed next now
-rows_first rows next n load now summed is computed kept = record {
-  kept = kept;
+-- the first machines have what is left when the others go
+pub summed_first : (states next : List MachineState) (n : ℕ) (load now : Load) → AreSummed states load → next ≡ take n states
+    → now ≡ less load (load_of_all (drop n states)) → IsTable next → AreSummed next now
+summed_first states next n load now summed is computed held = record {
+  table = held;
   sum = computed
-      ∙ ap (λ (l : Load). less l (load_of_all (drop n (values_of rows)))) (summed.sum ∙ ap load_of_all (sym (take-append-drop n (values_of rows))))
-      ∙ less_rest (take n (values_of rows)) (drop n (values_of rows))
-      ∙ ap load_of_all (take-map (λ (e : ℕ × MachineState). e.1) n rows)
-      ∙ ap (λ (r : List (ℕ × MachineState)). load_of_all (values_of r)) (sym is);
+      ∙ ap (λ (l : Load). less l (load_of_all (drop n states))) (summed.sum ∙ ap load_of_all (sym (take-append-drop n states)))
+      ∙ less_rest (take n states) (drop n states)
+      ∙ ap load_of_all (sym is);
 }
 
 -- one more machine that leaves
@@ -203,12 +199,12 @@ less_next load (s ∷ ss) zero state at =
     })
 less_next load (s ∷ ss) (suc i) state at = less_next load ss i state at
 
-pub less_one : (load : Load) (rows : List (ℕ × MachineState)) (i key : ℕ) (state : MachineState) → Some (key, state) ≡ slice_get rows i
-    → less (less load (load_of state)) (load_of_all (drop (i + 1) (values_of rows))) ≡ less load (load_of_all (drop i (values_of rows)))
-less_one load rows i key state at =
+pub less_one : (load : Load) (states : List MachineState) (i : ℕ) (state : MachineState) → slice_get states i ≡ Some state
+    → less (less load (load_of state)) (load_of_all (drop (i + 1) states)) ≡ less load (load_of_all (drop i states))
+less_one load states i state at =
     let next : i + 1 ≡ suc i = omega arith in
-    ap (λ n. less (less load (load_of state)) (load_of_all (drop n (values_of rows)))) next
-    ∙ less_next load (values_of rows) i state (row_stands rows (values_of rows) i key state refl (sym at))
+    ap (λ n. less (less load (load_of state)) (load_of_all (drop n states))) next
+    ∙ less_next load states i state at
 
 -- where none is left nothing goes
 pub less_none : (load : Load) (table : List MachineState) (i : ℕ) → length table ≤ i → less load (load_of_all (drop i table)) ≡ load

@@ -1,21 +1,23 @@
 -- Where a machine stands in a table, and what is said of it there.
-use Rattle.std.proofs.Common.{◌≡◌, inl, inr, ℕ, ◌+◌, ◌<◌, Bool, true, false, true≢false, cond, not, ◌||◌, nat_eq, List, [], ◌∷◌, map, length, get_or, slice_get, position, Some, None, IsTrue, IsSomeAnd, refl, sym, ap, ◌∙◌, arith, if◌then◌else◌, ◌==◌}
-use Rattle.std.specs.Cmp.{nat_eq_equiv}
-use Rattle.std.specs.List.{list_any, position_or_len}
-use Rattle.std.specs.Map.{keys_of, values_of, lookup}
-use Rattle.std.specs.Option.{option_map, option_map_or}
-use Rattle.std.proofs.lemmas.Bool.{eqb-true}
+use Rattle.std.proofs.Common.{◌≡◌, inl, inr, ℕ, zero, suc, ◌+◌, ◌<◌, nat_lt, Bor, Option, is_some, Bool, true, false, true≢false, cond, not, List, [], ◌∷◌, map, length, get_or, slice_get, position, Some, None, IsTrue, IsSomeAnd, refl, sym, ap, ◌∙◌, arith, if◌then◌else◌, ◌==◌}
+use Rattle.std.specs.BTreeMap as tree
+use Rattle.std.specs.BTreeMap.{BTreeMap}
+use Rattle.std.specs.List.{position_or_len}
+use Rattle.std.specs.Option.{option_map, option_map_or, option_and_then}
+use Rattle.std.specs.Ordering.{nat_cmp}
+use Rattle.std.specs.Slice.{IsItemAt}
+use Rattle.std.proofs.lemmas.Bool.{eqb-true, eq-eqb, ltb-true, ltb-false, lt-ltb, le-ltb}
 use Rattle.std.proofs.lemmas.List.{length-map}
 use Rattle.std.proofs.lemmas.List.Folds.{find_at}
 use Rattle.std.proofs.lemmas.List.Sums.{passes_at_first}
-use Rattle.std.proofs.lemmas.Option.{cond_some, slice_get-map, slice_get_within, get_or_from_slice_get}
+use Rattle.std.proofs.lemmas.Option.{cond_some, none-some, same_Some, slice_get-get_or, slice_get_past, slice_get_within, get_or_from_slice_get}
 use Rattle.omega_model.specs.Applying.{ListsOrHasRoom}
 use Rattle.omega_model.specs.Limits.{most_machines}
 use Rattle.omega_model.specs.Machines.{is_listed, numbers_of}
 use Rattle.omega_model.specs.Need.{nothing}
 use Rattle.omega_model.specs.declared.cells.Need.{Need}
 use Rattle.omega_model.specs.declared.cells.Machine.{Machine}
-use Rattle.omega_machines.specs.Rows.{IsKept}
+use Rattle.omega_machines.specs.Places.{ArePlaced}
 use Rattle.omega_machines.specs.Table.{MachineState, machines_of, state_at, used, use_at, free_at, seq_at}
 use Rattle.omega_model.proofs.Lists.{by_answer}
 
@@ -28,10 +30,6 @@ module _ {A B : Type 0} (f : A → B) (p : B → Bool) where
   position-map : (xs : List A) → position p (map f xs) ≡ position (λ x. p (f x)) xs
   position-map xs = rw (position_or_len-map xs, length-map xs f) refl
 
-  list_any-map : (xs : List A) → list_any p (map f xs) ≡ list_any (λ x. p (f x)) xs
-  list_any-map [] = refl
-  list_any-map (x ∷ xs) = ap (λ b. p (f x) || b) (list_any-map xs)
-
 -- a table has room for a machine where the list of its machines has
 pub has_room : (table : List MachineState) (id : ℕ) → is_listed id (machines_of table) ≡ false → ListsOrHasRoom (machines_of table) id → length table < most_machines
 has_room table id absent (inl few) =
@@ -39,22 +37,60 @@ has_room table id absent (inl few) =
     omega (arith, few, long)
 has_room table id absent (inr listed) = absurd (true≢false (sym listed ∙ absent))
 
--- where the hash table finds a number, its machine stands
-pub position-keys : (rows : List (ℕ × MachineState)) (id : ℕ) → IsKept rows
-    → position (nat_eq id) (keys_of rows) ≡ position (λ machine. machine.id == id) (machines_of (values_of rows))
-position-keys rows id kept =
-    let machines = machines_of (values_of rows) in
-    ap (position (nat_eq id)) kept.keyed
-    ∙ position-map (λ (machine : Machine). machine.id) (nat_eq id) machines
-    ∙ (λ i. position (λ machine. nat_eq_equiv.symm id machine.id i) machines)
+module _ (id : ℕ) where
+  abbrev named : Machine → Bool
+  named machine = machine.id == id
 
--- and a number that the hash table has is listed
-pub listed-keys : (rows : List (ℕ × MachineState)) (id : ℕ) → IsKept rows → list_any (nat_eq id) (keys_of rows) ≡ is_listed id (machines_of (values_of rows))
-listed-keys rows id kept =
-    let machines = machines_of (values_of rows) in
-    ap (list_any (nat_eq id)) kept.keyed
-    ∙ list_any-map (λ (machine : Machine). machine.id) (nat_eq id) machines
-    ∙ (λ i. list_any (λ machine. nat_eq_equiv.symm id machine.id i) machines)
+  -- where a number has a position it stands there
+  first_at : (machines : List Machine) → position_or_len named machines < length machines → slice_get (numbers_of machines) (position_or_len named machines) ≡ Some id
+  first_at [] within = absurd (omega (arith, within))
+  first_at (m ∷ ms) within =
+      by_answer (m.id == id)
+      (λ t. rw t (ap Some (eqb-true _ _ t)))
+      (λ f.
+      let inside = rw f at within in
+      let next : 1 + position_or_len named ms ≡ suc (position_or_len named ms) = omega arith in
+      rw f (ap (slice_get (numbers_of (m ∷ ms))) next ∙ first_at ms (omega (arith, inside))))
+
+  -- and where it stands it has one
+  placed_within : (machines : List Machine) (place : ℕ) → slice_get (numbers_of machines) place ≡ Some id → position_or_len named machines < length machines
+  placed_within [] place at = absurd (none-some _ at)
+  placed_within (m ∷ ms) zero at = let own : (m.id == id) ≡ true = eq-eqb _ _ (same_Some _ _ at) in rw own (omega arith)
+  placed_within (m ∷ ms) (suc place) at =
+      let rest = placed_within ms place at in
+      by_answer (m.id == id) (λ t. rw t (omega arith)) (λ f. rw f (omega (arith, rest)))
+
+  listed_within : (machines : List Machine) → nat_lt (position_or_len named machines) (length machines) ≡ is_listed id machines
+  listed_within [] = refl
+  listed_within (m ∷ ms) = by_answer (m.id == id) (λ t. rw t (lt-ltb _ _ (omega arith))) (λ f. rw f (one_on (position_or_len named ms) (length ms) ∙ listed_within ms))
+    where
+      one_on : (a b : ℕ) → nat_lt (1 + a) (suc b) ≡ nat_lt a b
+      one_on a b =
+          by_answer (nat_lt a b)
+          (λ t. let less = ltb-true _ _ t in lt-ltb (1 + a) (suc b) (omega (arith, less)) ∙ sym t)
+          (λ f. let past = ltb-false _ _ f in le-ltb (1 + a) (suc b) (omega (arith, past)) ∙ sym f)
+
+  -- a number has a position where it is listed
+  pub listed_position : (machines : List Machine) → is_some (position (λ machine. machine.id == id) machines) ≡ is_listed id machines
+  listed_position machines = some_if (nat_lt (position_or_len named machines) (length machines)) ∙ listed_within machines
+    where
+      some_if : (b : Bool) → is_some (cond b (Some (position_or_len named machines)) None) ≡ b
+      some_if true = refl
+      some_if false = refl
+
+  -- the map finds the position of a number
+  pub found_position : (places : BTreeMap ℕ ℕ) (machines : List Machine) → ArePlaced places machines → tree.get nat_cmp places id ≡ position (λ machine. machine.id == id) machines
+  found_position places machines placed =
+      by_answer (nat_lt (position_or_len named machines) (length machines))
+      (λ t. rw t ((placed id (position_or_len named machines)).1 (first_at machines (ltb-true _ _ t))))
+      (λ f. rw f (by (tree.get nat_cmp places id) refl f))
+    where
+      by : (o : Option ℕ) → tree.get nat_cmp places id ≡ o → nat_lt (position_or_len named machines) (length machines) ≡ false → o ≡ None
+      by None is f = refl
+      by (Some place) is f =
+          let past = ltb-false _ _ f in
+          let within = placed_within machines place ((placed id place).0 is) in
+          absurd (omega (arith, past, within))
 
 -- the machine of a number stands at a place in this state
 pub record Stands (table : List MachineState) (id place : ℕ) (state : MachineState) : Type 0 where
@@ -62,12 +98,12 @@ pub record Stands (table : List MachineState) (id place : ℕ) (state : MachineS
   pub numbered : state.machine.id ≡ id
   pub found : state_at table id ≡ Some state
 
--- the row at the position of a number has its state
-pub stands : (rows : List (ℕ × MachineState)) (table : List MachineState) (id place key : ℕ) (state : MachineState) → values_of rows ≡ table
-    → position (λ machine. machine.id == id) (machines_of table) ≡ Some place → slice_get rows place ≡ Some (key, state) → Stands table id place state
-stands rows table id place key state seen placed row =
+-- the state at the position of a number is that of its machine
+pub stands : (states table : List MachineState) (id place : ℕ) (state : MachineState) → states ≡ table
+    → position (λ machine. machine.id == id) (machines_of table) ≡ Some place → slice_get states place ≡ Some state → Stands table id place state
+stands states table id place state seen placed row =
     let test : MachineState → Bool = λ other. other.machine.id == id in
-    let at : slice_get table place ≡ Some state = ap (λ t. slice_get t place) (sym seen) ∙ slice_get-map (λ (e : ℕ × MachineState). e.1) rows place ∙ ap (option_map (λ (e : ℕ × MachineState). e.1)) row in
+    let at : slice_get table place ≡ Some state = ap (λ t. slice_get t place) (sym seen) ∙ row in
     let within : place < length table = slice_get_within table place state at in
     let moved = sym (position-map (λ (other : MachineState). other.machine) (λ machine. machine.id == id) table) ∙ placed in
     let first : position_or_len test table ≡ place = (cond_some _ _ _ moved).1 in
@@ -77,6 +113,52 @@ stands rows table id place key state seen placed row =
       numbered = eqb-true _ _ (ap test (sym (get_or_from_slice_get table place state state at)) ∙ passes);
       found = find_at test table ∙ ap (slice_get table) first ∙ at;
     }
+
+-- the position of a number is one of the list
+pub within_states : (states table : List MachineState) (id place : ℕ) → states ≡ table → position (λ machine. machine.id == id) (machines_of table) ≡ Some place → place < length states
+within_states states table id place seen placed =
+    let test : MachineState → Bool = λ other. other.machine.id == id in
+    let moved = sym (position-map (λ (other : MachineState). other.machine) (λ machine. machine.id == id) table) ∙ placed in
+    let parts = cond_some _ _ _ moved in
+    let within : position_or_len test table < length table = ltb-true _ _ parts.0 in
+    let first : position_or_len test table ≡ place = parts.1 in
+    let long : length states ≡ length table = ap length seen in
+    omega (arith, within, first, long)
+
+-- and has a state
+pub state_there : (states table : List MachineState) (id place : ℕ) (state : MachineState) → states ≡ table → position (λ machine. machine.id == id) (machines_of table) ≡ Some place
+    → state ≡ get_or states place state → slice_get states place ≡ Some state
+state_there states table id place state seen placed is =
+    slice_get-get_or states place state (within_states states table id place seen placed) ∙ ap Some (sym is)
+
+-- so is a place at which a number stands
+pub within_numbers : (states table : List MachineState) (id place : ℕ) → states ≡ table → slice_get (numbers_of (machines_of table)) place ≡ Some id → place < length states
+within_numbers states table id place seen there =
+    let within = slice_get_within (numbers_of (machines_of table)) place id there in
+    let long : length (numbers_of (machines_of table)) ≡ length (machines_of table) = length-map (machines_of table) (λ (m : Machine). m.id) in
+    let all : length (machines_of table) ≡ length table = length-map table (λ (s : MachineState). s.machine) in
+    let same : length states ≡ length table = ap length seen in
+    omega (arith, within, long, all, same)
+
+pub state_numbered : (states table : List MachineState) (id place : ℕ) (state : MachineState) → states ≡ table → slice_get (numbers_of (machines_of table)) place ≡ Some id
+    → state ≡ get_or states place state → slice_get states place ≡ Some state
+state_numbered states table id place state seen there is =
+    slice_get-get_or states place state (within_numbers states table id place seen there) ∙ ap Some (sym is)
+
+-- a state that is lent from a place stands there
+pub lent_at : (states : List MachineState) (place : ℕ) (lent : Option (Bor MachineState)) → IsItemAt states place lent → option_map (λ (state : Bor MachineState). state.now) lent ≡ slice_get states place
+lent_at states place None at = sym (slice_get_past states place (ltb-false _ _ (sym at.0)))
+lent_at states place (Some state) at = let within = ltb-true _ _ (sym at.0) in ap Some at.1 ∙ sym (slice_get-get_or states place state.now within)
+
+-- what is at the position of a number is what is found of it
+pub state_found : (states table : List MachineState) (id : ℕ) (found : Option ℕ) → states ≡ table → found ≡ position (λ machine. machine.id == id) (machines_of table)
+    → option_and_then (λ place. slice_get states place) found ≡ state_at table id
+state_found states table id found seen is =
+    let test : MachineState → Bool = λ other. other.machine.id == id in
+    rw (is ∙ position-map (λ (other : MachineState). other.machine) (λ machine. machine.id == id) table, seen, find_at test table)
+    (by_answer (nat_lt (position_or_len test table) (length table))
+    (λ t. rw t refl)
+    (λ f. rw f (sym (slice_get_past table (position_or_len test table) (ltb-false _ _ f)))))
 
 module _ (table : List MachineState) (id : ℕ) where
   -- a machine with something free on it is listed
@@ -101,27 +183,3 @@ module _ (table : List MachineState) (id : ℕ) where
     free_there P h =
         let g : IsSomeAnd (if state.machine.up then Some state.free else None) P = rw here.found at h in
         by_answer state.machine.up (λ t. (t, rw t at g)) (λ f. absurd (rw f at g))
-
-found-rows : (rows : List (ℕ × MachineState)) (id : ℕ) → keys_of rows ≡ numbers_of (machines_of (values_of rows)) → lookup (nat_eq id) rows ≡ state_at (values_of rows) id
-found-rows [] id keyed = refl
-found-rows (row ∷ rows) id keyed =
-    let first : row.0 ≡ row.1.machine.id = cc in
-    let rest : keys_of rows ≡ numbers_of (machines_of (values_of rows)) = cc in
-    let same : nat_eq id row.0 ≡ (row.1.machine.id == id) = ap (nat_eq id) first ∙ nat_eq_equiv.symm id row.1.machine.id in
-    (λ i. cond (same i) (Some row.1) (found-rows rows id rest i))
-
--- the hash table finds the state of a number
-pub lookup-rows : (rows : List (ℕ × MachineState)) (table : List MachineState) (id : ℕ) → values_of rows ≡ table → IsKept rows → lookup (nat_eq id) rows ≡ state_at table id
-lookup-rows rows table id seen kept = found-rows rows id kept.keyed ∙ ap (λ t. state_at t id) seen
-
--- and at a position it finds the machine
-pub machine-rows : (rows : List (ℕ × MachineState)) (table : List MachineState) (place key : ℕ) (state : MachineState) → values_of rows ≡ table
-    → Some (key, state) ≡ slice_get rows place → Some state.machine ≡ slice_get (machines_of table) place
-machine-rows rows table place key state seen row =
-    ap (option_map (λ (e : ℕ × MachineState). e.1.machine)) row
-    ∙ sym (slice_get-map (λ (e : ℕ × MachineState). e.1.machine) rows place)
-    ∙ ap (λ ms. slice_get ms place) (sym (machines-rows rows) ∙ ap machines_of seen)
-  where
-    machines-rows : (es : List (ℕ × MachineState)) → machines_of (values_of es) ≡ map (λ (e : ℕ × MachineState). e.1.machine) es
-    machines-rows [] = refl
-    machines-rows (e ∷ es) = ap (λ ms. e.1.machine ∷ ms) (machines-rows es)

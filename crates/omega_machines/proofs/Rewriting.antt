@@ -2,35 +2,20 @@
 use Rattle.std.proofs.Common.{◌≡◌, ℕ, zero, suc, true, false, cond, nat_eq, List, [], ◌∷◌, set, slice_get, position, Some, refl, sym, ap, ◌∙◌, subst, arith, ◌==◌}
 use Rattle.std.specs.Cmp.{nat_eq_equiv}
 use Rattle.std.specs.List.{AllByRecursion, IsDistinct}
-use Rattle.std.specs.Map.{keys_of, values_of}
 use Rattle.std.specs.Option.{option_map}
 use Rattle.std.proofs.Math.ListN.{length-set}
 use Rattle.std.proofs.lemmas.Bool.{eqb-true, eq-eqb}
 use Rattle.std.proofs.lemmas.List.{set-get_or}
 use Rattle.std.proofs.lemmas.List.Elements.{All-set, All-get_or}
 use Rattle.std.proofs.lemmas.Option.{slice_get-map, same_Some, slice_get_within, get_or_from_slice_get, none-some}
-use Rattle.indexmap.specs.IndexMap.{set_value_at}
 use Rattle.omega_model.specs.Fields.{greatest}
 use Rattle.omega_model.specs.Machines.{numbers_of}
 use Rattle.omega_model.specs.Need.{Fits, nothing}
 use Rattle.omega_model.specs.declared.cells.Machine.{Machine}
 use Rattle.omega_model.specs.declared.cells.Need.{Need}
-use Rattle.omega_machines.specs.Rows.{IsKept}
 use Rattle.omega_machines.specs.Table.{MachineState, machines_of, change_state, state_put, IsBounded, IsTable}
 use Rattle.omega_machines.proofs.Bounds.{bounded-put}
 use Rattle.omega_machines.proofs.Places.{Stands, stands}
-
--- a value that is written in a row is written in the table
-pub values-set_value_at : (rows : List (ℕ × MachineState)) (place : ℕ) (next : MachineState) → values_of (set_value_at rows place next) ≡ set (values_of rows) place next
-values-set_value_at [] place next = refl
-values-set_value_at (row ∷ rows) zero next = refl
-values-set_value_at (row ∷ rows) (suc place) next = ap (λ states. row.1 ∷ states) (values-set_value_at rows place next)
-
--- and leaves the keys
-keys-set_value_at : (rows : List (ℕ × MachineState)) (place : ℕ) (next : MachineState) → keys_of (set_value_at rows place next) ≡ keys_of rows
-keys-set_value_at [] place next = refl
-keys-set_value_at (row ∷ rows) zero next = refl
-keys-set_value_at (row ∷ rows) (suc place) next = ap (λ keys. row.0 ∷ keys) (keys-set_value_at rows place next)
 
 -- the numbers stay where the machine keeps its own
 numbers-set : (table : List MachineState) (place : ℕ) (state next : MachineState) → slice_get table place ≡ Some state → next.machine.id ≡ state.machine.id
@@ -72,81 +57,60 @@ pub bounded_at : (table : List MachineState) (place : ℕ) (state : MachineState
 bounded_at table place state held at =
     subst IsBounded (get_or_from_slice_get table place state state at) (All-get_or IsBounded table place state (slice_get_within table place state at) held.bounded)
 
--- and so is the machine of a row
-pub bounded_row : (rows : List (ℕ × MachineState)) (place key : ℕ) (state : MachineState) → IsKept rows → slice_get rows place ≡ Some (key, state) → IsBounded state
-bounded_row rows place key state kept row =
-    bounded_at (values_of rows) place state kept.table (slice_get-map (λ (e : ℕ × MachineState). e.1) rows place ∙ ap (option_map (λ (e : ℕ × MachineState). e.1)) row)
+-- what comes of a table in which the state at a place is written anew: a table of the same numbers
+pub record IsRewritten (states : List MachineState) (place : ℕ) (next : MachineState) (table : List MachineState) : Type 0 where
+  pub held : IsTable (set states place next)
+  pub numbers : numbers_of (machines_of (set states place next)) ≡ numbers_of (machines_of states)
+  pub is : set states place next ≡ table
 
--- the state of a row stands at the row's place in the table
-pub row_stands : (rows : List (ℕ × MachineState)) (table : List MachineState) (place key : ℕ) (state : MachineState) → values_of rows ≡ table → slice_get rows place ≡ Some (key, state)
-    → slice_get table place ≡ Some state
-row_stands rows table place key state seen row =
-    ap (λ t. slice_get t place) (sym seen) ∙ slice_get-map (λ (e : ℕ × MachineState). e.1) rows place ∙ ap (option_map (λ (e : ℕ × MachineState). e.1)) row
-
--- the row of a machine written anew, at its place: the rows stay a table, and it is the table with this
--- machine changed
-pub rewritten_at : (rows : List (ℕ × MachineState)) (table : List MachineState) (id place key : ℕ) (state next : MachineState) (changed : MachineState → MachineState)
-    → values_of rows ≡ table → IsKept rows → state.machine.id ≡ id → slice_get rows place ≡ Some (key, state)
+-- the state of a machine written anew, at its place: it is the table with this machine changed
+pub rewritten_at : (states table : List MachineState) (id place : ℕ) (state next : MachineState) (changed : MachineState → MachineState)
+    → states ≡ table → IsTable states → state.machine.id ≡ id → slice_get states place ≡ Some state
     → changed state ≡ next → (changed state).machine.id ≡ state.machine.id → (IsBounded state → IsBounded (changed state))
-    → IsKept (set_value_at rows place next) × (values_of (set_value_at rows place next) ≡ change_state id changed table)
-rewritten_at rows table id place key state next changed seen kept numbered row is same bounds =
-    subst (λ n. IsKept (set_value_at rows place n) × (values_of (set_value_at rows place n) ≡ change_state id changed table)) is (
-      record {
-        keyed = keys-set_value_at rows place written ∙ kept.keyed ∙ ap (λ t. numbers_of (machines_of t)) seen ∙ sym numbers ∙ ap (λ t. numbers_of (machines_of t)) (sym values);
-        table = subst IsTable (sym values) (record {
-          few = omega (arith, length-set {A = MachineState}, held.few);
-          distinct = subst (IsDistinct nat_eq) (sym numbers) held.distinct;
-          bounded = All-set IsBounded table place written (bounds (bounded_at table place state held at)) held.bounded;
-        });
-      },
-      values ∙ set-change id changed table place state held.distinct at numbered,
-    )
+    → IsRewritten states place next (change_state id changed table)
+rewritten_at states table id place state next changed seen held numbered at is same bounds =
+    subst (λ n. IsRewritten states place n (change_state id changed table)) is (record {
+      held = record {
+        few = omega (arith, length-set {A = MachineState}, held.few);
+        distinct = subst (IsDistinct nat_eq) (sym numbers) held.distinct;
+        bounded = All-set IsBounded states place (changed state) (bounds (bounded_at states place state held at)) held.bounded;
+      };
+      numbers = numbers;
+      is = set-change id changed states place state held.distinct at numbered ∙ ap (change_state id changed) seen;
+    })
   where
-    written : MachineState
-    written = changed state
-
-    at : slice_get table place ≡ Some state
-    at = row_stands rows table place key state seen row
-
-    held : IsTable table
-    held = subst IsTable seen kept.table
-
-    values : values_of (set_value_at rows place (changed state)) ≡ set table place (changed state)
-    values = values-set_value_at rows place (changed state) ∙ ap (λ t. set t place (changed state)) seen
-
-    numbers : numbers_of (machines_of (set table place (changed state))) ≡ numbers_of (machines_of table)
-    numbers = numbers-set table place state (changed state) at same
+    numbers : numbers_of (machines_of (set states place (changed state))) ≡ numbers_of (machines_of states)
+    numbers = numbers-set states place state (changed state) at same
 
 -- and at the place that a look-up found
-pub rewritten : (rows : List (ℕ × MachineState)) (table : List MachineState) (id place key : ℕ) (state next : MachineState) (changed : MachineState → MachineState)
-    → values_of rows ≡ table → IsKept rows → position (λ machine. machine.id == id) (machines_of table) ≡ Some place → slice_get rows place ≡ Some (key, state)
+pub rewritten : (states table : List MachineState) (id place : ℕ) (state next : MachineState) (changed : MachineState → MachineState)
+    → states ≡ table → IsTable states → position (λ machine. machine.id == id) (machines_of table) ≡ Some place → slice_get states place ≡ Some state
     → changed state ≡ next → (changed state).machine.id ≡ state.machine.id → (Stands table id place state → IsBounded state → IsBounded (changed state))
-    → IsKept (set_value_at rows place next) × (values_of (set_value_at rows place next) ≡ change_state id changed table)
-rewritten rows table id place key state next changed seen kept placed row is same bounds =
-    let here : Stands table id place state = stands rows table id place key state seen placed row in
-    rewritten_at rows table id place key state next changed seen kept here.numbered row is same (bounds here)
+    → IsRewritten states place next (change_state id changed table)
+rewritten states table id place state next changed seen held placed at is same bounds =
+    let here : Stands table id place state = stands states table id place state seen placed at in
+    rewritten_at states table id place state next changed seen held here.numbered at is same (bounds here)
 
-module _ (rows : List (ℕ × MachineState)) (table : List MachineState) (place key : ℕ) (state next : MachineState) (machine : Machine) (used : Need) (seq : ℕ)
-    (seen : values_of rows ≡ table) (kept : IsKept rows) (there : slice_get (numbers_of (machines_of table)) place ≡ Some machine.id) (row : slice_get rows place ≡ Some (key, state)) where
+module _ (states table : List MachineState) (place : ℕ) (state next : MachineState) (machine : Machine) (used : Need) (seq : ℕ)
+    (seen : states ≡ table) (held : IsTable states) (there : slice_get (numbers_of (machines_of table)) place ≡ Some machine.id) (at : slice_get states place ≡ Some state) where
   -- the machine at a place has the number that stands there
   there_numbered : state.machine.id ≡ machine.id
   there_numbered =
-      let at = row_stands rows table place key state seen row in
+      let at_table : slice_get table place ≡ Some state = ap (λ t. slice_get t place) (sym seen) ∙ at in
       let here : slice_get (numbers_of (machines_of table)) place ≡ Some state.machine.id =
-      slice_get-map (λ (m : Machine). m.id) (machines_of table) place ∙ ap (option_map (λ (m : Machine). m.id)) (slice_get-map (λ (s : MachineState). s.machine) table place ∙ ap (option_map (λ (s : MachineState). s.machine)) at) in
+      slice_get-map (λ (m : Machine). m.id) (machines_of table) place ∙ ap (option_map (λ (m : Machine). m.id)) (slice_get-map (λ (s : MachineState). s.machine) table place ∙ ap (option_map (λ (s : MachineState). s.machine)) at_table) in
       same_Some _ _ (sym here ∙ there)
 
-  -- another row in its place
-  pub row_put : next ≡ state_put machine used seq → Fits machine.cap greatest → (machine.up ≡ false → used ≡ nothing)
-      → IsKept (set_value_at rows place next) × (values_of (set_value_at rows place next) ≡ change_state machine.id (λ _. state_put machine used seq) table)
-  row_put is most down =
-      rewritten_at rows table machine.id place key state next (λ _. state_put machine used seq) seen kept there_numbered row (sym is) (sym there_numbered)
+  -- another state in its place
+  pub state_is_put : next ≡ state_put machine used seq → Fits machine.cap greatest → (machine.up ≡ false → used ≡ nothing)
+      → IsRewritten states place next (change_state machine.id (λ _. state_put machine used seq) table)
+  state_is_put is most down =
+      rewritten_at states table machine.id place state next (λ _. state_put machine used seq) seen held there_numbered at (sym is) (sym there_numbered)
       (λ _. bounded-put machine used seq most down)
 
--- a row written as it was leaves the table
-pub unwritten : (rows : List (ℕ × MachineState)) (table : List MachineState) (place key : ℕ) (state next : MachineState)
-    → values_of rows ≡ table → slice_get rows place ≡ Some (key, state) → next ≡ state → values_of (set_value_at rows place next) ≡ table
-unwritten rows table place key state next seen row same =
-    let at = row_stands rows table place key state seen row in
-    values-set_value_at rows place next ∙ (λ i. set (seen i) place (same i))
-    ∙ ap (set table place) (sym (get_or_from_slice_get table place state state at)) ∙ set-get_or table place state
+-- a state written as it was leaves the table
+pub unwritten : (states table : List MachineState) (place : ℕ) (state next : MachineState)
+    → states ≡ table → slice_get states place ≡ Some state → next ≡ state → set states place next ≡ table
+unwritten states table place state next seen at same =
+    ap (set states place) same
+    ∙ ap (set states place) (sym (get_or_from_slice_get states place state state at)) ∙ set-get_or states place state ∙ seen

@@ -1,13 +1,11 @@
 -- A table of which the first machines are left.
 use Rattle.std.proofs.Common.{◌≡◌, ℕ, zero, suc, false, nat_eq, List, [], ◌∷◌, take, sym, ap, ◌∙◌, subst, arith}
 use Rattle.std.specs.List.{IsDistinct, AllByRecursion}
-use Rattle.std.specs.Map.{values_of}
 use Rattle.std.proofs.lemmas.List.{take-map, length-take}
 use Rattle.std.proofs.lemmas.List.Elements.{All-take}
 use Rattle.std.proofs.lemmas.Map.Keys.{IsDistinct-cons, IsDistinct-head, IsDistinct-tail}
 use Rattle.omega_model.specs.Machines.{numbers_of}
 use Rattle.omega_model.specs.declared.cells.Machine.{Machine}
-use Rattle.omega_machines.specs.Rows.{IsKept}
 use Rattle.omega_machines.specs.Table.{MachineState, machines_of, IsBounded, IsTable}
 
 first_distinct : (n : ℕ) (ns : List ℕ) → IsDistinct nat_eq ns → IsDistinct nat_eq (take n ns)
@@ -33,18 +31,3 @@ first_table n table held = record {
   distinct = subst (IsDistinct nat_eq) (sym (first_numbers n table)) (first_distinct n (numbers_of (machines_of table)) held.distinct);
   bounded = All-take IsBounded n table held.bounded;
 }
-
-first_values : (n : ℕ) (rows : List (ℕ × MachineState)) → values_of (take n rows) ≡ take n (values_of rows)
-first_values n rows = sym (take-map (λ (e : ℕ × MachineState). e.1) n rows)
-
--- and their rows are its rows
-pub first_rows : (rows next : List (ℕ × MachineState)) (table : List MachineState) (n : ℕ) → values_of rows ≡ table → IsKept rows → next ≡ take n rows
-    → IsKept next × (values_of next ≡ take n table)
-first_rows rows next table n seen kept is =
-    subst (λ (r : List (ℕ × MachineState)). IsKept r × (values_of r ≡ take n table)) (sym is) (
-      record {
-        keyed = sym (take-map (λ (e : ℕ × MachineState). e.0) n rows) ∙ ap (take n) kept.keyed ∙ sym (first_numbers n (values_of rows)) ∙ ap (λ t. numbers_of (machines_of t)) (sym (first_values n rows));
-        table = subst IsTable (sym (first_values n rows)) (first_table n (values_of rows) kept.table);
-      },
-      first_values n rows ∙ ap (take n) seen,
-    )

@@ -1,3 +1,3 @@
 pub mod Table
-pub mod Rows
 pub mod Load
+pub mod Places

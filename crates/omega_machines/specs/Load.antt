@@ -1,10 +1,8 @@
 -- What is in use on the machines of a table that are up, and their capacity, as sums.
-use Rattle.std.specs.Prelude.{◌≡◌, ℕ, ◌<◌, ◌^◌, List}
-use Rattle.std.specs.Map.{values_of}
+use Rattle.std.specs.Prelude.{◌≡◌, ◌<◌, ◌^◌, List}
 use Rattle.omega_model.specs.Need.{plus, minus}
 use Rattle.omega_model.specs.declared.cells.Need.{Need}
-use Rattle.omega_machines.specs.Rows.{IsKept}
-use Rattle.omega_machines.specs.Table.{MachineState, used_if_up, cap_if_up, used_by_all, capacity_of_all}
+use Rattle.omega_machines.specs.Table.{MachineState, used_if_up, cap_if_up, used_by_all, capacity_of_all, IsTable}
 use Rattle.omega_machines.specs.declared.load.Load.{Load}
 
 -- the load of one machine, and of all that are in a table
@@ -36,7 +34,7 @@ pub record IsInWords (load : Load) : Type 0 where
   pub used : AreWords load.used
   pub capacity : AreWords load.capacity
 
--- the rows are a table, and the load is that of all its machines
-pub record AreSummed (rows : List (ℕ × MachineState)) (load : Load) : Type 0 where
-  pub kept : IsKept rows
-  pub sum : load ≡ load_of_all (values_of rows)
+-- the states are a table, and the load is that of all its machines
+pub record AreSummed (states : List MachineState) (load : Load) : Type 0 where
+  pub table : IsTable states
+  pub sum : load ≡ load_of_all states

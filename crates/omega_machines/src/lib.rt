@@ -1,11 +1,9 @@
 //! The machines of a cell, with what is free on each and how often it was touched.
 //!
-//! A look-up by number goes through a hash table and costs the same for any number of machines.
-//! Contracts speak of the list of the machines' states alone, in order of first mention. What is in
-//! use on all machines that are up, and their capacity, are kept as running sums.
-//!
-//! The hash has a fixed seed. Numbers that are chosen so that they collide make a look-up go
-//! through the machines one by one, of which there are at most 65,536; no answer changes.
+//! The states stand in a list in order of first mention, and contracts speak of that list alone. A
+//! look-up by number goes through a balanced tree from numbers to places in the list, so no numbers
+//! that somebody chooses make it slow. What is in use on all machines that are up, and their
+//! capacity, are kept as running sums.
 #![tactic(auto)]
 
 mod attrs;

@@ -1,19 +1,18 @@
 //! The table of machines.
-ghost use Rattle.std.specs.Prelude.{◌≡◌, ◌-◌, ◌<◌, ◌^◌, ◌==◌, false, [], ◌∷◌, ◌++◌, None, Some, nat_eq, length, take, drop, slice_get, option_map, position, is_some, IsTrue, IsSomeAnd, OnOk, OnErr};
-ghost use Rattle.indexmap.specs.IndexMap.{get, IsUnchanged};
+ghost use Rattle.std.specs.Prelude.{◌≡◌, ◌-◌, ◌<◌, ◌≤◌, ◌^◌, ◌==◌, false, [], ◌∷◌, ◌++◌, None, Some, length, take, drop, slice_get, option_map, position, is_some, IsTrue, IsSomeAnd, OnOk, OnErr};
 ghost use Rattle.omega_model.specs.Applying.{ListsOrHasRoom};
 ghost use Rattle.omega_model.specs.Fields.{greatest};
 ghost use Rattle.omega_model.specs.Machines.{is_listed, numbers_of, removed, attr_set, attr_deleted};
 ghost use Rattle.omega_model.specs.Need.{Fits, nothing};
-ghost use Rattle.std.specs.Map.{values_of};
 ghost use Rattle.omega_machines.specs.Load.{less, load_of_all};
-ghost use Rattle.omega_machines.specs.Table.{machines_of, use_at, free_at, seq_at, used_by_all, capacity_of_all, change_state, ensured_states, state_added, state_updated, state_put, with_machine, charged, released, touched, IsTable};
+ghost use Rattle.omega_machines.specs.Places.{ArePlaced};
+ghost use Rattle.omega_machines.specs.Table.{machines_of, state_at, use_at, free_at, seq_at, used_by_all, capacity_of_all, change_state, ensured_states, state_added, state_updated, state_put, with_machine, charged, released, touched, IsTable};
 
 use crate::load::Load;
 use crate::{MachineState, attrs};
-use indexmap::IndexMap;
 use omega_model::{Bytes, Machine, Need, NoMemory, Seq};
 use std::alloc::Global;
+use std::collections::BTreeMap;
 use std::marker::Model;
 
 /// The machines of a cell in order of first mention, found by number.
@@ -22,25 +21,25 @@ use std::marker::Model;
 /// numbers and capacities of at most 1,000,000,000,000 units of each kind, and no more is in use on a machine
 /// than its capacity, nothing where it is down.
 ///
-/// A call on a machine costs one or two look-ups of its number, the same for any number of
-/// machines, and takes no memory, unless its own text says more.
+/// A call on a machine costs one or two look-ups of its number, each the logarithm of the number of
+/// machines whatever their numbers are, and takes no memory, unless its own text says more.
 #[derive(Drop)]
 pub struct MachineTable {
-    rows: IndexMap<u64, MachineState>,
+    states: Vec<MachineState>,
+    places: BTreeMap<u64, usize>,
     load: Load,
 }
 
 impl Model for MachineTable {
     ghost use Rattle.std.specs.Prelude.{List};
-    ghost use Rattle.indexmap.specs.IndexMap.{values};
     ghost use Rattle.omega_machines.specs.Table.{MachineState};
-    ghost use Rattle.omega_machines.specs.Load.{AreSummed};
+    ghost use Rattle.omega_machines.specs.Places.{IsKept};
 
     ghost Value = { List MachineState };
 
-    ghost view = { λ table. values table.rows };
+    ghost view = { λ table. table.states.items };
 
-    ghost invariant = { λ table. AreSummed table.rows.entries table.load };
+    ghost invariant = { λ table. IsKept table.places table.states.items table.load };
 }
 
 /// Gives a machine a capacity. What is in use on it stays in use.
@@ -52,29 +51,42 @@ fn set_cap(state: &mut MachineState, cap: Need)
     state.machine.cap = cap;
 }
 
-/// Puts a state behind the others, under a number that has none.
+/// Puts the state of a machine behind the others, and its place into the map.
 fn push(
-    rows: &mut IndexMap<u64, MachineState>,
-    id: u64,
+    states: &mut Vec<MachineState>,
+    places: &mut BTreeMap<u64, usize>,
     state: MachineState,
 ) -> Result<(), NoMemory>
-    requires { get nat_eq rows.old id ≡ None }
-    ensures ok { OnOk result (rows.new.entries ≡ rows.old.entries ++ (id, state) ∷ []) }
-    ensures err { OnErr result (IsUnchanged rows.old rows.new) }
+    requires placed { ArePlaced places.old (machines_of states.old.items) }
+    requires new { position (λ machine. machine.id == state.machine.id) (machines_of states.old.items) ≡ None }
+    ensures states { OnOk result (states.new.items ≡ states.old.items ++ state ∷ []) }
+    ensures err { OnErr result (states.new.items ≡ states.old.items) }
+    ensures placed { ArePlaced places.new (machines_of states.new.items) }
 {
-    rows.insert(id, state)?;
+    states.reserve(1)?;
+    places.insert(state.machine.id, states.len())?;
+    states.push_reserved(state);
     Ok(())
 }
 
+/// Takes the machines from this place on out of the map.
+fn forget_rest(places: &mut BTreeMap<u64, usize>, states: &[MachineState], from: usize)
+    requires placed { ArePlaced places.old (machines_of states.now) }
+    requires table { IsTable states.now }
+    ensures { ArePlaced places.new (machines_of (take from states.now)) }
+{
+    for position in from..states.len() {
+        places.remove(&states[position].machine.id);
+    }
+}
+
 /// What is left of a load when the machines from this place on leave.
-fn without_rest(rows: &IndexMap<u64, MachineState>, load: Load, from: usize) -> Load
-    ensures { result ≡ less load (load_of_all (drop from (values_of rows.now.entries))) }
+fn without_rest(states: &[MachineState], load: Load, from: usize) -> Load
+    ensures { result ≡ less load (load_of_all (drop from states.now)) }
 {
     let mut left = load;
-    for position in from..rows.len() {
-        if let Some((_, state)) = rows.get_index(position) {
-            left = left.less(Load::of(state));
-        }
+    for position in from..states.len() {
+        left = left.less(Load::of(&states[position]));
     }
     left
 }
@@ -85,7 +97,8 @@ impl MachineTable {
         ensures { result ≡ [] }
     {
         MachineTable {
-            rows: IndexMap::new(alloc),
+            states: Vec::new(alloc),
+            places: BTreeMap::new(alloc),
             load: Load::NONE,
         }
     }
@@ -95,15 +108,15 @@ impl MachineTable {
         ensures len { result ≡ length self.now }
         ensures table { IsTable self.now }
     {
-        self.rows.len()
+        self.states.len()
     }
 
     /// The machine at a position in the list, counted from 0.
     pub fn at(&self, position: usize) -> Option<&Machine>
         ensures { option_map (λ machine. machine.now) result ≡ slice_get (machines_of self.now) position }
     {
-        let entry = self.rows.get_index(position)?;
-        Some(&entry.1.machine)
+        let state = self.states.get(position)?;
+        Some(&state.machine)
     }
 
     /// The position of a machine in the list. `None` exactly where it isn't there.
@@ -111,7 +124,7 @@ impl MachineTable {
         ensures listed { is_some result ≡ is_listed id (machines_of self.now) }
         ensures place { result ≡ position (λ machine. machine.id == id) (machines_of self.now) }
     {
-        self.rows.get_index_of(&id)
+        self.places.get(&id).copied()
     }
 
     /// What is in use on all machines that are up. Costs the same for any number of machines.
@@ -143,14 +156,14 @@ impl MachineTable {
             id,
             up: false,
             cap: Need::NOTHING,
-            attrs: Seq::new(*self.rows.allocator()),
+            attrs: Seq::new(*self.states.allocator()),
         };
         let state = MachineState {
             machine,
             free: Need::NOTHING,
             seq: 0,
         };
-        push(&mut self.rows, id, state)?;
+        push(&mut self.states, &mut self.places, state)?;
         Ok(())
     }
 
@@ -163,7 +176,7 @@ impl MachineTable {
         ensures table { IsTable self.new }
     {
         let place = self.place_of(id);
-        let (_, state) = self.rows.pair_mut(place);
+        let state = &mut self.states[place];
         let before = Load::of(state);
         set_cap(state, cap);
         state.machine.up = true;
@@ -179,7 +192,7 @@ impl MachineTable {
         ensures table { IsTable self.new }
     {
         let place = self.place_of(id);
-        let (_, state) = self.rows.pair_mut(place);
+        let state = &mut self.states[place];
         let before = Load::of(state);
         set_cap(state, cap);
         self.load = self.load.replaced(before, Load::of(state));
@@ -193,7 +206,7 @@ impl MachineTable {
         ensures table { IsTable self.new }
     {
         let place = self.place_of(id);
-        let (_, state) = self.rows.pair_mut(place);
+        let state = &mut self.states[place];
         let before = Load::of(state);
         state.machine.up = false;
         self.load = self.load.replaced(before, Load::of(state));
@@ -209,8 +222,8 @@ impl MachineTable {
         ensures table { IsTable self.new }
     {
         let place = self.place_of(id);
-        let alloc = *self.rows.allocator();
-        let (_, state) = self.rows.pair_mut(place);
+        let alloc = *self.states.allocator();
+        let state = &mut self.states[place];
         attrs::set(&mut state.machine.attrs, alloc, name, value)
     }
 
@@ -239,8 +252,8 @@ impl MachineTable {
         ensures table { IsTable self.new }
     {
         let place = self.place_of(id);
-        let alloc = *self.rows.allocator();
-        let (_, state) = self.rows.pair_mut(place);
+        let alloc = *self.states.allocator();
+        let state = &mut self.states[place];
         attrs::delete(&mut state.machine.attrs, alloc, name);
     }
 
@@ -250,8 +263,9 @@ impl MachineTable {
         ensures first { self.new ≡ take n self.old }
         ensures table { IsTable self.new }
     {
-        self.load = without_rest(&self.rows, self.load, n);
-        self.rows.truncate(n);
+        forget_rest(&mut self.places, &self.states, n);
+        self.load = without_rest(&self.states, self.load, n);
+        self.states.truncate(n);
     }
 
     /// Puts another row in the place of a machine, whose number stays: so much is in use on it then,
@@ -265,7 +279,7 @@ impl MachineTable {
         ensures table { IsTable self.new }
     {
         let free = machine.cap.minus(used);
-        let (_, state) = self.rows.pair_mut(position);
+        let state = &mut self.states[position];
         let before = Load::of(state);
         *state = MachineState { machine, free, seq };
         self.load = self.load.replaced(before, Load::of(state));
@@ -277,7 +291,7 @@ impl MachineTable {
         ensures free { result ≡ free_at self.now id }
         ensures table { IsTable self.now }
     {
-        let state = self.rows.get(&id)?;
+        let state = self.state(id)?;
         if state.machine.up {
             Some(state.free)
         } else {
@@ -289,7 +303,7 @@ impl MachineTable {
     pub fn seq(&self, id: u64) -> u64
         ensures { result ≡ seq_at self.now id }
     {
-        match self.rows.get(&id) {
+        match self.state(id) {
             Some(state) => state.seq,
             None => 0,
         }
@@ -303,7 +317,7 @@ impl MachineTable {
         ensures table { IsTable self.new }
     {
         let place = self.place_of(id);
-        let (_, state) = self.rows.pair_mut(place);
+        let state = &mut self.states[place];
         state.seq += 1;
     }
 
@@ -314,7 +328,7 @@ impl MachineTable {
         ensures table { IsTable self.new }
     {
         let place = self.place_of(id);
-        let (_, state) = self.rows.pair_mut(place);
+        let state = &mut self.states[place];
         let before = Load::of(state);
         state.free = state.free.minus(need);
         self.load = self.load.replaced(before, Load::of(state));
@@ -328,10 +342,19 @@ impl MachineTable {
         ensures table { IsTable self.new }
     {
         let place = self.place_of(id);
-        let (_, state) = self.rows.pair_mut(place);
+        let state = &mut self.states[place];
         let before = Load::of(state);
         state.free = state.free.plus(need);
         self.load = self.load.replaced(before, Load::of(state));
+    }
+
+    /// The state of a machine. `None` exactly where it isn't there.
+    fn state(&self, id: u64) -> Option<&MachineState>
+        ensures found { option_map (λ state. state.now) result ≡ state_at self.now id }
+        ensures table { IsTable self.now }
+    {
+        let place = self.places.get(&id).copied()?;
+        self.states.get(place)
     }
 
     /// The place of a machine that is there.

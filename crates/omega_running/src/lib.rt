@@ -12,6 +12,6 @@ mod orders;
 mod standing;
 mod table;
 
-pub use orders::is_among;
+pub use orders::{is_among, key_lt};
 pub use standing::stands_in;
 pub use table::{Running, keys_of};

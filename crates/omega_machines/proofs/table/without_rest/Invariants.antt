@@ -1,8 +1,7 @@
 use Rattle.std.proofs.Common.{◌≡◌, drop}
-use Rattle.std.specs.Map.{values_of}
 use Rattle.omega_machines.specs.Load.{less, load_of_all}
 use Rattle.omega_machines.proofs.table.without_rest.Given as goal
 
 abbrev pub invariant-loop-position : goal.invariant-loop-position
 invariant-loop-position l =
-    less l.left (load_of_all (drop l.position (values_of l.rows.entries))) ≡ less l.fn.load (load_of_all (drop l.fn.from (values_of l.rows.entries)))
+    less l.left (load_of_all (drop l.position l.states)) ≡ less l.fn.load (load_of_all (drop l.fn.from l.states))

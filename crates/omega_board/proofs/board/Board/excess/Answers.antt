@@ -28,8 +28,8 @@ excess_len-count-requires-clause-ordered c = (at_now _ _ c.self.view_is c.self.i
 pub returns-clause-names : goal.returns-clause-names
 returns-clause-names c =
     let names = c.in_ok-ranked.ensures ∙ ap (λ (b : BoardState). keys_of (ranked_on c.args.machine b.tasks)) c.self.view_is in
-    c.of.ensures ∙ c.truncate.ensures.items
-    ∙ ap₂ (λ n (keys : List TaskKey). take n keys) c.excess_len-count.ensures (c.into_items-keys.ensures ∙ names)
+    c.of.ensures ∙ c.in_ok-from_slice.ensures.items
+    ∙ ap₂ (λ n (keys : List TaskKey). take n keys) c.excess_len-count.ensures.count (c.as_slice-2.ensures ∙ names)
     ∙ excess_keys c.args.cap (ranked_on c.args.machine c.args.self.now.tasks)
 
 pub returns-clause-fits : goal.returns-clause-fits

@@ -14,7 +14,10 @@ pub loop-i-init : goal.loop-i-init
 loop-i-init c = (omega arith, c.requires.used ∙ sym (total-ranked c.args.self.now.tasks c.args.machine))
 
 pub returns-then-fits : goal.returns-then-fits
-returns-then-fits c = walked_end c.args.cap (ranked_on c.args.machine c.args.self.now.tasks) c.loop-i.i c.loop-i.left c.loop-i.invariant (c.if-fits.ensures.0 refl)
+returns-then-fits c = record {
+  count = walked_end c.args.cap (ranked_on c.args.machine c.args.self.now.tasks) c.loop-i.i c.loop-i.left c.loop-i.invariant (c.if-fits.ensures.0 refl);
+  few = omega (arith, c.loop-i-test.true);
+}
 
 pub need_of-requires : goal.need_of-requires
 need_of-requires c =

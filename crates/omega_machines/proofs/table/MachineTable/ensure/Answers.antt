@@ -1,25 +1,28 @@
 use Rattle.std.proofs.Common.{◌∙◌, refl, sym}
-use Rattle.omega_machines.proofs.Growing.{no_state, grown}
-use Rattle.omega_machines.proofs.Loads.{rows_more}
+use Rattle.omega_machines.proofs.Growing.{no_position, grown}
+use Rattle.omega_machines.proofs.Loads.{summed_more}
 use Rattle.omega_machines.proofs.table.MachineTable.ensure.Goals as goal
 
-pub push-requires : goal.push-requires
-push-requires c =
-    let absent = sym (c.if-is_some.ensures ∙ c.position.ensures.listed) in
-    no_state c.self.inside.rows.entries c.args.self.now c.args.id c.self.view_is c.self.invariant.kept absent
+pub push-requires-clause-new : goal.push-requires-clause-new
+push-requires-clause-new c =
+    no_position c.self.inside.states.items c.args.self.now c.args.id c.self.view_is (sym (c.if-is_some.ensures ∙ c.position.ensures.listed))
 
 pub invariant_of-self-2 : goal.invariant_of-self-2
 invariant_of-self-2 c =
     let absent = sym (c.if-is_some.ensures ∙ c.position.ensures.listed) in
-    rows_more c.self.inside.rows.entries _ c.args.id _ c.self.inside.load c.self.invariant refl c.in_ok-push.ensures.ok
-    (grown c.self.inside.rows.entries c.args.self.now c.args.id c.self.view_is c.self.invariant.kept absent _ _ c.requires c.new.ensures c.in_ok-push.ensures.ok).0
+    let held = c.self.invariant.summed.table in
+    record {
+      placed = c.in_ok-push.ensures.placed;
+      summed = summed_more c.self.inside.states.items _ _ c.self.inside.load c.self.invariant.summed refl c.in_ok-push.ensures.states
+          (grown c.self.inside.states.items c.args.self.now c.args.id c.self.view_is absent _ _ c.requires c.new.ensures held c.in_ok-push.ensures.states).0;
+    }
 
 pub returns-clause-ok : goal.returns-clause-ok
 returns-clause-ok c =
     let absent = sym (c.if-is_some.ensures ∙ c.position.ensures.listed) in
-    (grown c.self.inside.rows.entries c.args.self.now c.args.id c.self.view_is c.self.invariant.kept absent _ _ c.requires c.new.ensures c.in_ok-push.ensures.ok).1
+    (grown c.self.inside.states.items c.args.self.now c.args.id c.self.view_is absent _ _ c.requires c.new.ensures c.self.invariant.summed.table c.in_ok-push.ensures.states).1
 
 pub returns-clause-table : goal.returns-clause-table
 returns-clause-table c =
     let absent = sym (c.if-is_some.ensures ∙ c.position.ensures.listed) in
-    (grown c.self.inside.rows.entries c.args.self.now c.args.id c.self.view_is c.self.invariant.kept absent _ _ c.requires c.new.ensures c.in_ok-push.ensures.ok).0.table
+    (grown c.self.inside.states.items c.args.self.now c.args.id c.self.view_is absent _ _ c.requires c.new.ensures c.self.invariant.summed.table c.in_ok-push.ensures.states).0

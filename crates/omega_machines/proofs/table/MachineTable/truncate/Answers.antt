@@ -1,14 +1,19 @@
-use Rattle.omega_machines.proofs.Shortening.{first_rows}
-use Rattle.omega_machines.proofs.Loads.{rows_first}
+use Rattle.std.proofs.Common.{sym, subst}
+use Rattle.omega_machines.specs.Places.{ArePlaced}
+use Rattle.omega_machines.specs.Table.{machines_of, IsTable}
+use Rattle.omega_machines.proofs.Shortening.{first_table}
+use Rattle.omega_machines.proofs.Loads.{summed_first}
 use Rattle.omega_machines.proofs.table.MachineTable.truncate.Goals as goal
 
 pub invariant_of-self : goal.invariant_of-self
 invariant_of-self c =
-    rows_first c.self.inside.rows.entries _ c.args.n _ _ c.self.invariant c.truncate.ensures.entries c.without_rest-self-inside.ensures
-    (first_rows _ _ _ c.args.n c.self.view_is c.self.invariant.kept c.truncate.ensures.entries).0
-
-pub returns-clause-first : goal.returns-clause-first
-returns-clause-first c = (first_rows _ _ _ c.args.n c.self.view_is c.self.invariant.kept c.truncate.ensures.entries).1
+    let states = c.self.inside.states.items in
+    let held = subst IsTable (sym c.truncate.ensures.items) (first_table c.args.n states c.self.invariant.summed.table) in
+    record {
+      placed = subst (λ t. ArePlaced c.forget_rest.new.places (machines_of t)) (sym c.truncate.ensures.items) (rw (← c.deref.ensures.value) c.forget_rest.ensures);
+      summed = summed_first states _ c.args.n c.self.inside.load _ c.self.invariant.summed c.truncate.ensures.items (rw (← c.deref-2.ensures.value) c.without_rest-self-inside.ensures) held;
+    }
 
 pub returns-clause-table : goal.returns-clause-table
-returns-clause-table c = (first_rows _ _ _ c.args.n c.self.view_is c.self.invariant.kept c.truncate.ensures.entries).0.table
+returns-clause-table c =
+    subst IsTable (sym c.truncate.ensures.items) (first_table c.args.n c.self.inside.states.items c.self.invariant.summed.table)
