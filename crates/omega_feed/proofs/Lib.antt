@@ -12,3 +12,4 @@ pub mod AtEnd
 pub mod Active
 pub mod ExtraIndexes
 pub mod HeldExtras
+pub mod Parts

@@ -41,7 +41,7 @@ one_key a b p q =
 at_facts : (a b : TaskKey) (o : Ordering) → key_cmp a b ≡ o → Facts o a b → Facts (key_cmp a b) a b
 at_facts a b o is f = let P : Ordering → Type 0 = λ z. Facts z a b in subst P (sym is) f
 
-by_job : (a b : TaskKey) → a.job < b.job → (key_cmp a b ≡ Less) × (key_cmp b a ≡ Greater) × (key_lt a b ≡ true) × (key_lt b a ≡ false) × (same_key b a ≡ false) × (same_key a b ≡ false)
+pub by_job : (a b : TaskKey) → a.job < b.job → (key_cmp a b ≡ Less) × (key_cmp b a ≡ Greater) × (key_lt a b ≡ true) × (key_lt b a ≡ false) × (same_key b a ≡ false) × (same_key a b ≡ false)
 by_job a b less =
     let p = lt-ltb a.job b.job less in
     let q = le-ltb b.job a.job (omega arith) in

@@ -116,6 +116,13 @@ impl Jobs {
         Ok(())
     }
 
+    /// The numbers of the jobs, in their order.
+    pub fn numbers(&self, alloc: Global) -> Result<Vec<u64>, NoMemory>
+        ensures { IfOk result (λ numbers. numbers.items ≡ map (λ job. job.job) self.now) }
+    {
+        numbers_of(alloc, &self.list)
+    }
+
     /// The place of a job: the only one at which it stands, `None` exactly where there is none. Costs
     /// the logarithm of their number.
     pub fn place(&self, job: u64) -> Option<usize>
@@ -130,6 +137,17 @@ impl Jobs {
     {
         self.list.get(place).copied()
     }
+}
+
+/// The numbers of some jobs, in their order.
+fn numbers_of(alloc: Global, jobs: &[RoutedJob]) -> Result<Vec<u64>, NoMemory>
+    ensures { IfOk result (λ numbers. numbers.items ≡ map (λ job. job.job) jobs.now) }
+{
+    let mut numbers = Vec::with_capacity(alloc, jobs.len())?;
+    for job in jobs {
+        numbers.push(job.job)?;
+    }
+    Ok(numbers)
 }
 
 /// The scheduler of a job with a task of this class: the last one where it has activities, else that

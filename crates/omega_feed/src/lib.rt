@@ -15,6 +15,7 @@ mod extras;
 mod jobs;
 mod open_jobs;
 mod ordered;
+mod task_tree;
 mod tasks;
 mod unplaced;
 mod wanted;

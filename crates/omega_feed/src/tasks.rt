@@ -1,6 +1,6 @@
 //! The wanted tasks.
-ghost use Rattle.std.specs.Prelude.{◌≡◌, ◌↔◌, [], All, List, not, map, ◌<◌, IfOk, IsTrue, OnOk, OnErr};
-ghost use Rattle.std.specs.List.{filter, list_any};
+ghost use Rattle.std.specs.Prelude.{◌≡◌, ◌↔◌, [], All, IfNone, IfOk, IfSome, IsTrue, List, MatchResult, OnErr, OnOk, map, not, ◌<◌};
+ghost use Rattle.std.specs.List.{filter, flat_map, list_any};
 ghost use Rattle.omega_model.specs.ExtraTasks.{HasLowIndex, first_extra, is_wanted, wanted_of};
 ghost use Rattle.omega_model.specs.ReportCounts.{waits};
 ghost use Rattle.omega_model.specs.Wanted.{wanted_after_task, with_wanted, is_named};
@@ -8,11 +8,12 @@ ghost use Rattle.omega_model.specs.declared.cells.Machine.{Machine};
 ghost use Rattle.omega_feed.specs.Asked.{is_task_of};
 ghost use Rattle.omega_feed.specs.Index.{changed_by, wanted_task};
 ghost use Rattle.omega_feed.specs.Open.{RunsIfOf};
+ghost use Rattle.omega_feed.specs.Parts.{AreParts, BelongsAt, Rise, StandsAt, joined, waiting_jobs};
 
+use crate::task_tree::TaskTree;
 use omega_model::{NoMemory, Spec, TaskKey, TaskRow};
 use omega_running::Running;
 use std::alloc::Global;
-use std::collections::BTreeMap;
 use std::marker::Model;
 
 /// What a task row does to the wanted tasks.
@@ -28,22 +29,28 @@ pub enum Change {
 
 /// The wanted tasks in order of key, found by key and by job. They are tasks of the trace, whose
 /// indexes are below those of extras.
+///
+/// Those of each job stand in a tree of their own, and the trees in order of job, so that a way down is
+/// as short as the job is small. Where the last job stands for which a task was put in or taken out is
+/// looked at first: the look-ups of one row are of one job.
 #[derive(Drop)]
 pub struct WantedTasks {
-    specs: BTreeMap<TaskKey, Spec>,
+    alloc: Global,
+    jobs: Vec<u64>,
+    parts: Vec<TaskTree>,
+    last: usize,
 }
 
 impl Model for WantedTasks {
-    ghost use Rattle.std.specs.Prelude.{List, map};
+    ghost use Rattle.std.specs.Prelude.{List};
     ghost use Rattle.omega_model.specs.Wanted.{WantedTask};
+    ghost use Rattle.omega_feed.specs.Parts.{AreParts, joined};
 
     ghost Value = { List WantedTask };
 
-    ghost use Rattle.omega_feed.specs.Index.{wanted_task, AreKeys};
+    ghost view = { λ tasks. joined tasks.parts.items };
 
-    ghost view = { λ tasks. map wanted_task tasks.specs.entries };
-
-    ghost invariant = { λ tasks. AreKeys tasks.specs };
+    ghost invariant = { λ tasks. AreParts tasks.jobs.items tasks.parts.items };
 }
 
 impl WantedTasks {
@@ -52,47 +59,105 @@ impl WantedTasks {
         ensures { result ≡ [] }
     {
         WantedTasks {
-            specs: BTreeMap::new(alloc),
+            alloc,
+            jobs: Vec::new(alloc),
+            parts: Vec::new(alloc),
+            last: 0,
+        }
+    }
+
+    /// No tasks, and a place for those of each of these jobs. Costs the jobs, each times the logarithm of
+    /// their number.
+    pub fn of_jobs(alloc: Global, mut jobs: Vec<u64>) -> Result<WantedTasks, NoMemory>
+        ensures { IfOk result (λ tasks. tasks ≡ []) }
+    {
+        jobs.sort_unstable();
+        let mut tasks = WantedTasks::new(alloc);
+        for job in jobs {
+            tasks.make_place(job)?;
+        }
+        Ok(tasks)
+    }
+
+    /// Makes a place for the tasks of a job, where there is none. Costs the logarithm of the number of
+    /// jobs, and those of a greater number.
+    fn make_place(&mut self, job: u64) -> Result<(), NoMemory>
+        ensures { self.new ≡ self.old }
+    {
+        self.last = place_for(self.alloc, &mut self.jobs, &mut self.parts, self.last, job)?;
+        Ok(())
+    }
+
+    /// The tasks of a job; `None` only where it has none.
+    fn find(&self, job: u64) -> Option<&TaskTree>
+        ensures none { IfNone result (filter (is_task_of job) self.now ≡ []) }
+        ensures part { IfSome result (λ tree. tree.now ≡ filter (is_task_of job) self.now) }
+    {
+        match place_of(&self.jobs, self.last, job) {
+            Ok(place) => Some(&self.parts[place]),
+            Err(_gap) => None,
         }
     }
 
     /// Puts a task in, or replaces what it asks for. A refused call leaves the tasks. Costs the
-    /// logarithm of their number.
+    /// logarithms of the number of jobs and of the job's tasks, and of a job without a place besides the
+    /// jobs of a greater number.
     pub fn insert(&mut self, key: TaskKey, spec: Spec) -> Result<(), NoMemory>
         requires { key.index < first_extra }
         ensures ok { OnOk result (self.new ≡ with_wanted key spec self.old) }
         ensures err { OnErr result (self.new ≡ self.old) }
         ensures low { All HasLowIndex self.new }
     {
-        self.specs.insert(key, spec)?;
+        let place = place_for(
+            self.alloc,
+            &mut self.jobs,
+            &mut self.parts,
+            self.last,
+            key.job,
+        )?;
+        self.last = place;
+        self.parts[place].insert(key, spec)?;
         Ok(())
     }
 
-    /// Takes a task out, if it is there. Costs the logarithm of their number.
+    /// Takes a task out, if it is there. Costs the logarithms of the number of jobs and of the job's
+    /// tasks.
     pub fn remove(&mut self, key: TaskKey)
         ensures tasks { self.new ≡ filter (λ task. not (is_named key task)) self.old }
         ensures low { All HasLowIndex self.new }
     {
-        self.specs.remove(&key);
+        match place_of(&self.jobs, self.last, key.job) {
+            Ok(place) => {
+                self.last = place;
+                self.parts[place].remove(key);
+            }
+            Err(_gap) => {}
+        }
     }
 
-    /// Whether a task is wanted. Costs the logarithm of their number.
+    /// Whether a task is wanted. Costs the logarithms of the number of jobs and of the job's tasks.
     pub fn contains(&self, key: TaskKey) -> bool
         ensures { result ≡ list_any (is_named key) self.now }
     {
-        self.specs.contains_key(&key)
+        match self.find(key.job) {
+            Some(tasks) => tasks.contains(key),
+            None => false,
+        }
     }
 
-    /// Whether a task of a job is wanted. Costs the logarithm of their number.
+    /// Whether a task of a job is wanted. Costs the logarithms of the number of jobs and of the job's
+    /// tasks.
     pub fn has_job(&self, job: u64) -> bool
         ensures any { result ≡ list_any (is_task_of job) self.now }
         ensures wanted { result ≡ is_wanted self.now job }
     {
-        let (first, last) = keys_of(job);
-        self.specs.range(first..=last).next().is_some()
+        match self.find(job) {
+            Some(tasks) => tasks.has_job(job),
+            None => false,
+        }
     }
 
-    /// What a row does to the tasks. Costs the logarithm of their number.
+    /// What a row does to the tasks. Costs the logarithms of the number of jobs and of the job's tasks.
     pub fn change_of(&self, row: &TaskRow) -> Change
         ensures change { wanted_after_task self.now row.now ≡ changed_by result row.now self.now }
         ensures low { row.now.key.index < first_extra }
@@ -110,14 +175,7 @@ impl WantedTasks {
     pub fn waiting_jobs(&self, alloc: Global, running: &Running) -> Result<Vec<u64>, NoMemory>
         ensures { IfOk result (λ jobs. (machines : List Machine) → jobs.items ≡ map (λ task. task.key.job) (filter (waits (record { machines = machines; tasks = running.now.tasks })) self.now)) }
     {
-        let mut jobs = Vec::new(alloc);
-        for (key, _spec) in self.specs.iter() {
-            if running.get(*key).is_some() {
-                continue;
-            }
-            jobs.push(key.job)?;
-        }
-        Ok(jobs)
+        waiting_in(alloc, &self.parts, running)
     }
 
     /// Whether each wanted task of a job runs. Costs the wanted tasks of the job up to the first that
@@ -125,37 +183,89 @@ impl WantedTasks {
     pub fn all_run(&self, job: u64, running: &Running) -> bool
         ensures { IsTrue result ↔ All (RunsIfOf job running.now.tasks) self.now }
     {
-        let (first, last) = keys_of(job);
-        for (key, _spec) in self.specs.range(first..=last) {
-            if running.get(*key).is_none() {
-                return false;
-            }
+        match self.find(job) {
+            Some(tasks) => tasks.all_run(job, running),
+            None => true,
         }
-        true
     }
 
-    /// The wanted tasks of a job, by index. Costs these, and the logarithm of the number of all.
+    /// The wanted tasks of a job, by index. Costs these, and the logarithm of the number of jobs.
     pub fn of_job(&self, alloc: Global, job: u64) -> Result<Vec<(TaskKey, Spec)>, NoMemory>
         ensures { IfOk result (λ found. map wanted_task found.items ≡ wanted_of job self.now) }
     {
-        let (first, last) = keys_of(job);
-        let mut found = Vec::new(alloc);
-        for (key, spec) in self.specs.range(first..=last) {
-            found.push((*key, *spec))?;
+        match self.find(job) {
+            Some(tasks) => tasks.of_job(alloc, job),
+            None => Ok(Vec::new(alloc)),
         }
-        Ok(found)
     }
 }
 
-/// The least and the greatest key that a task of this job can have.
-fn keys_of(job: u64) -> (TaskKey, TaskKey)
-    ensures first { result.0 ≡ record { job = job; index = 0 } }
-    ensures last { result.1 ≡ record { job = job; index = 4294967295 } }
+/// The job of each task of these trees that doesn't run, in their order.
+fn waiting_in(alloc: Global, parts: &[TaskTree], running: &Running) -> Result<Vec<u64>, NoMemory>
+    ensures { IfOk result (λ jobs. jobs.items ≡ flat_map (waiting_jobs running.now.tasks) parts.now) }
 {
-    let first = TaskKey { job, index: 0 };
-    let last = TaskKey {
-        job,
-        index: u32::MAX,
-    };
-    (first, last)
+    let mut jobs = Vec::new(alloc);
+    for tasks in parts {
+        tasks.push_waiting(running, &mut jobs)?;
+    }
+    Ok(jobs)
+}
+
+/// Where a job stands among these, which rise, or else where it would stand. The place `last` is
+/// looked at first. Costs the logarithm of the number of jobs, if it doesn't stand there.
+fn place_of(jobs: &[u64], last: usize, job: u64) -> Result<usize, usize>
+    requires { Rise jobs.now }
+    ensures { MatchResult result (StandsAt jobs.now job) (BelongsAt jobs.now job) }
+{
+    if last < jobs.len() && jobs[last] == job {
+        return Ok(last);
+    }
+    jobs.binary_search(&job)
+}
+
+/// Where a job stands among these, behind a place for it with no tasks where there was none. A refused
+/// call leaves what stands there. Costs as much as to look for it, and for a new place the jobs of a
+/// greater number.
+fn place_for(
+    alloc: Global,
+    jobs: &mut Vec<u64>,
+    parts: &mut Vec<TaskTree>,
+    last: usize,
+    job: u64,
+) -> Result<usize, NoMemory>
+    requires { AreParts jobs.old.items parts.old.items }
+    ensures kept { AreParts jobs.new.items parts.new.items }
+    ensures same { joined parts.new.items ≡ joined parts.old.items }
+    ensures place { IfOk result (StandsAt jobs.new.items job) }
+{
+    match place_of(jobs, last, job) {
+        Ok(place) => Ok(place),
+        Err(place) => {
+            put_place(alloc, jobs, parts, place, job)?;
+            Ok(place)
+        }
+    }
+}
+
+/// Makes a place for the tasks of a job where it belongs. A refused call leaves what stands there.
+/// Costs the jobs of a greater number.
+fn put_place(
+    alloc: Global,
+    jobs: &mut Vec<u64>,
+    parts: &mut Vec<TaskTree>,
+    place: usize,
+    job: u64,
+) -> Result<(), NoMemory>
+    requires parts { AreParts jobs.old.items parts.old.items }
+    requires belongs { BelongsAt jobs.old.items job place }
+    ensures kept { AreParts jobs.new.items parts.new.items }
+    ensures same { joined parts.new.items ≡ joined parts.old.items }
+    ensures place { OnOk result (StandsAt jobs.new.items job place) }
+{
+    jobs.reserve(1)?;
+    parts.insert(place, TaskTree::new(alloc))?;
+    match jobs.insert(place, job) {
+        Ok(()) => Ok(()),
+        Err(_) => unreachable!(),
+    }
 }

@@ -62,9 +62,9 @@ impl Model for Wanted {
 }
 
 impl Wanted {
-    /// What a trace with this feed asks for before its first row: no task is wanted. Costs two look-ups
-    /// for each task row, two or three for each constraint, and one for each row of disks and of
-    /// activities.
+    /// What a trace with this feed asks for before its first row: no task is wanted. Costs a look-up
+    /// for each task row, two more for each job, two or three for each constraint, and one for each row of
+    /// disks and of activities.
     pub fn new(
         alloc: Global,
         tables: &TraceTables,
@@ -76,20 +76,22 @@ impl Wanted {
         ensures { IfOk result (λ wanted. wanted ≡ asked_after settings.now tables.now []) }
     {
         let activities = JobActivities::new(alloc, &tables.activities)?;
+        let jobs = Jobs::of(alloc, rows, settings, &activities)?;
+        let tasks = WantedTasks::of_jobs(alloc, jobs.numbers(alloc)?)?;
         Ok(Wanted {
-            jobs: Jobs::of(alloc, rows, settings, &activities)?,
+            jobs,
             constraints: TaskConstraints::new(alloc, &tables.constraints)?,
             disks: MachineDisks::new(alloc, &tables.disks)?,
             activities,
             extra: settings.extra,
-            tasks: WantedTasks::new(alloc),
+            tasks,
         })
     }
 
     /// Applies a row: what it submits, schedules or updates is wanted as it says, and what ends in it is not
     /// wanted any more. Its job is opened if the task is a new one or the job has activities, and no other. A
-    /// refused call leaves what is wanted, and may have opened the job. Costs the logarithm of the number of
-    /// tasks and of jobs.
+    /// refused call leaves what is wanted, and may have opened the job. Costs the logarithms of the number of
+    /// jobs and of the job's tasks.
     pub fn take(&mut self, row: &Row, open_jobs: &mut OpenJobs) -> Result<(), NoMemory>
         ensures ok { OnOk result (self.new ≡ record self.old { tasks = wanted_after self.old.tasks row.now }) }
         ensures err { OnErr result (self.new ≡ self.old) }
@@ -170,7 +172,8 @@ impl Wanted {
     }
 
     /// Whether the end of a task may let something of its job wait: the task is wanted, or it is an extra
-    /// and a task of its job is wanted. Costs the logarithm of the number of wanted tasks.
+    /// and a task of its job is wanted. Costs the logarithms of the number of jobs
+    /// and of the job's tasks.
     pub fn misses(&self, key: TaskKey) -> bool
         ensures { result ≡ is_missed self.now key }
     {

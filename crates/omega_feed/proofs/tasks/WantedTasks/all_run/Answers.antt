@@ -1,35 +1,21 @@
-use Rattle.std.specs.Prelude.{is_some}
-use Rattle.std.proofs.Common.{◌≡◌, ◌==◌, [], false, refl, ap, sym, subst, ◌∙◌}
-use Rattle.std.specs.List.{All, filter}
-use Rattle.std.proofs.lemmas.Bool.{both_ways}
-use Rattle.omega_model.specs.Cell.{task_at}
+use Rattle.std.proofs.Common.{refl, subst, sym}
+use Rattle.std.specs.List.{All}
+use Rattle.std.proofs.lemmas.List.Elements.{All-filter, All-nil}
+use Rattle.omega_feed.specs.Asked.{is_task_of}
 use Rattle.omega_feed.specs.Open.{RunsIfOf}
-use Rattle.omega_feed.proofs.Quiet.{all_run_from, none_found, one_idle}
-use Rattle.omega_feed.proofs.TaskMap.{between_at, idle}
+use Rattle.omega_feed.proofs.Parts.{run_in_part}
 use Rattle.omega_feed.proofs.tasks.WantedTasks.all_run.Goals as goal
 
-pub returns : goal.returns
-returns c =
-    let es = c.self.inside.specs.entries in
-    let tasks = c.args.running.now.tasks in
-    let found = c.into_iter-key-iterator.ensures.into_iter_gives
-    ∙ c.range-key-items.ensures.between c.new.ensures.exhausted
-    ∙ between_at c.args.job _ _ es c.self.invariant.low (c.new.ensures.start ∙ c.keys_of.ensures.first) (c.new.ensures.end ∙ c.keys_of.ensures.last) in
-    let none : filter (idle tasks) (filter (λ e. e.0.job == c.args.job) es) ≡ [] =
-    sym (ap (filter (idle tasks)) found) ∙ sym c.loop-key.invariant ∙ ap (filter (idle tasks)) c.in-None.ensures.steps.0 in
-    (λ _. subst (All (RunsIfOf c.args.job tasks)) c.self.view_is (all_run_from c.args.job tasks es none), λ _. refl)
-
-pub returns-then-is_none : goal.returns-then-is_none
-returns-then-is_none c =
-    let es = c.self.inside.specs.entries in
-    let tasks = c.args.running.now.tasks in
-    let key = c.in-Some.key.now in
-    let found = c.into_iter-key-iterator.ensures.into_iter_gives
-    ∙ c.range-key-items.ensures.between c.new.ensures.exhausted
-    ∙ between_at c.args.job _ _ es c.self.invariant.low (c.new.ensures.start ∙ c.keys_of.ensures.first) (c.new.ensures.end ∙ c.keys_of.ensures.last) in
-    let waits : is_some (task_at tasks key) ≡ false = ap is_some (sym c.get.ensures.task) ∙ none_found _ c.get.result c.if-is_none.ensures in
-    let here = sym (ap (filter (idle tasks)) c.in-Some.ensures.steps) ∙ c.loop-key.invariant ∙ ap (filter (idle tasks)) found in (
-      λ f. absurd (both_ways _ refl f),
-      λ all. absurd (one_idle c.args.job tasks es (key, c.in-Some._spec.now) c.next.new.self here waits
-          (subst (All (RunsIfOf c.args.job tasks)) (sym c.self.view_is) all)),
+pub returns-in-Some : goal.returns-in-Some
+returns-in-Some c =
+    let job = c.args.job in
+    let running = c.args.running.now.tasks in (
+      λ runs. run_in_part job running c.args.self.now (subst (All (RunsIfOf job running)) c.in-Some.ensures.part (c.all_run.ensures.0 runs)),
+      λ all. c.all_run.ensures.1 (subst (All (RunsIfOf job running)) (sym c.in-Some.ensures.part) (All-filter (is_task_of job) (RunsIfOf job running) c.args.self.now all)),
     )
+
+pub returns-in-None : goal.returns-in-None
+returns-in-None c =
+    let job = c.args.job in
+    let running = c.args.running.now.tasks in
+    (λ _. run_in_part job running c.args.self.now (subst (All (RunsIfOf job running)) (sym c.in-None.ensures.none) (All-nil _)), λ _. refl)

@@ -1,17 +1,14 @@
-use Rattle.std.proofs.Common.{◌++◌, map, ap, sym, ◌∙◌, append-nil}
-use Rattle.std.specs.List.{filter}
-use Rattle.omega_model.specs.ReportCounts.{waits}
-use Rattle.omega_feed.proofs.AtEnd.{idle_jobs, waiting_idle}
+use Rattle.std.proofs.Common.{ap, ◌∙◌}
+use Rattle.std.specs.List.{flat_map}
+use Rattle.omega_model.proofs.Answering.{if_ok_weaker}
+use Rattle.omega_feed.specs.Parts.{waiting_jobs}
+use Rattle.omega_feed.proofs.Parts.{waiting_joined}
 use Rattle.omega_feed.proofs.tasks.WantedTasks.waiting_jobs.Goals as goal
 
 pub returns : goal.returns
-returns c machines =
-    let entries = c.self.inside.specs.entries in
-    let tasks = c.args.running.now.tasks in
-    let found = c.into_iter-key-iterator.ensures.into_iter_gives ∙ c.iter-key-items.ensures.rest in
-    sym (append-nil c.loop-key.jobs.items)
-    ∙ ap (λ z. c.loop-key.jobs.items ++ idle_jobs tasks z) (sym c.in-None.ensures.steps.0)
-    ∙ c.loop-key.invariant
-    ∙ ap (idle_jobs tasks) found
-    ∙ waiting_idle machines tasks entries
-    ∙ ap (λ z. map (λ task. task.key.job) (filter (waits (record { machines = machines; tasks = tasks })) z)) c.self.view_is
+returns c =
+    let running = c.args.running.now.tasks in
+    if_ok_weaker _ _ c.waiting_in.result
+    (λ jobs is machines.
+    is ∙ ap (flat_map (waiting_jobs running)) c.deref.ensures.value ∙ waiting_joined running c.self.inside.parts.items ∙ ap (waiting_jobs running) c.self.view_is)
+    c.waiting_in.ensures

@@ -1,6 +1,0 @@
-use Rattle.std.proofs.Common.{◌≡◌, ◌++◌}
-use Rattle.omega_feed.proofs.AtEnd.{idle_jobs}
-use Rattle.omega_feed.proofs.tasks.WantedTasks.waiting_jobs.Given as goal
-
-abbrev pub invariant-loop-key : goal.invariant-loop-key
-invariant-loop-key l = l.jobs.items ++ idle_jobs l.running.tasks l.key-iterator ≡ idle_jobs l.running.tasks l.initial.key-iterator
