@@ -13,7 +13,7 @@ use crate::Board;
 use omega_model::{Bytes, Need, NoMemory, TaskKey};
 
 impl Board {
-    // The machine is in the list, and these tasks stop.
+    /// The machine is in the list, and these tasks stop.
     pub(crate) fn displace(&mut self, machine: u64, gone: &[TaskKey]) -> Result<(), NoMemory>
         requires { ListsOrHasRoom (machines_of self.old.table) machine }
         ensures machines { OnOk result (machines_of self.new.table ≡ ensured machine (machines_of self.old.table)) }
@@ -26,7 +26,7 @@ impl Board {
         Ok(())
     }
 
-    // The machine is in the list, at its end where it wasn't there.
+    /// The machine is in the list, at its end where it wasn't there.
     pub(crate) fn list(&mut self, id: u64) -> Result<(), NoMemory>
         requires { ListsOrHasRoom (machines_of self.old.table) id }
         ensures ok { OnOk result (self.new ≡ record self.old { table = ensured_states id self.old.table }) }
@@ -35,7 +35,7 @@ impl Board {
         self.table.ensure(id)
     }
 
-    // These tasks stop.
+    /// These tasks stop.
     pub(crate) fn stop_all(&mut self, keys: &[TaskKey])
         ensures tasks { self.new.tasks ≡ without keys.now self.old.tasks }
         ensures machines { machines_of self.new.table ≡ machines_of self.old.table }
@@ -47,7 +47,7 @@ impl Board {
         }
     }
 
-    // The machine is up, with this capacity.
+    /// The machine is up, with this capacity.
     pub(crate) fn bring_up(&mut self, id: u64, cap: Need)
         requires listed { IsTrue (is_listed id (machines_of self.old.table)) }
         requires cap { Fits cap greatest }
@@ -61,7 +61,7 @@ impl Board {
         self.table.touch(id);
     }
 
-    // The machine has this capacity.
+    /// The machine has this capacity.
     pub(crate) fn resize(&mut self, id: u64, cap: Need)
         requires listed { IsTrue (is_listed id (machines_of self.old.table)) }
         requires cap { Fits cap greatest }
@@ -75,7 +75,7 @@ impl Board {
         self.table.touch(id);
     }
 
-    // The machine is down, on which no task runs.
+    /// The machine is down, on which no task runs.
     pub(crate) fn take_down(&mut self, id: u64)
         requires listed { IsTrue (is_listed id (machines_of self.old.table)) }
         requires empty { filter (is_on id) self.old.tasks ≡ [] }
@@ -88,7 +88,7 @@ impl Board {
         self.table.touch(id);
     }
 
-    // The machine is in the list, with this value for the attribute.
+    /// The machine is in the list, with this value for the attribute.
     pub(crate) fn put_attr(&mut self, id: u64, name: &Bytes, value: &Bytes) -> Result<(), NoMemory>
         requires room { ListsOrHasRoom (machines_of self.old.table) id }
         requires seq { seq_at self.old.table id < 2 ^ 64 - 1 }
@@ -102,7 +102,7 @@ impl Board {
         Ok(())
     }
 
-    // The machine is without the attribute.
+    /// The machine is without the attribute.
     pub(crate) fn unset_attr(&mut self, id: u64, name: &Bytes)
         requires listed { IsTrue (is_listed id (machines_of self.old.table)) }
         requires seq { seq_at self.old.table id < 2 ^ 64 - 1 }

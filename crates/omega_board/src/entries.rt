@@ -124,7 +124,7 @@ impl Board {
         Ok(Seq::new(alloc))
     }
 
-    // The task of this name stops, which runs on this machine.
+    /// The task of this name stops, which runs on this machine.
     fn end(&mut self, alloc: Global, key: TaskKey, machine: u64) -> Keys
         requires { MayApply (cell_of self.old) (seq_at self.old.table) (Entry.End key machine) }
         ensures cell { cell_of self.new ≡ step (cell_of self.old) (Entry.End key machine) }
@@ -136,7 +136,7 @@ impl Board {
         Seq::new(alloc)
     }
 
-    // A commit: its placed claims are placed in order.
+    /// A commit: its placed claims are placed in order.
     fn commit(
         &mut self,
         alloc: Global,
@@ -160,8 +160,8 @@ impl Board {
         Ok(Seq::new(alloc))
     }
 
-    // The names of the tasks that stop where the machine has this capacity, in order of eviction.
-    // Those that stay fit it.
+    /// The names of the tasks that stop where the machine has this capacity, in order of eviction.
+    /// Those that stay fit it.
     fn excess(&self, alloc: Global, machine: u64, cap: Need) -> Result<Keys, NoMemory>
         ensures names { IfOk result (λ keys. keys ≡ keys_of (excess cap (ranked_on machine self.now.tasks))) }
         ensures fits { IfOk result (λ keys. Fits (use_on (without keys self.now.tasks) machine) cap) }
@@ -175,7 +175,7 @@ impl Board {
         Ok(Seq::of(Vec::from_slice(alloc, &ranked.as_slice()[..count])?))
     }
 
-    // How many of a machine's tasks stop where it has this capacity.
+    /// How many of a machine's tasks stop where it has this capacity.
     fn excess_len(&self, machine: u64, ranked: &[TaskKey], used: Need, cap: Need) -> usize
         requires ordered { KeysRise self.now.tasks }
         requires ranked { ranked.now ≡ keys_of (ranked_on machine self.now.tasks) }
@@ -193,7 +193,7 @@ impl Board {
         ranked.len()
     }
 
-    // What the tasks on a machine use.
+    /// What the tasks on a machine use.
     pub(crate) fn use_on(&self, machine: u64) -> Need
         ensures { result ≡ use_on self.now.tasks machine }
     {
@@ -207,7 +207,7 @@ impl Board {
         }
     }
 
-    // The placed claims, in order.
+    /// The placed claims, in order.
     fn place_all(&mut self, claims: &[Claim], reply: &[Judgement], undo: &mut Undo)
         requires places { MayPlaceAll (cell_of self.old) (zip claims.now reply.now) }
         requires undo { IsUndoOf self.old undo.old }

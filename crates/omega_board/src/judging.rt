@@ -40,7 +40,7 @@ impl Board {
         verdict
     }
 
-    // The verdict, and in `standing`, where the claim is placed, its victims that stand.
+    /// The verdict, and in `standing`, where the claim is placed, its victims that stand.
     fn verdict(&self, claim: &Claim, copy_seq: Option<u64>, standing: &mut Vec<TaskKey>) -> Verdict
         requires empty { standing.old.items ≡ [] }
         requires room { length claim.now.victims ≤ vec_capacity standing.old }
@@ -101,7 +101,7 @@ impl Board {
         Some(Verdict::Changed { now, copy })
     }
 
-    // Puts the victims that stand behind each other, for which there is room.
+    /// Puts the victims that stand behind each other, for which there is room.
     fn gather_standing(&self, claim: &Claim, standing: &mut Vec<TaskKey>)
         requires empty { standing.old.items ≡ [] }
         requires room { length claim.now.victims ≤ vec_capacity standing.old }
@@ -116,9 +116,9 @@ impl Board {
         }
     }
 
-    // Whether a victim runs on the machine and isn't among those before it. `last` is which of those
-    // comes last in order of eviction, and then which of those and the victim, where it stands. A
-    // victim behind it in this order isn't among them, and costs no look at each.
+    /// Whether a victim runs on the machine and isn't among those before it. `last` is which of those
+    /// comes last in order of eviction, and then which of those and the victim, where it stands. A
+    /// victim behind it in this order isn't among them, and costs no look at each.
     fn stands(
         &self,
         machine: u64,
@@ -140,7 +140,7 @@ impl Board {
         !is_among(key, before)
     }
 
-    // The task of this key, where it runs on the machine.
+    /// The task of this key, where it runs on the machine.
     fn task_on(&self, machine: u64, key: TaskKey) -> Option<Task>
         ensures runs { is_some result ≡ runs_on self.now.tasks machine key }
         ensures task { IfSome result (λ task. task_at self.now.tasks key ≡ Some task) }
@@ -173,9 +173,9 @@ impl Board {
         }
     }
 
-    // Refused where the claim must be alone of its job and another task of the job stays on its
-    // machine. The claim's list serves for its victims that stand: of the tasks there these are the
-    // same.
+    /// Refused where the claim must be alone of its job and another task of the job stays on its
+    /// machine. The claim's list serves for its victims that stand: of the tasks there these are the
+    /// same.
     fn same_job(&self, claim: &Claim) -> Option<Verdict>
         ensures { result ≡ same_job (cell_of self.now) claim.now }
     {
@@ -204,7 +204,7 @@ impl Board {
         }
     }
 
-    // What is free on the machine once these tasks are off it.
+    /// What is free on the machine once these tasks are off it.
     fn free_without(&self, claim: &Claim, gone: &[TaskKey]) -> Need
         requires up { no_machine (cell_of self.now) claim.now ≡ None }
         requires gone { Stand self.now.tasks claim.now.machine gone.now }
@@ -217,7 +217,7 @@ impl Board {
         free
     }
 
-    // What a running task needs.
+    /// What a running task needs.
     pub(crate) fn need_of(&self, key: TaskKey) -> Need
         requires { IsTrue (is_some (task_at self.now.tasks key)) }
         ensures { Some result ≡ option_map (λ task. task.spec.need) (task_at self.now.tasks key) }
@@ -225,7 +225,7 @@ impl Board {
         self.running.get(key).unwrap().spec.need
     }
 
-    // Keeps of the victims that stand those that a claim with this verdict evicts.
+    /// Keeps of the victims that stand those that a claim with this verdict evicts.
     fn keep_evicted(&self, claim: &Claim, verdict: Verdict, evicted: &mut Vec<TaskKey>)
         requires placed { IsTrue (is_placed verdict) → IsTrue (would_be_placed (cell_of self.now) claim.now) }
         requires standing { IsTrue (is_placed verdict) → evicted.old.items ≡ standing_victims self.now.tasks claim.now }
@@ -240,7 +240,7 @@ impl Board {
         }
     }
 
-    // How many of the victims that stand have to stop, in their order, for a claim that is placed.
+    /// How many of the victims that stand have to stop, in their order, for a claim that is placed.
     fn needed(&self, claim: &Claim, standing: &[TaskKey]) -> usize
         requires placed { IsTrue (would_be_placed (cell_of self.now) claim.now) }
         requires standing { standing.now ≡ standing_victims self.now.tasks claim.now }
@@ -257,7 +257,7 @@ impl Board {
     }
 }
 
-// Whether a task comes behind another in order of eviction, if there is another.
+/// Whether a task comes behind another in order of eviction, if there is another.
 fn comes_behind(other: Option<Task>, task: &Task) -> bool
     ensures { result ≡ comes_behind other task.now }
 {
@@ -267,15 +267,15 @@ fn comes_behind(other: Option<Task>, task: &Task) -> bool
     }
 }
 
-// Whether the first task comes before the second in order of eviction.
+/// Whether the first task comes before the second in order of eviction.
 fn goes_before(a: &Task, b: &Task) -> bool
     ensures { result ≡ goes_before a.now b.now }
 {
     a.spec.prec < b.spec.prec || (a.spec.prec == b.spec.prec && key_lt(a.key, b.key))
 }
 
-// Whether a claim needs no more than this, and none of its job is among those that are spared where
-// it must be alone of its job.
+/// Whether a claim needs no more than this, and none of its job is among those that are spared where
+/// it must be alone of its job.
 fn makes_room(claim: &Claim, free: Need, spared: &[TaskKey]) -> bool
     ensures { result ≡ (fits claim.now.spec.need free && not (claim.now.spec.differ && list_any (λ key. key.job == claim.now.key.job) spared.now)) }
 {

@@ -19,7 +19,7 @@ pub fn touched(alloc: Global, entries: &[Entry]) -> Result<Vec<u64>, NoMemory>
     Ok(machines)
 }
 
-// Adds the numbers of the machines that an entry touches.
+/// Adds the numbers of the machines that an entry touches.
 fn name_touched(entry: &Entry, machines: &mut Vec<u64>) -> Result<(), NoMemory>
     ensures { OnOk result (Names (is_touched_by entry.now) machines.old.items machines.new.items) }
 {
@@ -34,7 +34,7 @@ fn name_touched(entry: &Entry, machines: &mut Vec<u64>) -> Result<(), NoMemory>
     }
 }
 
-// Adds the numbers of the machines of the placed claims.
+/// Adds the numbers of the machines of the placed claims.
 fn name_placed(
     claims: &[Claim],
     reply: &[Judgement],
@@ -50,7 +50,7 @@ fn name_placed(
     Ok(())
 }
 
-// Adds the number of a machine.
+/// Adds the number of a machine.
 fn name(machine: u64, machines: &mut Vec<u64>) -> Result<(), NoMemory>
     ensures { OnOk result (Names (is_number machine) machines.old.items machines.new.items) }
 {

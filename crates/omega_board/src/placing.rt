@@ -94,7 +94,7 @@ impl Board {
         }
     }
 
-    // Stops a task and notes it.
+    /// Stops a task and notes it.
     fn stop_noted(&mut self, key: TaskKey, undo: &mut Undo)
         requires runs { IsTrue (is_some (task_at self.old.tasks key)) }
         requires undo { IsUndoOf self.old undo.old }
@@ -111,7 +111,7 @@ impl Board {
         }
     }
 
-    // Starts a task and notes it.
+    /// Starts a task and notes it.
     fn start_noted(&mut self, task: Task, undo: &mut Undo)
         requires absent { task_at self.old.tasks task.key ≡ None }
         requires fits { HasRoomFor (cell_of self.old) task }
@@ -129,7 +129,7 @@ impl Board {
         undo.note_started(task.key);
     }
 
-    // The board as before a change.
+    /// The board as before a change.
     fn take_back(&mut self, change: Change)
         requires { MayTakeBack change self.old }
         ensures { self.new ≡ before_change change self.old }
@@ -142,7 +142,7 @@ impl Board {
         }
     }
 
-    // The task of this name stops, and what it used is free.
+    /// The task of this name stops, and what it used is free.
     pub(crate) fn stop(&mut self, key: TaskKey) -> Option<Task>
         ensures task { result ≡ task_at self.old.tasks key }
         ensures tasks { self.new.tasks ≡ without (key ∷ []) self.old.tasks }
@@ -155,7 +155,7 @@ impl Board {
         Some(task)
     }
 
-    // One more task runs, with which the cell is sound.
+    /// One more task runs, with which the cell is sound.
     pub(crate) fn start(&mut self, task: Task)
         requires starts { MayStart (cell_of self.old) task }
         requires room { 0 < self.old.spare }
@@ -168,7 +168,7 @@ impl Board {
     }
 }
 
-// How many victims the claims have in all.
+/// How many victims the claims have in all.
 fn count_victims(claims: &[Claim]) -> Result<usize, NoMemory>
     ensures { IfOk result (λ victims. victims ≡ sum_by (λ claim. length claim.victims) claims.now) }
 {

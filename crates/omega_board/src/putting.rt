@@ -48,7 +48,7 @@ impl Board {
         Ok(board)
     }
 
-    // The parts of all machines, which lead from the bare board to this one.
+    /// The parts of all machines, which lead from the bare board to this one.
     fn parts(&self, alloc: Global) -> Result<Parts, NoMemory>
         ensures { IfOk result (λ parts. LeadTo bare parts (whole self.now)) }
     {
@@ -83,7 +83,7 @@ impl Board {
         Ok(())
     }
 
-    // The names of the tasks on the parts' machines that the parts lack.
+    /// The names of the tasks on the parts' machines that the parts lack.
     fn gone(&self, alloc: Global, parts: &[Part]) -> Result<Vec<TaskKey>, NoMemory>
         requires { Each (λ part. KeysRise part.tasks) parts.now }
         ensures { IfOk result (λ gone. gone.items ≡ keys_of (gone_of self.now.tasks parts.now)) }
@@ -96,7 +96,7 @@ impl Board {
         Ok(gone)
     }
 
-    // The tasks of the parts that don't run.
+    /// The tasks of the parts that don't run.
     fn came(&self, alloc: Global, parts: &[Part]) -> Result<Vec<Task>, NoMemory>
         ensures { IfOk result (λ came. came.items ≡ came_of self.now.tasks parts.now) }
     {
@@ -107,7 +107,7 @@ impl Board {
         Ok(came)
     }
 
-    // Appends those of some tasks that don't run.
+    /// Appends those of some tasks that don't run.
     fn note_came(&self, tasks: &[Task], came: &mut Vec<Task>) -> Result<(), NoMemory>
         ensures { OnOk result (came.new.items ≡ came.old.items ++ lacking self.now.tasks tasks.now) }
     {
@@ -119,7 +119,7 @@ impl Board {
         Ok(())
     }
 
-    // The machines of the parts are in the list, those at its end that weren't there.
+    /// The machines of the parts are in the list, those at its end that weren't there.
     fn list_parts(&mut self, parts: &[Part]) -> Result<(), NoMemory>
         requires { length (listed_parts self.old.table parts.now) ≤ most_machines }
         ensures ok { OnOk result (self.new ≡ record self.old { table = listed_parts self.old.table parts.now }) }
@@ -135,7 +135,7 @@ impl Board {
         Ok(())
     }
 
-    // The rows and the sequence numbers of the parts are on the board.
+    /// The rows and the sequence numbers of the parts are on the board.
     fn put_rows(&mut self, parts: Parts)
         requires { Each (MayPutRow (numbers_of (machines_of self.old.table)) self.old.tasks) parts }
         ensures machines { machines_of self.new.table ≡ fold with_row (machines_of self.old.table) parts }
@@ -154,7 +154,7 @@ impl Board {
         }
     }
 
-    // The machine at a position has this row and this sequence number.
+    /// The machine at a position has this row and this sequence number.
     fn put_row(&mut self, position: usize, machine: Machine, seq: u64)
         requires there { slice_get (numbers_of (machines_of self.old.table)) position ≡ Some machine.id }
         requires cap { Fits machine.cap greatest }
@@ -169,7 +169,7 @@ impl Board {
         self.table.put(position, machine, used, seq);
     }
 
-    // Some more tasks run, one after the other.
+    /// Some more tasks run, one after the other.
     fn start_all(&mut self, tasks: &[Task])
         requires starts { MayStartAll (cell_of self.old) tasks.now }
         requires room { length tasks.now ≤ self.old.spare }
@@ -183,7 +183,7 @@ impl Board {
     }
 }
 
-// Appends the names of those of a machine's tasks that its part lacks.
+/// Appends the names of those of a machine's tasks that its part lacks.
 fn note_gone(running: &[Task], tasks: &[Task], gone: &mut Vec<TaskKey>) -> Result<(), NoMemory>
     requires { KeysRise tasks.now }
     ensures { OnOk result (gone.new.items ≡ gone.old.items ++ keys_of (lacking tasks.now running.now)) }

@@ -28,7 +28,7 @@ impl Board {
         self.touch_each(placed.as_slice());
     }
 
-    // One more entry touches each of these machines.
+    /// One more entry touches each of these machines.
     fn touch_each(&mut self, machines: &[u64])
         requires rises { IsStrictlyIncreasing machines.now }
         requires listed { (id : ℕ) → IsTrue (is_among machines.now id) → IsTrue (is_listed id (machines_of self.old.table)) }
@@ -43,7 +43,7 @@ impl Board {
         }
     }
 
-    // One more entry touches a machine.
+    /// One more entry touches a machine.
     pub(crate) fn touch(&mut self, id: u64)
         requires listed { IsTrue (is_listed id (machines_of self.old.table)) }
         requires seq { seq_at self.old.table id < 2 ^ 64 - 1 }
@@ -53,7 +53,7 @@ impl Board {
     }
 }
 
-// The machines on which claims were placed, each once, in order of their numbers.
+/// The machines on which claims were placed, each once, in order of their numbers.
 fn placed_machines(claims: &[Claim], reply: &[Judgement], room: Vec<u64>) -> Vec<u64>
     requires none { room.items ≡ [] }
     requires room { length claims.now ≤ vec_capacity room }

@@ -36,7 +36,7 @@ impl Model for Undo {
 }
 
 impl Undo {
-    // No change, and room for so many claims and victims.
+    /// No change, and room for so many claims and victims.
     pub(crate) fn with_room(alloc: Global, claims: usize, victims: usize) -> Result<Undo, NoMemory>
         ensures { IfOk result (λ undo. undo ≡ record { log = []; claims = claims; victims = victims }) }
     {
@@ -70,7 +70,7 @@ impl Undo {
         Ok(())
     }
 
-    // Notes that a task stopped.
+    /// Notes that a task stopped.
     pub(crate) fn note_stopped(&mut self, task: Task)
         requires { 0 < self.old.victims }
         ensures log { self.new.log ≡ Change.Stopped task ∷ self.old.log }
@@ -81,7 +81,7 @@ impl Undo {
         self.victims -= 1;
     }
 
-    // Notes that a task started.
+    /// Notes that a task started.
     pub(crate) fn note_started(&mut self, key: TaskKey)
         requires { 0 < self.old.claims }
         ensures log { self.new.log ≡ Change.Started key ∷ self.old.log }
@@ -92,7 +92,7 @@ impl Undo {
         self.claims -= 1;
     }
 
-    // Gives up room for so many victims.
+    /// Gives up room for so many victims.
     pub(crate) fn give_up(&mut self, victims: usize)
         requires { victims ≤ self.old.victims }
         ensures log { self.new.log ≡ self.old.log }
@@ -102,7 +102,7 @@ impl Undo {
         self.victims -= victims;
     }
 
-    // Takes the latest change off the log. Gives no room back.
+    /// Takes the latest change off the log. Gives no room back.
     pub(crate) fn pop(&mut self) -> Option<Change>
         ensures log { MatchOption result ((self.old.log ≡ []) × (self.new.log ≡ [])) (λ change. self.old.log ≡ change ∷ self.new.log) }
         ensures claims { self.new.claims ≡ self.old.claims }

@@ -209,7 +209,7 @@ impl PrivateCopy {
         Ok(())
     }
 
-    // Takes in one entry.
+    /// Takes in one entry.
     fn take_in(&mut self, alloc: Global, entry: &Entry) -> Result<(), NoMemory>
         requires no_trial { self.old.trial ≡ None }
         requires may { MayApply (cell_of self.old.board) (seq_at self.old.board.table) entry.now }
@@ -303,7 +303,7 @@ impl PrivateCopy {
     }
 }
 
-// The numbers of the machines of some parts.
+/// The numbers of the machines of some parts.
 fn numbers_of(alloc: Global, parts: &[Part]) -> Result<Vec<u64>, NoMemory>
     ensures { IfOk result (λ numbers. numbers.items ≡ map (λ part. part.machine.id) parts.now) }
 {

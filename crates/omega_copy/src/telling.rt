@@ -60,7 +60,7 @@ pub(crate) fn freed_at(board: &Board, prec: u8, position: usize) -> Option<Need>
     Some(board.running().left_on(machine.id, prec, machine.cap))
 }
 
-// Puts a place behind the others for each further machine that the board has, for which room was made.
+/// Puts a place behind the others for each further machine that the board has, for which room was made.
 fn grow_to(index: &mut FitIndex, board: &Board)
     requires { length (machines_of board.now.table) ≤ length index.old.free + index.old.spare }
     ensures { index.new.free ≡ placed (machines_of board.now.table) index.old.free }
@@ -70,8 +70,8 @@ fn grow_to(index: &mut FitIndex, board: &Board)
     }
 }
 
-// Tells the index what evictions for its precedence could free on the machines that an entry touches; it
-// has told all else.
+/// Tells the index what evictions for its precedence could free on the machines that an entry touches; it
+/// has told all else.
 fn tell_touched(index: &mut FitIndex, prec: u8, board: &Board, entry: &Entry)
     requires { TellsBut (is_touched_by entry.now) prec board.now.tasks index.old.free (machines_of board.now.table) }
     ensures { index.new.free ≡ freed_of prec (cell_of board.now) }
@@ -84,8 +84,8 @@ fn tell_touched(index: &mut FitIndex, prec: u8, board: &Board, entry: &Entry)
     }
 }
 
-// Tells the index what evictions for its precedence could free on a machine, if there is one; it has told
-// all else.
+/// Tells the index what evictions for its precedence could free on a machine, if there is one; it has told
+/// all else.
 fn tell_found(index: &mut FitIndex, prec: u8, board: &Board, machine: Option<u64>)
     requires { TellsBut (is_found machine) prec board.now.tasks index.old.free (machines_of board.now.table) }
     ensures { index.new.free ≡ freed_of prec (cell_of board.now) }
@@ -95,7 +95,7 @@ fn tell_found(index: &mut FitIndex, prec: u8, board: &Board, machine: Option<u64
     }
 }
 
-// The same for the machines of the placed claims.
+/// The same for the machines of the placed claims.
 fn tell_placed(index: &mut FitIndex, prec: u8, board: &Board, claims: &[Claim], reply: &[Judgement])
     requires { TellsBut (is_claimed (zip claims.now reply.now)) prec board.now.tasks index.old.free (machines_of board.now.table) }
     ensures { index.new.free ≡ freed_of prec (cell_of board.now) }
@@ -109,7 +109,7 @@ fn tell_placed(index: &mut FitIndex, prec: u8, board: &Board, claims: &[Claim], 
     }
 }
 
-// The same where this machine was told last, if one was: the same one in a row costs nothing.
+/// The same where this machine was told last, if one was: the same one in a row costs nothing.
 fn tell_next(index: &mut FitIndex, prec: u8, board: &Board, machine: u64, last: Option<u64>)
     requires long { length index.old.free ≡ length board.now.table }
     requires last { IfSome last (λ told. TellsOf told prec board.now.tasks index.old.free (machines_of board.now.table)) }
@@ -122,7 +122,7 @@ fn tell_next(index: &mut FitIndex, prec: u8, board: &Board, machine: u64, last: 
     tell(index, prec, board, machine);
 }
 
-// Tells the index what evictions for its precedence could free on a machine, if it is in the list.
+/// Tells the index what evictions for its precedence could free on a machine, if it is in the list.
 fn tell(index: &mut FitIndex, prec: u8, board: &Board, machine: u64)
     requires { length index.old.free ≡ length board.now.table }
     ensures { (stale : ℕ → Bool) → TellsBut (is_this_or machine stale) prec board.now.tasks index.old.free (machines_of board.now.table) → TellsBut stale prec board.now.tasks index.new.free (machines_of board.now.table) }

@@ -13,7 +13,7 @@ use crate::view::View;
 use atomic_table::Seat as Token;
 
 impl<T: Counted> Lock<T> {
-    // Joins all seats to one.
+    /// Joins all seats to one.
     pub(crate) fn gather(
         &self,
         first: Seat<T>,
@@ -35,7 +35,7 @@ impl<T: Counted> Lock<T> {
         all
     }
 
-    // Joins a seat to another.
+    /// Joins a seat to another.
     fn take_in(&self, all: &mut Token<Option<T>, View<T::Entry>>, seat: Seat<T>)
         requires of { (all.old.table_id ≡ self.now.of) × (seat.of ≡ self.now.of) }
         requires rest { (all.old.me.0.has_number ≡ true) × Rests all.old.me.0 × (all.old.me.1 ≡ []) }
@@ -51,7 +51,7 @@ impl<T: Counted> Lock<T> {
         self.table.shared.join_seat::<Together>(all, seat.token);
     }
 
-    // Closes the table with the seat that all others were joined to, and takes the value out.
+    /// Closes the table with the seat that all others were joined to, and takes the value out.
     pub(crate) fn end(self, all: Token<Option<T>, View<T::Entry>>) -> T
         requires of { all.table_id ≡ self.of }
         requires rest { (all.me.0.has_number ≡ true) × Rests all.me.0 × (all.me.1 ≡ []) }

@@ -5,8 +5,8 @@ use atomic_table::{Join, Play, Split, TableRule};
 use std::marker::PhantomData;
 use std::snapshot::Snapshot;
 
-// The words of the table: how many numbers were given, the ticket that is drawn next, the ticket that
-// is served, and the length of the list.
+/// The words of the table: how many numbers were given, the ticket that is drawn next, the ticket that
+/// is served, and the length of the list.
 pub(crate) const NUMBERS: usize = 0;
 
 pub(crate) const TICKETS: usize = 1;
@@ -15,7 +15,7 @@ pub(crate) const SERVED: usize = 2;
 
 pub(crate) const LENGTH: usize = 3;
 
-// Its one slot, which has the value.
+/// Its one slot, which has the value.
 pub(crate) const VALUE: usize = 0;
 
 /// What a lock was made with: for how many callers, how many turns each has, and the value.
@@ -40,7 +40,7 @@ impl<T: Counted> TableRule<Option<T>, View<T::Entry>, Terms<T>> for Turns<T> {
     ghost first = { λ terms. first_view terms.turns (T.entries terms.first.value) };
 }
 
-// A seat is split off another.
+/// A seat is split off another.
 pub(crate) struct SplitOff;
 
 impl<E> Split<View<E>> for SplitOff {
@@ -51,7 +51,7 @@ impl<E> Split<View<E>> for SplitOff {
     ghost right = { split_off };
 }
 
-// A seat asks for a number: word 0 goes from that number to the next, if it is that number.
+/// A seat asks for a number: word 0 goes from that number to the next, if it is that number.
 pub(crate) struct Number;
 
 impl<T: Counted> Play<Option<T>, View<T::Entry>> for Number {
@@ -60,7 +60,7 @@ impl<T: Counted> Play<Option<T>, View<T::Entry>> for Number {
     ghost then = { Numbers };
 }
 
-// A seat draws a ticket: word 1 is raised.
+/// A seat draws a ticket: word 1 is raised.
 pub(crate) struct Draw;
 
 impl<T: Counted> Play<Option<T>, View<T::Entry>> for Draw {
@@ -69,7 +69,7 @@ impl<T: Counted> Play<Option<T>, View<T::Entry>> for Draw {
     ghost then = { Draws };
 }
 
-// A seat looks at word 2 whether its ticket is served.
+/// A seat looks at word 2 whether its ticket is served.
 pub(crate) struct Look;
 
 impl<T: Counted> Play<Option<T>, View<T::Entry>> for Look {
@@ -78,7 +78,7 @@ impl<T: Counted> Play<Option<T>, View<T::Entry>> for Look {
     ghost then = { Looks T.entries };
 }
 
-// The seat that holds the turn reads the length in word 3.
+/// The seat that holds the turn reads the length in word 3.
 pub(crate) struct Read;
 
 impl<T: Counted> Play<Option<T>, View<T::Entry>> for Read {
@@ -87,7 +87,7 @@ impl<T: Counted> Play<Option<T>, View<T::Entry>> for Read {
     ghost then = { Reads T.number };
 }
 
-// The seat that holds the turn tells of one more entry: word 3 is raised.
+/// The seat that holds the turn tells of one more entry: word 3 is raised.
 pub(crate) struct Publish;
 
 impl<T: Counted> Play<Option<T>, View<T::Entry>> for Publish {
@@ -96,7 +96,7 @@ impl<T: Counted> Play<Option<T>, View<T::Entry>> for Publish {
     ghost then = { Publishes T.entries T.number };
 }
 
-// The seat that holds the turn passes it on: word 2 is raised.
+/// The seat that holds the turn passes it on: word 2 is raised.
 pub(crate) struct HandOn;
 
 impl<T: Counted> Play<Option<T>, View<T::Entry>> for HandOn {
@@ -105,7 +105,7 @@ impl<T: Counted> Play<Option<T>, View<T::Entry>> for HandOn {
     ghost then = { Passes };
 }
 
-// A seat is joined to another.
+/// A seat is joined to another.
 pub(crate) struct Together;
 
 impl<E> Join<View<E>> for Together {

@@ -12,7 +12,7 @@ use atomic_table::Seat as Token;
 use std::sync::Wait;
 
 impl<T: Counted> Lock<T> {
-    // Makes a seat for each caller, by number. There is room for them.
+    /// Makes a seat for each caller, by number. There is room for them.
     pub(crate) fn seats<R: Wait>(
         &self,
         rt: &R,
@@ -35,7 +35,7 @@ impl<T: Counted> Lock<T> {
         seats
     }
 
-    // Makes the seat of this number.
+    /// Makes the seat of this number.
     fn seat<R: Wait>(
         &self,
         rt: &R,
@@ -61,8 +61,8 @@ impl<T: Counted> Lock<T> {
         }
     }
 
-    // Gives a seat that was split off its number, once the word says that this number is the next.
-    // No other thread gives numbers, so the first try succeeds, which no clause says.
+    /// Gives a seat that was split off its number, once the word says that this number is the next.
+    /// No other thread gives numbers, so the first try succeeds, which no clause says.
     fn name<R: Wait>(&self, rt: &R, token: &mut Token<Option<T>, View<T::Entry>>, number: u32)
         requires of { token.old.table_id ≡ self.now.of }
         requires first { token.old.me ≡ (first_view self.now.turns self.now.first, []) }

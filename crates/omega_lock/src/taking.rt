@@ -12,16 +12,16 @@ use atomic_table::Seat as Token;
 use std::hint::spin_loop;
 use std::sync::Wait;
 
-// How often a waiting thread looks again before it sleeps between two looks.
+/// How often a waiting thread looks again before it sleeps between two looks.
 const LOOKS: u32 = 100;
 
 impl<T: Counted> Lock<T> {
-    // Waits until the seat's ticket is served. The turn is then the seat's, and the slot with it.
-    //
-    // The bell is read before the served ticket, and a release raises the served ticket before it rings. So
-    // if the look found another ticket, the release to come rings after the bell was read: a thread that
-    // isn't asleep by then doesn't fall asleep, since the bell is no longer as it was read, and one that is
-    // asleep wakes. Whoever wakes looks again, whatever woke it.
+    /// Waits until the seat's ticket is served. The turn is then the seat's, and the slot with it.
+    ///
+    /// The bell is read before the served ticket, and a release raises the served ticket before it rings. So
+    /// if the look found another ticket, the release to come rings after the bell was read: a thread that
+    /// isn't asleep by then doesn't fall asleep, since the bell is no longer as it was read, and one that is
+    /// asleep wakes. Whoever wakes looks again, whatever woke it.
     pub(crate) fn wait<R: Wait>(
         &self,
         rt: &R,
@@ -49,8 +49,8 @@ impl<T: Counted> Lock<T> {
         unreachable!()
     }
 
-    // Puts the value back into the slot, and tells of its new entry where it has one. The seat has then
-    // seen the whole list, and its own list is what that has of its number.
+    /// Puts the value back into the slot, and tells of its new entry where it has one. The seat has then
+    /// seen the whole list, and its own list is what that has of its number.
     pub(crate) fn put_back(
         &self,
         token: &mut Token<Option<T>, View<T::Entry>>,
@@ -83,7 +83,7 @@ impl<T: Counted> Lock<T> {
         }
     }
 
-    // Puts the value into the slot, which is plain memory.
+    /// Puts the value into the slot, which is plain memory.
     fn put(&self, token: &mut Token<Option<T>, View<T::Entry>>, value: T)
         requires of { token.old.table_id ≡ self.now.of }
         requires slot { token.old.me.1 ≡ (0, None) ∷ [] }
@@ -96,7 +96,7 @@ impl<T: Counted> Lock<T> {
         }
     }
 
-    // Tells of the one entry that the value in the slot has more.
+    /// Tells of the one entry that the value in the slot has more.
     fn publish(&self, token: &mut Token<Option<T>, View<T::Entry>>)
         requires of { token.old.table_id ≡ self.now.of }
         requires turn { (token.old.me.0.has_number ≡ true) × (token.old.me.0.holds ≡ true) }
@@ -110,7 +110,7 @@ impl<T: Counted> Lock<T> {
         self.table.shared.fetch_add::<Publish>(token, LENGTH, 1);
     }
 
-    // Passes the turn on to the next ticket, and gives the slot back.
+    /// Passes the turn on to the next ticket, and gives the slot back.
     pub(crate) fn pass(&self, token: &mut Token<Option<T>, View<T::Entry>>)
         requires of { token.old.table_id ≡ self.now.of }
         requires turn { (token.old.me.0.has_number ≡ true) × (token.old.me.0.holds ≡ true) }
@@ -126,8 +126,8 @@ impl<T: Counted> Lock<T> {
         }
     }
 
-    // What a thread does between two looks at the served ticket, after so many of them. `rung` is how often
-    // the bell of its ticket had been rung before the last look.
+    /// What a thread does between two looks at the served ticket, after so many of them. `rung` is how often
+    /// the bell of its ticket had been rung before the last look.
     fn pause<R: Wait>(&self, rt: &R, looks: u32, ticket: u64, rung: u64) {
         if looks < LOOKS {
             spin_loop();

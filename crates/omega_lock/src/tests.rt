@@ -8,7 +8,7 @@ use std::sync::Wait;
 use std::thread;
 use std::thread::Threads;
 
-// A list of the numbers of seats, and how often it was added to.
+/// A list of the numbers of seats, and how often it was added to.
 #[derive(Drop)]
 struct Tally {
     entries: Vec<u32>,
@@ -29,8 +29,8 @@ impl Counted for Tally {
     }
 }
 
-// Takes so many turns of a seat, if it has them, and adds an entry in each. Those who wait have time to fall
-// asleep.
+/// Takes so many turns of a seat, if it has them, and adds an entry in each. Those who wait have time to fall
+/// asleep.
 fn take_turns<R: Wait>(rt: &R, lock: &Lock<Tally>, mut seat: Seat<Tally>, most: u32) -> Seat<Tally>
     requires { (seat.of ≡ lock.now.of) × (seat.holds ≡ false) }
     ensures { (result.of ≡ lock.now.of) × (result.holds ≡ false) }
@@ -48,8 +48,8 @@ fn take_turns<R: Wait>(rt: &R, lock: &Lock<Tally>, mut seat: Seat<Tally>, most: 
     seat
 }
 
-// What callers leave that each take all turns in a thread of their own, but for the first so many, which end
-// after a few. Where memory runs out there is nothing, and the lock is dropped.
+/// What callers leave that each take all turns in a thread of their own, but for the first so many, which end
+/// after a few. Where memory runs out there is nothing, and the lock is dropped.
 fn count_turns<R: Threads + Wait + Sync>(
     rt: &R,
     alloc: Global,
@@ -81,7 +81,7 @@ fn count_turns<R: Threads + Wait + Sync>(
     Some(lock.close(seats.ok()?))
 }
 
-// How many entries of a number there are.
+/// How many entries of a number there are.
 fn entries_of(tally: &Tally, number: u32) -> usize {
     tally.entries.iter().filter(|n| **n == number).count()
 }
@@ -112,7 +112,7 @@ fn a_caller_that_does_nothing(rt: HostRuntime) {
     assert_eq!(rt; entries_of(&tally, 2), 1000);
 }
 
-// The last caller finds nobody to wake in most of its turns.
+/// The last caller finds nobody to wake in most of its turns.
 #[test]
 fn all_callers_but_one_end_early(rt: HostRuntime) {
     let tally = count_turns(&rt, rt.alloc(), 32, 500, 31, 2).expect(&rt, "memory");
@@ -121,7 +121,7 @@ fn all_callers_but_one_end_early(rt: HostRuntime) {
     assert_eq!(rt; entries_of(&tally, 31), 500);
 }
 
-// Those who sleep are woken by others than the one that ended.
+/// Those who sleep are woken by others than the one that ended.
 #[test]
 fn one_caller_ends_early(rt: HostRuntime) {
     let tally = count_turns(&rt, rt.alloc(), 16, 200, 1, 1).expect(&rt, "memory");

@@ -3,8 +3,8 @@
 //! The states stand in a list in order of first mention, and contracts speak of that list alone. A
 //! look-up by number looks at the place that is noted for the number, one of 65,536 notes, and where
 //! another machine stands there it goes through a balanced tree from numbers to places. So it is as
-//! quick as a hash table mostly, and no numbers that somebody chooses make it slow. What is in use on all machines that are up, and their
-//! capacity, are kept as running sums.
+//! quick as a hash table mostly, and no numbers that somebody chooses make it slow. What is in use on
+//! all machines that are up, and their capacity, are kept as running sums.
 #![tactic(auto)]
 
 mod attrs;

@@ -156,7 +156,7 @@ impl SharedCell {
         held.cell
     }
 
-    // Takes a turn, and puts together what brings a copy that has seen so many entries up to date.
+    /// Takes a turn, and puts together what brings a copy that has seen so many entries up to date.
     fn news<R: Wait>(
         &self,
         rt: &R,
@@ -181,7 +181,7 @@ impl SharedCell {
         delta
     }
 
-    // Takes a turn, and commits a transaction.
+    /// Takes a turn, and commits a transaction.
     fn append<R: Wait>(
         &self,
         rt: &R,
@@ -212,7 +212,7 @@ impl SharedCell {
     }
 }
 
-// The passes whose seats these are. There is room for them.
+/// The passes whose seats these are. There is room for them.
 fn passes_of(seats: Vec<Seat<Guarded>>, mut passes: Vec<Pass>) -> Vec<Pass>
     requires seats { All IsPassSeat seats.items }
     requires room { (passes.items ≡ []) × (length seats.items ≤ vec_capacity passes) }
@@ -224,7 +224,7 @@ fn passes_of(seats: Vec<Seat<Guarded>>, mut passes: Vec<Pass>) -> Vec<Pass>
     passes
 }
 
-// The seats of passes. There is room for them.
+/// The seats of passes. There is room for them.
 fn seats_of(passes: Vec<Pass>, mut seats: Vec<Seat<Guarded>>) -> Vec<Seat<Guarded>>
     requires room { (seats.items ≡ []) × (length passes.items ≤ vec_capacity seats) }
     ensures passes { map pass_at result.items ≡ passes.items }
