@@ -41,7 +41,7 @@ on_kept tasks id p stay =
     (λ t stays. by_answer (is_on id t) (λ on. let stayed = stays on in rw (on, stayed) refl) (λ off. rw off refl)) tasks stay)
 
 -- what holds of each name holds of one among them
-among_each : (P : TaskKey → Type 0) (key : TaskKey) (keys : List TaskKey) → Each P keys → is_among key keys ≡ true → P key
+pub among_each : (P : TaskKey → Type 0) (key : TaskKey) (keys : List TaskKey) → Each P keys → is_among key keys ≡ true → P key
 among_each P key [] each among = absurd (both_ways false refl among)
 among_each P key (k ∷ keys) each among =
     by_answer (same_key key k)

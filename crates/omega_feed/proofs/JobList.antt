@@ -5,7 +5,7 @@ use Rattle.std.specs.BTreeMap as tree
 use Rattle.std.specs.BTreeMap.{BTreeMap}
 use Rattle.std.specs.List.{filter, filter_map, fold, list_any}
 use Rattle.std.specs.Ordering.{nat_cmp}
-use Rattle.std.proofs.lemmas.Bool.{eq-eqb, ne_eqb, eqb-true, le-ltb, lt-ltb, cases_eq, cases_order, cases_Bool}
+use Rattle.std.proofs.lemmas.Bool.{eq-eqb, ne_eqb, eqb-true, cases_eq, cases_Bool}
 use Rattle.std.proofs.lemmas.List.Folds.{list_any-append}
 use Rattle.omega_model.specs.Feed.{feed, each_once}
 use Rattle.omega_model.specs.Fields.{ActivityFields}
@@ -16,6 +16,7 @@ use Rattle.omega_model.specs.declared.rows.Row.{Row}
 use Rattle.omega_model.specs.declared.rows.Row.TheVariants.{Machine, Attr, Task}
 use Rattle.omega_model.specs.declared.rows.TraceTables.{TraceTables}
 use Rattle.omega_model.specs.declared.settings.Settings.{Settings}
+use Rattle.omega_machines.proofs.Finding.{apart}
 use Rattle.omega_feed.specs.Asked.{home, routed, is_job, with_job}
 use Rattle.omega_feed.specs.Index.{job_at, AreFound}
 use Rattle.omega_feed.specs.declared.jobs.RoutedJob.{RoutedJob}
@@ -69,14 +70,6 @@ unknown places jobs found job none =
     ] where
       nothing : (place : ℕ) → None ≡ Some place → ⊥
       nothing place e = cc
-
-apart : (a b : ℕ) → (a ≡ b → ⊥) → tree.is_at (nat_cmp a) b ≡ false
-apart a b ne =
-    elim (cases_order a b) [
-      | inl e ↦ absurd (ne e)
-      | inr (inl less) ↦ rw (lt-ltb a b less) refl
-      | inr (inr more) ↦ rw (le-ltb a b (omega arith), ne_eqb a b ne) refl
-    ]
 
 pub none_from : {X : Type 0} (o : Option X) → is_some o ≡ false → o ≡ None
 none_from None e = refl

@@ -39,7 +39,8 @@ kept_none places empty = record {
   };
 }
 
-apart : (a b : ℕ) → (a ≡ b → ⊥) → tree.is_at (nat_cmp a) b ≡ false
+-- in a tree by number two numbers that differ stand apart
+pub apart : (a b : ℕ) → (a ≡ b → ⊥) → tree.is_at (nat_cmp a) b ≡ false
 apart a b ne =
     elim (cases_order a b) [
       | inl e ↦ absurd (ne e)

@@ -1,5 +1,5 @@
 pub mod Places
-mod Finding
+pub mod Finding
 mod Rewriting
 pub mod Bounds
 mod Growing

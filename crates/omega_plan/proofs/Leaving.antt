@@ -10,7 +10,7 @@ use Rattle.omega_model.specs.Cell.{Cell, by_rank, is_on, keys_of, machine_at, re
 use Rattle.omega_model.specs.Jobs.{is_of_job, stays_of_job}
 use Rattle.omega_model.specs.Machines.{is_listed}
 use Rattle.omega_model.specs.Judge.{capacity_of, free_without, has_rival, is_up, makes_room}
-use Rattle.omega_model.specs.Keys.{is_among, same_key}
+use Rattle.omega_model.specs.Keys.{is_among}
 use Rattle.omega_model.specs.Need.{Fits, fits, minus, nothing, plus}
 use Rattle.omega_model.specs.Plan.{candidates, claim_of, gives_way, victims}
 use Rattle.omega_model.specs.State.{ranked_on}
@@ -20,7 +20,6 @@ use Rattle.omega_model.specs.declared.cells.Task.{Task}
 use Rattle.omega_model.specs.declared.cells.TaskKey.{TaskKey}
 use Rattle.omega_model.specs.declared.wishes.Wish.{Wish}
 use Rattle.omega_model.proofs.Amounts.{fits_part, fits_same, fits_tested, fits_trans, need_is, plus-swap, rest_is, share, total-cons}
-use Rattle.omega_model.proofs.InOrder.{key_same}
 use Rattle.omega_model.proofs.Lists.{by_answer, filter_and, filter_turned}
 use Rattle.omega_running.specs.Order.{Each, IsInOrder, precedes}
 use Rattle.omega_running.specs.declared.orders.Order.TheVariants.{ByKey}
@@ -29,6 +28,7 @@ use Rattle.omega_running.proofs.Lists.{each_both, each_map, filter_every}
 use Rattle.omega_board.proofs.Ranks.{each_here, fits_true, use-without}
 use Rattle.omega_board.proofs.Standing.{each_take}
 use Rattle.omega_board.proofs.Tasks.{each_filter, each_passes, found_passes}
+use Rattle.omega_board.proofs.Untouched.{among_each}
 use Rattle.omega_fit.proofs.Middles.{below_or_not}
 use Rattle.omega_plan.specs.Leaving.{evictable, leaves_enough, need_staying, stays, staying}
 use Rattle.omega_plan.proofs.Candidates.{are_candidates, candidates_yield, yields}
@@ -63,14 +63,6 @@ total_split p (t ∷ tasks) =
   where
     plus_apart : (a b c : Need) → plus a (plus b c) ≡ plus (plus a b) c
     plus_apart a b c = need_is _ _ (omega arith) (omega arith) (omega arith)
-
--- what holds of each of some names holds of one that is among them
-among_each : (P : TaskKey → Type 0) (key : TaskKey) (keys : List TaskKey) → Each P keys → is_among key keys ≡ true → P key
-among_each P key [] each among = absurd (both_ways false refl among)
-among_each P key (k ∷ keys) each among =
-    by_answer (same_key key k)
-    (λ t. subst P (sym (key_same key k t)) each.0)
-    (λ f. among_each P key keys each.1 (rw f at among))
 
 -- the names of the first tasks
 take_keys : (n : ℕ) (tasks : List Task) → take n (keys_of tasks) ≡ keys_of (take n tasks)
