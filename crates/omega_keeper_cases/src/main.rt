@@ -1,76 +1,60 @@
-//! Cases of keepers, in memory, over files and over disks that stop: reads lines of calls, and prints the answer of
-//! each.
+//! Cases of keepers, in memory and over databases: reads lines of calls, and prints the answer of each.
 //!
 //! A line is words: a subject, a call of it, and what the call is given. A line that begins with `#`
 //! and one without a byte are printed as they are, so that cases can have headings.
 #![tactic(auto)]
 
 mod databases;
-mod disks;
-mod files;
 mod steps;
-mod wholes;
 
 use crate::steps::take_all;
-use crate::wholes::Wholes;
 use omega_calls::{Fault, answer_lines, number, text, words_of};
 use omega_keep::{MemoryKeeper, SteadyKeeper};
 use omega_model::Bytes;
+use std::alloc::Global;
 use std::io;
 
 fn main(rt: HostRuntime) -> io::Result<()> {
-    answer_lines(&rt, rt.alloc(), |line| answer(&rt, line))
+    let alloc = rt.alloc();
+    answer_lines(&rt, alloc, |line| answer(alloc, line))
 }
 
 /// The answer of a line's call.
-fn answer(rt: &HostRuntime, line: &str) -> Result<String, Fault> {
-    let words = words_of(rt.alloc(), line)?;
-    let mut answers = String::new(rt.alloc());
-    answer_words(rt, words.as_slice(), &mut answers)?;
+fn answer(alloc: Global, line: &str) -> Result<String, Fault> {
+    let words = words_of(alloc, line)?;
+    let mut answers = String::new(alloc);
+    answer_words(alloc, words.as_slice(), &mut answers)?;
     Ok(answers)
 }
 
 /// Appends the answer of a call of these words: a subject, a call of it, and what the call is given.
-fn answer_words(rt: &HostRuntime, words: &[Bytes], answers: &mut String) -> Result<(), Fault> {
+fn answer_words(alloc: Global, words: &[Bytes], answers: &mut String) -> Result<(), Fault> {
     let [subject, call, rest @ ..] = words else {
         return Err(Fault::UnknownCall);
     };
     match text(subject)? {
-        "keeper" => answer_of_keeper(rt, text(call)?, rest, answers),
+        "keeper" => answer_of_keeper(alloc, text(call)?, rest, answers),
         _ => Err(Fault::UnknownCall),
     }
 }
 
 /// Each takes steps on a new keeper, which are parted by ` : `, as are the answers. `memory CALL STEPS`: one in
 /// memory, of which this load or append fails, counted from 0. `steady STEPS`: one that never fails.
-/// `database STATEMENTS STEPS`: one over a database in memory that these statements have made. `files STEPS`: two over
-/// files.
-///
-/// `stops FILE BOUND LISTS`: whether a keeper over two files in memory, of which one stops after each number of calls,
-/// has whole lists of lines each time; the lists are parted by ` : `.
+/// `database STATEMENTS STEPS`: one over a database in memory that these statements have made.
 fn answer_of_keeper(
-    rt: &HostRuntime,
+    alloc: Global,
     call: &str,
     words: &[Bytes],
     answers: &mut String,
 ) -> Result<(), Fault> {
-    let alloc = rt.alloc();
     match (call, words) {
         ("memory", [call, steps @ ..]) => {
             let mut keeper = MemoryKeeper::new(alloc).fail_at(number(call)?);
             take_all(alloc, &mut keeper, steps, answers)
         }
-        ("steady", steps) => {
-            let mut keeper = SteadyKeeper::new(alloc);
-            take_all(alloc, &mut keeper, steps, answers)
-        }
+        ("steady", steps) => take_all(alloc, &mut SteadyKeeper::new(alloc), steps, answers),
         ("database", [statements, steps @ ..]) => {
             databases::answer(alloc, text(statements)?, steps, answers)
-        }
-        ("files", steps) => files::answer(rt, steps, answers),
-        ("stops", [file, bound, lists @ ..]) => {
-            let wholes = Wholes::of(alloc, lists)?;
-            disks::answer(alloc, text(file)?, number(bound)?, &wholes, answers)
         }
         _ => Err(Fault::UnknownCall),
     }

@@ -21,7 +21,7 @@ pub(crate) fn take_all<K: Keeper>(
 /// Takes a step on a keeper, and appends its answer. `enter PATH` answers `ok`; `append LINE ..` appends the lines at
 /// once, and answers `ok` or `failed`; `load` answers the lines, behind how many they are, or `failed`; and `faults`
 /// how many calls have failed.
-pub(crate) fn take<K: Keeper>(
+fn take<K: Keeper>(
     alloc: Global,
     keeper: &mut K,
     step: &[Bytes],
@@ -53,7 +53,7 @@ pub(crate) fn taken<K: Keeper + Drop>(
 }
 
 /// Some lines as a list of their own.
-pub(crate) fn listed(alloc: Global, lines: &[Bytes]) -> Result<Lines, Fault> {
+fn listed(alloc: Global, lines: &[Bytes]) -> Result<Lines, Fault> {
     let mut list = Lines::new(alloc);
     for line in lines {
         list.push(line.copy(alloc)?)?;

@@ -1,6 +1,6 @@
-//! Tests of runs that a keeper over a database keeps: what a machine that stops at any call to its disk leaves of them,
-//! and how they go on from there. What such a keeper does with lines is shown by `omega_keeper_cases`, and by the folders of `tests/kept` at
-//! the top of the repository what runs of the whole program leave in a file.
+//! Tests of the keepers over a database: what a file has of their lines, and what a machine that stops at
+//! any call to its disk leaves, of appends and of whole runs that go on from there. What a keeper over a database in memory does with lines
+//! is shown by `omega_keeper_cases`, and what runs leave in a file by the folders of `tests/kept` at the top of the repository.
 //!
 //! They stand apart from `omega_sqlkeep`, since a crate with tests is proved once more with them.
 #![tactic(auto)]
@@ -8,4 +8,8 @@
 #[cfg(test)]
 mod disks;
 #[cfg(test)]
-mod runs;
+mod files;
+#[cfg(test)]
+mod lines;
+#[cfg(test)]
+mod resumes;
