@@ -1,6 +1,6 @@
 -- Worked words: which are plain, and which settings they give.
 use Rattle.std.proofs.Common.{◌≡◌, List, ℕ, [], ◌∷◌, true, false, refl, codes}
-use Rattle.omega_model.specs.Options.{WordTable, is_value, part, whole_table, a_path}
+use Rattle.omega_model.specs.Options.{WordTable, choice, is_value, whole_table, a_number, a_path}
 use Rattle.omega_model.specs.PlainWords.{is_plain, is_plain_value}
 use Rattle.omega_model.specs.WordSettings.{default_settings, folder_of, kept_of, settings_of}
 use Rattle.omega_model.specs.declared.claims.Mode.TheVariants.{Incremental, Gang}
@@ -87,19 +87,20 @@ hyphen = refl
 any_folder : is_value a_path (codes "-x") ≡ true
 any_folder = refl
 
--- ---- a part of the table
+-- ---- another table
 
+-- one command, and one option
 abbrev small : WordTable
-small = part (codes "replay" ∷ []) (codes "seed" ∷ []) whole_table
+small = record { commands = codes "replay" ∷ []; choices = choice (codes "seed") (a_number 0 9) ∷ [] }
 
-in_part : is_plain small (codes "replay" ∷ codes "--seed" ∷ codes "5" ∷ []) ≡ true
-in_part = refl
+in_table : is_plain small (codes "replay" ∷ codes "--seed" ∷ codes "5" ∷ []) ≡ true
+in_table = refl
 
-command_not_in_part : is_plain small (codes "run" ∷ []) ≡ false
-command_not_in_part = refl
+command_of_another : is_plain small (codes "run" ∷ []) ≡ false
+command_of_another = refl
 
-option_not_in_part : is_plain small (codes "replay" ∷ codes "--batch" ∷ codes "5" ∷ []) ≡ false
-option_not_in_part = refl
+option_of_another : is_plain small (codes "replay" ∷ codes "--batch" ∷ codes "5" ∷ []) ≡ false
+option_of_another = refl
 
 -- ---- settings
 
