@@ -95,7 +95,7 @@ returns-in-Err-clause-made g c makes =
 
 pub returns-in-Err-clause-some_run : goal.returns-in-Err-clause-some_run
 returns-in-Err-clause-some_run g c =
-    rw (c.refused.ensures.answer, c.from.ensures) (refused_run c.args.settings.now c.in-Err.refusal _ _ refl)
+    rw (c.refused.ensures.answer, c.from.ensures) (λ runs. refused_run c.args.settings.now c.in-Err.refusal _ _ refl)
 
 pub returns-in-Ok-clause-written : goal.returns-in-Ok-clause-written
 returns-in-Ok-clause-written g c bytes told =
