@@ -2,10 +2,11 @@
 # Times a built program on tables of real size, and prints tables for a page.
 #
 #     bench/bench.sh PROGRAM one MACHINES ROWS LOAD WORDS..   one line, for any scale and words
+#     bench/bench.sh PROGRAM picky MACHINES ROWS LOAD WORDS.. the same, where most tasks suit one machine in a hundred
 #     bench/bench.sh PROGRAM SECTION..                        some of the tables below
 #     bench/bench.sh PROGRAM page                             all of them, written into docs/SPEED.md
 #
-# Sections: scales parts rows machines schedulers words threads shapes chosen plans kept. ROWS are rows of task_events, LOAD
+# Sections: scales parts rows machines schedulers words threads constrained shapes chosen plans kept. ROWS are rows of task_events, LOAD
 # is as in tables.py. Each line is the median of five runs with their range, or one run that took more than ten
 # seconds.
 #
@@ -58,13 +59,17 @@ cells() { # NUMBERS
         }'
 }
 
-# The folder of a trace, made where it is missing.
-trace() { # MACHINES ROWS LOAD
-    local folder=$data/trace-$1-$2-$3
+# The folder of a trace of a kind that tables.py makes, made where it is missing.
+made() { # KIND MACHINES ROWS LOAD
+    local folder=$data/$1-$2-$3-$4
     if ! [ -f "$folder/made" ]; then
-        python3 "$here/tables.py" trace "$folder" "$1" "$2" "$3" && touch "$folder/made"
+        python3 "$here/tables.py" "$1" "$folder" "$2" "$3" "$4" && touch "$folder/made"
     fi
     echo "$folder"
+}
+
+trace() { # MACHINES ROWS LOAD
+    made trace "$@"
 }
 
 # What the report's last lines count: commits, and those with a claim that wasn't placed.
@@ -96,10 +101,18 @@ measure() { # FIRST COLUMNS, FOLDER, WORDS..
 }
 
 one() { # MACHINES ROWS LOAD WORDS..
-    local machines=$(($1 / scale + 1)) rows=$(($2 / scale)) load=$3
-    [ "$scale" = 1 ] && machines=$1
-    shift 3
-    measure "| $machines | $rows | $load | \`$*\`" "$(trace "$machines" "$rows" "$load")" "$@"
+    of_kind trace "$@"
+}
+
+picky() { # MACHINES ROWS LOAD WORDS..
+    of_kind picky "$@"
+}
+
+of_kind() { # KIND MACHINES ROWS LOAD WORDS..
+    local kind=$1 machines=$(($2 / scale + 1)) rows=$(($3 / scale)) load=$4
+    [ "$scale" = 1 ] && machines=$2
+    shift 4
+    measure "| $machines | $rows | $load | \`$*\`" "$(made "$kind" "$machines" "$rows" "$load")" "$@"
 }
 
 scales() {
@@ -166,6 +179,15 @@ threads() {
     done
     one 12500 400000 75 run --batch 8 --rule coarse
     one 12500 400000 160 run --batch 8 --preempt service
+}
+
+# Where most tasks have a constraint that one machine in a hundred meets, so that plans are most of the work.
+constrained() {
+    header '| Machines | Rows of tasks | Load | Words'
+    for n in 1 8 30; do
+        picky 12500 400000 90 replay --batch $n
+        picky 12500 400000 90 run --batch $n
+    done
 }
 
 shapes() {
@@ -266,7 +288,7 @@ kept_anew() { # FOLDER FILE WHERE
     echo "| \`resume\` into a new file$3 | $(cells "$seconds") |"
 }
 
-sections=(scales parts rows machines schedulers words threads shapes chosen plans kept)
+sections=(scales parts rows machines schedulers words threads constrained shapes chosen plans kept)
 
 # Puts what each section prints between that section's marks on the page, and the date and the processor above.
 page() {
@@ -306,10 +328,9 @@ fi
 mkdir -p "$data" || exit 1
 [ -x "$data/reading" ] || rustc -O --edition 2021 -o "$data/reading" "$here/reading.rs" || exit 1
 case $1 in
-one)
-    shift
+one | picky)
     header '| Machines | Rows of tasks | Load | Words'
-    one "$@"
+    "$@"
     ;;
 page) page ;;
 *)

@@ -2,6 +2,7 @@
 """Makes tables of real size, the same at each call with the same words.
 
     tables.py trace FOLDER MACHINES ROWS LOAD [SEED]    a cluster's trace with so many rows of tasks
+    tables.py picky FOLDER MACHINES ROWS LOAD [SEED]    the same, but that most tasks ask for one machine in a hundred
     tables.py steady FOLDER MACHINES HOURS LOAD [SEED]  a cell that is as full at the beginning as at the end
     tables.py SHAPE FOLDER SIZE                         tables of one extreme shape; no word lists them
 
@@ -150,7 +151,28 @@ CONSTRAINTS = ((3, 'kernel', 17), (2, 'kernel', 20), (1, 'rack', 'r7'), (0, 'rac
 
 
 def trace(folder, machines, rows, load, seed=3):
-    dice, files = Dice(seed), Files(folder)
+    files = Files(folder)
+    put_trace(files, machines, rows, load, seed)
+    files.close()
+
+
+def picky(folder, machines, rows, load, seed=3):
+    """A trace in which each machine is in one of a hundred pools, and four jobs of five ask for a pool."""
+    dice, files = Dice(seed + 1), Files(folder)
+    jobs = put_trace(files, machines, rows, load, seed)
+    for number in range(1, machines + 1):
+        files.put('machine_attributes', 0, number, 'pool', 'p%d' % dice.below(100), 0)
+    for job in jobs:
+        if dice.in_hundred(80):
+            pool = 'p%d' % dice.below(100)
+            for index in range(job.tasks):
+                files.put('task_constraints', job.submit, job.number, index, 0, 'pool', pool)
+    files.close()
+
+
+def put_trace(files, machines, rows, load, seed):
+    """Writes the rows of a trace, and answers its jobs."""
+    dice = Dice(seed)
     jobs = jobs_for(dice, rows)
     work = sum(job.work() for job in jobs)
     span = machines_of(dice, files, machines, lambda whole: work / (whole * load / 100) * SECOND)
@@ -167,7 +189,7 @@ def trace(folder, machines, rows, load, seed=3):
                 files.put('task_constraints', job.submit, job.number, index, *CONSTRAINTS[job.constraint])
         if job.activities:
             files.put('mapreduce_jobs', job.number, min(10_000, job.activities))
-    files.close()
+    return jobs
 
 
 # A cell in a steady state: as many jobs of a kind come as end, and where the trace begins as many are there
@@ -222,6 +244,8 @@ def job_rows(dice, kind, number, submit, tasks):
         yield submit, number, index, 0, kind.klass, kind.prio, cpu, mem
         yield submit + 1 + int(dice.life(kind.life) * SECOND), number, index, 4, kind.klass, kind.prio, cpu, mem
 
+
+TRACES = {kind.__name__: kind for kind in (trace, picky, steady)}
 
 # Extreme shapes, each a function of the files and a size to which the rows are in proportion.
 
@@ -557,8 +581,8 @@ SHAPES = {shape.__name__: shape for shape in (
 
 
 def main(words):
-    if len(words) in (5, 6) and words[0] in ('trace', 'steady'):
-        (trace if words[0] == 'trace' else steady)(words[1], *map(int, words[2:]))
+    if len(words) in (5, 6) and words[0] in TRACES:
+        TRACES[words[0]](words[1], *map(int, words[2:]))
     elif len(words) == 3 and words[0] in SHAPES:
         files = Files(words[1])
         SHAPES[words[0]](files, int(words[2]))
