@@ -213,6 +213,7 @@ chosen() {
     shape taking_over 2000 run
     shape same_tree 100000 replay
     shape other_trees 100000 replay
+    shape one_note 100000 replay
     shape machines_apart 25000 replay
     shape machines_in_row 25000 replay
     shape constraints 5000 replay

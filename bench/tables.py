@@ -393,6 +393,19 @@ def other_trees(files, size):
         files.task(0, job, 0, 0, 0)
 
 
+# With which a number is multiplied before the place that is noted for it is looked up.
+SPREAD = 0x9E37_79B9_7F4A_7C15
+
+
+def one_note(files, size):
+    """Jobs of one task on 2,000 machines, with numbers that share a note"""
+    back = pow(SPREAD, -1, 2 ** 64)
+    for number in range(1, 2001):
+        files.machine(number * back % 2 ** 64)
+    for job in range(1, size + 1):
+        files.task(0, job * back % 2 ** 64, 0, 0, 0)
+
+
 def machines_apart(files, size):
     """Machines whose numbers are equal modulo 2^44, each with a task"""
     for number in range(size):
@@ -576,7 +589,7 @@ def too_little(files, size):
 SHAPES = {shape.__name__: shape for shape in (
     one_job, apart, never_fits, one_machine, long_runs, attributes, scarce, map_reduce, half_full, full, evicting,
     too_little, victims, one_by_one, updates, shrinking, crowded, taking_over, same_tree, other_trees,
-    machines_apart, machines_in_row, constraints, matched, nowhere, lopsided, many_rounds, given_up, large_job,
+    one_note, machines_apart, machines_in_row, constraints, matched, nowhere, lopsided, many_rounds, given_up, large_job,
     one_waits, restarts, short_rounds, extras, extras_alike, commas, quotes, long_text)}
 
 

@@ -1,6 +1,6 @@
 -- Jobs in order of their first task row, and the places at which they are found.
-use Rattle.std.proofs.Common.{◌≡◌, ℕ, zero, suc, Bool, true, false, cond, not, ◌&&◌, ◌||◌, ◌==◌, List, [], ◌∷◌, ◌++◌, Option, Some, None, map, length, refl, ap, sym, ◌∙◌, ◌⊎◌, inl, inr, arith, append_assoc, append-nil}
-use Rattle.std.specs.Prelude.{is_some}
+use Rattle.std.proofs.Common.{◌≡◌, ℕ, zero, suc, Bool, true, false, cond, not, ◌&&◌, ◌||◌, ◌==◌, List, [], ◌∷◌, ◌++◌, Option, Some, None, map, length, refl, ap, sym, ◌∙◌, ◌⊎◌, inl, inr, append_assoc, append-nil}
+use Rattle.std.specs.Prelude.{is_some, ◌↔◌, option_and_then}
 use Rattle.std.specs.BTreeMap as tree
 use Rattle.std.specs.BTreeMap.{BTreeMap}
 use Rattle.std.specs.List.{filter, filter_map, fold, list_any}
@@ -75,14 +75,25 @@ pub none_from : {X : Type 0} (o : Option X) → is_some o ≡ false → o ≡ No
 none_from None e = refl
 none_from (Some x) e = absurd (cc)
 
--- whether a job has a place is whether it is among the jobs
-pub has_known : (places : BTreeMap ℕ ℕ) (jobs : List RoutedJob) → AreFound places jobs → (job : ℕ)
-    → is_some (tree.get nat_cmp places job) ≡ list_any (is_job job) jobs
-has_known places jobs found job =
-    elim (cases_Bool (is_some (tree.get nat_cmp places job))) [
-      | inl there ↦ there ∙ sym (known places jobs found job there)
-      | inr gone ↦ gone ∙ sym (unknown places jobs found job (none_from _ gone))
-    ]
+-- whether a place was found for a job is whether it is among the jobs
+pub has_placed : (jobs : List RoutedJob) (job : ℕ) (found : Option ℕ) → ((place : ℕ) → (found ≡ Some place) ↔ (job_at jobs place ≡ Some job))
+    → is_some found ≡ list_any (is_job job) jobs
+has_placed jobs job None is =
+    elim (cases_Bool (list_any (is_job job) jobs)) [
+      | inl e ↦ let at = at_any job jobs e in absurd (nothing at.0 ((is at.0).1 at.1))
+      | inr e ↦ sym e
+    ] where
+      nothing : (place : ℕ) → None ≡ Some place → ⊥
+      nothing place e = cc
+has_placed jobs job (Some place) is = sym (any_at job jobs place ((is place).0 refl))
+
+-- a job that is seen at a place is found there
+pub placed_at : (places : BTreeMap ℕ ℕ) (jobs : List RoutedJob) → AreFound places jobs → (job seen : ℕ) → job_at jobs seen ≡ Some job
+    → (place : ℕ) → (Some seen ≡ Some place) ↔ (job_at jobs place ≡ Some job)
+placed_at places jobs found job seen at place = (
+  λ is. ap (λ o. option_and_then (λ n. job_at jobs n) o) (sym is) ∙ at,
+  λ there. sym ((found job seen).1 at) ∙ (found job place).1 there,
+)
 
 -- one more job is found at the end
 pub found_more : (places more : BTreeMap ℕ ℕ) (jobs : List RoutedJob) (new : RoutedJob) (n : ℕ) → AreFound places jobs

@@ -1,5 +1,5 @@
 //! The jobs of a trace in order of their first task row.
-ghost use Rattle.std.specs.Prelude.{◌≡◌, ◌↔◌, [], ℕ, Some, map, slice_get, OnOk, OnErr, IfOk};
+ghost use Rattle.std.specs.Prelude.{◌≡◌, ◌↔◌, [], ℕ, Some, map, slice_get, OnOk, OnErr, IfOk, IsTrue};
 ghost use Rattle.std.specs.List.{list_any};
 ghost use Rattle.omega_model.specs.Feed.{feed};
 ghost use Rattle.omega_model.specs.Ranges.{IsInRange};
@@ -10,6 +10,7 @@ ghost use Rattle.omega_feed.specs.Asked.{home, is_job, routed, with_job};
 ghost use Rattle.omega_feed.specs.Index.{job_at};
 
 use crate::activities::JobActivities;
+use crate::notes::Notes;
 use omega_model::{NoMemory, Row, Settings, TaskRow};
 use std::alloc::Global;
 use std::collections::BTreeMap;
@@ -22,11 +23,13 @@ pub struct RoutedJob {
     pub scheduler: u32,
 }
 
-/// Jobs in an order, found by place and by number.
+/// Jobs in an order, found by place and by number. A job mostly stands at the place that is noted for
+/// its number; else a balanced tree has its place.
 #[derive(Drop)]
 pub struct Jobs {
     list: Vec<RoutedJob>,
     places: BTreeMap<u64, usize>,
+    notes: Notes,
 }
 
 impl Model for Jobs {
@@ -50,6 +53,7 @@ impl Jobs {
         Jobs {
             list: Vec::new(alloc),
             places: BTreeMap::new(alloc),
+            notes: Notes::none(alloc),
         }
     }
 
@@ -66,6 +70,7 @@ impl Jobs {
             → IfOk result (λ jobs. jobs ≡ map (routed settings.now trace) (jobs_in_order (feed trace))) }
     {
         let mut jobs = Jobs::new(alloc);
+        jobs.notes = Notes::for_count(alloc, rows.len())?;
         for row in rows {
             if let Row::Task(row) = row {
                 jobs.note(settings, activities, row)?;
@@ -96,7 +101,7 @@ impl Jobs {
     fn has(&self, job: u64) -> bool
         ensures { result ≡ list_any (is_job job) self.now }
     {
-        self.places.contains_key(&job)
+        self.place(job).is_some()
     }
 
     /// Appends a job, unless it is there. A refused call leaves the jobs.
@@ -113,6 +118,7 @@ impl Jobs {
             self.places.remove(&job.job);
             return Err(NoMemory);
         }
+        self.notes.note(job.job, place);
         Ok(())
     }
 
@@ -128,6 +134,10 @@ impl Jobs {
     pub fn place(&self, job: u64) -> Option<usize>
         ensures { (place : ℕ) → (result ≡ Some place) ↔ (job_at self.now place ≡ Some job) }
     {
+        let guess = self.notes.guess(job);
+        if stands_at(&self.list, guess, job) {
+            return Some(guess);
+        }
         self.places.get(&job).copied()
     }
 
@@ -136,6 +146,16 @@ impl Jobs {
         ensures { result ≡ slice_get self.now place }
     {
         self.list.get(place).copied()
+    }
+}
+
+/// Whether a job stands at a place.
+fn stands_at(jobs: &[RoutedJob], place: usize, job: u64) -> bool
+    ensures { IsTrue result → job_at jobs.now place ≡ Some job }
+{
+    match jobs.get(place) {
+        Some(routed) => routed.job == job,
+        None => false,
     }
 }
 

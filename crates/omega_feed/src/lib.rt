@@ -13,6 +13,7 @@ mod disks;
 mod entries;
 mod extras;
 mod jobs;
+mod notes;
 mod open_jobs;
 mod ordered;
 mod task_tree;

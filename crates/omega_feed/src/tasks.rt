@@ -10,6 +10,7 @@ ghost use Rattle.omega_feed.specs.Index.{changed_by, wanted_task};
 ghost use Rattle.omega_feed.specs.Open.{RunsIfOf};
 ghost use Rattle.omega_feed.specs.Parts.{AreParts, BelongsAt, Rise, StandsAt, joined, waiting_jobs};
 
+use crate::notes::Notes;
 use crate::task_tree::TaskTree;
 use omega_model::{NoMemory, Spec, TaskKey, TaskRow};
 use omega_running::Running;
@@ -31,14 +32,13 @@ pub enum Change {
 /// indexes are below those of extras.
 ///
 /// Those of each job stand in a tree of their own, and the trees in order of job, so that a way down is
-/// as short as the job is small. Where the last job stands for which a task was put in or taken out is
-/// looked at first: the look-ups of one row are of one job.
+/// as short as the job is small. A job's tree is mostly found at the place that is noted for its number.
 #[derive(Drop)]
 pub struct WantedTasks {
     alloc: Global,
     jobs: Vec<u64>,
     parts: Vec<TaskTree>,
-    last: usize,
+    notes: Notes,
 }
 
 impl Model for WantedTasks {
@@ -62,7 +62,7 @@ impl WantedTasks {
             alloc,
             jobs: Vec::new(alloc),
             parts: Vec::new(alloc),
-            last: 0,
+            notes: Notes::none(alloc),
         }
     }
 
@@ -73,6 +73,7 @@ impl WantedTasks {
     {
         jobs.sort_unstable();
         let mut tasks = WantedTasks::new(alloc);
+        tasks.notes = Notes::for_count(alloc, jobs.len())?;
         for job in jobs {
             tasks.make_place(job)?;
         }
@@ -84,7 +85,9 @@ impl WantedTasks {
     fn make_place(&mut self, job: u64) -> Result<(), NoMemory>
         ensures { self.new ≡ self.old }
     {
-        self.last = place_for(self.alloc, &mut self.jobs, &mut self.parts, self.last, job)?;
+        let guess = self.notes.guess(job);
+        let place = place_for(self.alloc, &mut self.jobs, &mut self.parts, guess, job)?;
+        self.notes.note(job, place);
         Ok(())
     }
 
@@ -93,7 +96,7 @@ impl WantedTasks {
         ensures none { IfNone result (filter (is_task_of job) self.now ≡ []) }
         ensures part { IfSome result (λ tree. tree.now ≡ filter (is_task_of job) self.now) }
     {
-        match place_of(&self.jobs, self.last, job) {
+        match place_of(&self.jobs, self.notes.guess(job), job) {
             Ok(place) => Some(&self.parts[place]),
             Err(_gap) => None,
         }
@@ -108,14 +111,9 @@ impl WantedTasks {
         ensures err { OnErr result (self.new ≡ self.old) }
         ensures low { All HasLowIndex self.new }
     {
-        let place = place_for(
-            self.alloc,
-            &mut self.jobs,
-            &mut self.parts,
-            self.last,
-            key.job,
-        )?;
-        self.last = place;
+        let guess = self.notes.guess(key.job);
+        let place = place_for(self.alloc, &mut self.jobs, &mut self.parts, guess, key.job)?;
+        self.notes.note(key.job, place);
         self.parts[place].insert(key, spec)?;
         Ok(())
     }
@@ -126,9 +124,9 @@ impl WantedTasks {
         ensures tasks { self.new ≡ filter (λ task. not (is_named key task)) self.old }
         ensures low { All HasLowIndex self.new }
     {
-        match place_of(&self.jobs, self.last, key.job) {
+        match place_of(&self.jobs, self.notes.guess(key.job), key.job) {
             Ok(place) => {
-                self.last = place;
+                self.notes.note(key.job, place);
                 self.parts[place].remove(key);
             }
             Err(_gap) => {}
@@ -211,14 +209,14 @@ fn waiting_in(alloc: Global, parts: &[TaskTree], running: &Running) -> Result<Ve
     Ok(jobs)
 }
 
-/// Where a job stands among these, which rise, or else where it would stand. The place `last` is
+/// Where a job stands among these, which rise, or else where it would stand. The place `guess` is
 /// looked at first. Costs the logarithm of the number of jobs, if it doesn't stand there.
-fn place_of(jobs: &[u64], last: usize, job: u64) -> Result<usize, usize>
+fn place_of(jobs: &[u64], guess: usize, job: u64) -> Result<usize, usize>
     requires { Rise jobs.now }
     ensures { MatchResult result (StandsAt jobs.now job) (BelongsAt jobs.now job) }
 {
-    if last < jobs.len() && jobs[last] == job {
-        return Ok(last);
+    if guess < jobs.len() && jobs[guess] == job {
+        return Ok(guess);
     }
     jobs.binary_search(&job)
 }
@@ -230,7 +228,7 @@ fn place_for(
     alloc: Global,
     jobs: &mut Vec<u64>,
     parts: &mut Vec<TaskTree>,
-    last: usize,
+    guess: usize,
     job: u64,
 ) -> Result<usize, NoMemory>
     requires { AreParts jobs.old.items parts.old.items }
@@ -238,7 +236,7 @@ fn place_for(
     ensures same { joined parts.new.items ≡ joined parts.old.items }
     ensures place { IfOk result (StandsAt jobs.new.items job) }
 {
-    match place_of(jobs, last, job) {
+    match place_of(jobs, guess, job) {
         Ok(place) => Ok(place),
         Err(place) => {
             put_place(alloc, jobs, parts, place, job)?;

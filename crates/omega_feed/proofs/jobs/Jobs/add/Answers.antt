@@ -11,8 +11,8 @@ returns-then-contains_key-clause-ok c =
     ∙ known c.self.inside.places c.self.inside.list.items c.self.invariant c.args.job.job (sym c.if-contains_key.ensures) in
     rw there refl
 
-pub invariant_of-self-else-is_err : goal.invariant_of-self-else-is_err
-invariant_of-self-else-is_err c =
+pub invariant_of-self-2 : goal.invariant_of-self-2
+invariant_of-self-2 c =
     let items : c.push.new.self.items ≡ c.self.inside.list.items ++ c.args.job ∷ [] = c.push.ensures.items ∙ rw c.if-is_err.ensures.negation refl in
     rw items
     (found_more c.self.inside.places c.insert.new.self c.self.inside.list.items c.args.job c.len-place.result c.self.invariant
