@@ -2,8 +2,8 @@
 ghost use Rattle.std.specs.Prelude.{◌≡◌, ◌≤◌, IfOk, IfSome};
 ghost use Rattle.omega_model.specs.Fields.{most_activities};
 ghost use Rattle.omega_feed.specs.Asked.{activities_in};
-ghost use Rattle.omega_feed.specs.Last.{AreLastActivities};
 
+use crate::last::last_of;
 use omega_model::{ActivityRow, Copied, NoMemory, Seq};
 use std::alloc::Global;
 use std::collections::BTreeMap;
@@ -14,7 +14,7 @@ use std::marker::Model;
 #[derive(Drop)]
 pub struct JobActivities {
     rows: Seq<ActivityRow>,
-    last: BTreeMap<u64, u32>,
+    last: BTreeMap<u64, u64>,
 }
 
 impl Model for JobActivities {
@@ -47,17 +47,7 @@ impl JobActivities {
         ensures activities { result ≡ activities_in self.now job }
         ensures range { IfSome result (λ activities. activities ≤ most_activities) }
     {
-        self.last.get(&job).copied()
+        let activities = self.last.get(&job)?;
+        Some(*activities as u32)
     }
-}
-
-/// The activities of the last row for each job.
-fn last_of(alloc: Global, rows: &[ActivityRow]) -> Result<BTreeMap<u64, u32>, NoMemory>
-    ensures { IfOk result (λ last. AreLastActivities last rows.now) }
-{
-    let mut last = BTreeMap::new(alloc);
-    for row in rows {
-        last.insert(row.job, row.activities)?;
-    }
-    Ok(last)
 }

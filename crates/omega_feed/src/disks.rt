@@ -2,8 +2,8 @@
 ghost use Rattle.std.specs.Prelude.{◌≡◌, ◌≤◌, IfOk};
 ghost use Rattle.omega_model.specs.Fields.{greatest_quantity};
 ghost use Rattle.omega_model.specs.Wanted.{disk_of};
-ghost use Rattle.omega_feed.specs.Last.{AreLastDisks};
 
+use crate::last::last_of;
 use omega_model::{Copied, DiskRow, GREATEST_QUANTITY, NoMemory, Seq};
 use std::alloc::Global;
 use std::collections::BTreeMap;
@@ -53,15 +53,4 @@ impl MachineDisks {
             None => GREATEST_QUANTITY,
         }
     }
-}
-
-/// The disk of the last row for each machine.
-fn last_of(alloc: Global, rows: &[DiskRow]) -> Result<BTreeMap<u64, u64>, NoMemory>
-    ensures { IfOk result (λ last. AreLastDisks last rows.now) }
-{
-    let mut last = BTreeMap::new(alloc);
-    for row in rows {
-        last.insert(row.machine, row.disk)?;
-    }
-    Ok(last)
 }

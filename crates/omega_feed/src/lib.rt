@@ -13,6 +13,7 @@ mod disks;
 mod entries;
 mod extras;
 mod jobs;
+mod last;
 mod notes;
 mod open_jobs;
 mod ordered;
