@@ -11,6 +11,3 @@ mod walk;
 
 pub use desk::Desk;
 pub use failures::Failures;
-
-#[cfg(test)]
-mod tests;

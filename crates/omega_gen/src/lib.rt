@@ -11,8 +11,6 @@ ghost use Rattle.omega_gen.specs.Words.{left_after, word_of};
 mod jobs;
 mod laws;
 mod machines;
-#[cfg(test)]
-mod tests;
 mod words;
 
 pub use laws::generated_tables_are_never_refused;

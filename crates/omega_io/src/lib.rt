@@ -23,6 +23,3 @@ pub use memory::{MemorySink, MemoryTables};
 pub use stdout::StdoutSink;
 pub use steady::SteadyTables;
 pub use writing::write_all;
-
-#[cfg(test)]
-mod tests;

@@ -45,8 +45,6 @@ mod rule;
 mod seat;
 mod seating;
 mod taking;
-#[cfg(test)]
-mod tests;
 mod view;
 
 pub use counted::Counted;

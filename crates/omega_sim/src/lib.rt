@@ -8,8 +8,6 @@ mod firsts;
 mod laws;
 mod lines;
 mod sums;
-#[cfg(test)]
-mod tests;
 mod timed;
 
 pub use agenda::Agenda;

@@ -14,6 +14,3 @@ pub use limits::over_limit;
 pub use parsing::parse_table;
 pub use reading::{read_bytes, read_tables};
 pub use refusal::ReadRefusal;
-
-#[cfg(test)]
-mod tests;

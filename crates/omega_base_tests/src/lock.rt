@@ -1,7 +1,7 @@
 //! Callers on threads of their own: what they did to the value, whatever their order.
 ghost use Rattle.std.specs.Prelude.{◌≡◌, ◌≤◌, false, Some};
 
-use crate::{Counted, Lock, Seat};
+use omega_lock::{Counted, Lock, Seat};
 use std::alloc::Global;
 use std::hint::spin_loop;
 use std::sync::Wait;

@@ -1,5 +1,5 @@
 //! Reads and writes that are cut or fail, real files, standard output, and holds at a gate.
-use crate::{
+use omega_io::{
     Failed, FolderTables, Gate, HeldGate, MemorySink, MemoryTables, PassGate, Point, Sink,
     StdoutSink, SteadyTables, Tables, write_all,
 };

@@ -1,5 +1,5 @@
 use Rattle.std.proofs.Common.{◌≡◌, ◌≤◌, ◌+◌, false}
-use Rattle.omega_lock.proofs.tests.take_turns.Given as goal
+use Rattle.omega_base_tests.proofs.lock.take_turns.Given as goal
 
 -- the seat has a turn for each round that is left
 abbrev pub invariant-loop : goal.invariant-loop

@@ -2,9 +2,9 @@
 //! all other cases are lines of `crates/omega_table_cases/stdin`.
 ghost use Rattle.std.specs.Prelude.{◌<◌};
 
-use crate::{ReadRefusal, read_tables};
 use omega_io::{MemoryTables, Tables};
 use omega_model::{Bytes, NoMemory, Seq, Status, Table, TraceTables};
+use omega_tables::{ReadRefusal, read_tables};
 use std::alloc::{AllocError, Global};
 use std::test::Fail;
 

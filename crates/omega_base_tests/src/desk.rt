@@ -1,4 +1,5 @@
-use crate::Desk;
+//! Desks without requests, and where attempts begin.
+use omega_desk::Desk;
 use omega_model::{NoMemory, Requests, Settings};
 
 #[test]

@@ -1,5 +1,6 @@
-use crate::{Agenda, Arrivals, time_lines};
+//! Agendas and lines of time of which nothing happens.
 use omega_model::Settings;
+use omega_sim::{Agenda, Arrivals, time_lines};
 use std::test::Fail;
 
 /// The lines of three schedulers that never commit.

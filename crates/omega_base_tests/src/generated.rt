@@ -1,4 +1,5 @@
-use crate::{tables_of, tables_of_seed};
+//! The tables of a generator and of a seed.
+use omega_gen::{tables_of, tables_of_seed};
 use omega_io::{SteadyTables, Tables};
 use omega_model::Table;
 use rand_pcg::Lcg64Xsh32;
