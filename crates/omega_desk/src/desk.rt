@@ -1,7 +1,8 @@
 //! The desk.
-ghost use Rattle.std.specs.Prelude.{◌≡◌, ◌+◌, ◌<◌, ◌^◌, ℕ, [], Some, length, option_map, slice_get, OnOk, OnErr};
+ghost use Rattle.std.specs.Prelude.{◌≡◌, ◌+◌, ◌<◌, ◌≤◌, ◌^◌, ℕ, [], Some, length, option_map, slice_get, OnOk, OnErr};
 ghost use Rattle.std.specs.List.{All, list_any};
 ghost use Rattle.omega_model.specs.Draws.{drawn_start};
+ghost use Rattle.omega_model.specs.Policy.{policy_of, schedulers};
 ghost use Rattle.omega_model.specs.Touches.{is_placed};
 ghost use Rattle.omega_model.specs.Work.{after_outcomes, failing_after, failing_with, fresh};
 ghost use Rattle.omega_model.specs.declared.wishes.Request.{Request};
@@ -11,7 +12,7 @@ ghost use Rattle.omega_desk.specs.Walks.{HasDistinctWishes};
 
 use crate::failures::Failures;
 use crate::walk::{ends_request, rest_of};
-use omega_model::{NoMemory, Outcome, Reply, Request, Requests, Settings};
+use omega_model::{NoMemory, Outcome, Policy, Reply, Request, Requests, Settings};
 use rand_pcg::Lcg64Xsh32;
 use rand_pcg::rand_core::utils::NextWord;
 use std::alloc::Global;
@@ -62,6 +63,22 @@ impl Desk {
             waiting: VecDeque::new(alloc),
             failures: Failures::new(alloc),
         }
+    }
+
+    /// Whose desk it is.
+    pub fn scheduler(&self) -> u32
+        ensures { result ≡ self.now.scheduler }
+    {
+        self.scheduler
+    }
+
+    /// How its scheduler plans and commits.
+    pub fn policy(&self) -> Policy
+        requires batch { self.now.settings.batch ≤ 30 }
+        requires known { self.now.scheduler < schedulers self.now.settings }
+        ensures { result ≡ policy_of self.now.settings self.now.scheduler }
+    {
+        self.settings.policy(self.scheduler)
     }
 
     /// Takes a round's requests in order, but for those of jobs that are given up, and makes room for
@@ -144,9 +161,9 @@ impl Desk {
 fn still_tried(requests: Requests, failures: &Failures, settings: &Settings) -> Vec<Request>
     ensures { result.items ≡ still_tried settings.now (count_of failures.now) requests }
 {
-    let mut open = requests.into_items();
-    open.retain(|request| failures.of(request.job) < u64::from(settings.give_up));
-    open
+    let mut tried = requests.into_items();
+    tried.retain(|request| failures.of(request.job) < u64::from(settings.give_up));
+    tried
 }
 
 /// Makes room for the counts of the jobs of these requests.

@@ -32,7 +32,15 @@ pub fn take_entry(
             seen,
             txn,
             reply,
-        } => commit(alloc, cell, touches, scheduler, seen, txn, &reply),
+        } => {
+            let kept = KeptCommit {
+                scheduler,
+                seen,
+                txn,
+                reply,
+            };
+            commit(alloc, cell, touches, kept)
+        }
         entry => feed(alloc, cell, entry),
     }
 }
@@ -55,20 +63,28 @@ fn feed(alloc: Global, cell: &mut Cell, entry: Entry) -> Result<(), Stop>
 /// How many claims a commit has at most.
 const MOST_CLAIMS: usize = 4_294_967_295;
 
-/// Commits a transaction again, and compares what is answered to it.
-fn commit(
-    alloc: Global,
-    cell: &mut Cell,
-    touches: &Touches,
+/// A commit that is kept: whose it is, how many entries its scheduler had seen, what was committed and what was
+/// answered to it.
+#[derive(Drop)]
+struct KeptCommit {
     scheduler: u32,
     seen: u64,
     txn: Txn,
-    reply: &Judgements,
-) -> Result<(), Stop>
+    reply: Judgements,
+}
+
+/// Commits a transaction again, and compares what is answered to it.
+fn commit(alloc: Global, cell: &mut Cell, touches: &Touches, kept: KeptCommit) -> Result<(), Stop>
     requires { AreTouches touches.now.places cell.old.history }
-    ensures goes { OnOk result (GoesOn cell.old.history (Entry.Commit scheduler seen txn reply.now) cell.new.history) }
-    ensures stops { IfErr result (StopsFor (IsPossible cell.old.history (Entry.Commit scheduler seen txn reply.now) → ⊥)) }
+    ensures goes { OnOk result (GoesOn cell.old.history (Entry.Commit kept.scheduler kept.seen kept.txn kept.reply) cell.new.history) }
+    ensures stops { IfErr result (StopsFor (IsPossible cell.old.history (Entry.Commit kept.scheduler kept.seen kept.txn kept.reply) → ⊥)) }
 {
+    let KeptCommit {
+        scheduler,
+        seen,
+        txn,
+        reply,
+    } = kept;
     if seen > cell.history().len() as u64 || txn.claims.len() > MOST_CLAIMS {
         return Err(Stop::Refused);
     }
@@ -77,7 +93,7 @@ fn commit(
         return Err(Stop::OutOfMemory);
     };
     cell.commit(scheduler, seen, seqs.as_slice(), prepared);
-    if !has_reply(cell, reply) {
+    if !has_reply(cell, &reply) {
         return Err(Stop::Refused);
     }
     Ok(())

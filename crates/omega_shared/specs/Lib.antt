@@ -1,3 +1,4 @@
 pub mod Commits
 pub mod Passes
 pub mod Turns
+pub mod Planned

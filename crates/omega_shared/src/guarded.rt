@@ -1,9 +1,9 @@
 //! What the lock of a shared cell holds.
-ghost use Rattle.std.specs.Prelude.{◌≡◌, ◌≤◌, ◌<◌, ◌^◌, ◌++◌, ◌∷◌, [], length, IfOk, IfErr, OnOk, OnErr};
-ghost use Rattle.omega_model.specs.Touches.{copied_seqs};
+ghost use Rattle.std.specs.Prelude.{◌≡◌, ◌≤◌, ◌++◌, ◌∷◌, [], length, IfOk, IfErr, OnOk, OnErr};
 ghost use Rattle.omega_model.specs.Applying.{EachMayApply};
 ghost use Rattle.omega_model.specs.Copy.{Carries};
 ghost use Rattle.omega_shared.specs.Commits.{commit_after};
+ghost use Rattle.omega_shared.specs.Planned.{IsPlannedOn};
 ghost use Rattle.omega_shared.specs.Turns.{Answers};
 
 use omega_cell::Cell;
@@ -17,12 +17,21 @@ pub(crate) struct Guarded {
     pub cell: Cell,
 }
 
+/// A transaction that was planned on a copy: after how many entries, and for each claim the sequence number that
+/// its machine has there, if there was memory for these.
+#[derive(Drop)]
+pub(crate) struct Planned {
+    pub txn: Txn,
+    pub seen: u64,
+    pub seqs: Result<Vec<u64>, NoMemory>,
+}
+
 impl Counted for Guarded {
     type Entry = Entry;
 
     ghost use Rattle.omega_shared.specs.Commits.{committer_of};
 
-    ghost entries = { λ held. held.cell.history };
+    ghost entries = { λ guarded. guarded.cell.history };
 
     ghost number = { committer_of };
 
@@ -42,26 +51,22 @@ impl Guarded {
         self.cell.since(alloc, n)
     }
 
-    /// Makes room for a commit and appends it. `seqs` has for each claim the sequence number of its
-    /// machine in the scheduler's copy, if there was memory for them. Where memory runs out the
+    /// Makes room for the commit of a scheduler's transaction and appends it. Where memory runs out the
     /// history stays, and the transaction is handed back.
     pub fn commit(
         &mut self,
         alloc: Global,
         scheduler: u32,
-        seen: u64,
-        seqs: Result<Vec<u64>, NoMemory>,
-        txn: Txn,
+        planned: Planned,
     ) -> Result<Reply, (Txn, NoMemory)>
-        requires few { length txn.claims < 2 ^ 32 }
-        requires seen { seen ≤ length self.old.cell.history }
-        requires seqs { IfOk seqs (λ numbers. numbers.items ≡ copied_seqs self.old.cell.history seen txn.claims) }
+        requires { IsPlannedOn self.old.cell.history planned }
         ensures history { OnOk result (self.new.cell.history
-            ≡ self.old.cell.history ++ commit_after self.old.cell.history scheduler seen txn ∷ []) }
-        ensures answers { IfOk result (Answers self.old.cell.history seen txn) }
+            ≡ self.old.cell.history ++ commit_after self.old.cell.history scheduler planned.seen planned.txn ∷ []) }
+        ensures answers { IfOk result (Answers self.old.cell.history planned.seen planned.txn) }
         ensures err { OnErr result (self.new.cell.history ≡ self.old.cell.history) }
-        ensures back { IfErr result (λ refused. refused.0 ≡ txn) }
+        ensures back { IfErr result (λ refused. refused.0 ≡ planned.txn) }
     {
+        let Planned { txn, seen, seqs } = planned;
         let Ok(seqs) = seqs else {
             return Err((txn, NoMemory));
         };

@@ -1,6 +1,5 @@
 //! The shared cell.
 ghost use Rattle.std.specs.Prelude.{◌≡◌, ℕ, ◌<◌, ◌≤◌, ◌+◌, ◌^◌, List, [], Some, None, true, length, drop, map, All, Any, IfOk, IfErr, OnOk, OnErr, slice_get, vec_capacity};
-ghost use Rattle.omega_model.specs.Touches.{copied_seqs};
 ghost use Rattle.omega_copy.specs.Copies.{CopyOf};
 ghost use Rattle.omega_lock.specs.Lists.{StartsWith};
 ghost use Rattle.omega_model.specs.Applying.{EachMayApply};
@@ -9,9 +8,10 @@ ghost use Rattle.omega_model.specs.Work.{is_commit_of};
 ghost use Rattle.omega_model.specs.declared.entries.Entry.{Entry};
 ghost use Rattle.omega_shared.specs.Commits.{GoesOnWithout, commits_since};
 ghost use Rattle.omega_shared.specs.Passes.{IsPassSeat, new_pass, new_passes, pass_at};
+ghost use Rattle.omega_shared.specs.Planned.{IsPlannedOn};
 ghost use Rattle.omega_shared.specs.Turns.{Commits, SpendsTurn};
 
-use crate::guarded::Guarded;
+use crate::guarded::{Guarded, Planned};
 use crate::pass::Pass;
 use omega_cell::Cell;
 use omega_copy::PrivateCopy;
@@ -74,7 +74,7 @@ impl SharedCell {
                 let passes = passes_of(seats, passes);
                 Ok((SharedCell { lock, seats: room }, passes))
             }
-            Err((held, _)) => Err((held.cell, NoMemory)),
+            Err((guarded, _)) => Err((guarded.cell, NoMemory)),
         }
     }
 
@@ -133,7 +133,8 @@ impl SharedCell {
         ensures back { IfErr result (λ refused. refused.0 ≡ txn) }
     {
         let seqs = copy.seqs(alloc, txn.claims.as_slice());
-        self.append(rt, alloc, &mut pass.seat, copy.seen(), seqs, txn)
+        let seen = copy.seen();
+        self.append(rt, alloc, &mut pass.seat, Planned { txn, seen, seqs })
     }
 
     /// Takes all passes back, and hands out the cell. Its history goes on from what each pass had seen,
@@ -152,8 +153,8 @@ impl SharedCell {
             (drop (length self.first) result.history) }
     {
         let SharedCell { lock, seats } = self;
-        let held = lock.close(seats_of(passes, seats));
-        held.cell
+        let guarded = lock.close(seats_of(passes, seats));
+        guarded.cell
     }
 
     /// Takes a turn, and puts together what brings a copy that has seen so many entries up to date.
@@ -175,9 +176,9 @@ impl SharedCell {
         ensures applied { EachMayApply seat.new.seen }
         ensures delta { IfOk result (λ delta. Carries delta seat.new.seen seen (length seat.new.seen)) }
     {
-        let held = self.lock.turn(rt, seat);
-        let delta = held.since(alloc, seen);
-        self.lock.release(seat, held);
+        let guarded = self.lock.turn(rt, seat);
+        let delta = guarded.since(alloc, seen);
+        self.lock.release(seat, guarded);
         delta
     }
 
@@ -187,27 +188,23 @@ impl SharedCell {
         rt: &R,
         alloc: Global,
         seat: &mut Seat<Guarded>,
-        seen: u64,
-        seqs: Result<Vec<u64>, NoMemory>,
-        txn: Txn,
+        planned: Planned,
     ) -> Result<Reply, (Txn, NoMemory)>
         requires of { seat.old.of ≡ self.now.of }
         requires left { 0 < seat.old.turns }
         requires pass { IsPassSeat seat.old }
-        requires seen { seen ≤ length seat.old.seen }
-        requires seqs { IfOk seqs (λ numbers. numbers.items ≡ copied_seqs seat.old.seen seen txn.claims) }
-        requires few { length txn.claims < 2 ^ 32 }
+        requires planned { IsPlannedOn seat.old.seen planned }
         ensures turn { SpendsTurn (pass_at seat.old) (pass_at seat.new) }
         ensures pass { IsPassSeat seat.new }
         ensures extends { StartsWith seat.new.seen seat.old.seen }
-        ensures commits { IfOk result (Commits (pass_at seat.old) (pass_at seat.new) seen txn) }
+        ensures commits { IfOk result (Commits (pass_at seat.old) (pass_at seat.new) planned.seen planned.txn) }
         ensures seen { OnErr result (GoesOnWithout seat.old.number seat.old.seen seat.new.seen) }
         ensures own { OnErr result (seat.new.own ≡ seat.old.own) }
-        ensures back { IfErr result (λ refused. refused.0 ≡ txn) }
+        ensures back { IfErr result (λ refused. refused.0 ≡ planned.txn) }
     {
-        let mut held = self.lock.turn(rt, seat);
-        let reply = held.commit(alloc, seat.number(), seen, seqs, txn);
-        self.lock.release(seat, held);
+        let mut guarded = self.lock.turn(rt, seat);
+        let reply = guarded.commit(alloc, seat.number(), planned);
+        self.lock.release(seat, guarded);
         reply
     }
 }

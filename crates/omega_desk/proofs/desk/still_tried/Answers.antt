@@ -9,4 +9,4 @@ pub returns : goal.returns
 returns c =
     let keeps : Request → Bool = λ request. not (nat_le c.args.settings.now.give_up (count_of c.args.failures.now request.job)) in
     filter_same _ keeps _ (λ request kept f' k. search rules) _ _ c.retain.ensures.filtered
-    ∙ ap (λ requests. filter keeps requests) c.into_items-open.ensures
+    ∙ ap (λ requests. filter keeps requests) c.into_items-tried.ensures

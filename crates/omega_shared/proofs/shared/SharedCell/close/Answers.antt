@@ -5,36 +5,36 @@ use Rattle.omega_shared.specs.Passes.{PassState}
 use Rattle.omega_shared.proofs.Closing.{commits_of_passes, no_others, of_passes, of_seats, own_commits}
 use Rattle.omega_shared.proofs.shared.SharedCell.close.Goals as goal
 
-pub close-held-requires-clause-of : goal.close-held-requires-clause-of
-close-held-requires-clause-of c =
+pub close-guarded-requires-clause-of : goal.close-guarded-requires-clause-of
+close-guarded-requires-clause-of c =
     of_seats c.seats_of.result.items c.args.passes.items c.seats_of.ensures.passes (λ pass. pass.of ≡ c.self.inside.lock.of)
     (All-weaker (λ (pass : PassState). pass.of ≡ c.args.self.of) (λ pass. pass.of ≡ c.self.inside.lock.of)
     (λ pass same. same ∙ sym (ap (λ s. s.of) c.self.view_is)) c.args.passes.items c.requires.of)
 
 pub returns-clause-seen : goal.returns-clause-seen
 returns-clause-seen c =
-    of_passes c.seats_of.result.items c.args.passes.items c.seats_of.ensures.passes (λ pass. StartsWith c.close-held.result.cell.history pass.seen)
-    c.close-held.ensures.seen
+    of_passes c.seats_of.result.items c.args.passes.items c.seats_of.ensures.passes (λ pass. StartsWith c.close-guarded.result.cell.history pass.seen)
+    c.close-guarded.ensures.seen
 
 pub returns-clause-own : goal.returns-clause-own
 returns-clause-own c =
     rw (← c.self.view_is)
-    (own_commits c.seats_of.result.items c.args.passes.items c.seats_of.ensures.passes (length c.self.inside.lock.first) c.close-held.result.cell.history
-    c.close-held.ensures.own)
+    (own_commits c.seats_of.result.items c.args.passes.items c.seats_of.ensures.passes (length c.self.inside.lock.first) c.close-guarded.result.cell.history
+    c.close-guarded.ensures.own)
 
 pub returns-clause-commits : goal.returns-clause-commits
 returns-clause-commits c =
     rw (← c.self.view_is)
-    (commits_of_passes c.seats_of.result.items c.args.passes.items c.seats_of.ensures.passes (length c.self.inside.lock.first) c.close-held.result.cell.history
-    c.close-held.ensures.given)
+    (commits_of_passes c.seats_of.result.items c.args.passes.items c.seats_of.ensures.passes (length c.self.inside.lock.first) c.close-guarded.result.cell.history
+    c.close-guarded.ensures.given)
 
 pub returns-clause-others : goal.returns-clause-others
 returns-clause-others c =
-    no_others c.seats_of.result.items c.args.passes.items c.seats_of.ensures.passes (length c.self.inside.lock.first) c.close-held.result.cell.history
-    c.seats_of.ensures.seats c.close-held.ensures.seen c.close-held.ensures.own c.close-held.ensures.first
+    no_others c.seats_of.result.items c.args.passes.items c.seats_of.ensures.passes (length c.self.inside.lock.first) c.close-guarded.result.cell.history
+    c.seats_of.ensures.seats c.close-guarded.ensures.seen c.close-guarded.ensures.own c.close-guarded.ensures.first
 
 pub returns-clause-first : goal.returns-clause-first
 returns-clause-first c =
     rw (← c.self.view_is)
     (of_passes c.seats_of.result.items c.args.passes.items c.seats_of.ensures.passes (λ pass. pass.first_length ≡ length c.self.inside.lock.first)
-    c.close-held.ensures.first)
+    c.close-guarded.ensures.first)

@@ -1,0 +1,12 @@
+-- A transaction that was planned on a copy.
+use Rattle.std.specs.Prelude.{◌≡◌, ◌≤◌, ◌<◌, ◌^◌, List, length, IfOk}
+use Rattle.omega_model.specs.Touches.{copied_seqs}
+use Rattle.omega_model.specs.declared.entries.Entry.{Entry}
+use Rattle.omega_shared.specs.declared.guarded.Planned.{Planned}
+
+-- a transaction is planned on a front of a history: it has fewer claims than a withdrawn claim can name, and its
+-- sequence numbers, if there was memory for them, are those that the claims' machines have there
+pub record IsPlannedOn (history : List Entry) (planned : Planned) : Type 0 where
+  pub few : length planned.txn.claims < 2 ^ 32
+  pub seen : planned.seen ≤ length history
+  pub seqs : IfOk planned.seqs (λ numbers. numbers.items ≡ copied_seqs history planned.seen planned.txn.claims)
