@@ -1,10 +1,11 @@
 -- The place of an attribute says how the list changes when it is set.
-use Rattle.std.proofs.Common.{◌≡◌, ℕ, suc, ◌+◌, ◌<◌, ◌≤◌, Bool, nat_lt, List, [], ◌∷◌, ◌++◌, length, get_or, set, position, bytes_eq, Some, None, refl, sym, ap, ◌∙◌, arith}
+use Rattle.std.proofs.Common.{◌≡◌, ℕ, zero, suc, ◌+◌, ◌<◌, ◌≤◌, Bool, nat_lt, List, [], ◌∷◌, ◌++◌, length, get_or, set, position, bytes_eq, Some, None, refl, sym, ap, ◌∙◌, arith}
 use Rattle.std.specs.List.{position_or_len}
 use Rattle.std.proofs.lemmas.Bool.{ltb-true, ltb-false}
 use Rattle.std.proofs.lemmas.Option.{cond_some, none-some}
 use Rattle.omega_model.specs.Machines.{with_attr}
 use Rattle.omega_model.specs.declared.cells.Attr.{Attr}
+use Rattle.omega_machines.specs.Names.{names_of}
 use Rattle.omega_model.proofs.Lists.{by_answer}
 
 module _ (name value : List ℕ) where
@@ -49,3 +50,9 @@ module _ (name value : List ℕ) where
           by_answer (nat_lt (position_or_len named attrs) (length attrs))
           (λ t. let some : None ≡ Some (position_or_len named attrs) = rw t at none in absurd (none-some _ some))
           (λ f. ltb-false _ _ f)
+
+-- the names where an attribute gets another value
+pub names_kept : (attrs : List Attr) (place : ℕ) (attr next : Attr) → attr ≡ get_or attrs place attr → next.name ≡ attr.name → names_of (set attrs place next) ≡ names_of attrs
+names_kept [] place attr next is same = refl
+names_kept (a ∷ as) zero attr next is same = ap (λ n. n ∷ names_of as) (same ∙ ap (λ (b : Attr). b.name) is)
+names_kept (a ∷ as) (suc place) attr next is same = ap (λ ns. a.name ∷ ns) (names_kept as place attr next is same)
