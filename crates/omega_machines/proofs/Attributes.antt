@@ -54,5 +54,5 @@ module _ (name value : List ℕ) where
 -- the names where an attribute gets another value
 pub names_kept : (attrs : List Attr) (place : ℕ) (attr next : Attr) → attr ≡ get_or attrs place attr → next.name ≡ attr.name → names_of (set attrs place next) ≡ names_of attrs
 names_kept [] place attr next is same = refl
-names_kept (a ∷ as) zero attr next is same = ap (λ n. n ∷ names_of as) (same ∙ ap (λ (b : Attr). b.name) is)
-names_kept (a ∷ as) (suc place) attr next is same = ap (λ ns. a.name ∷ ns) (names_kept as place attr next is same)
+names_kept (a ∷ rest) zero attr next is same = ap (λ n. n ∷ names_of rest) (same ∙ ap (λ (b : Attr). b.name) is)
+names_kept (a ∷ rest) (suc place) attr next is same = ap (λ ns. a.name ∷ ns) (names_kept rest place attr next is same)

@@ -83,7 +83,7 @@ indexed_more indexes states next state is held = subst (AreIndexed indexes) (sym
 
 -- the first machines keep theirs, where those of the others are dropped
 pub indexed_first : (old new : BTreeMap ℕ NameIndex) (states next : List MachineState) (n : ℕ) → next ≡ take n states → AreOutside old new n (length states) → AreIndexed old states → AreIndexed new next
-indexed_first old new states next n is outside held = subst (AreIndexed new) (sym is) (λ place. by (tree.get nat_cmp new place) refl)
+indexed_first old new states next n is outside held = subst (AreIndexed new) (sym is) (λ place. by place (tree.get nat_cmp new place) refl)
   where
     within : (table : List MachineState) (place : ℕ) (P : List (List ℕ) → Type 0) → IsSomeAnd (slice_get (names_in table) place) P → place < length table
     within [] place P held = absurd held
@@ -96,9 +96,9 @@ indexed_first old new states next n is outside held = subst (AreIndexed new) (sy
     kept (s ∷ ss) (suc m) zero P low held = held
     kept (s ∷ ss) (suc m) (suc place) P low held = kept ss m place P (omega (arith, low)) held
 
-    by : {place : ℕ} (o : Option NameIndex) → tree.get nat_cmp new place ≡ o → IfSome o (λ index. IsSomeAnd (slice_get (names_in (take n states)) place) (IsIndexOf index))
-    by None found = tt
-    by {place} (Some index) found =
+    by : (place : ℕ) (o : Option NameIndex) → tree.get nat_cmp new place ≡ o → IfSome o (λ index. IsSomeAnd (slice_get (names_in (take n states)) place) (IsIndexOf index))
+    by place None found = tt
+    by place (Some index) found =
         let was = outside place index found in
         let there : IsSomeAnd (slice_get (names_in states) place) (IsIndexOf index) = subst (λ (o : Option NameIndex). IfSome o (λ kept. IsSomeAnd (slice_get (names_in states) place) (IsIndexOf kept))) was.0 (held place) in
         elim was.1 [

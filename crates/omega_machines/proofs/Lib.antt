@@ -8,5 +8,5 @@ pub mod Laws
 mod Loads
 mod Shortening
 pub mod Ensuring
-mod Names
+mod Naming
 mod Indexed

@@ -1,5 +1,5 @@
 //! Changes to the attributes of a machine.
-ghost use Rattle.std.specs.Prelude.{◌≡◌, OnOk, OnErr, IfOk, IfSome, position, bytes_eq};
+ghost use Rattle.std.specs.Prelude.{◌≡◌, ℕ, List, [], ◌∷◌, ◌++◌, OnOk, OnErr, IfOk, IfSome, position, bytes_eq};
 ghost use Rattle.omega_model.specs.Machines.{with_attr, without_attr};
 ghost use Rattle.omega_machines.specs.Names.{IsIndexOf, names_of};
 

@@ -337,11 +337,11 @@ impl MachineTable {
         ensures table { IsTable self.new }
     {
         let free = machine.cap.minus(used);
-        self.indexes.remove(&position);
         let state = &mut self.states[position];
         let before = Load::of(state);
         *state = MachineState { machine, free, seq };
         self.load = self.load.replaced(before, Load::of(state));
+        self.indexes.remove(&position);
     }
 
     /// What is free on a machine: its capacity less what is in use. `None` exactly where it isn't

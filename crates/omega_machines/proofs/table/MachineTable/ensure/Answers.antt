@@ -18,7 +18,7 @@ invariant_of-self-2 c =
         summed = summed_more c.self.inside.states.items _ _ c.self.inside.load c.self.invariant.kept.summed refl c.in_ok-push.ensures.states
             (grown c.self.inside.states.items c.args.self.now c.args.id c.self.view_is absent _ _ c.requires c.new.ensures held c.in_ok-push.ensures.states).0;
       };
-      indexed = indexed_more _ _ _ _ c.in_ok-push.ensures.states c.self.invariant.indexed;
+      indexed = indexed_more c.self.inside.indexes _ _ _ c.in_ok-push.ensures.states c.self.invariant.indexed;
     }
 
 pub returns-clause-ok : goal.returns-clause-ok

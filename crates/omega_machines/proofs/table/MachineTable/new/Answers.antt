@@ -9,5 +9,5 @@ pub invariant_of-result : goal.invariant_of-result
 invariant_of-result c =
     record {
       kept = subst (λ (states : List MachineState). IsKept c.new-2.result states _) (sym c.new.ensures.items) (kept_none c.new-2.result c.new-2.ensures.empty);
-      indexed = indexed_none _ _ c.new-4.ensures.empty;
+      indexed = indexed_none c.new-4.result _ c.new-4.ensures.empty;
     }

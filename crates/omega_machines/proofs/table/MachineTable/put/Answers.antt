@@ -18,7 +18,7 @@ invariant_of-self c =
       kept = kept_anew _ _ _ _ _ _ _ _ _ c.self.invariant.kept (state_numbered _ _ _ _ _ c.self.view_is c.requires.there c.index_mut-state.ensures.value) c.of-before.ensures c.of.ensures
           ((state_is_put _ _ _ _ _ c.args.machine c.args.used c.args.seq c.self.view_is c.self.invariant.kept.summed.table c.requires.there (state_numbered _ _ _ _ _ c.self.view_is c.requires.there c.index_mut-state.ensures.value)
           (ap (λ (free : Need). record { machine = c.args.machine; free = free; seq = c.args.seq }) c.minus-free.ensures) c.requires.cap c.requires.down)) _ c.replaced-self-inside.ensures;
-      indexed = indexed_changed _ _ _ _ _ _ (state_numbered _ _ _ _ _ c.self.view_is c.requires.there c.index_mut-state.ensures.value) (changed_none _ _ _ _ c.remove.ensures.updates) c.self.invariant.indexed;
+      indexed = indexed_changed c.self.inside.indexes c.remove.new.self _ _ _ _ (state_numbered _ _ _ _ _ c.self.view_is c.requires.there c.index_mut-state.ensures.value) (changed_none c.self.inside.indexes c.remove.new.self _ _ c.remove.ensures.updates) c.self.invariant.indexed;
     }
 
 pub returns-clause-changed : goal.returns-clause-changed

@@ -22,7 +22,7 @@ invariant_of-self c =
       kept = kept_anew _ _ _ _ _ _ _ _ _ c.self.invariant.kept (state_there _ _ _ _ _ c.self.view_is c.place_of-place.ensures c.index_mut-state.ensures.value) c.of-before.ensures c.of.ensures
           ((rewritten _ _ _ _ state _ (with_machine removed) c.self.view_is c.self.invariant.kept.summed.table c.place_of-place.ensures (state_there _ _ _ _ _ c.self.view_is c.place_of-place.ensures c.index_mut-state.ensures.value)
           (refl) refl (λ here bounded. bounded-removed _ bounded (sym (use_there _ _ _ _ here) ∙ c.requires.in_use)))) _ c.replaced-self-inside.ensures;
-      indexed = indexed_still _ _ _ _ _ (state_there _ _ _ _ _ c.self.view_is c.place_of-place.ensures c.index_mut-state.ensures.value) refl c.self.invariant.indexed;
+      indexed = indexed_still c.self.inside.indexes _ _ _ _ (state_there _ _ _ _ _ c.self.view_is c.place_of-place.ensures c.index_mut-state.ensures.value) refl c.self.invariant.indexed;
     }
 
 pub returns-clause-changed : goal.returns-clause-changed

@@ -10,7 +10,7 @@ use Rattle.omega_machines.proofs.Rewriting.{rewritten, unwritten}
 use Rattle.omega_machines.proofs.table.MachineTable.set_attr.Goals as goal
 
 pub set_at-requires : goal.set_at-requires
-set_at-requires c = index_there _ _ _ _ c.self.invariant.indexed (state_there _ _ _ _ _ c.self.view_is c.place_of-place.ensures c.index_mut-state.ensures.value)
+set_at-requires c = index_there c.self.inside.indexes _ _ _ c.self.invariant.indexed (state_there _ _ _ _ _ c.self.view_is c.place_of-place.ensures c.index_mut-state.ensures.value)
 
 pub invariant_of-self : goal.invariant_of-self
 invariant_of-self c =
@@ -19,7 +19,7 @@ invariant_of-self c =
       kept = kept_same _ _ _ _ _ _ _ c.self.invariant.kept (state_there _ _ _ _ _ c.self.view_is c.place_of-place.ensures c.index_mut-state.ensures.value) (ap load_of c.set_at.ensures.rest)
           ((rewritten _ _ _ _ _ _ (with_machine (λ machine. record machine { attrs = attrs })) c.self.view_is c.self.invariant.kept.summed.table c.place_of-place.ensures (state_there _ _ _ _ _ c.self.view_is c.place_of-place.ensures c.index_mut-state.ensures.value)
           (sym c.set_at.ensures.rest) refl (λ here bounded. record { cap = bounded.cap; free = bounded.free; down = bounded.down })));
-      indexed = indexed_changed _ _ _ _ _ _ (state_there _ _ _ _ _ c.self.view_is c.place_of-place.ensures c.index_mut-state.ensures.value) c.set_at.ensures.indexes c.self.invariant.indexed;
+      indexed = indexed_changed c.self.inside.indexes c.set_at.new.indexes _ _ _ _ (state_there _ _ _ _ _ c.self.view_is c.place_of-place.ensures c.index_mut-state.ensures.value) c.set_at.ensures.indexes c.self.invariant.indexed;
     }
 
 pub returns-clause-ok : goal.returns-clause-ok

@@ -18,7 +18,7 @@ invariant_of-self c =
       kept = kept_same _ _ _ _ _ _ _ c.self.invariant.kept (state_there _ _ _ _ _ c.self.view_is c.place_of-place.ensures c.index_mut-state.ensures.value) refl
           ((rewritten _ _ _ _ state _ (touched) c.self.view_is c.self.invariant.kept.summed.table c.place_of-place.ensures (state_there _ _ _ _ _ c.self.view_is c.place_of-place.ensures c.index_mut-state.ensures.value)
           (refl) refl (λ here bounded. record { cap = bounded.cap; free = bounded.free; down = bounded.down })));
-      indexed = indexed_still _ _ _ _ _ (state_there _ _ _ _ _ c.self.view_is c.place_of-place.ensures c.index_mut-state.ensures.value) refl c.self.invariant.indexed;
+      indexed = indexed_still c.self.inside.indexes _ _ _ _ (state_there _ _ _ _ _ c.self.view_is c.place_of-place.ensures c.index_mut-state.ensures.value) refl c.self.invariant.indexed;
     }
 
 pub returns-clause-changed : goal.returns-clause-changed

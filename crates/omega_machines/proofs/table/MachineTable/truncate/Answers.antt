@@ -16,7 +16,7 @@ invariant_of-self c =
         placed = subst (λ t. ArePlaced c.forget_rest.new.places (machines_of t)) (sym c.truncate.ensures.items) (rw (← c.deref.ensures.value) c.forget_rest.ensures);
         summed = summed_first states _ c.args.n c.self.inside.load _ c.self.invariant.kept.summed c.truncate.ensures.items (rw (← c.deref-2.ensures.value) c.without_rest-self-inside.ensures) held;
       };
-      indexed = indexed_first _ _ states _ c.args.n c.truncate.ensures.items
+      indexed = indexed_first c.self.inside.indexes c.drop_between.new.indexes states _ c.args.n c.truncate.ensures.items
           (subst (AreOutside c.self.inside.indexes c.drop_between.new.indexes c.args.n) (c.len.ensures ∙ c.self.inside.states.ok.0) c.drop_between.ensures) c.self.invariant.indexed;
     }
 

@@ -19,7 +19,7 @@ invariant_of-self c =
       kept = kept_anew _ _ _ _ _ _ _ _ _ c.self.invariant.kept (state_there _ _ _ _ _ c.self.view_is c.place_of-place.ensures c.index_mut-state.ensures.value) c.of-before.ensures c.of.ensures
           ((rewritten _ _ _ _ _ _ (state_updated c.args.cap) c.self.view_is c.self.invariant.kept.summed.table c.place_of-place.ensures (state_there _ _ _ _ _ c.self.view_is c.place_of-place.ensures c.index_mut-state.ensures.value)
           (sym c.set_cap.ensures) refl (λ here bounded. bounded-updated _ bounded c.args.cap c.requires.cap))) _ c.replaced-self-inside.ensures;
-      indexed = indexed_still _ _ _ _ _ (state_there _ _ _ _ _ c.self.view_is c.place_of-place.ensures c.index_mut-state.ensures.value) (ap (λ (s : MachineState). s.machine.attrs) c.set_cap.ensures) c.self.invariant.indexed;
+      indexed = indexed_still c.self.inside.indexes _ _ _ _ (state_there _ _ _ _ _ c.self.view_is c.place_of-place.ensures c.index_mut-state.ensures.value) (ap (λ (s : MachineState). s.machine.attrs) c.set_cap.ensures) c.self.invariant.indexed;
     }
 
 pub returns-clause-changed : goal.returns-clause-changed

@@ -1,5 +1,5 @@
 -- An index of names, as names come and leave.
-use Rattle.std.proofs.Common.{◌≡◌, ℕ, zero, suc, ◌+◌, ◌<◌, ◌≤◌, Bool, true, false, true≢false, cond, not, List, [], ◌∷◌, ◌++◌, map, length, get_or, remove, slice_get, position, Option, None, Some, bytes_eq, IfSome, SomeIff, nat_cmp, Less, Ok, Err, MatchResult, Result, refl, sym, ap, ◌∙◌, subst, inl, inr, arith, length-append, map-id, is_some, nat_lt, if◌then◌else◌}
+use Rattle.std.proofs.Common.{◌≡◌, ℕ, zero, suc, ◌+◌, ◌-◌, ◌<◌, ◌≤◌, Bool, true, false, true≢false, cond, not, List, [], ◌∷◌, ◌++◌, map, length, get_or, remove, slice_get, position, Option, None, Some, bytes_eq, IfSome, SomeIff, nat_cmp, Less, Ok, Err, MatchResult, Result, refl, sym, ap, ◌∙◌, subst, inl, inr, arith, length-append, map-id, is_some, nat_lt, if◌then◌else◌}
 use Rattle.std.specs.BTreeMap as tree
 use Rattle.std.specs.BTreeMap.{BTreeMap}
 use Rattle.std.specs.Cmp.{eq_by_cmp_equiv, nat_cmp_total}
@@ -110,10 +110,10 @@ all_below (x ∷ y ∷ ys) next behind rising =
 
 -- so they rise with it at the end
 pub rising_push : (xs : List ℕ) (next : ℕ) → ((last : ℕ) → slice_get xs (length xs - 1) ≡ Some last → nat_cmp last next ≡ Less) → IsStrictlySortedBy nat_cmp xs → IsStrictlySortedBy nat_cmp (xs ++ next ∷ [])
+unfolding IsStrictlySortedBy
 rising_push xs next behind rising = by xs (all_below xs next behind rising) rising
   where
     by : (ys : List ℕ) → AllByRecursion (λ y. nat_cmp y next ≡ Less) ys → IsStrictlySortedBy nat_cmp ys → IsStrictlySortedBy nat_cmp (ys ++ next ∷ [])
-    unfolding IsStrictlySortedBy
     by [] below rising = (tt, tt)
     by (y ∷ ys) below rising = (each_append (λ z. nat_cmp y z ≡ Less) ys (next ∷ []) rising.0 (below.0, tt), by ys below.1 rising.1)
 
@@ -187,7 +187,7 @@ lookup_push q n (x ∷ xs) (k ∷ ks) next long =
 -- a binary search finds the place of a number among those that rise
 number_place : (numbers : List ℕ) (number at : ℕ) (answer : Result ℕ ℕ) → IsStrictlySortedBy nat_cmp numbers → slice_get numbers at ≡ Some number
     → IsBinarySearchResult (λ y. nat_cmp y number) numbers answer → result_ok answer ≡ Some at
-number_place numbers number at answer rising there search = by answer (searched numbers number answer search below)
+number_place numbers number at answer rising there answered = by answer (searched numbers number answer answered below)
   where
     below : (i j : ℕ) → i ≤ j → j < length numbers → get_or numbers i 0 ≤ get_or numbers j 0
     below i j upto within =
@@ -212,9 +212,9 @@ number_place numbers number at answer rising there search = by answer (searched 
         ]
     by (Err i) lost =
         elim (cases_order at i) [
-          | inl same ↦ let under = lost.1.1 at (omega (arith, same)) inside in absurd (omega (arith, under, is))
-          | inr (inl less) ↦ let under = lost.1.0 at less in absurd (omega (arith, under, is))
-          | inr (inr more) ↦ let over = lost.1.1 at (omega (arith, more)) inside in absurd (omega (arith, over, is))
+          | inl same ↦ let under = lost.2 at (omega (arith, same)) inside in absurd (omega (arith, under, is))
+          | inr (inl less) ↦ let under = lost.1 at less in absurd (omega (arith, under, is))
+          | inr (inr more) ↦ let over = lost.2 at (omega (arith, more)) inside in absurd (omega (arith, over, is))
         ]
 
 -- the map by names, after a change of one of them
@@ -309,22 +309,22 @@ module _ (index : NameIndex) (names : List (List ℕ)) (held : IsIndexOf index n
     found = λ q. ap (lookup (λ k. is_eq (slice_cmp nat_cmp q k.items))) same ∙ held.found q ∙ ap (λ ks. lookup (bytes_eq q) (zip names ks)) (sym numbers);
   })
 
+no_names : IsDistinct bytes_eq []
+unfolding IsDistinct
+no_names = tt
+
+none_rise : IsStrictlySortedBy nat_cmp []
+unfolding IsStrictlySortedBy
+none_rise = tt
+
 -- the index of no names
 pub index_none : (index : NameIndex) → index.numbers.items ≡ [] → tree.IsEmpty index.by_name → IsIndexOf index []
 index_none index numbers empty = record {
   distinct = no_names;
   long = ap length numbers;
-  rising = subst (IsStrictlySortedBy nat_cmp) (sym numbers) no_numbers;
+  rising = subst (IsStrictlySortedBy nat_cmp) (sym numbers) none_rise;
   found = λ q. ap (lookup (λ k. is_eq (slice_cmp nat_cmp q k.items))) empty;
 }
-  where
-    no_names : IsDistinct bytes_eq []
-    unfolding IsDistinct
-    no_names = tt
-
-    no_numbers : IsStrictlySortedBy nat_cmp []
-    unfolding IsStrictlySortedBy
-    no_numbers = tt
 
 less_is : (a b : ℕ) → a < b → nat_cmp a b ≡ Less
 less_is a b less = rw (lt-ltb a b less) refl
