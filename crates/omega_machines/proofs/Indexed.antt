@@ -1,10 +1,10 @@
 -- The indexes of names that are kept, as machines come, change and leave.
-use Rattle.std.proofs.Common.{◌≡◌, ℕ, zero, suc, ◌<◌, ◌≤◌, List, [], ◌∷◌, ◌++◌, set, length, take, slice_get, Option, Some, None, IfSome, IsSomeAnd, refl, sym, ap, ◌∙◌, subst, inl, inr, arith, nat_cmp}
+use Rattle.std.proofs.Common.{◌≡◌, ℕ, zero, suc, ◌+◌, ◌<◌, ◌≤◌, List, [], ◌∷◌, ◌++◌, set, length, take, slice_get, Option, Some, None, IfSome, IsSomeAnd, refl, sym, ap, ◌∙◌, subst, inl, inr, arith, nat_cmp}
 use Rattle.std.specs.BTreeMap as tree
 use Rattle.std.specs.BTreeMap.{BTreeMap}
 use Rattle.std.specs.Map.{lookup}
 use Rattle.std.specs.Option.{option_map}
-use Rattle.std.proofs.lemmas.Bool.{cases_eq}
+use Rattle.std.proofs.lemmas.Bool.{cases_eq, cases_order}
 use Rattle.std.proofs.lemmas.List.{length-map}
 use Rattle.std.proofs.lemmas.Option.{none-some, slice_get-map, slice_get_within}
 use Rattle.omega_machines.specs.Names.{IsIndexOf, AreIndexed, AreChangedAt, AreOutside, names_of, names_in}
@@ -105,3 +105,22 @@ indexed_first old new states next n is outside held = subst (AreIndexed new) (sy
           | inl low ↦ kept states n place (IsIndexOf index) low there
           | inr high ↦ let inside = within states place (IsIndexOf index) there in absurd (omega (arith, high, inside))
         ]
+
+-- the indexes that are left while those from one place up to another are dropped
+pub outside_none : (indexes : BTreeMap ℕ NameIndex) (from : ℕ) → AreOutside indexes indexes from from
+outside_none indexes from place index found =
+    (found, elim (cases_order place from) [ inl e ↦ inr (omega (arith, e)) | inr (inl less) ↦ inl less | inr (inr more) ↦ inr (omega (arith, more)) ])
+
+pub outside_more : (old new next : BTreeMap ℕ NameIndex) (from i : ℕ) → AreOutside old new from i → tree.Updates nat_cmp new next i None → AreOutside old next from (i + 1)
+outside_more old new next from i left u place index found =
+    elim (cases_eq i place) [
+      | inl same ↦ absurd (none-some _ (sym u.1 ∙ ap (λ q. tree.get nat_cmp next q) same ∙ found))
+      | inr ne ↦
+          let was = left place index (sym (u.2 place (apart i place ne)) ∙ found) in
+          (was.0, elim was.1 [ inl low ↦ inl low | inr high ↦ inr (omega (arith, high, ne)) ])
+    ]
+
+pub outside_end : (old new : BTreeMap ℕ NameIndex) (from to i : ℕ) → to ≤ i → AreOutside old new from i → AreOutside old new from to
+outside_end old new from to i past left place index found =
+    let was = left place index found in
+    (was.0, elim was.1 [ inl low ↦ inl low | inr high ↦ inr (omega (arith, high, past)) ])

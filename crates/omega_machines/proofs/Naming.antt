@@ -1,5 +1,5 @@
 -- An index of names, as names come and leave.
-use Rattle.std.proofs.Common.{◌≡◌, ℕ, zero, suc, ◌+◌, ◌-◌, ◌<◌, ◌≤◌, Bool, true, false, true≢false, cond, not, List, [], ◌∷◌, ◌++◌, map, length, get_or, remove, slice_get, position, Option, None, Some, bytes_eq, IfSome, SomeIff, nat_cmp, Less, Ok, Err, MatchResult, Result, refl, sym, ap, ◌∙◌, subst, inl, inr, arith, length-append, map-id, is_some, nat_lt, if◌then◌else◌}
+use Rattle.std.proofs.Common.{◌≡◌, ℕ, zero, suc, ◌+◌, ◌-◌, ◌<◌, ◌≤◌, Bool, true, false, true≢false, cond, not, List, [], ◌∷◌, ◌++◌, map, length, get_or, remove, slice_get, position, Option, None, Some, bytes_eq, IfOk, IfSome, SomeIff, nat_cmp, Less, Ok, Err, MatchResult, Result, refl, sym, ap, ◌∙◌, subst, inl, inr, arith, length-append, map-id, is_some, nat_lt, if◌then◌else◌}
 use Rattle.std.specs.BTreeMap as tree
 use Rattle.std.specs.BTreeMap.{BTreeMap}
 use Rattle.std.specs.Cmp.{eq_by_cmp_equiv, nat_cmp_total}
@@ -133,7 +133,7 @@ rising_removed (x ∷ xs) (suc i) rising = (all xs i rising.0, rising_removed xs
 
 -- names beside their numbers, and the look-up of one of the names
 module _ (n : List ℕ) where
-  abbrev place : List (List ℕ) → ℕ
+  abbrev pub place : List (List ℕ) → ℕ
   place names = first (λ m. m) n names
 
   -- a number that a look-up finds stands at the place of the name
@@ -185,7 +185,7 @@ lookup_push q n (x ∷ xs) (k ∷ ks) next long =
     (λ f. rw f (lookup_push q n xs ks next (omega (arith, long))))
 
 -- a binary search finds the place of a number among those that rise
-number_place : (numbers : List ℕ) (number at : ℕ) (answer : Result ℕ ℕ) → IsStrictlySortedBy nat_cmp numbers → slice_get numbers at ≡ Some number
+pub number_place : (numbers : List ℕ) (number at : ℕ) (answer : Result ℕ ℕ) → IsStrictlySortedBy nat_cmp numbers → slice_get numbers at ≡ Some number
     → IsBinarySearchResult (λ y. nat_cmp y number) numbers answer → result_ok answer ≡ Some at
 number_place numbers number at answer rising there answered = by answer (searched numbers number answer answered below)
   where
@@ -338,9 +338,18 @@ next_rises numbers last P (Some number) at is = rising_push numbers number behin
     behind : (l : ℕ) → slice_get numbers (length numbers - 1) ≡ Some l → nat_cmp l number ≡ Less
     behind l there =
         let same : last ≡ l = same_Some _ _ (sym at ∙ there) in
-        let one_more : last + 1 ≡ number = is.1 in
+        let one_more : number ≡ last + 1 = is.1 in
         less_is l number (omega (arith, same, one_more))
 
 -- and any number, where none is there
 pub first_rises : (numbers : List ℕ) (number : ℕ) → slice_get numbers (length numbers - 1) ≡ None → IsStrictlySortedBy nat_cmp numbers → IsStrictlySortedBy nat_cmp (numbers ++ number ∷ [])
 first_rises numbers number none = rising_push numbers number (λ l there. absurd (none-some _ (sym none ∙ there)))
+
+-- what holds of an answer holds of its value
+pub ok_holds : {A E : Type 0} (P : A → Type 0) (answer : Result A E) (value : A) → Some value ≡ result_ok answer → IfOk answer P → P value
+ok_holds P (Ok a) value is held = subst P (sym (same_Some _ _ is)) held
+ok_holds P (Err e) value is held = absurd (none-some _ (sym is))
+
+pub none_is : (o : Option ℕ) → false ≡ is_some o → o ≡ None
+none_is None isnt = refl
+none_is (Some x) isnt = absurd (true≢false (sym isnt))

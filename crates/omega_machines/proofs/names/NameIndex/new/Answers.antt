@@ -1,10 +1,5 @@
-use Rattle.std.proofs.Common.{rules, ◌≡◌, [], ◌∷◌, ◌++◌, List, ℕ, not, position, bytes_eq, IfSome, ◌+◌, ◌-◌, ◌*◌, ◌<◌, ◌≤◌, length, ◌/◌, ◌%◌, Bool, true, false, nat_eq, nat_lt, slice_index_or, slice_set, bit_and, bit_or, Fits, w8, w32, w64, Bor, MutBor}
-use Rattle.std.specs.List.{filter}
-use Rattle.std.specs.List.Sorted.{IsStrictlySortedBy}
-use Rattle.std.specs.Ordering.{nat_cmp}
-use Rattle.omega_machines.specs.Names.{IsIndexOf, names_of}
+use Rattle.omega_machines.proofs.Naming.{index_none}
 use Rattle.omega_machines.proofs.names.NameIndex.new.Goals as goal
 
--- src/names.rt:34:5
 pub returns : goal.returns
-returns c = ?
+returns c = index_none _ c.new.ensures.items c.new-2.ensures.empty

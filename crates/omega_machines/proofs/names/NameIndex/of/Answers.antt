@@ -1,18 +1,22 @@
-use Rattle.std.proofs.Common.{rules, ◌≡◌, [], ◌∷◌, ◌++◌, List, ℕ, not, position, bytes_eq, IfSome, ◌+◌, ◌-◌, ◌*◌, ◌<◌, ◌≤◌, length, ◌/◌, ◌%◌, Bool, true, false, nat_eq, nat_lt, slice_index_or, slice_set, bit_and, bit_or, Fits, w8, w32, w64, Bor, MutBor}
-use Rattle.std.specs.List.{filter}
-use Rattle.std.specs.List.Sorted.{IsStrictlySortedBy}
-use Rattle.std.specs.Ordering.{nat_cmp}
+use Rattle.std.proofs.Common.{◌<◌, ◌≤◌, ◌∙◌, sym, ap, subst, length, get_or, take, take_all, List}
+use Rattle.omega_model.specs.declared.cells.Attr.{Attr}
 use Rattle.omega_machines.specs.Names.{IsIndexOf, names_of}
+use Rattle.omega_machines.proofs.Attributes.{names_more}
 use Rattle.omega_machines.proofs.names.NameIndex.of.Goals as goal
 
--- src/names.rt:49:9
 pub loop-attr-init : goal.loop-attr-init
-loop-attr-init c = ?
+loop-attr-init c = c.new-index.ensures
 
--- src/names.rt:49:9
 pub loop-attr-preserved : goal.loop-attr-preserved
-loop-attr-preserved c = ?
+loop-attr-preserved c =
+    subst (IsIndexOf c.in_ok-index.index)
+    (sym (names_more c.args.attrs.now c.loop-attr.attr-index c.attr-item.result
+      (c.attr-item.is ∙ ap (λ (attrs : List Attr). get_or attrs c.loop-attr.attr-index c.attr-item.result) c.as_slice-attr-items.ensures)
+      (subst (λ (attrs : List Attr). c.loop-attr.attr-index < length attrs) c.as_slice-attr-items.ensures c.loop-attr-test.true)))
+    (c.in_ok-index.ensures (names_of (take c.loop-attr.attr-index c.args.attrs.now)) c.loop-attr.invariant)
 
--- src/names.rt:45:5
 pub returns : goal.returns
-returns c = ?
+returns c =
+    subst (λ (attrs : List Attr). IsIndexOf c.loop-attr.index (names_of attrs))
+    (take_all c.loop-attr.attr-index c.args.attrs.now (subst (λ (attrs : List Attr). length attrs ≤ c.loop-attr.attr-index) c.as_slice-attr-items.ensures c.loop-attr-test.false))
+    c.loop-attr.invariant

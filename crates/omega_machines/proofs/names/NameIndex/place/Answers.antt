@@ -1,14 +1,18 @@
-use Rattle.std.proofs.Common.{rules, ◌≡◌, [], ◌∷◌, ◌++◌, List, ℕ, not, position, bytes_eq, IfSome, ◌+◌, ◌-◌, ◌*◌, ◌<◌, ◌≤◌, length, ◌/◌, ◌%◌, Bool, true, false, nat_eq, nat_lt, slice_index_or, slice_set, bit_and, bit_or, Fits, w8, w32, w64, Bor, MutBor}
-use Rattle.std.specs.List.{filter}
-use Rattle.std.specs.List.Sorted.{IsStrictlySortedBy}
-use Rattle.std.specs.Ordering.{nat_cmp}
-use Rattle.omega_machines.specs.Names.{IsIndexOf, names_of}
+use Rattle.std.proofs.Common.{◌∙◌, sym, nat_cmp, subst, List, ℕ}
+use Rattle.std.specs.List.Sorted.{IsBinarySearchResult}
+use Rattle.omega_machines.proofs.Naming.{nowhere, somewhere, number_place, position_first, position_nowhere, place}
 use Rattle.omega_machines.proofs.names.NameIndex.place.Goals as goal
 
--- src/names.rt:75:23
 pub returns-in_err-number : goal.returns-in_err-number
-returns-in_err-number c = ?
+returns-in_err-number c names held =
+    let name = c.args.name.now in
+    c.from_residual.ensures ∙ sym (position_nowhere (λ m. m) name names (nowhere c.args.self.now names held name (sym c.in_err-number.ensures.value)))
 
--- src/names.rt:72:5
 pub returns : goal.returns
-returns c = ?
+returns c names held =
+    let name = c.args.name.now in
+    let number = c.in_ok-number.field-0.now in
+    let there = somewhere c.args.self.now names held name number (sym c.in_ok-number.ensures.value) in
+    let answered = subst (λ (ns : List ℕ). IsBinarySearchResult (λ y. nat_cmp y number) ns c.binary_search.result) c.deref.ensures.value c.binary_search.ensures.position in
+    c.ok.ensures.value ∙ number_place c.args.self.now.numbers.items number (place name names) c.binary_search.result held.rising there.1 answered
+    ∙ sym (position_first (λ m. m) name names there.0)
