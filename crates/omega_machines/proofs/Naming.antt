@@ -292,7 +292,7 @@ module _ (index : NameIndex) (names : List (List ℕ)) (held : IsIndexOf index n
         ap (λ ks. lookup (bytes_eq q) (zip (remove names (place n names)) ks)) numbers
         ∙ ap (lookup (bytes_eq q)) (sym (entries_removed n names index.numbers.items held.long))
         ∙ lookup-remove_entry nat_list_eq_equiv (bytes_eq n) (λ x y. nat_list_eq_equiv.congr n x y) q (zip names index.numbers.items)
-            (subst (IsDistinct bytes_eq) (sym (keys_of-zip names index.numbers.items held.long)) held.distinct)
+        (subst (IsDistinct bytes_eq) (sym (keys_of-zip names index.numbers.items held.long)) held.distinct)
         ∙ ap (cond (bytes_eq n q) None) (sym (held.found q)));
   })
     where

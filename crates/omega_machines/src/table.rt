@@ -8,10 +8,10 @@ ghost use Rattle.omega_machines.specs.Load.{less, load_of_all};
 ghost use Rattle.omega_machines.specs.Places.{ArePlaced};
 ghost use Rattle.omega_machines.specs.Table.{machines_of, state_at, use_at, free_at, seq_at, used_by_all, capacity_of_all, change_state, ensured_states, state_added, state_updated, state_put, with_machine, charged, released, touched, IsTable};
 
+use crate::MachineState;
 use crate::indexes::{delete_at, drop_between, set_at};
 use crate::load::Load;
 use crate::names::NameIndex;
-use crate::MachineState;
 use omega_model::{Bytes, Machine, Need, NoMemory, Seq};
 use std::alloc::Global;
 use std::collections::BTreeMap;

@@ -25,5 +25,5 @@ returns-in_ok-push-in-None-clause-ok c =
 pub returns-in_ok-push-in-None-clause-index : goal.returns-in_ok-push-in-None-clause-index
 returns-in_ok-push-in-None-clause-index c =
     let names = ap names_of c.in_ok-push-in-None.ensures.ok ∙ names_push c.args.attrs.now (record { name = c.in_ok-copy-in-None.field-0; value = c.in_ok-value.value })
-        ∙ ap (λ (n : List ℕ). names_of c.args.attrs.now ++ n ∷ []) c.in_ok-copy-in-None.ensures in
+    ∙ ap (λ (n : List ℕ). names_of c.args.attrs.now ++ n ∷ []) c.in_ok-copy-in-None.ensures in
     subst (λ (ns : List (List ℕ)). IfSome c.with_name.result (λ index. IsIndexOf index ns)) (sym names) (c.with_name.ensures (names_of c.args.attrs.now) c.requires)

@@ -11,8 +11,8 @@ pub loop-attr-preserved : goal.loop-attr-preserved
 loop-attr-preserved c =
     subst (IsIndexOf c.in_ok-index.index)
     (sym (names_more c.args.attrs.now c.loop-attr.attr-index c.attr-item.result
-      (c.attr-item.is ∙ ap (λ (attrs : List Attr). get_or attrs c.loop-attr.attr-index c.attr-item.result) c.as_slice-attr-items.ensures)
-      (subst (λ (attrs : List Attr). c.loop-attr.attr-index < length attrs) c.as_slice-attr-items.ensures c.loop-attr-test.true)))
+    (c.attr-item.is ∙ ap (λ (attrs : List Attr). get_or attrs c.loop-attr.attr-index c.attr-item.result) c.as_slice-attr-items.ensures)
+    (subst (λ (attrs : List Attr). c.loop-attr.attr-index < length attrs) c.as_slice-attr-items.ensures c.loop-attr-test.true)))
     (c.in_ok-index.ensures (names_of (take c.loop-attr.attr-index c.args.attrs.now)) c.loop-attr.invariant)
 
 pub returns : goal.returns
