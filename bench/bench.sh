@@ -218,6 +218,9 @@ chosen() {
     shape machines_in_row 25000 replay
     shape constraints 5000 replay
     shape matched 5000 replay
+    shape unset_in_order 20000 replay
+    shape unset_backwards 50000 replay
+    shape set_in_turn 50000 replay
     shape nowhere 5000 replay
     shape lopsided 5000 replay
     shape many_rounds 10000 replay

@@ -439,6 +439,28 @@ def matched(files, size):
         files.put('task_constraints', 0, 10, 0, 0, 'name%d' % number, 'v')
 
 
+def unset_in_order(files, size):
+    """One machine with many attributes, which are unset again in the order in which they were set"""
+    attributes(files, size)
+    for number in range(size):
+        files.put('machine_attributes', ROUND, 1, 'name%d' % number, '', 1)
+
+
+def unset_backwards(files, size):
+    """One machine with many attributes, which are unset again from the last one on"""
+    attributes(files, size)
+    for number in reversed(range(size)):
+        files.put('machine_attributes', ROUND, 1, 'name%d' % number, '', 1)
+
+
+def set_in_turn(files, size):
+    """One machine with many attributes, and another one that is set and unset as often"""
+    attributes(files, size)
+    for number in range(size):
+        files.put('machine_attributes', ROUND, 1, 'other', number, 0)
+        files.put('machine_attributes', ROUND, 1, 'other', '', 1)
+
+
 def nowhere(files, size):
     """Jobs with a constraint that no machine meets, on as many machines"""
     for number in range(1, size + 1):
@@ -589,7 +611,8 @@ def too_little(files, size):
 SHAPES = {shape.__name__: shape for shape in (
     one_job, apart, never_fits, one_machine, long_runs, attributes, scarce, map_reduce, half_full, full, evicting,
     too_little, victims, one_by_one, updates, shrinking, crowded, taking_over, same_tree, other_trees,
-    one_note, machines_apart, machines_in_row, constraints, matched, nowhere, lopsided, many_rounds, given_up, large_job,
+    one_note, machines_apart, machines_in_row, constraints, matched, unset_in_order, unset_backwards, set_in_turn,
+    nowhere, lopsided, many_rounds, given_up, large_job,
     one_waits, restarts, short_rounds, extras, extras_alike, commas, quotes, long_text)}
 
 

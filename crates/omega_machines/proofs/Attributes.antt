@@ -1,10 +1,14 @@
 -- The place of an attribute says how the list changes when it is set.
-use Rattle.std.proofs.Common.{◌≡◌, ℕ, suc, ◌+◌, ◌<◌, ◌≤◌, Bool, nat_lt, List, [], ◌∷◌, ◌++◌, length, get_or, set, position, bytes_eq, Some, None, refl, sym, ap, ◌∙◌, arith}
-use Rattle.std.specs.List.{position_or_len}
+use Rattle.std.proofs.Common.{◌≡◌, ℕ, zero, suc, take, remove, not, subst, ◌+◌, ◌<◌, ◌≤◌, Bool, nat_lt, List, [], ◌∷◌, ◌++◌, length, get_or, set, position, bytes_eq, Some, None, refl, sym, ap, ◌∙◌, arith}
+use Rattle.std.specs.List.{position_or_len, IsDistinct, filter}
 use Rattle.std.proofs.lemmas.Bool.{ltb-true, ltb-false}
+use Rattle.std.proofs.lemmas.List.{map-append, take_more}
 use Rattle.std.proofs.lemmas.Option.{cond_some, none-some}
-use Rattle.omega_model.specs.Machines.{with_attr}
+use Rattle.omega_model.specs.Machines.{with_attr, without_attr}
 use Rattle.omega_model.specs.declared.cells.Attr.{Attr}
+use Rattle.omega_machines.specs.Names.{names_of}
+use Rattle.omega_machines.proofs.Naming.{first_at, first_past, removed, unremoved, names_filtered}
+use Rattle.omega_machines.proofs.Places.{position-map}
 use Rattle.omega_model.proofs.Lists.{by_answer}
 
 module _ (name value : List ℕ) where
@@ -49,3 +53,31 @@ module _ (name value : List ℕ) where
           by_answer (nat_lt (position_or_len named attrs) (length attrs))
           (λ t. let some : None ≡ Some (position_or_len named attrs) = rw t at none in absurd (none-some _ some))
           (λ f. ltb-false _ _ f)
+
+-- the names where an attribute gets another value
+pub names_kept : (attrs : List Attr) (place : ℕ) (attr next : Attr) → attr ≡ get_or attrs place attr → next.name ≡ attr.name → names_of (set attrs place next) ≡ names_of attrs
+names_kept [] place attr next is same = refl
+names_kept (a ∷ rest) zero attr next is same = ap (λ n. n ∷ names_of rest) (same ∙ ap (λ (b : Attr). b.name) is)
+names_kept (a ∷ rest) (suc place) attr next is same = ap (λ ns. a.name ∷ ns) (names_kept rest place attr next is same)
+
+-- the names of one attribute more
+pub names_more : (attrs : List Attr) (i : ℕ) (attr : Attr) → attr ≡ get_or attrs i attr → i < length attrs → names_of (take (i + 1) attrs) ≡ names_of (take i attrs) ++ attr.name ∷ []
+names_more attrs i attr is within =
+    ap names_of (take_more attrs i attr within) ∙ map-append (λ (a : Attr). a.name) (take i attrs) _ ∙ ap (λ (a : Attr). names_of (take i attrs) ++ a.name ∷ []) (sym is)
+
+-- and of one at the end
+pub names_push : (attrs : List Attr) (attr : Attr) → names_of (attrs ++ attr ∷ []) ≡ names_of attrs ++ attr.name ∷ []
+names_push attrs attr = map-append (λ (a : Attr). a.name) attrs (attr ∷ [])
+
+-- without the attribute at the place of the name, or of none
+module _ (name : List ℕ) (attrs : List Attr) where
+  pub deleted_at : (place : ℕ) → IsDistinct bytes_eq (names_of attrs) → position (λ other. bytes_eq other name) (names_of attrs) ≡ Some place → (place < length attrs) × (remove attrs place ≡ without_attr name attrs)
+  deleted_at place distinct is =
+      let at = first_at (λ (a : Attr). a.name) name attrs place (sym (position-map (λ (a : Attr). a.name) (λ other. bytes_eq other name) attrs) ∙ is) in
+      (at.1, ap (remove attrs) (sym at.0) ∙ removed (λ (a : Attr). a.name) name attrs distinct (subst (λ p. p < length attrs) (sym at.0) at.1))
+
+  pub deleted_none : position (λ other. bytes_eq other name) (names_of attrs) ≡ None → attrs ≡ without_attr name attrs
+  deleted_none is = sym (unremoved (λ (a : Attr). a.name) name attrs (first_past (λ (a : Attr). a.name) name attrs (sym (position-map (λ (a : Attr). a.name) (λ other. bytes_eq other name) attrs) ∙ is)))
+
+  pub names_without : names_of (without_attr name attrs) ≡ filter (λ other. not (bytes_eq other name)) (names_of attrs)
+  names_without = names_filtered (λ (a : Attr). a.name) name attrs

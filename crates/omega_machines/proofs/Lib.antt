@@ -8,3 +8,5 @@ pub mod Laws
 mod Loads
 mod Shortening
 pub mod Ensuring
+mod Naming
+mod Indexed

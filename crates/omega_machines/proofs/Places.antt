@@ -27,7 +27,7 @@ module _ {A B : Type 0} (f : A → B) (p : B → Bool) where
   position_or_len-map (x ∷ xs) = ap (λ n. cond (not (p (f x))) (1 + n) 0) (position_or_len-map xs)
 
   -- a position is the same in the list before a map
-  position-map : (xs : List A) → position p (map f xs) ≡ position (λ x. p (f x)) xs
+  pub position-map : (xs : List A) → position p (map f xs) ≡ position (λ x. p (f x)) xs
   position-map xs = rw (position_or_len-map xs, length-map xs f) refl
 
 -- a table has room for a machine where the list of its machines has

@@ -1,3 +1,4 @@
 pub mod Table
 pub mod Load
 pub mod Places
+pub mod Names

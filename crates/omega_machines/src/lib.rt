@@ -8,7 +8,9 @@
 #![tactic(auto)]
 
 mod attrs;
+mod indexes;
 mod load;
+mod names;
 mod table;
 
 use omega_model::{Machine, Need};

@@ -8,8 +8,10 @@ ghost use Rattle.omega_machines.specs.Load.{less, load_of_all};
 ghost use Rattle.omega_machines.specs.Places.{ArePlaced};
 ghost use Rattle.omega_machines.specs.Table.{machines_of, state_at, use_at, free_at, seq_at, used_by_all, capacity_of_all, change_state, ensured_states, state_added, state_updated, state_put, with_machine, charged, released, touched, IsTable};
 
+use crate::MachineState;
+use crate::indexes::{delete_at, drop_between, set_at};
 use crate::load::Load;
-use crate::{MachineState, attrs};
+use crate::names::NameIndex;
 use omega_model::{Bytes, Machine, Need, NoMemory, Seq};
 use std::alloc::Global;
 use std::collections::BTreeMap;
@@ -30,19 +32,20 @@ pub struct MachineTable {
     states: Vec<MachineState>,
     places: BTreeMap<u64, usize>,
     notes: Vec<u16>,
+    indexes: BTreeMap<usize, NameIndex>,
     load: Load,
 }
 
 impl Model for MachineTable {
     ghost use Rattle.std.specs.Prelude.{List};
     ghost use Rattle.omega_machines.specs.Table.{MachineState};
-    ghost use Rattle.omega_machines.specs.Places.{IsKept};
+    ghost use Rattle.omega_machines.specs.Places.{IsWhole};
 
     ghost Value = { List MachineState };
 
     ghost view = { λ table. table.states.items };
 
-    ghost invariant = { λ table. IsKept table.places table.states.items table.load };
+    ghost invariant = { λ table. IsWhole table.places table.indexes table.states.items table.load };
 }
 
 /// Gives a machine a capacity. What is in use on it stays in use.
@@ -151,6 +154,7 @@ impl MachineTable {
             states: Vec::new(alloc),
             places: BTreeMap::new(alloc),
             notes: Vec::new(alloc),
+            indexes: BTreeMap::new(alloc),
             load: Load::NONE,
         }
     }
@@ -277,7 +281,7 @@ impl MachineTable {
         let place = self.place_of(id);
         let alloc = *self.states.allocator();
         let state = &mut self.states[place];
-        attrs::set(&mut state.machine.attrs, alloc, name, value)
+        set_at(state, &mut self.indexes, place, alloc, name, value)
     }
 
     /// Gives an attribute of a machine a value, in its place where it is set, else after the others.
@@ -307,7 +311,7 @@ impl MachineTable {
         let place = self.place_of(id);
         let alloc = *self.states.allocator();
         let state = &mut self.states[place];
-        attrs::delete(&mut state.machine.attrs, alloc, name);
+        delete_at(state, &mut self.indexes, place, alloc, name);
     }
 
     /// The first `n` machines stay as they are and the others leave the list, so that a refused
@@ -317,6 +321,7 @@ impl MachineTable {
         ensures table { IsTable self.new }
     {
         forget_rest(&mut self.places, &self.states, n);
+        drop_between(&mut self.indexes, n, self.states.len());
         self.load = without_rest(&self.states, self.load, n);
         self.states.truncate(n);
     }
@@ -336,6 +341,7 @@ impl MachineTable {
         let before = Load::of(state);
         *state = MachineState { machine, free, seq };
         self.load = self.load.replaced(before, Load::of(state));
+        self.indexes.remove(&position);
     }
 
     /// What is free on a machine: its capacity less what is in use. `None` exactly where it isn't

@@ -6,7 +6,7 @@ use Rattle.omega_machines.proofs.Places.{listed_position}
 use Rattle.omega_machines.proofs.table.MachineTable.position.Goals as goal
 
 pub find-requires : goal.find-requires
-find-requires c = rw c.deref.ensures.value c.self.invariant.placed
+find-requires c = rw c.deref.ensures.value c.self.invariant.kept.placed
 
 pub returns-clause-listed : goal.returns-clause-listed
 returns-clause-listed c =

@@ -4,7 +4,7 @@ use Rattle.omega_machines.proofs.Places.{lent_at, state_found}
 use Rattle.omega_machines.proofs.table.MachineTable.state.Goals as goal
 
 pub find-requires : goal.find-requires
-find-requires c = rw c.deref.ensures.value c.self.invariant.placed
+find-requires c = rw c.deref.ensures.value c.self.invariant.kept.placed
 
 pub returns-in_err-place-clause-found : goal.returns-in_err-place-clause-found
 returns-in_err-place-clause-found c =
