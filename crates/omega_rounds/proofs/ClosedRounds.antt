@@ -199,7 +199,7 @@ module _ (stage : Stage) (tasks : List WantedTask) (first history : List Entry) 
     asked = world.asked;
     count = back.count ∙ world.count;
     each_worker = λ number worker here. (back.each number worker here).1.1.worker;
-    each_plan = λ number worker here. plan_none stage.settings history number worker (sym (seen_at synced_of new number worker here) ∙ nobody_closed number);
+    each_plan = λ number worker here. plan_none history worker (sym (seen_at synced_of new number worker here) ∙ nobody_closed number);
     made = world.made;
     lawful = λ trace made. elim (world.lawful trace made).run [
       | inl none ↦ let start : stage.begun ≡ 0 = none.none in absurd (omega (arith, begun, start))

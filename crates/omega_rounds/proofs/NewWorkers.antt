@@ -84,7 +84,7 @@ world_new settings trace all asked history workers range rounds_are asks none ar
       asked = ap (λ (a : Asked). a.tasks) asks;
       count = are.count;
       each_worker = λ number worker here. (are.each number worker here).0;
-      each_plan = λ number worker here. plan_none settings [] number worker (are.each number worker here).1.0;
+      each_plan = λ number worker here. plan_none [] worker (are.each number worker here).1.0;
       made = (trace, made_of settings trace all asked [] rounds_are asks 0 0);
       lawful = λ other made. record {
         run = inl (record {

@@ -3,23 +3,13 @@ use Rattle.std.proofs.Common.{◌≡◌, ◌∙◌, ℕ, List, length, take, ref
 use Rattle.std.proofs.Math.Seq.{take-length}
 use Rattle.std.proofs.lemmas.List.{length-map}
 use Rattle.omega_model.specs.Cell.{Cell}
-use Rattle.omega_model.specs.Draws.{drawn_start}
 use Rattle.omega_model.specs.State.{state}
 use Rattle.omega_model.specs.Touches.{seq}
-use Rattle.omega_model.specs.Work.{commits_of}
 use Rattle.omega_model.specs.declared.entries.Entry.{Entry}
-use Rattle.omega_model.specs.declared.settings.Settings.{Settings}
 use Rattle.omega_machines.specs.declared.MachineState.{MachineState}
 use Rattle.omega_machines.specs.Table.{machines_of, seq_at}
 use Rattle.omega_board.specs.Board.{BoardState, cell_of, IsBoardOf}
 use Rattle.omega_copy.specs.Copies.{CopyOf, CopyState, without_room}
-use Rattle.omega_desk.specs.Desks.{DeskState}
-use Rattle.omega_rounds.specs.Plans.{IsAtDesk}
-
--- the start of a desk's attempt is that of its scheduler's next one
-pub start_at_desk : (settings : Settings) (history : List Entry) (scheduler : ℕ) (desk : DeskState) (machines : ℕ) → IsAtDesk settings history scheduler desk
-    → drawn_start desk.settings desk.scheduler desk.attempts machines ≡ drawn_start settings scheduler (commits_of scheduler history) machines
-start_at_desk settings history scheduler desk machines is = rw (is.settings_are, is.scheduler_is, is.attempts) refl
 
 -- a copy over the board after a history stands for it
 pub copy_over : (copy : CopyState) (board : BoardState) (history : List Entry) → copy.board ≡ without_room board → copy.seen ≡ length history

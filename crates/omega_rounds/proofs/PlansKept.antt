@@ -1,8 +1,10 @@
 -- What a scheduler has planned, and what plans need, while the history goes on.
-use Rattle.std.proofs.Common.{◌≡◌, ◌≢◌, ◌≤◌, ◌+◌, ℕ, List, [], ◌∷◌, ◌++◌, length, map, take, Option, Some, None, refl, sym, ap, subst, ◌∙◌, arith, length-append, inl, inr, set}
+use Rattle.std.proofs.Common.{◌≡◌, ◌≢◌, ◌≤◌, ◌<◌, ◌+◌, ℕ, List, [], ◌∷◌, ◌++◌, length, map, take, Option, Some, None, refl, sym, ap, subst, ◌∙◌, arith, length-append, inl, inr, set}
 use Rattle.std.specs.Prelude.{IfSome, slice_get}
 use Rattle.std.proofs.lemmas.Bool.{ne_eqb}
 use Rattle.std.proofs.lemmas.List.{take-append-le}
+use Rattle.omega_model.specs.Policy.{schedulers}
+use Rattle.omega_model.specs.Ranges.{IsInRange}
 use Rattle.omega_model.specs.State.{state}
 use Rattle.omega_model.specs.Touches.{seq}
 use Rattle.omega_model.specs.declared.claims.Claim.{Claim}
@@ -22,7 +24,8 @@ use Rattle.omega_desk.specs.Desks.{DeskState}
 use Rattle.omega_lock.specs.Lists.{StartsWith}
 use Rattle.omega_shared.specs.Commits.{GoesOnWithout}
 use Rattle.omega_laws.specs.NextCommit.{attempt}
-use Rattle.omega_rounds.specs.Plans.{HasPlan, HasPlanAfter, IsPlan}
+use Rattle.omega_rounds.specs.Plans.{HasPlan, HasPlanAfter, IsPlan, IsReady}
+use Rattle.omega_rounds.specs.Workers.{IsWorker}
 use Rattle.omega_rounds.specs.WorkerSteps.{WorkerSteps}
 use Rattle.omega_rounds.specs.declared.plans.Planned.{Planned}
 use Rattle.omega_rounds.specs.declared.worker.Worker.{Worker}
@@ -54,84 +57,111 @@ indexes_opened trace rows start round indexes are =
     (λ history entry none here. indexes_on indexes history (history ++ entry ∷ []) (entry ∷ [], refl) here) trace rows start round are
 
 -- who hasn't synced needs no plan
-pub plan_none : (settings : Settings) (history : List Entry) (scheduler : ℕ) (worker : Worker) → worker.synced ≡ None → HasPlan settings history scheduler worker
-plan_none settings history scheduler worker none = subst (λ (synced : Option ℕ). IfSome synced (HasPlanAfter settings history scheduler worker)) (sym none) tt
+pub plan_none : (history : List Entry) (worker : Worker) → worker.synced ≡ None → HasPlan history worker
+plan_none history worker none = subst (λ (synced : Option ℕ). IfSome synced (HasPlanAfter history worker)) (sym none) tt
 
-module _ (settings : Settings) (history : List Entry) (scheduler : ℕ) (worker : Worker) (seen : ℕ) where
+module _ (history : List Entry) (worker : Worker) (seen : ℕ) where
   -- who has synced has this plan
-  pub has_plan : (plan : Planned) → worker.synced ≡ Some seen → worker.planned ≡ Some plan → seen ≤ length history → IsPlan settings history scheduler seen worker.desk plan
-      → HasPlan settings history scheduler worker
+  pub has_plan : (plan : Planned) → worker.synced ≡ Some seen → worker.planned ≡ Some plan → seen ≤ length history → IsPlan history seen worker.desk plan
+      → HasPlan history worker
   has_plan plan synced there within is =
-      subst (λ (o : Option ℕ). IfSome o (HasPlanAfter settings history scheduler worker)) (sym synced)
+      subst (λ (o : Option ℕ). IfSome o (HasPlanAfter history worker)) (sym synced)
       (record { within = within; plan = plan; there = there; is_plan = is })
 
-  has_after : worker.synced ≡ Some seen → HasPlan settings history scheduler worker → HasPlanAfter settings history scheduler worker seen
-  has_after synced has = subst (λ (o : Option ℕ). IfSome o (HasPlanAfter settings history scheduler worker)) synced has
+  has_after : worker.synced ≡ Some seen → HasPlan history worker → HasPlanAfter history worker seen
+  has_after synced has = subst (λ (o : Option ℕ). IfSome o (HasPlanAfter history worker)) synced has
 
   -- which isn't missing
-  pub plan_missing : worker.synced ≡ Some seen → HasPlan settings history scheduler worker → None ≡ worker.planned → ⊥
+  pub plan_missing : worker.synced ≡ Some seen → HasPlan history worker → None ≡ worker.planned → ⊥
   plan_missing synced has none = let clash : None ≡ Some (has_after synced has).plan = none ∙ (has_after synced has).there in absurd (cc)
 
   -- and is the one that it has
-  pub plan_there : (plan : Planned) → worker.synced ≡ Some seen → HasPlan settings history scheduler worker → Some plan ≡ worker.planned
-      → (seen ≤ length history) × IsPlan settings history scheduler seen worker.desk plan
+  pub plan_there : (plan : Planned) → worker.synced ≡ Some seen → HasPlan history worker → Some plan ≡ worker.planned
+      → (seen ≤ length history) × IsPlan history seen worker.desk plan
   plan_there plan synced has there =
       let after = has_after synced has in
       let both : Some after.plan ≡ Some plan = sym after.there ∙ sym there in
       let same : after.plan ≡ plan = cc in
-      (after.within, subst (IsPlan settings history scheduler seen worker.desk) same after.is_plan)
+      (after.within, subst (IsPlan history seen worker.desk) same after.is_plan)
 
 if_some : (P Q : ℕ → Type 0) → ((n : ℕ) → P n → Q n) → (o : Option ℕ) → IfSome o P → IfSome o Q
 if_some P Q f None holds = tt
 if_some P Q f (Some n) holds = f n holds
 
-module _ (settings : Settings) (scheduler : ℕ) (old new : List Entry) (on : GoesOnWithout scheduler old new) where
-  plan_without : (seen : ℕ) (desk : DeskState) (plan : Planned) → seen ≤ length old → IsPlan settings old scheduler seen desk plan → IsPlan settings new scheduler seen desk plan
-  plan_without seen desk plan within is = record {
+module _ (old new : List Entry) where
+  plan_without : (seen : ℕ) (desk : DeskState) (plan : Planned) → GoesOnWithout desk.scheduler old new → seen ≤ length old
+      → IsPlan old seen desk plan → IsPlan new seen desk plan
+  plan_without seen desk plan on within is = record {
     txn = record {
       request = is.txn.request;
       rest = is.txn.rest;
       work = is.txn.work;
-      is = is.txn.is ∙ attempt_without scheduler old new on settings seen is.txn.request within;
+      is = is.txn.is ∙ attempt_without desk.scheduler old new on desk.settings seen is.txn.request within;
     };
     few = is.few;
-    seqs = is.seqs ∙ ap (λ (h : List Entry). map (λ (claim : Claim). seq h claim.machine) plan.txn.claims) (sym (front_without scheduler old new on seen within));
+    seqs = is.seqs ∙ ap (λ (h : List Entry). map (λ (claim : Claim). seq h claim.machine) plan.txn.claims) (sym (front_without desk.scheduler old new on seen within));
   }
 
   -- in a history that goes on without a commit of its scheduler, a worker has its plan still
-  pub has_plan_without : (worker : Worker) → HasPlan settings old scheduler worker → HasPlan settings new scheduler worker
-  has_plan_without worker =
-      if_some (HasPlanAfter settings old scheduler worker) (HasPlanAfter settings new scheduler worker)
+  pub has_plan_without : (worker : Worker) → GoesOnWithout worker.desk.scheduler old new → HasPlan old worker → HasPlan new worker
+  has_plan_without worker on =
+      if_some (HasPlanAfter old worker) (HasPlanAfter new worker)
       (λ seen has.
-      let longer = longer_without scheduler old new on in
+      let longer = longer_without worker.desk.scheduler old new on in
       let within : seen ≤ length old = has.within in
       record {
         within = omega (arith, longer, within);
         plan = has.plan;
         there = has.there;
-        is_plan = plan_without seen worker.desk has.plan within has.is_plan;
+        is_plan = plan_without seen worker.desk has.plan on within has.is_plan;
       }) worker.synced
 
 module _ (settings : Settings) (before after : List Entry) (scheduler : ℕ) (old new : Worker) where
   -- another worker has its plan after a step
   plan_other : (stepped : Stepped) → WorkerSteps settings scheduler before old after new stepped
-      → (number : ℕ) (worker : Worker) → number ≢ scheduler → HasPlan settings before number worker → HasPlan settings after number worker
-  plan_other Idle did number worker apart has = subst (λ (h : List Entry). HasPlan settings h number worker) (sym did.history) has
-  plan_other Synced did number worker apart has = subst (λ (h : List Entry). HasPlan settings h number worker) (sym did.history) has
-  plan_other (Committed place) did number worker apart has =
+      → (number : ℕ) (worker : Worker) → worker.desk.scheduler ≡ number → number ≢ scheduler → HasPlan before worker → HasPlan after worker
+  plan_other Idle did number worker own apart has = subst (λ (h : List Entry). HasPlan h worker) (sym did.history) has
+  plan_other Synced did number worker own apart has = subst (λ (h : List Entry). HasPlan h worker) (sym did.history) has
+  plan_other (Committed place) did number worker own apart has =
       let entry : Entry = attempt settings before scheduler did.seen did.request in
-      has_plan_without settings number before after (record {
+      has_plan_without before after worker (subst (λ (n : ℕ). GoesOnWithout n before after) (sym own) (record {
         later = entry ∷ [];
         goes_on = did.appended;
         others = commits_other number [] entry (ne_eqb scheduler number (λ same. apart (sym same)));
-      }) worker has
+      })) has
 
   -- each worker has its plan after it
   pub plans_after : (stepped : Stepped) (workers : List Worker) → WorkerSteps settings scheduler before old after new stepped
-      → HasPlan settings after scheduler new
-      → ((number : ℕ) (worker : Worker) → slice_get workers number ≡ Some worker → HasPlan settings before number worker)
-      → (number : ℕ) (worker : Worker) → slice_get (set workers scheduler new) number ≡ Some worker → HasPlan settings after number worker
-  plans_after stepped workers did now each number worker here = elim (set_cases workers scheduler new number worker here) [
-    | inl same ↦ subst (λ (s : Worker). HasPlan settings after number s) same.1 (subst (λ (n : ℕ). HasPlan settings after n new) (sym same.0) now)
-    | inr other ↦ plan_other stepped did number worker other.0 (each number worker other.1)
+      → HasPlan after new
+      → ((number : ℕ) (worker : Worker) → slice_get workers number ≡ Some worker → IsWorker settings before number worker)
+      → ((number : ℕ) (worker : Worker) → slice_get workers number ≡ Some worker → HasPlan before worker)
+      → (number : ℕ) (worker : Worker) → slice_get (set workers scheduler new) number ≡ Some worker → HasPlan after worker
+  plans_after stepped workers did now each_worker each number worker here = elim (set_cases workers scheduler new number worker here) [
+    | inl same ↦ subst (λ (s : Worker). HasPlan after s) same.1 now
+    | inr other ↦ plan_other stepped did number worker (each_worker number worker other.1).scheduler other.0 (each number worker other.1)
   ]
+
+module _ (settings : Settings) (scheduler : ℕ) (before : List Entry) (old : Worker) (is : IsWorker settings before scheduler old) where
+  -- a scheduler's worker that has its plan is ready for a step
+  pub ready_at : IsInRange settings → scheduler < schedulers settings → HasPlan before old → IsReady old.desk before old
+  ready_at range known plan = record {
+    range = subst (λ (s : Settings). IsInRange s) (sym is.settings) range;
+    known = subst (λ (n : ℕ). n < schedulers old.desk.settings) (sym is.scheduler)
+        (subst (λ (s : Settings). scheduler < schedulers s) (sym is.settings) known);
+    is_worker = subst (λ (s : Settings). IsWorker s before old.desk.scheduler old) (sym is.settings)
+        (subst (λ (n : ℕ). IsWorker settings before n old) (sym is.scheduler) is);
+    plan = plan;
+  }
+
+  -- who is ready beside a history for the scheduler's next step is the scheduler's worker there
+  pub ready_for : (after : List Entry) (new : Worker) → IsReady old.desk after new → IsWorker settings after scheduler new
+  ready_for after new ready =
+      subst (λ (s : Settings). IsWorker s after scheduler new) is.settings
+      (subst (λ (n : ℕ). IsWorker old.desk.settings after n new) is.scheduler ready.is_worker)
+
+  -- what it does at its desk the scheduler does
+  pub steps_for : (after : List Entry) (new : Worker) (stepped : Stepped) → WorkerSteps old.desk.settings old.desk.scheduler before old after new stepped
+      → WorkerSteps settings scheduler before old after new stepped
+  steps_for after new stepped did =
+      subst (λ (s : Settings). WorkerSteps s scheduler before old after new stepped) is.settings
+      (subst (λ (n : ℕ). WorkerSteps old.desk.settings n before old after new stepped) is.scheduler did)

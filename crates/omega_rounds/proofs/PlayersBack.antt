@@ -10,6 +10,7 @@ use Rattle.std.proofs.lemmas.Option.{get_or_from_slice_get, slice_get-get_or, sl
 use Rattle.atomic_table.specs.Seated.{TableId}
 use Rattle.omega_lock.specs.Lists.{StartsWith}
 use Rattle.omega_model.specs.Policy.{schedulers}
+use Rattle.omega_model.specs.Ranges.{IsInRange}
 use Rattle.omega_model.specs.Work.{is_commit_of}
 use Rattle.omega_model.specs.declared.entries.Entry.{Entry}
 use Rattle.omega_model.specs.declared.settings.Settings.{Settings}
@@ -60,7 +61,8 @@ module _ (settings : Settings) (of : TableId) (turns : ℕ) (first : List Entry)
     (of_passes : map (λ (player : Player). player.pass) players ≡ passes)
     (fresh : All (λ (player : Player). player.failed ≡ false) players)
     (all : length workers ≡ schedulers settings)
-    (numbered : (number : ℕ) → number < schedulers settings → slice_get passes number ≡ Some (new_pass of turns first number)) where
+    (numbered : (number : ℕ) → number < schedulers settings → slice_get passes number ≡ Some (new_pass of turns first number))
+    (each : (number : ℕ) (worker : Worker) → slice_get workers number ≡ Some worker → IsWorker settings first number worker) where
   -- there are as many as schedulers
   players_count : length players ≡ schedulers settings
   players_count = sym (length-map players (λ (player : Player). player.worker)) ∙ ap (λ (ss : List Worker). length ss) of_workers ∙ all
@@ -76,23 +78,29 @@ module _ (settings : Settings) (of : TableId) (turns : ℕ) (first : List Entry)
         failed = subst (λ (p : Player). p.failed ≡ false) (get_or_from_slice_get players number player player here) (fresh number player inside);
       }
 
+  worker_there : (number : ℕ) (player : Player) → slice_get players number ≡ Some player → slice_get workers number ≡ Some player.worker
+  worker_there number player here = mapped_at (λ (p : Player). p.worker) players workers number player of_workers here
+
   -- each may play
-  pub may_play : ((number : ℕ) (worker : Worker) → slice_get workers number ≡ Some worker → IsWorker settings first number worker) → Suffice settings workers turns
-      → All (MayPlay settings of) players
-  may_play each suffice = λ number other inside.
+  pub may_play : IsInRange settings → Suffice settings workers turns → All (MayPlay of) players
+  may_play range suffice = λ number other inside.
       let player : Player = get_or players number other in
       let here : slice_get players number ≡ Some player = slice_get-get_or players number other inside in
       let is : IsNewPlayer of turns first number player = new_player number player here in
-      let there : slice_get workers number ≡ Some player.worker = mapped_at (λ (p : Player). p.worker) players workers number player of_workers here in
+      let there : slice_get workers number ≡ Some player.worker = worker_there number player here in
       let worker : IsWorker settings first number player.worker = each number player.worker there in
+      let own : settings ≡ player.worker.desk.settings = sym worker.settings in
       let known : number < schedulers settings = omega (arith, inside, players_count) in
       let few : 2 * (length player.worker.desk.requests * settings.tries) ≤ turns =
       subst (λ (s : Worker). 2 * (length s.desk.requests * settings.tries) ≤ turns) (get_or_from_slice_get workers number player.worker player.worker there)
       (suffice number player.worker (slice_get_within workers number player.worker there)) in
       record {
         of = ap (λ (p : PassState). p.of) is.pass;
-        known = subst (λ (p : PassState). p.number < schedulers settings) (sym is.pass) known;
-        worker = subst (λ (p : PassState). IsWorker settings p.seen p.number player.worker) (sym is.pass) worker;
+        range = subst (λ (s : Settings). IsInRange s) own range;
+        known = subst (λ (s : Settings). player.pass.number < schedulers s) own
+            (subst (λ (p : PassState). p.number < schedulers settings) (sym is.pass) known);
+        worker = subst (λ (s : Settings). IsWorker s player.pass.seen player.pass.number player.worker) own
+            (subst (λ (p : PassState). IsWorker settings p.seen p.number player.worker) (sym is.pass) worker);
         turns = subst (λ (p : PassState). 2 * to_do_of player.worker ≤ p.turns) (sym is.pass)
             (subst (λ (s : Settings). 2 * attempts_left s (left_at player.worker.desk) ≤ turns) (sym worker.settings)
             (few_left (length player.worker.desk.requests * settings.tries) player.worker.desk.taken turns few));
@@ -101,10 +109,10 @@ module _ (settings : Settings) (of : TableId) (turns : ℕ) (first : List Entry)
       few_left : (all taken turns : ℕ) → 2 * all ≤ turns → 2 * (all - taken) ≤ turns
       few_left all taken turns few = omega (arith, few)
 
-  module _ (after : List Player) (played : HavePlayed settings players after) where
+  module _ (after : List Player) (played : HavePlayed players after) where
     -- the player of a scheduler before and after
     before_of : (number : ℕ) (player : Player) → slice_get after number ≡ Some player
-        → (was : Player) × ((slice_get players number ≡ Some was) × HasPlayed settings was player)
+        → (was : Player) × ((slice_get players number ≡ Some was) × HasPlayed was player)
     before_of number player here =
         let count : length after ≡ length players = played.count in
         let inside : number < length after = slice_get_within after number player here in
@@ -113,7 +121,7 @@ module _ (settings : Settings) (of : TableId) (turns : ℕ) (first : List Entry)
               let found = played.each number some.0 some.2 in
               let both : Some found.0 ≡ Some player = sym found.1.0 ∙ here in
               let same : found.0 ≡ player = cc in
-              (some.0, (some.2, subst (HasPlayed settings some.0) same found.1.1))
+              (some.0, (some.2, subst (HasPlayed some.0) same found.1.1))
           | inr past ↦ absurd (omega (arith, past.0, count, inside))
         ]
 
@@ -154,37 +162,38 @@ module _ (settings : Settings) (of : TableId) (turns : ℕ) (first : List Entry)
             commit = subst (λ (n : ℕ). is_commit_of n (get_or (drop (length first) history) place entry) ≡ true) (ap (λ (p : PassState). p.number) (sym one.1.1) ∙ number_of k one.0 one.1.0) by.4;
           }
 
-      back_of : (number : ℕ) (was player : Player) → IsNewPlayer of turns first number was → HasPlayed settings was player → player.failed ≡ false
-          → GoesOnWithout player.pass.number player.pass.seen history → IsBack settings first history number was.worker player.worker
+      back_of : (number : ℕ) (was player : Player) → IsNewPlayer of turns first number was → HasPlayed was player → player.failed ≡ false
+          → GoesOnWithout player.pass.number player.pass.seen history → IsBack was.worker.desk.settings first history number was.worker player.worker
       back_of number was player is did good on =
+          let chosen : Settings = was.worker.desk.settings in
           let same : player.pass.number ≡ number = did.number ∙ ap (λ (p : PassState). p.number) is.pass in
           let old_number : was.pass.number ≡ number = ap (λ (p : PassState). p.number) is.pass in
           let old_seen : was.pass.seen ≡ first = ap (λ (p : PassState). p.seen) is.pass in
           let on_number : GoesOnWithout number player.pass.seen history = subst (λ (n : ℕ). GoesOnWithout n player.pass.seen history) same on in
           record {
-            worker = worker_without number player.pass.seen history on_number settings player.worker
-                (subst (λ (n : ℕ). IsWorker settings player.pass.seen n player.worker) same did.worker);
+            worker = worker_without number player.pass.seen history on_number chosen player.worker
+                (subst (λ (n : ℕ). IsWorker chosen player.pass.seen n player.worker) same did.worker);
             desk = λ trace rows opened_at within desk.
                 let before : opened_at ≤ length was.pass.seen = subst (λ (h : List Entry). opened_at ≤ length h) (sym old_seen) within in
                 let longer : length was.pass.seen ≤ length player.pass.seen = did.within in
-                desk_without number player.pass.seen history on_number settings trace rows opened_at player.worker.desk (omega (arith, before, longer))
-                (subst (λ (n : ℕ). IsOwnDesk settings trace rows opened_at player.pass.seen n player.worker.desk) same
+                desk_without number player.pass.seen history on_number chosen trace rows opened_at player.worker.desk (omega (arith, before, longer))
+                (subst (λ (n : ℕ). IsOwnDesk chosen trace rows opened_at player.pass.seen n player.worker.desk) same
                 (did.desk trace rows opened_at before
-                (subst (λ (h : List Entry). IsOwnDesk settings trace rows opened_at h was.pass.number was.worker.desk) (sym old_seen)
-                (subst (λ (n : ℕ). IsOwnDesk settings trace rows opened_at first n was.worker.desk) (sym old_number) desk))));
+                (subst (λ (h : List Entry). IsOwnDesk chosen trace rows opened_at h was.pass.number was.worker.desk) (sym old_seen)
+                (subst (λ (n : ℕ). IsOwnDesk chosen trace rows opened_at first n was.worker.desk) (sym old_number) desk))));
             commits = λ opened_at within stand.
                 let before : opened_at ≤ length was.pass.seen = subst (λ (h : List Entry). opened_at ≤ length h) (sym old_seen) within in
-                stand_without number player.pass.seen history on_number settings opened_at
-                (subst (λ (n : ℕ). OwnMayStand settings opened_at n player.pass.seen) same
+                stand_without number player.pass.seen history on_number chosen opened_at
+                (subst (λ (n : ℕ). OwnMayStand chosen opened_at n player.pass.seen) same
                 (did.commits opened_at before
-                (subst (λ (h : List Entry). OwnMayStand settings opened_at was.pass.number h) (sym old_seen)
-                (subst (λ (n : ℕ). OwnMayStand settings opened_at n first) (sym old_number) stand))));
+                (subst (λ (h : List Entry). OwnMayStand chosen opened_at was.pass.number h) (sym old_seen)
+                (subst (λ (n : ℕ). OwnMayStand chosen opened_at n first) (sym old_number) stand))));
             no_work = did.no_work good;
             spent = did.spent good is.failed;
           }
 
       goes_on : (number : ℕ) (player : Player) → slice_get after number ≡ Some player → (was : Player) → IsNewPlayer of turns first number was
-          → HasPlayed settings was player → GoesOnWithout player.pass.number player.pass.seen history
+          → HasPlayed was player → GoesOnWithout player.pass.number player.pass.seen history
       goes_on number player here was is did =
           let seen : List PassState = map (λ (p : Player). p.pass) after in
           let there : slice_get seen number ≡ Some player.pass = mapped_at (λ (p : Player). p.pass) after seen number player refl here in
@@ -204,9 +213,11 @@ module _ (settings : Settings) (of : TableId) (turns : ℕ) (first : List Entry)
             let is : IsNewPlayer of turns first number found.0 = new_player number found.0 found.1.0 in (
               found.0.worker,
               (
-                mapped_at (λ (p : Player). p.worker) players workers number found.0 of_workers found.1.0,
+                worker_there number found.0 found.1.0,
                 subst (IsBack settings first history number found.0.worker) one.1.1
-                    (back_of number found.0 one.0 is found.1.1 (succeeded number one.0 one.1.0) (goes_on number one.0 one.1.0 found.0 is found.1.1)),
+                    (subst (λ (s : Settings). IsBack s first history number found.0.worker one.0.worker)
+                    (each number found.0.worker (worker_there number found.0 found.1.0)).settings
+                    (back_of number found.0 one.0 is found.1.1 (succeeded number one.0 one.1.0) (goes_on number one.0 one.1.0 found.0 is found.1.1))),
               ),
             );
       }

@@ -3,7 +3,6 @@ use Rattle.std.proofs.Common.{◌≡◌, ◌≤◌, ◌<◌, ◌+◌, ℕ, Bool,
 use Rattle.std.specs.Prelude.{slice_get}
 use Rattle.atomic_table.specs.Seated.{TableId}
 use Rattle.omega_model.proofs.Growing.{by_place_push_where}
-use Rattle.omega_model.specs.Draws.{drawn_start}
 use Rattle.omega_model.specs.Lawful.{after_last}
 use Rattle.omega_model.specs.Work.{after_outcomes, commits_of}
 use Rattle.omega_model.specs.declared.claims.Reply.{Reply}
@@ -18,74 +17,58 @@ use Rattle.omega_desk.specs.Desks.{AnswersFirst, DeskState, IsSameDesk, left_at}
 use Rattle.omega_shared.specs.Commits.{GoesOnWithout, commit_after}
 use Rattle.omega_shared.specs.Passes.{PassState}
 use Rattle.omega_shared.specs.Turns.{Commits, SpendsTurn}
-use Rattle.omega_laws.specs.NextCommit.{attempt, attempt_txn}
+use Rattle.omega_laws.specs.NextCommit.{attempt}
 use Rattle.omega_rounds.specs.Players.{HasPlayed, IsOwnDesk, MayPlay, MayStand, OwnMayStand}
 use Rattle.omega_rounds.specs.PlayingOn.{IsSynced, PlansFirst, PlaysOn}
 use Rattle.omega_rounds.specs.Workers.{IsWorker, synced_of, to_do_of, IsAtRest, SyncedWithin}
-use Rattle.omega_rounds.specs.WorkerSteps.{CommitsFirst}
+use Rattle.omega_rounds.specs.WorkerSteps.{CommitsFirst, IsFirstAttempt}
+use Rattle.omega_rounds.specs.Plans.{IsPlannedAt}
 use Rattle.omega_rounds.specs.declared.player.Player.{Player}
 use Rattle.omega_rounds.specs.declared.worker.Worker.{Worker}
-use Rattle.omega_rounds.proofs.Attempted.{start_of_worker}
 use Rattle.omega_rounds.proofs.DeskCommits.{own_desk_own}
 use Rattle.omega_laws.proofs.LastCommits.{after_last-within}
-use Rattle.omega_rounds.proofs.WorkerCommits.{IsCommitting, answers_first, commits_first, fewer_left, first_some, worker_after}
+use Rattle.omega_rounds.proofs.WorkerCommits.{IsCommitting, answers_first, commits_first, fewer_left, worker_after}
 use Rattle.omega_rounds.proofs.Without.{after_last-without, attempt_without, desk_without, longer_without, worker_without, stand_without}
 
-module _ (settings : Settings) where
-  -- a turn after which the pass has seen commits of others, the desk is as before, and the copy stands for
-  -- what the pass has seen
-  pub plays_on_without : (old new : Player) → IsWorker settings old.pass.seen old.pass.number old.worker
-      → SpendsTurn old.pass new.pass → GoesOnWithout old.pass.number old.pass.seen new.pass.seen
-      → new.worker.desk ≡ old.worker.desk → CopyOf new.worker.copy new.pass.seen → new.worker.copy.trial ≡ None
-      → SyncedWithin new.worker.synced new.worker.copy.seen (length new.pass.seen)
-      → PlaysOn settings old new
-  plays_on_without old new worker turn on same copy no_trial seen =
-      let here = worker_without old.pass.number old.pass.seen new.pass.seen on settings old.worker worker in
-      record {
-        of = turn.of;
-        number = turn.number;
-        first_length = turn.first_length;
-        within = longer_without old.pass.number old.pass.seen new.pass.seen on;
-        worker = record {
-          settings = ap (λ (d : DeskState). d.settings) same ∙ worker.settings;
-          scheduler = ap (λ (d : DeskState). d.scheduler) same ∙ worker.scheduler ∙ sym turn.number;
-          attempts = ap (λ (d : DeskState). d.attempts) same ∙ here.attempts ∙ ap (λ (n : ℕ). commits_of n new.pass.seen) (sym turn.number);
-          tries = subst (λ (d : DeskState). d.taken < settings.tries) (sym same) worker.tries;
-          copy = copy;
-          no_trial = no_trial;
-          seen = seen;
-        };
-        desk = λ trace rows opened_at within is.
-            subst (λ (d : DeskState). IsOwnDesk settings trace rows opened_at new.pass.seen new.pass.number d) (sym same)
-            (subst (λ (n : ℕ). IsOwnDesk settings trace rows opened_at new.pass.seen n old.worker.desk) (sym turn.number)
-            (desk_without old.pass.number old.pass.seen new.pass.seen on settings trace rows opened_at old.worker.desk within is));
-        commits = λ opened_at within stand.
-            subst (λ (n : ℕ). OwnMayStand settings opened_at n new.pass.seen) (sym turn.number)
-            (stand_without old.pass.number old.pass.seen new.pass.seen on settings opened_at stand);
-      }
-
--- what is planned on the copy for the first request at the desk
-pub plans_first : (settings : Settings) (player : Player) (number start : ℕ) (request : Request) (txn : Txn)
-    → IsWorker settings player.pass.seen player.pass.number player.worker → number ≡ player.pass.number
-    → Some request ≡ slice_get player.worker.desk.requests 0
-    → start ≡ drawn_start player.worker.desk.settings player.worker.desk.scheduler player.worker.desk.attempts (length player.worker.copy.board.table)
-    → ((history : List Entry) → CopyOf player.worker.copy history
-    → start ≡ drawn_start settings number (commits_of number history) (length player.worker.copy.board.table)
-    → txn ≡ attempt_txn settings history number player.worker.copy.seen request)
-    → PlansFirst player txn
-plans_first settings player number start request txn worker same first drawn planned =
-    let parts = first_some player.worker.desk.requests request first in
-    let begins : start ≡ drawn_start settings player.pass.number (commits_of player.pass.number player.pass.seen) (length player.worker.copy.board.table) =
-    drawn ∙ start_of_worker settings player.pass.seen player.pass.number player.worker _ worker in
+-- a turn after which the pass has seen commits of others, the desk is as before, and the copy stands for
+-- what the pass has seen
+pub plays_on_without : (old new : Player) → IsWorker old.worker.desk.settings old.pass.seen old.pass.number old.worker
+    → SpendsTurn old.pass new.pass → GoesOnWithout old.pass.number old.pass.seen new.pass.seen
+    → new.worker.desk ≡ old.worker.desk → CopyOf new.worker.copy new.pass.seen → new.worker.copy.trial ≡ None
+    → SyncedWithin new.worker.synced new.worker.copy.seen (length new.pass.seen)
+    → PlaysOn old new
+plays_on_without old new worker turn on same copy no_trial seen =
+    let settings : Settings = old.worker.desk.settings in
+    let here = worker_without old.pass.number old.pass.seen new.pass.seen on settings old.worker worker in
     record {
-      request = request;
-      rest = parts.0;
-      work = parts.1;
-      is = planned player.pass.seen worker.copy
-          (subst (λ (n : ℕ). start ≡ drawn_start settings n (commits_of n player.pass.seen) (length player.worker.copy.board.table)) (sym same) begins)
-          ∙ ap (λ (n : ℕ). attempt_txn settings player.pass.seen n player.worker.copy.seen request) same
-          ∙ ap (λ (s : Settings). attempt_txn s player.pass.seen player.pass.number player.worker.copy.seen request) (sym worker.settings);
+      of = turn.of;
+      number = turn.number;
+      first_length = turn.first_length;
+      within = longer_without old.pass.number old.pass.seen new.pass.seen on;
+      worker = record {
+        settings = ap (λ (d : DeskState). d.settings) same;
+        scheduler = ap (λ (d : DeskState). d.scheduler) same ∙ worker.scheduler ∙ sym turn.number;
+        attempts = ap (λ (d : DeskState). d.attempts) same ∙ here.attempts ∙ ap (λ (n : ℕ). commits_of n new.pass.seen) (sym turn.number);
+        tries = subst (λ (d : DeskState). d.taken < settings.tries) (sym same) worker.tries;
+        copy = copy;
+        no_trial = no_trial;
+        seen = seen;
+      };
+      desk = λ trace rows opened_at within is.
+          subst (λ (d : DeskState). IsOwnDesk settings trace rows opened_at new.pass.seen new.pass.number d) (sym same)
+          (subst (λ (n : ℕ). IsOwnDesk settings trace rows opened_at new.pass.seen n old.worker.desk) (sym turn.number)
+          (desk_without old.pass.number old.pass.seen new.pass.seen on settings trace rows opened_at old.worker.desk within is));
+      commits = λ opened_at within stand.
+          subst (λ (n : ℕ). OwnMayStand settings opened_at n new.pass.seen) (sym turn.number)
+          (stand_without old.pass.number old.pass.seen new.pass.seen on settings opened_at stand);
     }
+
+-- what is planned on its copy at its desk is a player's attempt
+pub plans_first : (player : Player) (txn : Txn) → IsWorker player.worker.desk.settings player.pass.seen player.pass.number player.worker
+    → IsPlannedAt player.worker.desk player.worker.copy txn → PlansFirst player txn
+plans_first player txn worker planned =
+    subst (λ (n : ℕ). IsFirstAttempt player.worker.desk.settings player.pass.seen n player.worker.copy.seen player.worker.desk txn) worker.scheduler
+    (planned player.pass.seen worker.copy (worker.attempts ∙ ap (λ (n : ℕ). commits_of n player.pass.seen) (sym worker.scheduler)))
 
 -- what a commit was answered is for the first request at the desk
 pub takes_answers : (old : Player) → IsWorker old.worker.desk.settings old.pass.seen old.pass.number old.worker
@@ -201,7 +184,7 @@ module _ (old new : Player) (txn : Txn) (reply : Reply) (did : PlayerCommits old
       first_next.work first_next.moved)
 
   -- a player that commits plays on
-  pub plays_on_commit : PlaysOn settings old new
+  pub plays_on_commit : PlaysOn old new
   plays_on_commit =
       let more : length before ≤ length new.pass.seen = commit_longer in
       let first = longer in record {
@@ -222,17 +205,39 @@ module _ (old new : Player) (txn : Txn) (reply : Reply) (did : PlayerCommits old
         commit_longer = subst (λ (h : List Entry). length before ≤ length h) (sym did.commits.commit_seen)
             (let count = length-append before (commit_after before number old.worker.copy.seen txn ∷ []) in omega (arith, count))
 
+-- a player that plays on twice plays on
+pub plays_on_both : (old now new : Player) → PlaysOn old now → PlaysOn now new → PlaysOn old new
+plays_on_both old now new first second =
+    let same : now.worker.desk.settings ≡ old.worker.desk.settings = first.worker.settings in
+    let longer : length old.pass.seen ≤ length now.pass.seen = first.within in
+    let later : length now.pass.seen ≤ length new.pass.seen = second.within in
+    record {
+      of = second.of ∙ first.of;
+      number = second.number ∙ first.number;
+      first_length = second.first_length ∙ first.first_length;
+      within = omega (arith, longer, later);
+      worker = subst (λ (s : Settings). IsWorker s new.pass.seen new.pass.number new.worker) same second.worker;
+      desk = λ trace rows opened_at within is.
+          subst (λ (s : Settings). IsOwnDesk s trace rows opened_at new.pass.seen new.pass.number new.worker.desk) same
+          (second.desk trace rows opened_at (omega (arith, within, longer))
+          (subst (λ (s : Settings). IsOwnDesk s trace rows opened_at now.pass.seen now.pass.number now.worker.desk) (sym same) (first.desk trace rows opened_at within is)));
+      commits = λ opened_at within stand.
+          subst (λ (s : Settings). OwnMayStand s opened_at new.pass.number new.pass.seen) same
+          (second.commits opened_at (omega (arith, within, longer))
+          (subst (λ (s : Settings). OwnMayStand s opened_at now.pass.number now.pass.seen) (sym same) (first.commits opened_at within stand)));
+    }
+
 -- a player in the middle of its round: it has played on so far, may play on, and has met no want of memory since
-pub record IsPlaying (settings : Settings) (shared : TableId) (old now : Player) : Type 0 where
-  pub plays_on : PlaysOn settings old now
-  pub may_play : MayPlay settings shared now
+pub record IsPlaying (shared : TableId) (old now : Player) : Type 0 where
+  pub plays_on : PlaysOn old now
+  pub may_play : MayPlay shared now
   pub failed : now.failed ≡ old.failed
   pub spent : synced_of old.worker ≡ None → synced_of now.worker ≡ None
 
 -- at its end it has played, whether or not it had met want of memory before
-pub played_all : (chosen : Settings) (shared : TableId) (old now : Player) (failed : Bool) → IsPlaying chosen shared old now
-    → now.worker.desk.requests ≡ [] → HasPlayed chosen old (record { worker = now.worker; pass = now.pass; failed = failed })
-played_all chosen shared old now failed is none = record {
+pub played_all : (shared : TableId) (old now : Player) (failed : Bool) → IsPlaying shared old now
+    → now.worker.desk.requests ≡ [] → HasPlayed old (record { worker = now.worker; pass = now.pass; failed = failed })
+played_all shared old now failed is none = record {
   of = is.plays_on.of;
   number = is.plays_on.number;
   first_length = is.plays_on.first_length;

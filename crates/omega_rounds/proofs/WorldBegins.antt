@@ -271,7 +271,7 @@ module _ (settings : Settings) (all : List Round) (asked : Asked) (begun old_pla
       each_worker = λ number worker here.
           let found = begins.each number worker here in
           worker_later number found.0 worker (world.each_worker number found.0 found.1.0) found.1.1;
-      each_plan = λ number worker here. plan_none settings after number worker (begins.each number worker here).1.1.synced;
+      each_plan = λ number worker here. plan_none after worker (begins.each number worker here).1.1.synced;
       made = world.made;
       lawful = λ trace made. lawful_later trace made;
     }

@@ -282,7 +282,7 @@ module _ (stage : Stage) (tasks : List WantedTask) (before after : List Entry) (
     (world : IsWorld stage tasks before workers) (here : slice_get workers scheduler ≡ Some old) where
   -- a world after a step
   pub world_after : (stepped : Stepped) → scheduler < schedulers stage.settings
-      → IsWorker stage.settings after scheduler new → HasPlan stage.settings after scheduler new
+      → IsWorker stage.settings after scheduler new → HasPlan after new
       → WorkerSteps stage.settings scheduler before old after new stepped
       → IsWorld stage tasks after (set workers scheduler new)
   world_after stepped known now plan did = record {
@@ -291,14 +291,14 @@ module _ (stage : Stage) (tasks : List WantedTask) (before after : List Entry) (
     asked = world.asked;
     count = length-set workers scheduler new ∙ world.count;
     each_worker = each_after stage.settings before after scheduler old new stepped workers did now world.each_worker;
-    each_plan = plans_after stage.settings before after scheduler old new stepped workers did plan world.each_plan;
+    each_plan = plans_after stage.settings before after scheduler old new stepped workers did plan world.each_worker world.each_plan;
     made = world.made;
     lawful = λ trace made. lawful_after trace stage before after workers scheduler old new here made (world.lawful trace made) stepped did known;
   }
 
   -- a world in which a step failed
   pub world_kept : after ≡ before → new.desk ≡ old.desk → synced_of new ≡ synced_of old → IsWorker stage.settings after scheduler new
-      → HasPlan stage.settings after scheduler new → IsWorld stage tasks after (set workers scheduler new)
+      → HasPlan after new → IsWorld stage tasks after (set workers scheduler new)
   world_kept history desk synced now plan = subst (λ (h : List Entry). IsWorld stage tasks h (set workers scheduler new)) (sym history) (record {
     range = world.range;
     within = world.within;
@@ -312,8 +312,7 @@ module _ (stage : Stage) (tasks : List WantedTask) (before after : List Entry) (
     ];
     each_plan = λ number worker there. elim (set_cases workers scheduler new number worker there) [
       | inl same ↦
-          subst (λ (s : Worker). HasPlan stage.settings before number s) same.1
-          (subst (λ (n : ℕ). HasPlan stage.settings before n new) (sym same.0) (subst (λ (h : List Entry). HasPlan stage.settings h scheduler new) history plan))
+          subst (λ (s : Worker). HasPlan before s) same.1 (subst (λ (h : List Entry). HasPlan h new) history plan)
       | inr other ↦ world.each_plan number worker other.1
     ];
     made = world.made;

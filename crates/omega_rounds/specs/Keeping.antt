@@ -59,7 +59,7 @@ pub record IsWorld (stage : Stage) (tasks : List WantedTask) (history : List Ent
   pub asked : tasks ≡ wanted (rows_begun stage)
   pub count : length workers ≡ schedulers stage.settings
   pub each_worker : (scheduler : ℕ) (worker : Worker) → slice_get workers scheduler ≡ Some worker → IsWorker stage.settings history scheduler worker
-  pub each_plan : (scheduler : ℕ) (worker : Worker) → slice_get workers scheduler ≡ Some worker → HasPlan stage.settings history scheduler worker
+  pub each_plan : (scheduler : ℕ) (worker : Worker) → slice_get workers scheduler ≡ Some worker → HasPlan history worker
   pub made : (trace : TraceTables) × IsInRunOf stage trace
   pub lawful : (trace : TraceTables) → IsInRunOf stage trace → IsLawful trace stage history workers
 

@@ -1,36 +1,57 @@
 -- What a scheduler has planned.
 use Rattle.std.specs.Prelude.{◌≡◌, ◌≢◌, ◌≤◌, ◌<◌, ◌^◌, ℕ, List, [], Some, IfSome, length}
-use Rattle.omega_model.specs.Touches.{copied_seqs}
+use Rattle.omega_copy.specs.Copies.{CopyOf, CopyState}
 use Rattle.omega_desk.specs.Desks.{DeskState}
+use Rattle.omega_model.specs.Policy.{schedulers}
+use Rattle.omega_model.specs.Ranges.{IsInRange}
+use Rattle.omega_model.specs.Touches.{copied_seqs}
 use Rattle.omega_model.specs.Work.{commits_of}
+use Rattle.omega_model.specs.declared.claims.Txn.{Txn}
 use Rattle.omega_model.specs.declared.entries.Entry.{Entry}
-use Rattle.omega_model.specs.declared.settings.Settings.{Settings}
+use Rattle.omega_rounds.specs.Workers.{IsWorker}
 use Rattle.omega_rounds.specs.WorkerSteps.{IsFirstAttempt}
 use Rattle.omega_rounds.specs.declared.plans.Planned.{Planned}
 use Rattle.omega_rounds.specs.declared.worker.Worker.{Worker}
 
--- a scheduler is at its desk: the desk is the scheduler's, has had as many attempts as the history has
--- commits of it, and has a request left
-pub record IsAtDesk (settings : Settings) (history : List Entry) (scheduler : ℕ) (desk : DeskState) : Type 0 where
-  pub settings_are : desk.settings ≡ settings
-  pub scheduler_is : desk.scheduler ≡ scheduler
-  pub attempts : desk.attempts ≡ commits_of scheduler history
+-- the scheduler of a desk may plan: it is one of those of its settings, and a request is left
+pub record MayPlan (desk : DeskState) : Type 0 where
+  pub batch : desk.settings.batch ≤ 30
+  pub known : desk.scheduler < schedulers desk.settings
   pub work : desk.requests ≢ []
 
--- a plan is the scheduler's attempt on the first request that is left at its desk, after so many entries
+-- a desk has had as many attempts as a history has commits of its scheduler
+abbrev pub IsUpTo : List Entry → DeskState → Type 0
+IsUpTo history desk = desk.attempts ≡ commits_of desk.scheduler history
+
+-- a transaction is planned at a desk on a copy: it is the attempt of the desk's scheduler on the first request that
+-- is left there, after what the copy has seen, in each history for a front of which the copy stands and up to which
+-- the desk is
+abbrev pub IsPlannedAt : DeskState → CopyState → Txn → Type 0
+IsPlannedAt desk copy txn = (history : List Entry) → CopyOf copy history → IsUpTo history desk
+    → IsFirstAttempt desk.settings history desk.scheduler copy.seen desk txn
+
+-- a plan is the attempt of the desk's scheduler on the first request that is left there, after so many entries
 -- that it has seen, with the sequence numbers that the machines of its claims have there
-pub record IsPlan (settings : Settings) (history : List Entry) (scheduler seen : ℕ) (desk : DeskState) (plan : Planned) : Type 0 where
-  pub txn : IsFirstAttempt settings history scheduler seen desk plan.txn
+pub record IsPlan (history : List Entry) (seen : ℕ) (desk : DeskState) (plan : Planned) : Type 0 where
+  pub txn : IsFirstAttempt desk.settings history desk.scheduler seen desk plan.txn
   pub few : length plan.txn.claims < 2 ^ 32
   pub seqs : plan.seqs.items ≡ copied_seqs history seen plan.txn.claims
 
 -- a worker has its plan, after so many entries that its scheduler has seen
-pub record HasPlanAfter (settings : Settings) (history : List Entry) (scheduler : ℕ) (worker : Worker) (seen : ℕ) : Type 0 where
+pub record HasPlanAfter (history : List Entry) (worker : Worker) (seen : ℕ) : Type 0 where
   pub within : seen ≤ length history
   pub plan : Planned
   pub there : worker.planned ≡ Some plan
-  pub is_plan : IsPlan settings history scheduler seen worker.desk plan
+  pub is_plan : IsPlan history seen worker.desk plan
 
 -- where the scheduler of a worker has synced, the worker has its plan
-abbrev pub HasPlan : Settings → List Entry → ℕ → Worker → Type 0
-HasPlan settings history scheduler worker = IfSome worker.synced (HasPlanAfter settings history scheduler worker)
+abbrev pub HasPlan : List Entry → Worker → Type 0
+HasPlan history worker = IfSome worker.synced (HasPlanAfter history worker)
+
+-- a worker beside a history is ready for a step of the scheduler whose desk this is: it is that scheduler's
+-- under the desk's settings, and has its plan where it needs one
+pub record IsReady (desk : DeskState) (history : List Entry) (worker : Worker) : Type 0 where
+  pub range : IsInRange desk.settings
+  pub known : desk.scheduler < schedulers desk.settings
+  pub is_worker : IsWorker desk.settings history desk.scheduler worker
+  pub plan : HasPlan history worker

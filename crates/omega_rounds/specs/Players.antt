@@ -5,6 +5,7 @@ use Rattle.omega_desk.specs.Counts.{count_of}
 use Rattle.omega_desk.specs.Desks.{DeskState}
 use Rattle.omega_model.specs.Lawful.{MayCommit}
 use Rattle.omega_model.specs.Policy.{schedulers}
+use Rattle.omega_model.specs.Ranges.{IsInRange}
 use Rattle.omega_model.specs.Routing.{scheduler_of}
 use Rattle.omega_model.specs.Work.{HasLeft, Standing, standing_of}
 use Rattle.omega_model.specs.declared.entries.Entry.{Entry}
@@ -42,33 +43,34 @@ OwnMayStand settings opened_at scheduler history =
 
 -- a player may play in a round on this shared cell: its worker is that of its scheduler beside what its pass has
 -- seen, and its pass has two turns for each attempt that it can still make
-pub record MayPlay (settings : Settings) (shared : TableId) (player : Player) : Type 0 where
+pub record MayPlay (shared : TableId) (player : Player) : Type 0 where
   pub of : player.pass.of ≡ shared
-  pub known : player.pass.number < schedulers settings
-  pub worker : IsWorker settings player.pass.seen player.pass.number player.worker
+  pub range : IsInRange player.worker.desk.settings
+  pub known : player.pass.number < schedulers player.worker.desk.settings
+  pub worker : IsWorker player.worker.desk.settings player.pass.seen player.pass.number player.worker
   pub turns : 2 * to_do_of player.worker ≤ player.pass.turns
 
 -- a player has played: its pass has seen no less than before, and beside what it has seen its worker is still that of
 -- its scheduler, its desk is right wherever it was, and its commits may stand where they do wherever those
 -- before could. Unless it met want of memory, nothing is left at its desk, and its scheduler has not synced
 -- since its last commit, if it hadn't before
-pub record HasPlayed (settings : Settings) (old new : Player) : Type 0 where
+pub record HasPlayed (old new : Player) : Type 0 where
   pub of : new.pass.of ≡ old.pass.of
   pub number : new.pass.number ≡ old.pass.number
   pub first_length : new.pass.first_length ≡ old.pass.first_length
   pub within : length old.pass.seen ≤ length new.pass.seen
-  pub worker : IsWorker settings new.pass.seen new.pass.number new.worker
+  pub worker : IsWorker old.worker.desk.settings new.pass.seen new.pass.number new.worker
   pub desk : (trace : TraceTables) (rows : List Row) (opened_at : ℕ) → opened_at ≤ length old.pass.seen
-      → IsOwnDesk settings trace rows opened_at old.pass.seen old.pass.number old.worker.desk
-      → IsOwnDesk settings trace rows opened_at new.pass.seen new.pass.number new.worker.desk
+      → IsOwnDesk old.worker.desk.settings trace rows opened_at old.pass.seen old.pass.number old.worker.desk
+      → IsOwnDesk old.worker.desk.settings trace rows opened_at new.pass.seen new.pass.number new.worker.desk
   pub commits : (opened_at : ℕ) → opened_at ≤ length old.pass.seen
-      → OwnMayStand settings opened_at old.pass.number old.pass.seen
-      → OwnMayStand settings opened_at new.pass.number new.pass.seen
+      → OwnMayStand old.worker.desk.settings opened_at old.pass.number old.pass.seen
+      → OwnMayStand old.worker.desk.settings opened_at new.pass.number new.pass.seen
   pub no_work : new.failed ≡ false → new.worker.desk.requests ≡ []
   pub spent : new.failed ≡ false → old.failed ≡ false → synced_of old.worker ≡ None → synced_of new.worker ≡ None
 
 -- each of some players has played, in its place
-pub record HavePlayed (settings : Settings) (old new : List Player) : Type 0 where
+pub record HavePlayed (old new : List Player) : Type 0 where
   pub count : length new ≡ length old
   pub each : (place : ℕ) (player : Player) → slice_get old place ≡ Some player
-      → (after : Player) × ((slice_get new place ≡ Some after) × HasPlayed settings player after)
+      → (after : Player) × ((slice_get new place ≡ Some after) × HasPlayed player after)

@@ -6,7 +6,6 @@ use Rattle.omega_model.specs.Ranges.{IsInRange}
 use Rattle.omega_model.specs.declared.claims.Txn.{Txn}
 use Rattle.omega_model.specs.declared.rows.Row.{Row}
 use Rattle.omega_model.specs.declared.rows.TraceTables.{TraceTables}
-use Rattle.omega_model.specs.declared.settings.Settings.{Settings}
 use Rattle.omega_rounds.specs.Players.{IsOwnDesk, OwnMayStand}
 use Rattle.omega_rounds.specs.WorkerSteps.{IsFirstAttempt}
 use Rattle.omega_rounds.specs.Workers.{IsWorker, synced_of}
@@ -15,18 +14,18 @@ use Rattle.omega_rounds.specs.declared.player.Player.{Player}
 -- a player plays on: its pass is the same one and has seen no less than before. Beside that its worker is still that of its
 -- scheduler, its desk is right wherever it was, and its commits may stand where they do wherever those before
 -- could
-pub record PlaysOn (settings : Settings) (old new : Player) : Type 0 where
+pub record PlaysOn (old new : Player) : Type 0 where
   pub of : new.pass.of ≡ old.pass.of
   pub number : new.pass.number ≡ old.pass.number
   pub first_length : new.pass.first_length ≡ old.pass.first_length
   pub within : length old.pass.seen ≤ length new.pass.seen
-  pub worker : IsWorker settings new.pass.seen new.pass.number new.worker
+  pub worker : IsWorker old.worker.desk.settings new.pass.seen new.pass.number new.worker
   pub desk : (trace : TraceTables) (rows : List Row) (opened_at : ℕ) → opened_at ≤ length old.pass.seen
-      → IsOwnDesk settings trace rows opened_at old.pass.seen old.pass.number old.worker.desk
-      → IsOwnDesk settings trace rows opened_at new.pass.seen new.pass.number new.worker.desk
+      → IsOwnDesk old.worker.desk.settings trace rows opened_at old.pass.seen old.pass.number old.worker.desk
+      → IsOwnDesk old.worker.desk.settings trace rows opened_at new.pass.seen new.pass.number new.worker.desk
   pub commits : (opened_at : ℕ) → opened_at ≤ length old.pass.seen
-      → OwnMayStand settings opened_at old.pass.number old.pass.seen
-      → OwnMayStand settings opened_at new.pass.number new.pass.seen
+      → OwnMayStand old.worker.desk.settings opened_at old.pass.number old.pass.seen
+      → OwnMayStand old.worker.desk.settings opened_at new.pass.number new.pass.seen
 
 -- a transaction is a player's attempt on the first request that is left at its desk, planned on its copy
 abbrev pub PlansFirst : Player → Txn → Type 0

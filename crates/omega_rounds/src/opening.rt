@@ -2,7 +2,6 @@
 ghost use Rattle.std.specs.Prelude.{◌≡◌, ◌≤◌, ◌<◌, ◌^◌, ◌++◌, ◌∷◌, [], true, All, List, drop, length, position, IfSome, IsTrue, OnOk};
 ghost use Rattle.std.specs.List.{fold};
 ghost use Rattle.omega_board.specs.Board.{cell_of};
-ghost use Rattle.omega_model.specs.Touches.{is_commit};
 ghost use Rattle.omega_feed.specs.Open.{OthersAreQuiet};
 ghost use Rattle.omega_model.specs.Applying.{ListsOrHasRoom, machine_in};
 ghost use Rattle.omega_model.specs.Lawful.{opened};
@@ -11,10 +10,9 @@ ghost use Rattle.omega_model.specs.RowEntries.{row_entries};
 ghost use Rattle.omega_model.specs.Wanted.{wanted as wanted_tasks, wanted_after};
 ghost use Rattle.omega_model.specs.declared.rows.Row.{Row};
 ghost use Rattle.omega_model.specs.declared.rows.TraceTables.{TraceTables};
-ghost use Rattle.omega_rounds.specs.Keeping.{WereQuiet};
 ghost use Rattle.omega_rounds.specs.Opening.{BeginAll, HaveNoWork, IsAsked, MayFeed, MayFeedAll, has_work};
 
-use crate::reopening::{reopen_since, reopen_stopped};
+use crate::reopening::reopen_stopped;
 use crate::worker::Worker;
 use omega_board::Board;
 use omega_cell::Cell;
@@ -22,38 +20,47 @@ use omega_feed::{OpenJobs, Wanted};
 use omega_model::{Entries, Entry, MOST_MACHINES, NoMemory, Round, Row};
 use std::alloc::Global;
 
-/// Opens a round: appends its entry and those of its rows to the cell, after a place behind which all
-/// entries are commits, and hands each scheduler, which has no work, what it is asked to place then. Only
-/// the jobs of which something may have to be placed are open afterwards. Costs the entries since that
-/// place, the rows, what their entries change, the wanted tasks of the open jobs, and for each scheduler
-/// a look at the open jobs.
+/// What a trace asks for, and the jobs of which something of that may have to be placed.
+#[derive(Drop)]
+pub(crate) struct Demand {
+    pub wanted: Wanted,
+    pub open_jobs: OpenJobs,
+}
+
+/// Opens a round: appends its entry and those of its rows to the cell, and hands each scheduler, which has
+/// no work, what it is asked to place then. Only the jobs of which something may have to be placed are open
+/// afterwards. Costs the rows, what their entries change, the wanted tasks of the open jobs, and for each
+/// scheduler a look at the open jobs.
 pub(crate) fn open_round(
     alloc: Global,
-    opened_at: usize,
     round: &Round,
-    wanted: &mut Wanted,
-    open_jobs: &mut OpenJobs,
+    demand: &mut Demand,
     cell: &mut Cell,
     workers: &mut Vec<Worker>,
 ) -> Result<(), NoMemory>
-    requires within { opened_at ≤ length cell.old.history }
-    requires commits { All (λ entry. is_commit entry ≡ true) (drop opened_at cell.old.history) }
-    requires quiet { WereQuiet open_jobs.old wanted.old opened_at cell.old.history }
-    requires asked { IsAsked (record wanted.old { tasks = fold wanted_after wanted.old.tasks round.now.rows }) }
+    requires quiet { OthersAreQuiet demand.old.open_jobs demand.old.wanted (state cell.old.history).tasks }
+    requires asked { IsAsked (record demand.old.wanted { tasks = fold wanted_after demand.old.wanted.tasks round.now.rows }) }
     requires few { length workers.old.items < 2 ^ 32 }
     requires no_work { HaveNoWork workers.old.items }
-    ensures history { (trace : TraceTables) (rows : List Row) → wanted.old.disks ≡ trace.disks
-        → wanted.old.tasks ≡ wanted_tasks rows
+    ensures history { (trace : TraceTables) (rows : List Row) → demand.old.wanted.disks ≡ trace.disks
+        → demand.old.wanted.tasks ≡ wanted_tasks rows
         → OnOk result (cell.new.history ≡ (opened trace rows cell.old.history round.now).history) }
-    ensures wanted { OnOk result (wanted.new
-        ≡ record wanted.old { tasks = fold wanted_after wanted.old.tasks round.now.rows }) }
-    ensures quiet { OnOk result (OthersAreQuiet open_jobs.new wanted.new (state cell.new.history).tasks) }
-    ensures workers { OnOk result (BeginAll wanted.new cell.new.history workers.old.items workers.new.items) }
+    ensures wanted { OnOk result (demand.new.wanted
+        ≡ record demand.old.wanted { tasks = fold wanted_after demand.old.wanted.tasks round.now.rows }) }
+    ensures quiet { OnOk result (OthersAreQuiet demand.new.open_jobs demand.new.wanted (state cell.new.history).tasks) }
+    ensures workers { OnOk result (BeginAll demand.new.wanted cell.new.history workers.old.items workers.new.items) }
 {
-    reopen_since(open_jobs, wanted, cell, opened_at)?;
-    open(alloc, cell, wanted, open_jobs, round)?;
-    open_jobs.settle(alloc, wanted, cell.board())?;
-    begin_all(alloc, workers, wanted, open_jobs, cell)?;
+    open(
+        alloc,
+        cell,
+        &mut demand.wanted,
+        &mut demand.open_jobs,
+        round,
+    )?;
+    demand
+        .open_jobs
+        .settle(alloc, &demand.wanted, cell.board())?;
+    begin_all(alloc, workers, &demand.wanted, &demand.open_jobs, cell)?;
     Ok(())
 }
 

@@ -1,36 +1,39 @@
-//! What a scheduler plans for a request.
-ghost use Rattle.std.specs.Prelude.{◌≡◌, ◌<◌, ◌≤◌, List, None, length, IfOk};
-ghost use Rattle.omega_copy.specs.Copies.{CopyOf};
+//! What a scheduler plans on a copy.
+ghost use Rattle.std.specs.Prelude.{◌≡◌, ◌≤◌, ◌<◌, ◌^◌, None, length, IfOk};
 ghost use Rattle.omega_model.specs.Draws.{drawn_start};
-ghost use Rattle.omega_model.specs.Policy.{schedulers};
-ghost use Rattle.omega_model.specs.Work.{commits_of};
-ghost use Rattle.omega_model.specs.declared.entries.Entry.{Entry};
-ghost use Rattle.omega_laws.specs.NextCommit.{attempt_txn};
+ghost use Rattle.omega_rounds.specs.Plans.{IsPlannedAt, MayPlan};
 
 use omega_copy::PrivateCopy;
-use omega_model::{NoMemory, Request, Settings, Txn};
+use omega_desk::Desk;
+use omega_model::{NoMemory, Txn};
 use omega_plan::plan;
 use std::alloc::Global;
 
-/// The transaction of a scheduler's attempt on a request, planned on what its copy has seen, from the
-/// place in the list of machines at which the attempt begins. The copy is as before in both cases.
+/// The transaction of an attempt on the first request that is left at a desk, planned on what a copy of its
+/// scheduler has seen. One of 2^32 claims or more is want of memory. The copy is as before in both cases.
 /// Costs the plan.
-pub(crate) fn planned(
-    alloc: Global,
-    settings: &Settings,
-    scheduler: u32,
-    copy: &mut PrivateCopy,
-    request: &Request,
-    start: usize,
-) -> Result<Txn, NoMemory>
-    requires batch { settings.now.batch ≤ 30 }
-    requires known { scheduler < schedulers settings.now }
+pub(crate) fn planned(alloc: Global, desk: &Desk, copy: &mut PrivateCopy) -> Result<Txn, NoMemory>
+    requires may { MayPlan desk.now }
     requires no_trial { copy.old.trial ≡ None }
-    requires start { start ≤ length copy.old.board.table }
-    ensures txn { IfOk result (λ txn. (history : List Entry) → CopyOf copy.old history
-        → start ≡ drawn_start settings.now scheduler (commits_of scheduler history) (length copy.old.board.table)
-        → txn ≡ attempt_txn settings.now history scheduler copy.old.seen request.now) }
+    ensures txn { IfOk result (IsPlannedAt desk.now copy.old) }
+    ensures few { IfOk result (λ txn. length txn.claims < 2 ^ 32) }
     ensures copy { copy.new ≡ copy.old }
 {
-    plan(alloc, copy, request, start, &settings.policy(scheduler))
+    let start = start_on(desk, copy);
+    let Some(request) = desk.present() else {
+        unreachable!()
+    };
+    let txn = plan(alloc, copy, request, start, &desk.policy())?;
+    if txn.claims.len() > u32::MAX as usize {
+        return Err(NoMemory);
+    }
+    Ok(txn)
+}
+
+/// The place in a copy's list of machines at which a desk's present attempt begins.
+fn start_on(desk: &Desk, copy: &PrivateCopy) -> usize
+    ensures drawn { result ≡ drawn_start desk.now.settings desk.now.scheduler desk.now.attempts (length copy.now.board.table) }
+    ensures within { result ≤ length copy.now.board.table }
+{
+    desk.start(copy.board().machines().len())
 }

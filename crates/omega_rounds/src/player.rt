@@ -7,9 +7,9 @@ ghost use Rattle.omega_rounds.specs.PlayingOn.{IsSynced, PlansFirst, PlaysOn};
 ghost use Rattle.omega_rounds.specs.Workers.{IsWorker, synced_of, to_do_of};
 
 use crate::planned::planned;
-use crate::worker::{Worker, start_on};
+use crate::worker::Worker;
 use omega_io::{Gate, Point};
-use omega_model::{NoMemory, Settings, Txn};
+use omega_model::{NoMemory, Txn};
 use omega_shared::{Pass, SharedCell};
 use std::alloc::Global;
 use std::sync::Wait;
@@ -26,20 +26,12 @@ impl Player {
     /// Makes attempts until nothing is left at the desk: each is a sync, a plan on the copy and a
     /// commit, and the gate is asked after each of the three. Nothing is planned under a turn. Where
     /// memory runs out, the scheduler takes no further turn. May wait.
-    pub fn play<R: Wait, G: Gate>(
-        &mut self,
-        rt: &R,
-        alloc: Global,
-        settings: &Settings,
-        shared: &SharedCell,
-        gate: &G,
-    )
-        requires range { IsInRange settings.now }
-        requires may_play { MayPlay settings.now shared.now.of self.old }
-        ensures played { HasPlayed settings.now self.old self.new }
+    pub fn play<R: Wait, G: Gate>(&mut self, rt: &R, alloc: Global, shared: &SharedCell, gate: &G)
+        requires may_play { MayPlay shared.now.of self.old }
+        ensures played { HasPlayed self.old self.new }
     {
         while self.worker.desk.present().is_some() {
-            if self.attempt(rt, alloc, settings, shared, gate).is_err() {
+            if self.attempt(rt, alloc, shared, gate).is_err() {
                 self.failed = true;
                 return;
             }
@@ -51,15 +43,13 @@ impl Player {
         &mut self,
         rt: &R,
         alloc: Global,
-        settings: &Settings,
         shared: &SharedCell,
         gate: &G,
     ) -> Result<(), NoMemory>
-        requires range { IsInRange settings.now }
-        requires may_play { MayPlay settings.now shared.now.of self.old }
+        requires may_play { MayPlay shared.now.of self.old }
         requires work { self.old.worker.desk.requests ≢ [] }
-        ensures plays_on { PlaysOn settings.now self.old self.new }
-        ensures may_play { OnOk result (MayPlay settings.now shared.now.of self.new) }
+        ensures plays_on { PlaysOn self.old self.new }
+        ensures may_play { OnOk result (MayPlay shared.now.of self.new) }
         ensures fewer { OnOk result (to_do_of self.new.worker < to_do_of self.old.worker) }
         ensures spent { OnOk result (synced_of self.new.worker ≡ None) }
         ensures failed { self.new.failed ≡ self.old.failed }
@@ -67,7 +57,7 @@ impl Player {
         let number = self.pass.number();
         self.sync(rt, alloc, shared)?;
         gate.at(number, Point::Synced);
-        let txn = self.plan(alloc, settings)?;
+        let txn = self.plan(alloc)?;
         gate.at(number, Point::Planned);
         self.commit(rt, alloc, shared, txn)?;
         gate.at(number, Point::Committed);
@@ -79,7 +69,7 @@ impl Player {
         requires of { self.old.pass.of ≡ shared.now.of }
         requires left { 0 < self.old.pass.turns }
         requires worker { IsWorker self.old.worker.desk.settings self.old.pass.seen self.old.pass.number self.old.worker }
-        ensures plays_on { PlaysOn self.old.worker.desk.settings self.old self.new }
+        ensures plays_on { PlaysOn self.old self.new }
         ensures turn { self.new.pass.turns + 1 ≡ self.old.pass.turns }
         ensures desk { self.new.worker.desk ≡ self.old.worker.desk }
         ensures all { OnOk result (synced_of self.new.worker ≡ Some (length self.new.pass.seen)) }
@@ -94,24 +84,18 @@ impl Player {
 
     /// The transaction of an attempt on the first request that is left, planned on the copy. One of
     /// 2^32 claims or more is want of memory, and so is one after 2^64 - 1 entries.
-    fn plan(&mut self, alloc: Global, settings: &Settings) -> Result<Txn, NoMemory>
-        requires range { IsInRange settings.now }
-        requires known { self.old.pass.number < schedulers settings.now }
-        requires worker { IsWorker settings.now self.old.pass.seen self.old.pass.number self.old.worker }
+    fn plan(&mut self, alloc: Global) -> Result<Txn, NoMemory>
+        requires range { IsInRange self.old.worker.desk.settings }
+        requires known { self.old.pass.number < schedulers self.old.worker.desk.settings }
+        requires worker { IsWorker self.old.worker.desk.settings self.old.pass.seen self.old.pass.number self.old.worker }
         requires work { self.old.worker.desk.requests ≢ [] }
         ensures same { self.new ≡ self.old }
         ensures plans { IfOk result (λ txn. PlansFirst self.old txn) }
         ensures few { IfOk result (λ txn. length txn.claims < 2 ^ 32) }
         ensures short { OnOk result (self.old.worker.copy.seen + 1 < 2 ^ 64) }
     {
-        let number = self.pass.number();
-        let start = start_on(&self.worker.desk, &self.worker.copy);
-        let Some(request) = self.worker.desk.present() else {
-            unreachable!()
-        };
-        let copy = &mut self.worker.copy;
-        let txn = planned(alloc, settings, number, copy, request, start)?;
-        if txn.claims.len() > u32::MAX as usize || self.worker.copy.seen() == u64::MAX {
+        let txn = planned(alloc, &self.worker.desk, &mut self.worker.copy)?;
+        if self.worker.copy.seen() == u64::MAX {
             return Err(NoMemory);
         }
         Ok(txn)
@@ -130,7 +114,7 @@ impl Player {
         requires plans { PlansFirst self.old txn }
         requires few { length txn.claims < 2 ^ 32 }
         requires short { self.old.worker.copy.seen + 1 < 2 ^ 64 }
-        ensures plays_on { PlaysOn self.old.worker.desk.settings self.old self.new }
+        ensures plays_on { PlaysOn self.old self.new }
         ensures turn { self.new.pass.turns + 1 ≡ self.old.pass.turns }
         ensures fewer { OnOk result (to_do_of self.new.worker < to_do_of self.old.worker) }
         ensures spent { OnOk result (synced_of self.new.worker ≡ None) }

@@ -84,7 +84,7 @@ pub(crate) fn play_shared<R: Threads + Wait + Sync, G: Gate + Sync>(
     let passes_room = Vec::with_capacity(alloc, workers.len())?;
     let (shared, passes) = share(rt, alloc, cell, callers, turns)?;
     let mut players = players_of(workers, passes, players);
-    play_all(rt, alloc, settings, &shared, &mut players, gate);
+    play_all(rt, alloc, &shared, &mut players, gate);
     if any_failed(&players) {
         return Err(NoMemory);
     }

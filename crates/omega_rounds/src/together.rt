@@ -1,12 +1,10 @@
 //! Players that play at the same time, each on a thread of its own.
 ghost use Rattle.std.specs.Prelude.{◌≡◌, All};
 ghost use Rattle.std.specs.Thread.{IsSync};
-ghost use Rattle.omega_model.specs.Ranges.{IsInRange};
 ghost use Rattle.omega_rounds.specs.Players.{HavePlayed, MayPlay};
 
 use crate::player::Player;
 use omega_io::Gate;
-use omega_model::Settings;
 use omega_shared::SharedCell;
 use std::alloc::Global;
 use std::sync::Wait;
@@ -17,21 +15,19 @@ use std::thread::{Threads, join_mut};
 pub(crate) fn play_all<R: Threads + Wait + Sync, G: Gate + Sync>(
     rt: &R,
     alloc: Global,
-    settings: &Settings,
     shared: &SharedCell,
     players: &mut [Player],
     gate: &G,
 )
-    requires range { IsInRange settings.now }
     requires sync { IsSync R.row × IsSync G.row }
-    requires may_play { All (MayPlay settings.now shared.now.of) players.old }
-    ensures played { HavePlayed settings.now players.old players.new }
+    requires may_play { All (MayPlay shared.now.of) players.old }
+    ensures played { HavePlayed players.old players.new }
 {
     if players.len() == 0 {
         return;
     }
     if players.len() == 1 {
-        players[0].play(rt, alloc, settings, shared, gate);
+        players[0].play(rt, alloc, shared, gate);
         return;
     }
     let half = players.len() / 2;
@@ -39,16 +35,14 @@ pub(crate) fn play_all<R: Threads + Wait + Sync, G: Gate + Sync>(
     join_mut(
         rt,
         &mut ||
-            requires range { IsInRange settings.now }
             requires sync { IsSync R.row × IsSync G.row }
-            requires may_play { All (MayPlay settings.now shared.now.of) left.now }
-            ensures played { HavePlayed settings.entry.now left.entry.now left.exit.now }
-        { play_all(rt, alloc, settings, shared, left, gate) },
+            requires may_play { All (MayPlay shared.now.of) left.now }
+            ensures played { HavePlayed left.entry.now left.exit.now }
+        { play_all(rt, alloc, shared, left, gate) },
         &mut ||
-            requires range { IsInRange settings.now }
             requires sync { IsSync R.row × IsSync G.row }
-            requires may_play { All (MayPlay settings.now shared.now.of) right.now }
-            ensures played { HavePlayed settings.entry.now right.entry.now right.exit.now }
-        { play_all(rt, alloc, settings, shared, right, gate) },
+            requires may_play { All (MayPlay shared.now.of) right.now }
+            ensures played { HavePlayed right.entry.now right.exit.now }
+        { play_all(rt, alloc, shared, right, gate) },
     );
 }

@@ -1,15 +1,13 @@
 //! A scheduler's worker: its desk, its copy of the cell, and its plan.
-ghost use Rattle.std.specs.Prelude.{◌≡◌, ◌≢◌, ◌≤◌, ◌<◌, [], None, Some, length, IfOk, OnOk, OnErr};
+ghost use Rattle.std.specs.Prelude.{◌≡◌, ◌≢◌, [], None, Some, IfOk, OnOk, OnErr};
 ghost use Rattle.std.specs.List.{All};
 ghost use Rattle.omega_copy.specs.Indexes.{AreIndexesOf};
 ghost use Rattle.omega_desk.specs.Desks.{IsSameDesk, left_at, still_tried};
 ghost use Rattle.omega_desk.specs.Walks.{HasDistinctWishes};
 ghost use Rattle.omega_laws.specs.VirtualTime.{first_wishes};
-ghost use Rattle.omega_model.specs.Draws.{drawn_start};
-ghost use Rattle.omega_model.specs.Policy.{schedulers};
 ghost use Rattle.omega_model.specs.Ranges.{IsInRange};
 ghost use Rattle.omega_model.specs.Work.{fresh};
-ghost use Rattle.omega_rounds.specs.Plans.{HasPlan};
+ghost use Rattle.omega_rounds.specs.Plans.{IsReady};
 ghost use Rattle.omega_rounds.specs.Workers.{IsWorker};
 ghost use Rattle.omega_rounds.specs.WorkerSteps.{CommitsFirst, WorkerSteps, SyncsWorker};
 
@@ -81,20 +79,15 @@ impl Worker {
     pub fn step(
         &mut self,
         alloc: Global,
-        settings: &Settings,
-        scheduler: u32,
         indexes: &mut Indexes,
         cell: &mut Cell,
     ) -> Result<Stepped, NoMemory>
-        requires range { IsInRange settings.now }
-        requires known { scheduler < schedulers settings.now }
-        requires worker { IsWorker settings.now cell.old.history scheduler self.old }
-        requires plan { HasPlan settings.now cell.old.history scheduler self.old }
+        requires ready { IsReady self.old.desk cell.old.history self.old }
         requires indexes { AreIndexesOf cell.old.history indexes.old }
-        ensures worker { IsWorker settings.now cell.new.history scheduler self.new }
-        ensures plan { HasPlan settings.now cell.new.history scheduler self.new }
+        ensures ready { IsReady self.old.desk cell.new.history self.new }
         ensures indexes { AreIndexesOf cell.new.history indexes.new }
-        ensures step { IfOk result (λ stepped. WorkerSteps settings.now scheduler cell.old.history self.old cell.new.history self.new stepped) }
+        ensures step { IfOk result (λ stepped.
+            WorkerSteps self.old.desk.settings self.old.desk.scheduler cell.old.history self.old cell.new.history self.new stepped) }
         ensures err { OnErr result (cell.new.history ≡ cell.old.history) }
         ensures desk { OnErr result (self.new.desk ≡ self.old.desk) }
         ensures synced { OnErr result (self.new.synced ≡ self.old.synced) }
@@ -103,10 +96,10 @@ impl Worker {
             return Ok(Stepped::Idle);
         }
         let Some(seen) = self.synced else {
-            self.sync(alloc, settings, scheduler, indexes, cell)?;
+            self.sync(alloc, indexes, cell)?;
             return Ok(Stepped::Synced);
         };
-        let place = self.commit(alloc, settings, scheduler, seen, cell)?;
+        let place = self.commit(alloc, seen, cell)?;
         Ok(Stepped::Committed(place))
     }
 
@@ -115,26 +108,21 @@ impl Worker {
     fn sync(
         &mut self,
         alloc: Global,
-        settings: &Settings,
-        scheduler: u32,
         indexes: &mut Indexes,
         cell: &mut Cell,
     ) -> Result<(), NoMemory>
-        requires range { IsInRange settings.now }
-        requires known { scheduler < schedulers settings.now }
-        requires worker { IsWorker settings.now cell.old.history scheduler self.old }
+        requires ready { IsReady self.old.desk cell.old.history self.old }
         requires indexes { AreIndexesOf cell.old.history indexes.old }
         requires synced { self.old.synced ≡ None }
         requires work { self.old.desk.requests ≢ [] }
-        ensures worker { IsWorker settings.now cell.new.history scheduler self.new }
-        ensures plan { HasPlan settings.now cell.new.history scheduler self.new }
+        ensures ready { IsReady self.old.desk cell.new.history self.new }
         ensures indexes { AreIndexesOf cell.new.history indexes.new }
         ensures syncs { OnOk result (SyncsWorker cell.old.history self.old cell.new.history self.new) }
         ensures err { OnErr result (cell.new.history ≡ cell.old.history) }
         ensures desk { OnErr result (self.new.desk ≡ self.old.desk) }
         ensures unsynced { OnErr result (self.new.synced ≡ self.old.synced) }
     {
-        let plan = plan_first(alloc, settings, scheduler, &self.desk, indexes, cell)?;
+        let plan = plan_first(alloc, &self.desk, indexes, cell)?;
         self.planned = Some(plan);
         self.synced = Some(cell.history().len() as u64);
         Ok(())
@@ -142,21 +130,12 @@ impl Worker {
 
     /// Commits the plan, which was made after so many entries that were seen. Answers the place of the commit.
     /// Where memory runs out nothing has changed but the cell's room.
-    fn commit(
-        &mut self,
-        alloc: Global,
-        settings: &Settings,
-        scheduler: u32,
-        seen: u64,
-        cell: &mut Cell,
-    ) -> Result<u64, NoMemory>
-        requires tries { 1 ≤ settings.now.tries }
-        requires worker { IsWorker settings.now cell.old.history scheduler self.old }
-        requires plan { HasPlan settings.now cell.old.history scheduler self.old }
+    fn commit(&mut self, alloc: Global, seen: u64, cell: &mut Cell) -> Result<u64, NoMemory>
+        requires ready { IsReady self.old.desk cell.old.history self.old }
         requires synced { self.old.synced ≡ Some seen }
-        ensures worker { IsWorker settings.now cell.new.history scheduler self.new }
-        ensures plan { HasPlan settings.now cell.new.history scheduler self.new }
-        ensures commits { IfOk result (λ place. CommitsFirst settings.now scheduler cell.old.history self.old cell.new.history self.new place) }
+        ensures ready { IsReady self.old.desk cell.new.history self.new }
+        ensures commits { IfOk result (λ place.
+            CommitsFirst self.old.desk.settings self.old.desk.scheduler cell.old.history self.old cell.new.history self.new place) }
         ensures err { OnErr result (cell.new.history ≡ cell.old.history) }
         ensures desk { OnErr result (self.new.desk ≡ self.old.desk) }
         ensures spent { OnErr result (self.new.synced ≡ self.old.synced) }
@@ -166,6 +145,7 @@ impl Worker {
         };
         match cell.reserve(alloc, txn) {
             Ok(prepared) => {
+                let scheduler = self.desk.scheduler();
                 let reply = cell.commit(scheduler, seen, &seqs, prepared);
                 self.desk.take(&reply);
                 self.synced = None;
@@ -177,12 +157,4 @@ impl Worker {
             }
         }
     }
-}
-
-/// The place in a copy's list of machines at which a desk's present attempt begins.
-pub(crate) fn start_on(desk: &Desk, copy: &PrivateCopy) -> usize
-    ensures drawn { result ≡ drawn_start desk.now.settings desk.now.scheduler desk.now.attempts (length copy.now.board.table) }
-    ensures within { result ≤ length copy.now.board.table }
-{
-    desk.start(copy.board().machines().len())
 }

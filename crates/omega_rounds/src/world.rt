@@ -20,7 +20,8 @@ ghost use Rattle.omega_rounds.specs.Opening.{AreNewWorkers};
 ghost use Rattle.omega_rounds.specs.Playing.{IsAtStart, IsInSomeRun};
 ghost use Rattle.omega_rounds.specs.Stages.{AllHaveBegun, IsInRunOf, first_stage, rows_begun, world_of};
 
-use crate::opening::{first_at_work, open_round};
+use crate::opening::{Demand, first_at_work, open_round};
+use crate::reopening::reopen_since;
 use crate::steps::{RoundStep, Stepped};
 use crate::threads::play_shared;
 use crate::worker::Worker;
@@ -50,9 +51,8 @@ pub struct World {
     begun: usize,
     /// The place in the history after the rows of the last round that has begun.
     opened_at: usize,
-    wanted: Wanted,
-    /// The jobs of which something may have to be placed. All others were quiet at `opened_at`.
-    open_jobs: OpenJobs,
+    /// The jobs that aren't open in it were quiet at `opened_at`.
+    demand: Demand,
     cell: Cell,
     workers: Vec<Worker>,
     /// What a plan needs beside the cell's board.
@@ -69,10 +69,10 @@ impl Model for World {
 
     ghost Value = { WorldState };
 
-    ghost view = { λ w. record { stage = stage_of w.settings w.rounds w.wanted w.begun w.opened_at; history = w.cell.history; synced = map synced_of w.workers.items; to_do = sum_by to_do_of w.workers.items } };
+    ghost view = { λ w. record { stage = stage_of w.settings w.rounds w.demand.wanted w.begun w.opened_at; history = w.cell.history; synced = map synced_of w.workers.items; to_do = sum_by to_do_of w.workers.items } };
 
-    ghost invariant = { λ w. IsWorld (stage_of w.settings w.rounds w.wanted w.begun w.opened_at) w.wanted.tasks w.cell.history w.workers.items
-        × WereQuiet w.open_jobs w.wanted w.opened_at w.cell.history
+    ghost invariant = { λ w. IsWorld (stage_of w.settings w.rounds w.demand.wanted w.begun w.opened_at) w.demand.wanted.tasks w.cell.history w.workers.items
+        × WereQuiet w.demand.open_jobs w.demand.wanted w.opened_at w.cell.history
         × AreIndexesOf w.cell.history w.indexes };
 }
 
@@ -95,8 +95,10 @@ impl World {
             rounds,
             begun: 0,
             opened_at: 0,
-            wanted,
-            open_jobs: OpenJobs::new(alloc),
+            demand: Demand {
+                wanted,
+                open_jobs: OpenJobs::new(alloc),
+            },
             cell: Cell::new(alloc),
             workers,
             indexes: Indexes::new(alloc),
@@ -123,7 +125,7 @@ impl World {
         ensures end { (trace : TraceTables) → IsInRunOf self.now.stage trace → AllHaveBegun self.now.stage
             → IfOk result (IsLeft trace (state self.now.history)) }
     {
-        self.wanted.left(self.alloc, self.cell.board())
+        self.demand.wanted.left(self.alloc, self.cell.board())
     }
 
     /// The history itself.
@@ -192,8 +194,7 @@ impl World {
             rounds,
             begun,
             opened_at,
-            mut wanted,
-            mut open_jobs,
+            mut demand,
             mut cell,
             mut workers,
             indexes,
@@ -202,15 +203,8 @@ impl World {
             unreachable!()
         };
         let number = round.number;
-        open_round(
-            alloc,
-            opened_at,
-            round,
-            &mut wanted,
-            &mut open_jobs,
-            &mut cell,
-            &mut workers,
-        )?;
+        reopen_since(&mut demand.open_jobs, &demand.wanted, &cell, opened_at)?;
+        open_round(alloc, round, &mut demand, &mut cell, &mut workers)?;
         let opened_at = cell.history().len();
         let world = World {
             alloc,
@@ -218,8 +212,7 @@ impl World {
             rounds,
             begun: begun + 1,
             opened_at,
-            wanted,
-            open_jobs,
+            demand,
             cell,
             workers,
             indexes,
@@ -241,15 +234,8 @@ impl World {
         ensures err { OnErr result (self.new ≡ self.old) }
     {
         let alloc = self.alloc;
-        let settings = self.settings;
         let worker = &mut self.workers[scheduler as usize];
-        let stepped = worker.step(
-            alloc,
-            &settings,
-            scheduler,
-            &mut self.indexes,
-            &mut self.cell,
-        )?;
+        let stepped = worker.step(alloc, &mut self.indexes, &mut self.cell)?;
         Ok(stepped)
     }
 
@@ -279,8 +265,7 @@ impl World {
             rounds,
             begun,
             opened_at,
-            wanted,
-            open_jobs,
+            demand,
             cell,
             workers,
             indexes,
@@ -292,8 +277,7 @@ impl World {
             rounds,
             begun,
             opened_at,
-            wanted,
-            open_jobs,
+            demand,
             cell,
             workers,
             indexes,

@@ -1,7 +1,17 @@
-use Rattle.omega_rounds.proofs.Attempted.{planned_is}
+use Rattle.std.proofs.Common.{Bor, ◌∙◌, sym, ap}
+use Rattle.std.specs.Prelude.{option_map}
+use Rattle.omega_model.specs.declared.wishes.Request.{Request}
+use Rattle.omega_rounds.proofs.Attempted.{planned_at}
+use Rattle.omega_rounds.proofs.WorkerCommits.{first_none}
 use Rattle.omega_rounds.proofs.planned.planned.Goals as goal
+
+pub unreachable-requires : goal.unreachable-requires
+unreachable-requires c =
+    c.requires.may.work (first_none c.args.desk.now.requests
+    (sym (ap (option_map (λ (r : Bor Request). r.now)) c.in_default.is) ∙ c.present.ensures))
 
 pub returns-clause-txn : goal.returns-clause-txn
 returns-clause-txn c =
-    planned_is c.args.settings.now c.args.scheduler c.policy.result c.args.copy.now c.args.request.now c.args.start c.plan.result
-    c.policy.ensures c.plan.ensures.job c.plan.ensures.rule c.plan.ensures.mode c.plan.ensures.claims
+    planned_at c.args.desk.now c.args.copy.now c.in-Some.request.now c.start_on-start.result c.policy.result c.in_ok-txn.txn
+    (sym (ap (option_map (λ (r : Bor Request). r.now)) c.in-Some.is) ∙ c.present.ensures)
+    c.start_on-start.ensures.drawn c.policy.ensures c.in_ok-txn.ensures.job c.in_ok-txn.ensures.rule c.in_ok-txn.ensures.mode c.in_ok-txn.ensures.claims

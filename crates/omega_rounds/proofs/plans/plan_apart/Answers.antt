@@ -47,5 +47,5 @@ returns-clause-plan c =
     c.over-copy.ensures.seen ∙ ap (λ (h : List Entry). length h) (c.history.ensures ∙ c.apart-board.ensures.history) in
     let stands = copy_over c.over-copy.result c.apart-board.result.0 c.args.cell.history c.over-copy.ensures.board seen kept.board_is in
     if_ok_weaker _ _ c.plan_on-plan.result (λ plan is.
-    subst (λ (n : ℕ). IsPlan c.args.settings.now c.args.cell.history c.args.scheduler n c.args.desk.now plan) seen
-    (is c.args.cell.history stands c.requires.desk)) c.plan_on-plan.ensures.plan
+    subst (λ (n : ℕ). IsPlan c.args.cell.history n c.args.desk.now plan) seen
+    (is c.args.cell.history stands c.requires.up_to)) c.plan_on-plan.ensures.plan

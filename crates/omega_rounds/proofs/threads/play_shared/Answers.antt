@@ -20,11 +20,11 @@ written new old count same = ap (λ (n : ℕ). take n (new ++ drop (length new) 
 
 pub play_all-requires-clause-may_play : goal.play_all-requires-clause-may_play
 play_all-requires-clause-may_play g c κs within =
-    subst (All (MayPlay c.args.settings.now c.in_ok-shared.shared.of)) (sym c.deref_mut.ensures.value)
+    subst (All (MayPlay c.in_ok-shared.shared.of)) (sym c.deref_mut.ensures.value)
     (may_play c.args.settings.now c.in_ok-shared.shared.of c.in_ok-turns.turns c.args.cell.history c.args.workers.items c.in_ok-shared.passes.items c.players_of-players.result.items
     c.players_of-players.ensures.workers c.players_of-players.ensures.passes c.players_of-players.ensures.fresh c.requires.count
-    (λ number known. c.in_ok-shared.ensures.pass number (subst (λ (n : ℕ). number < n) (sym c.schedulers-callers.ensures) known))
-    c.requires.each (subst (λ (workers : List Worker). Suffice c.args.settings.now workers c.in_ok-turns.turns) c.as_slice.ensures.value c.in_ok-turns.ensures))
+    (λ number known. c.in_ok-shared.ensures.pass number (subst (λ (n : ℕ). number < n) (sym c.schedulers-callers.ensures) known)) c.requires.each
+    c.requires.range (subst (λ (workers : List Worker). Suffice c.args.settings.now workers c.in_ok-turns.turns) c.as_slice.ensures.value c.in_ok-turns.ensures))
 
 pub close-requires-clause-of : goal.close-requires-clause-of
 close-requires-clause-of g c =
@@ -34,8 +34,8 @@ close-requires-clause-of g c =
     subst (All (λ (pass : PassState). pass.of ≡ c.in_ok-shared.shared.of)) (sym passes)
     (of_cell c.args.settings.now c.in_ok-shared.shared.of c.in_ok-turns.turns c.args.cell.history c.args.workers.items c.in_ok-shared.passes.items c.players_of-players.result.items
     c.players_of-players.ensures.workers c.players_of-players.ensures.passes c.players_of-players.ensures.fresh c.requires.count
-    (λ number known. c.in_ok-shared.ensures.pass number (subst (λ (n : ℕ). number < n) (sym c.schedulers-callers.ensures) known))
-    c.play_all.new.players (subst (λ (before : List Player). HavePlayed c.args.settings.now before c.play_all.new.players) c.deref_mut.ensures.value c.play_all.ensures.played))
+    (λ number known. c.in_ok-shared.ensures.pass number (subst (λ (n : ℕ). number < n) (sym c.schedulers-callers.ensures) known)) c.requires.each
+    c.play_all.new.players (subst (λ (before : List Player). HavePlayed before c.play_all.new.players) c.deref_mut.ensures.value c.play_all.ensures.played))
 
 pub returns : goal.returns
 returns g c =
@@ -57,8 +57,8 @@ returns g c =
       back = subst (AreBack c.args.settings.now first history c.args.workers.items) (sym workers)
           (are_back c.args.settings.now c.in_ok-shared.shared.of c.in_ok-turns.turns first c.args.workers.items c.in_ok-shared.passes.items c.players_of-players.result.items
           c.players_of-players.ensures.workers c.players_of-players.ensures.passes c.players_of-players.ensures.fresh c.requires.count
-          (λ number known. c.in_ok-shared.ensures.pass number (subst (λ (n : ℕ). number < n) (sym c.schedulers-callers.ensures) known))
-          after (subst (λ (before : List Player). HavePlayed c.args.settings.now before after) c.deref_mut.ensures.value c.play_all.ensures.played)
+          (λ number known. c.in_ok-shared.ensures.pass number (subst (λ (n : ℕ). number < n) (sym c.schedulers-callers.ensures) known)) c.requires.each
+          after (subst (λ (before : List Player). HavePlayed before after) c.deref_mut.ensures.value c.play_all.ensures.played)
           (none_failed after (ap (list_any (λ (player : Player). player.failed)) (sym back ∙ sym c.deref.ensures.value) ∙ sym c.any_failed.ensures ∙ c.if-any_failed.false))
           history (subst (StartsWith history) same c.close.ensures.begins) others commits);
     }

@@ -22,68 +22,68 @@ pub open_round-requires-clause-asked : goal.open_round-requires-clause-asked
 open_round-requires-clause-asked c =
     let round = c.in-Some.round.now in
     let next : slice_get c.self.inside.rounds c.self.inside.begun ≡ Some round = sym c.get.ensures ∙ ap (option_map (λ (r : Bor Round). r.now)) c.in-Some.is in
-    is_asked c.self.inside.settings c.self.inside.rounds c.self.inside.wanted c.self.inside.begun c.self.inside.opened_at c.self.inside.cell.history c.self.inside.workers.items round
+    is_asked c.self.inside.settings c.self.inside.rounds c.self.inside.demand.wanted c.self.inside.begun c.self.inside.opened_at c.self.inside.cell.history c.self.inside.workers.items round
     c.self.invariant.0 next
 
 pub open_round-requires-clause-no_work : goal.open_round-requires-clause-no_work
 open_round-requires-clause-no_work c =
-    idle_all (stage_of c.self.inside.settings c.self.inside.rounds c.self.inside.wanted c.self.inside.begun c.self.inside.opened_at) c.self.inside.wanted.tasks c.self.inside.cell.history
+    idle_all (stage_of c.self.inside.settings c.self.inside.rounds c.self.inside.demand.wanted c.self.inside.begun c.self.inside.opened_at) c.self.inside.demand.wanted.tasks c.self.inside.cell.history
     c.self.inside.workers.items c.self.invariant.0 (ap (λ (w : WorldState). w.to_do) c.self.view_is ∙ c.requires.no_work)
 
-pub open_round-requires-clause-within : goal.open_round-requires-clause-within
-open_round-requires-clause-within c =
-    opened_within (stage_of c.self.inside.settings c.self.inside.rounds c.self.inside.wanted c.self.inside.begun c.self.inside.opened_at) c.self.inside.wanted.tasks
+pub reopen_since-requires-clause-within : goal.reopen_since-requires-clause-within
+reopen_since-requires-clause-within c =
+    opened_within (stage_of c.self.inside.settings c.self.inside.rounds c.self.inside.demand.wanted c.self.inside.begun c.self.inside.opened_at) c.self.inside.demand.wanted.tasks
     c.self.inside.cell.history c.self.inside.workers.items c.self.invariant.0
 
-pub open_round-requires-clause-commits : goal.open_round-requires-clause-commits
-open_round-requires-clause-commits c =
-    commits_since (stage_of c.self.inside.settings c.self.inside.rounds c.self.inside.wanted c.self.inside.begun c.self.inside.opened_at) c.self.inside.wanted.tasks
+pub reopen_since-requires-clause-commits : goal.reopen_since-requires-clause-commits
+reopen_since-requires-clause-commits c =
+    commits_since (stage_of c.self.inside.settings c.self.inside.rounds c.self.inside.demand.wanted c.self.inside.begun c.self.inside.opened_at) c.self.inside.demand.wanted.tasks
     c.self.inside.cell.history c.self.inside.workers.items c.self.invariant.0
 
-pub open_round-requires-clause-quiet : goal.open_round-requires-clause-quiet
-open_round-requires-clause-quiet c = c.self.invariant.1
+pub reopen_since-requires-clause-quiet : goal.reopen_since-requires-clause-quiet
+reopen_since-requires-clause-quiet c = c.self.invariant.1
 
 pub invariant_of-world : goal.invariant_of-world
 invariant_of-world c =
     let round = c.in-Some.round.now in
     let next : slice_get c.self.inside.rounds c.self.inside.begun ≡ Some round = sym c.get.ensures ∙ ap (option_map (λ (r : Bor Round). r.now)) c.in-Some.is in
     let idle : HaveNoWork c.self.inside.workers.items =
-    idle_all (stage_of c.self.inside.settings c.self.inside.rounds c.self.inside.wanted c.self.inside.begun c.self.inside.opened_at) c.self.inside.wanted.tasks c.self.inside.cell.history
+    idle_all (stage_of c.self.inside.settings c.self.inside.rounds c.self.inside.demand.wanted c.self.inside.begun c.self.inside.opened_at) c.self.inside.demand.wanted.tasks c.self.inside.cell.history
     c.self.inside.workers.items c.self.invariant.0 (ap (λ (w : WorldState). w.to_do) c.self.view_is ∙ c.requires.no_work) in
-    let begins : BeginAll (record c.self.inside.wanted { tasks = fold wanted_after c.self.inside.wanted.tasks round.rows }) c.open_round.new.cell.history c.self.inside.workers.items c.open_round.new.workers.items =
+    let begins : BeginAll (record c.self.inside.demand.wanted { tasks = fold wanted_after c.self.inside.demand.wanted.tasks round.rows }) c.open_round.new.cell.history c.self.inside.workers.items c.open_round.new.workers.items =
     subst (λ (a : Asked). BeginAll a c.open_round.new.cell.history c.self.inside.workers.items c.open_round.new.workers.items) c.in_ok-open_round.ensures.wanted c.in_ok-open_round.ensures.workers in
-    let quiet : OthersAreQuiet c.open_round.new.open_jobs c.open_round.new.wanted (state c.open_round.new.cell.history).tasks =
+    let quiet : OthersAreQuiet c.open_round.new.demand.open_jobs c.open_round.new.demand.wanted (state c.open_round.new.cell.history).tasks =
     c.in_ok-open_round.ensures.quiet in (
-      subst (λ (h : List Entry). IsWorld (stage_of c.self.inside.settings c.self.inside.rounds c.open_round.new.wanted (c.self.inside.begun + 1) (length h)) c.open_round.new.wanted.tasks c.open_round.new.cell.history c.open_round.new.workers.items)
+      subst (λ (h : List Entry). IsWorld (stage_of c.self.inside.settings c.self.inside.rounds c.open_round.new.demand.wanted (c.self.inside.begun + 1) (length h)) c.open_round.new.demand.wanted.tasks c.open_round.new.cell.history c.open_round.new.workers.items)
           (sym c.history-opened_at.ensures.history)
           (subst (λ (a : Asked). IsWorld (stage_of c.self.inside.settings c.self.inside.rounds a (c.self.inside.begun + 1) (length c.open_round.new.cell.history)) a.tasks c.open_round.new.cell.history c.open_round.new.workers.items)
           (sym c.in_ok-open_round.ensures.wanted)
-          (world_later c.self.inside.settings c.self.inside.rounds c.self.inside.wanted c.self.inside.begun c.self.inside.opened_at c.self.inside.cell.history c.self.inside.workers.items round
+          (world_later c.self.inside.settings c.self.inside.rounds c.self.inside.demand.wanted c.self.inside.begun c.self.inside.opened_at c.self.inside.cell.history c.self.inside.workers.items round
           c.self.invariant.0 next c.open_round.new.cell.history c.open_round.new.workers.items idle c.in_ok-open_round.ensures.history begins)),
-      quiet_at_end c.open_round.new.open_jobs c.open_round.new.wanted c.open_round.new.cell.history _ c.history-opened_at.ensures.history quiet,
-      indexes_later c.self.inside.settings c.self.inside.rounds c.self.inside.wanted c.self.inside.begun c.self.inside.opened_at c.self.inside.cell.history c.self.inside.workers.items round
+      quiet_at_end c.open_round.new.demand.open_jobs c.open_round.new.demand.wanted c.open_round.new.cell.history _ c.history-opened_at.ensures.history quiet,
+      indexes_later c.self.inside.settings c.self.inside.rounds c.self.inside.demand.wanted c.self.inside.begun c.self.inside.opened_at c.self.inside.cell.history c.self.inside.workers.items round
           c.self.invariant.0 next c.open_round.new.cell.history c.open_round.new.workers.items idle c.in_ok-open_round.ensures.history begins c.self.inside.indexes c.self.invariant.2,
     )
 
 pub returns-clause-run : goal.returns-clause-run
 returns-clause-run c =
     let round = c.in-Some.round.now in
-    let stage = stage_of c.self.inside.settings c.self.inside.rounds c.self.inside.wanted c.self.inside.begun c.self.inside.opened_at in
+    let stage = stage_of c.self.inside.settings c.self.inside.rounds c.self.inside.demand.wanted c.self.inside.begun c.self.inside.opened_at in
     let next : slice_get c.self.inside.rounds c.self.inside.begun ≡ Some round = sym c.get.ensures ∙ ap (option_map (λ (r : Bor Round). r.now)) c.in-Some.is in
     let idle : HaveNoWork c.self.inside.workers.items =
-    idle_all stage c.self.inside.wanted.tasks c.self.inside.cell.history
+    idle_all stage c.self.inside.demand.wanted.tasks c.self.inside.cell.history
     c.self.inside.workers.items c.self.invariant.0 (ap (λ (w : WorldState). w.to_do) c.self.view_is ∙ c.requires.no_work) in
-    let begins : BeginAll (record c.self.inside.wanted { tasks = fold wanted_after c.self.inside.wanted.tasks round.rows }) c.open_round.new.cell.history c.self.inside.workers.items c.open_round.new.workers.items =
+    let begins : BeginAll (record c.self.inside.demand.wanted { tasks = fold wanted_after c.self.inside.demand.wanted.tasks round.rows }) c.open_round.new.cell.history c.self.inside.workers.items c.open_round.new.workers.items =
     subst (λ (a : Asked). BeginAll a c.open_round.new.cell.history c.self.inside.workers.items c.open_round.new.workers.items) c.in_ok-open_round.ensures.wanted c.in_ok-open_round.ensures.workers in
     let after : WorldState =
-    state_at (stage_of c.self.inside.settings c.self.inside.rounds c.open_round.new.wanted (c.self.inside.begun + 1) (length c.history-opened_at.result.now)) c.open_round.new.cell.history c.open_round.new.workers.items in
+    state_at (stage_of c.self.inside.settings c.self.inside.rounds c.open_round.new.demand.wanted (c.self.inside.begun + 1) (length c.history-opened_at.result.now)) c.open_round.new.cell.history c.open_round.new.workers.items in
     subst (λ (w : WorldState). (trace : TraceTables) → IsInRunOf w.stage trace → OpensRound trace w after) c.self.view_is
     (λ trace made. record {
-      over = nobody_works trace stage c.self.inside.wanted.tasks c.self.inside.cell.history c.self.inside.workers.items c.self.invariant.0 idle made;
+      over = nobody_works trace stage c.self.inside.demand.wanted.tasks c.self.inside.cell.history c.self.inside.workers.items c.self.invariant.0 idle made;
       begins = λ other is.
           let both : Some round ≡ Some other = sym next ∙ is in
           let same : round ≡ other = cc in
           subst (λ (r : Round). BeginsRound trace (rows_begun stage) r (world_at c.self.inside.cell.history c.self.inside.workers.items) (world_at c.open_round.new.cell.history c.open_round.new.workers.items)) same
-          (begins_round c.self.inside.settings c.self.inside.rounds c.self.inside.wanted c.self.inside.begun c.self.inside.opened_at c.self.inside.cell.history c.self.inside.workers.items round
+          (begins_round c.self.inside.settings c.self.inside.rounds c.self.inside.demand.wanted c.self.inside.begun c.self.inside.opened_at c.self.inside.cell.history c.self.inside.workers.items round
           c.self.invariant.0 next c.open_round.new.cell.history c.open_round.new.workers.items idle c.in_ok-open_round.ensures.history begins trace made);
     })

@@ -9,7 +9,7 @@ use Rattle.omega_rounds.proofs.world.World.left.Goals as goal
 pub returns-clause-wishes : goal.returns-clause-wishes
 returns-clause-wishes c =
     let inside = c.self.inside in
-    let stage = stage_of inside.settings inside.rounds inside.wanted inside.begun inside.opened_at in
+    let stage = stage_of inside.settings inside.rounds inside.demand.wanted inside.begun inside.opened_at in
     let known = subst (λ (w : WorldState). c.args.scheduler < schedulers w.stage.settings) (sym c.self.view_is) c.requires in
     let here = slice_get_read inside.workers.items (schedulers inside.settings) c.args.scheduler c.index.result.now (sym c.self.invariant.0.count) known c.index.ensures in
     subst (λ (w : WorldState). HasWishesLeft w c.args.scheduler c.left.result) c.self.view_is
@@ -19,7 +19,7 @@ returns-clause-wishes c =
 pub returns-clause-idle : goal.returns-clause-idle
 returns-clause-idle c =
     let inside = c.self.inside in
-    let stage = stage_of inside.settings inside.rounds inside.wanted inside.begun inside.opened_at in
+    let stage = stage_of inside.settings inside.rounds inside.demand.wanted inside.begun inside.opened_at in
     let known = subst (λ (w : WorldState). c.args.scheduler < schedulers w.stage.settings) (sym c.self.view_is) c.requires in
     let here = slice_get_read inside.workers.items (schedulers inside.settings) c.args.scheduler c.index.result.now (sym c.self.invariant.0.count) known c.index.ensures in
     subst (λ (w : WorldState). IsNoneWithoutWork w c.args.scheduler c.left.result) c.self.view_is

@@ -14,13 +14,13 @@ use Rattle.omega_rounds.proofs.world.World.play_on_threads.Goals as goal
 
 pub invariant_of-result : goal.invariant_of-result
 invariant_of-result g c = (
-  world_closed (stage_of c.self.inside.settings c.self.inside.rounds c.self.inside.wanted c.self.inside.begun c.self.inside.opened_at) c.self.inside.wanted.tasks
+  world_closed (stage_of c.self.inside.settings c.self.inside.rounds c.self.inside.demand.wanted c.self.inside.begun c.self.inside.opened_at) c.self.inside.demand.wanted.tasks
       c.self.inside.cell.history c.in_ok-cell.cell.history c.self.inside.workers.items c.in_ok-cell.workers.items c.self.invariant.0
       (subst (λ (w : WorldState). 0 < w.stage.begun) (sym c.self.view_is) c.requires.begun)
       (subst (λ (w : WorldState). NobodySynced (world_of w)) (sym c.self.view_is) c.requires.nobody)
       c.in_ok-cell.ensures.back,
-  were_quiet (stage_of c.self.inside.settings c.self.inside.rounds c.self.inside.wanted c.self.inside.begun c.self.inside.opened_at) c.self.inside.wanted.tasks
-      c.self.inside.cell.history c.self.inside.workers.items c.self.invariant.0 c.self.inside.open_jobs c.self.inside.wanted c.in_ok-cell.cell.history
+  were_quiet (stage_of c.self.inside.settings c.self.inside.rounds c.self.inside.demand.wanted c.self.inside.begun c.self.inside.opened_at) c.self.inside.demand.wanted.tasks
+      c.self.inside.cell.history c.self.inside.workers.items c.self.invariant.0 c.self.inside.demand.open_jobs c.self.inside.demand.wanted c.in_ok-cell.cell.history
       c.in_ok-cell.ensures.back.begins c.self.invariant.1,
   indexes_on c.self.inside.indexes c.self.inside.cell.history c.in_ok-cell.cell.history c.in_ok-cell.ensures.back.begins c.self.invariant.2,
 )
@@ -31,12 +31,12 @@ returns-then-is_none-clause-done g c =
     idle_found c.self.inside.workers.items c.first_at_work.result c.if-is_none.ensures
     (c.first_at_work.ensures ∙ ap (λ (workers : List Worker). position has_work workers) c.as_slice.ensures.value) in
     subst IsDone c.self.view_is
-    (λ trace made. nobody_works trace (stage_of c.self.inside.settings c.self.inside.rounds c.self.inside.wanted c.self.inside.begun c.self.inside.opened_at) c.self.inside.wanted.tasks
+    (λ trace made. nobody_works trace (stage_of c.self.inside.settings c.self.inside.rounds c.self.inside.demand.wanted c.self.inside.begun c.self.inside.opened_at) c.self.inside.demand.wanted.tasks
     c.self.inside.cell.history c.self.inside.workers.items c.self.invariant.0 idle made)
 
 pub returns-clause-done : goal.returns-clause-done
 returns-clause-done g c =
-    closed_done (stage_of c.self.inside.settings c.self.inside.rounds c.self.inside.wanted c.self.inside.begun c.self.inside.opened_at) c.self.inside.wanted.tasks
+    closed_done (stage_of c.self.inside.settings c.self.inside.rounds c.self.inside.demand.wanted c.self.inside.begun c.self.inside.opened_at) c.self.inside.demand.wanted.tasks
     c.self.inside.cell.history c.in_ok-cell.cell.history c.self.inside.workers.items c.in_ok-cell.workers.items c.self.invariant.0
     (subst (λ (w : WorldState). 0 < w.stage.begun) (sym c.self.view_is) c.requires.begun)
     (subst (λ (w : WorldState). NobodySynced (world_of w)) (sym c.self.view_is) c.requires.nobody)

@@ -1,6 +1,6 @@
 use Rattle.std.proofs.Common.{◌≡◌, ◌≤◌, ◌∙◌, ℕ, length, ap, subst}
 use Rattle.omega_rounds.proofs.Attempted.{start_within}
-use Rattle.omega_rounds.proofs.worker.start_on.Goals as goal
+use Rattle.omega_rounds.proofs.planned.start_on.Goals as goal
 
 pub returns-clause-within : goal.returns-clause-within
 returns-clause-within c =
