@@ -270,8 +270,8 @@ impl MachineTable {
     }
 
     /// Gives an attribute of a machine a value, in its place where it is set, else after the
-    /// others. Refused, it leaves the table as it was. Takes memory, and costs the machine's
-    /// attributes.
+    /// others. Refused, it leaves the table as it was. Takes memory, and costs the logarithm of the
+    /// machine's attributes; all of them where their index has to be made first.
     fn set_attr(&mut self, id: u64, name: &Bytes, value: &Bytes) -> Result<(), NoMemory>
         requires { IsTrue (is_listed id (machines_of self.old)) }
         ensures ok { OnOk result (self.new ≡ change_state id (with_machine (attr_set name.now value.now)) self.old) }
@@ -286,7 +286,8 @@ impl MachineTable {
 
     /// Gives an attribute of a machine a value, in its place where it is set, else after the others.
     /// Where the machine isn't there, puts it at the end of the list first. Refused, it leaves the
-    /// table as it was. Takes memory, and costs the machine's attributes.
+    /// table as it was. Takes memory, and costs the logarithm of the machine's attributes; all of them
+    /// where their index has to be made first.
     pub fn ensure_attr(&mut self, id: u64, name: &Bytes, value: &Bytes) -> Result<(), NoMemory>
         requires { ListsOrHasRoom (machines_of self.old) id }
         ensures ok { OnOk result (self.new ≡ change_state id (with_machine (attr_set name.now value.now)) (ensured_states id self.old)) }
@@ -302,7 +303,8 @@ impl MachineTable {
         set
     }
 
-    /// Unsets an attribute of a machine. Costs the machine's attributes.
+    /// Unsets an attribute of a machine. Costs the logarithm of the machine's attributes, and the
+    /// attributes behind it, which move up; all of them where their index has to be made first.
     pub fn delete_attr(&mut self, id: u64, name: &Bytes)
         requires { IsTrue (is_listed id (machines_of self.old)) }
         ensures changed { self.new ≡ change_state id (with_machine (attr_deleted name.now)) self.old }
