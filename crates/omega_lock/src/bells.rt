@@ -1,5 +1,5 @@
 //! Bells, at which callers sleep until their turn comes.
-ghost use Rattle.std.specs.Prelude.{◌≡◌, ◌<◌};
+ghost use Rattle.std.specs.Prelude.{◌≡◌, ◌<◌, ◌%◌};
 
 use atomic_table::{Play, Seat as Hand, Table, TableRule};
 use std::alloc::Global;
@@ -63,9 +63,10 @@ impl Bells {
     }
 }
 
-/// The bell of a ticket.
+/// The bell of a ticket: no two of 32 tickets in a row have the same.
 fn bell_of(ticket: u64) -> usize
-    ensures { result < 32 }
+    ensures is { result ≡ ticket % 32 }
+    ensures there { result < 32 }
 {
     (ticket % BELLS) as usize
 }
