@@ -21,6 +21,13 @@ struct Trace {
     extra: Extra,
 }
 
+/// What a question is about: a trace, and the board on which it is asked.
+#[derive(Clone, Copy)]
+struct Scene<'a> {
+    trace: &'a Trace,
+    board: &'a Board,
+}
+
 /// Who is asked, and which jobs are closed before.
 #[derive(Clone, Copy)]
 struct Question {
@@ -109,7 +116,7 @@ fn take(
         }
         (call, _) if is_question(call) => {
             part(answers)?;
-            show(trace, board, alloc, call, words, answers)
+            show(&Scene { trace, board }, alloc, call, words, answers)
         }
         (call, _) => push_row(&mut trace.tables, alloc, call, words),
     }
@@ -125,27 +132,26 @@ fn is_question(call: &str) -> bool {
 
 /// Appends the answer of a question.
 fn show(
-    trace: &Trace,
-    board: &Board,
+    scene: &Scene,
     alloc: Global,
     call: &str,
     words: &[Bytes],
     answers: &mut String,
 ) -> Result<(), Fault> {
     match (call, words) {
-        ("rounds", [window]) => show_cut(trace, alloc, number(window)?, answers),
+        ("rounds", [window]) => show_cut(scene.trace, alloc, number(window)?, answers),
         ("ask", [scheduler, closed @ ..]) => {
             let (scheduler, closed) = (small(scheduler)?, closed_of(closed)?);
             let question = Question { scheduler, closed };
-            show_asked(trace, board, alloc, question, answers)
+            show_asked(scene, alloc, question, answers)
         }
         ("ask-by-round", [window, scheduler]) => {
             let (window, scheduler) = (number(window)?, small(scheduler)?);
-            show_by_round(trace, board, alloc, window, scheduler, answers)
+            show_by_round(scene, alloc, window, scheduler, answers)
         }
-        ("entries", []) => show_taken(trace, board, alloc, answers),
-        ("entries-unwanted", []) => show_unwanted(trace, board, alloc, answers),
-        ("waiting", []) => show_waiting(trace, board, alloc, answers),
+        ("entries", []) => show_taken(scene.trace, scene.board, alloc, answers),
+        ("entries-unwanted", []) => show_unwanted(scene.trace, scene.board, alloc, answers),
+        ("waiting", []) => show_waiting(scene.trace, scene.board, alloc, answers),
         _ => Err(Fault::UnknownCall),
     }
 }
@@ -209,27 +215,25 @@ fn at_first(trace: &Trace, alloc: Global) -> Result<Wanted, Fault>
 
 /// Appends what a scheduler is asked on the board once all rows were taken.
 fn show_asked(
-    trace: &Trace,
-    board: &Board,
+    scene: &Scene,
     alloc: Global,
     question: Question,
     answers: &mut String,
 ) -> Result<(), Fault> {
-    let rows = feed(alloc, &trace.tables)?;
-    show_asked_after(trace, board, alloc, &rows, question, answers)
+    let rows = feed(alloc, &scene.trace.tables)?;
+    show_asked_after(scene, alloc, &rows, question, answers)
 }
 
 /// Appends what a scheduler is asked on the board once these rows were taken.
 fn show_asked_after(
-    trace: &Trace,
-    board: &Board,
+    scene: &Scene,
     alloc: Global,
     rows: &[Row],
     question: Question,
     answers: &mut String,
 ) -> Result<(), Fault> {
-    let mut wanted = at_first(trace, alloc)?;
-    show_asked_of(alloc, &mut wanted, rows, board, question, answers)
+    let mut wanted = at_first(scene.trace, alloc)?;
+    show_asked_of(alloc, &mut wanted, rows, scene.board, question, answers)
 }
 
 /// Appends what is asked of what is wanted, once these rows were taken.
@@ -310,42 +314,31 @@ fn close_but_one(
 
 /// Appends the number of each round, and what a scheduler is asked once its rows were taken.
 fn show_by_round(
-    trace: &Trace,
-    board: &Board,
+    scene: &Scene,
     alloc: Global,
     window: u64,
     scheduler: u32,
     answers: &mut String,
 ) -> Result<(), Fault> {
-    let cut = rounds_of(alloc, &trace.tables, window)?;
-    show_by_round_of(trace, board, alloc, &cut, scheduler, answers)
+    let cut = rounds_of(alloc, &scene.trace.tables, window)?;
+    show_by_round_of(scene, alloc, &cut, scheduler, answers)
 }
 
 /// The same of these rounds.
 fn show_by_round_of(
-    trace: &Trace,
-    board: &Board,
+    scene: &Scene,
     alloc: Global,
     cut: &Rounds,
     scheduler: u32,
     answers: &mut String,
 ) -> Result<(), Fault> {
-    let rows = feed(alloc, &trace.tables)?;
-    show_each_round(
-        trace,
-        board,
-        alloc,
-        &rows,
-        cut.as_slice(),
-        scheduler,
-        answers,
-    )
+    let rows = feed(alloc, &scene.trace.tables)?;
+    show_each_round(scene, alloc, &rows, cut.as_slice(), scheduler, answers)
 }
 
 /// The same of these rounds and rows.
 fn show_each_round(
-    trace: &Trace,
-    board: &Board,
+    scene: &Scene,
     alloc: Global,
     rows: &[Row],
     cut: &[Round],
@@ -362,7 +355,7 @@ fn show_each_round(
         write!(answers, "round {} ", round.number)?;
         count = count.saturating_add(round.rows.len());
         let taken = rows.get(..count).unwrap_or(rows);
-        show_asked_after(trace, board, alloc, taken, question, answers)?;
+        show_asked_after(scene, alloc, taken, question, answers)?;
     }
     Ok(())
 }

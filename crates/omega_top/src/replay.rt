@@ -45,31 +45,37 @@ pub struct WholeRun {
     pub time: Option<Bytes>,
 }
 
+/// What a run depends on: the settings, and the tables of the trace.
+#[derive(Drop)]
+pub struct RunInput {
+    pub settings: Settings,
+    pub trace: TraceTables,
+}
+
 /// The history of a trace under these settings, what its entries did, and what waits at its end: on
 /// `run` with each scheduler on a thread of its own, which passes the gate; on `simulate` by a virtual
 /// clock, and with the lines of time; else with the schedulers taking turns. On `run` it may wait.
 pub fn replayed<R: Threads + Wait + Sync, G: Gate + Sync>(
     rt: &R,
     alloc: Global,
-    settings: &Settings,
-    trace: &TraceTables,
+    input: &RunInput,
     gate: &G,
 ) -> Result<WholeRun, NoMemory>
-    requires range { IsInRange settings.now }
-    requires within { IsWithinLimits trace.now }
+    requires range { IsInRange input.now.settings }
+    requires within { IsWithinLimits input.now.trace }
     requires sync { IsSync R.row × IsSync G.row }
-    ensures lawful { IfOk result (λ run. Lawful settings.now trace.now run.history) }
-    ensures ordered { IfOk result (λ run. IsOrdered settings.now trace.now run.history) }
-    ensures timed { IfOk result (λ run. IsTimedBy settings.now.command settings.now trace.now run.history run.time) }
-    ensures turns { takes_turns settings.now.command ≡ true → IfOk result (λ run. InTurns run.history) }
-    ensures only { settings.now.command ≢ Run → IfOk result (λ run. IsTheOnly settings.now trace.now run.history) }
+    ensures lawful { IfOk result (λ run. Lawful input.now.settings input.now.trace run.history) }
+    ensures ordered { IfOk result (λ run. IsOrdered input.now.settings input.now.trace run.history) }
+    ensures timed { IfOk result (λ run. IsTimedBy input.now.settings.command input.now.settings input.now.trace run.history run.time) }
+    ensures turns { takes_turns input.now.settings.command ≡ true → IfOk result (λ run. InTurns run.history) }
+    ensures only { input.now.settings.command ≢ Run → IfOk result (λ run. IsTheOnly input.now.settings input.now.trace run.history) }
     ensures effects { IfOk result (λ run. AreEffects run.history run.effects) }
     ensures sound { IfOk result (λ run. IsSoundHistory run.history) }
-    ensures left { IfOk result (λ run. IsLeft trace.now (state run.history) run.left) }
+    ensures left { IfOk result (λ run. IsLeft input.now.trace (state run.history) run.left) }
 {
-    let world = World::new(alloc, settings, trace)?;
-    let (world, times) = run_to_end(rt, settings.command, world, gate)?;
-    let time = lines_of_time(alloc, settings, trace, &world, times)?;
+    let world = World::new(alloc, &input.settings, &input.trace)?;
+    let (world, times) = run_to_end(rt, input.settings.command, world, gate)?;
+    let time = lines_of_time(alloc, input, &world, times)?;
     Ok(whole_run(world, time)?)
 }
 
@@ -130,21 +136,20 @@ fn run_to_end<R: Threads + Wait + Sync, G: Gate + Sync>(
 /// have these times.
 fn lines_of_time(
     alloc: Global,
-    settings: &Settings,
-    trace: &TraceTables,
+    input: &RunInput,
     world: &World,
     times: Option<Times>,
 ) -> Result<Option<Bytes>, NoMemory>
-    requires range { IsInRange settings.now }
-    requires within { IsWithinLimits trace.now }
-    requires rounds { world.now.stage.source.rounds ≡ rounds trace.now settings.now.window }
-    requires times { AreTimesBy settings.now.command settings.now trace.now world.now.history times }
-    ensures { IfOk result (λ lines. IsTimedBy settings.now.command settings.now trace.now world.now.history lines) }
+    requires range { IsInRange input.now.settings }
+    requires within { IsWithinLimits input.now.trace }
+    requires rounds { world.now.stage.source.rounds ≡ rounds input.now.trace input.now.settings.window }
+    requires times { AreTimesBy input.now.settings.command input.now.settings input.now.trace world.now.history times }
+    ensures { IfOk result (λ lines. IsTimedBy input.now.settings.command input.now.settings input.now.trace world.now.history lines) }
 {
     match times {
         None => Ok(None),
         Some(times) => {
-            let lines = lines_of_simulated(alloc, settings, trace, world, times.as_slice())?;
+            let lines = lines_of_simulated(alloc, input, world, times.as_slice())?;
             Ok(Some(lines))
         }
     }
@@ -153,20 +158,19 @@ fn lines_of_time(
 /// The lines that say how long the schedulers of a simulated run decided and how long its jobs waited.
 fn lines_of_simulated(
     alloc: Global,
-    settings: &Settings,
-    trace: &TraceTables,
+    input: &RunInput,
     world: &World,
     times: &[Timed],
 ) -> Result<Bytes, NoMemory>
-    requires range { IsInRange settings.now }
-    requires within { IsWithinLimits trace.now }
-    requires rounds { world.now.stage.source.rounds ≡ rounds trace.now settings.now.window }
-    requires times { SimulatedWith settings.now trace.now world.now.history times.now }
-    ensures { IfOk result (AreLinesOfTime settings.now trace.now world.now.history) }
+    requires range { IsInRange input.now.settings }
+    requires within { IsWithinLimits input.now.trace }
+    requires rounds { world.now.stage.source.rounds ≡ rounds input.now.trace input.now.settings.window }
+    requires times { SimulatedWith input.now.settings input.now.trace world.now.history times.now }
+    ensures { IfOk result (AreLinesOfTime input.now.settings input.now.trace world.now.history) }
 {
-    activities_are_few(trace.activities.as_slice());
+    activities_are_few(input.trace.activities.as_slice());
     let arrivals = Arrivals::of(alloc, world.rounds())?;
-    time_lines(alloc, settings, &arrivals, world.history(), times)
+    time_lines(alloc, &input.settings, &arrivals, world.history(), times)
 }
 
 /// No job has more activities than a row can say: the type of a row keeps it.

@@ -18,10 +18,10 @@ ghost use Rattle.omega_top.specs.Resumes.{KeepsWhole, StaysAtKeeper, StopsBy, St
 ghost use Rattle.omega_top.specs.SoundHistory.{IsSoundHistory};
 
 use crate::auditing::load;
-use crate::replay::{WholeRun, replayed, whole_run};
+use crate::replay::{RunInput, WholeRun, replayed, whole_run};
 use omega_io::Gate;
 use omega_keep::Keeper;
-use omega_model::{Command, Settings, Status, TraceTables};
+use omega_model::{Command, Status};
 use omega_rounds::{World, resume_turns};
 use std::alloc::Global;
 use std::sync::Wait;
@@ -34,33 +34,32 @@ use std::thread::Threads;
 pub fn run_of<R: Threads + Wait + Sync, G: Gate + Sync, P: Keeper>(
     rt: &R,
     alloc: Global,
-    settings: &Settings,
-    trace: &TraceTables,
+    input: &RunInput,
     gate: &G,
     keeper: &mut P,
 ) -> Result<WholeRun, Status>
-    requires range { IsInRange settings.now }
-    requires within { IsWithinLimits trace.now }
+    requires range { IsInRange input.now.settings }
+    requires within { IsWithinLimits input.now.trace }
     requires sync { IsSync R.row × IsSync G.row }
-    ensures lawful { IfOk result (λ run. Lawful settings.now trace.now run.history) }
-    ensures ordered { IfOk result (λ run. IsOrdered settings.now trace.now run.history) }
-    ensures timed { IfOk result (λ run. IsTimedBy settings.now.command settings.now trace.now run.history run.time) }
-    ensures turns { takes_turns settings.now.command ≡ true → IfOk result (λ run. InTurns run.history) }
-    ensures only { settings.now.command ≢ Run → IfOk result (λ run. IsTheOnly settings.now trace.now run.history) }
+    ensures lawful { IfOk result (λ run. Lawful input.now.settings input.now.trace run.history) }
+    ensures ordered { IfOk result (λ run. IsOrdered input.now.settings input.now.trace run.history) }
+    ensures timed { IfOk result (λ run. IsTimedBy input.now.settings.command input.now.settings input.now.trace run.history run.time) }
+    ensures turns { takes_turns input.now.settings.command ≡ true → IfOk result (λ run. InTurns run.history) }
+    ensures only { input.now.settings.command ≢ Run → IfOk result (λ run. IsTheOnly input.now.settings input.now.trace run.history) }
     ensures effects { IfOk result (λ run. AreEffects run.history run.effects) }
     ensures sound { IfOk result (λ run. IsSoundHistory run.history) }
-    ensures left { IfOk result (λ run. IsLeft trace.now (state run.history) run.left) }
-    ensures stops { IfErr result (StopsBy settings.now.command) }
-    ensures kept { settings.now.command ≡ Resume → IfOk result (λ run. KeepsWhole (P.kept keeper.old) (P.kept keeper.new) run.history) }
-    ensures refused { settings.now.command ≡ Resume → IfErr result (StopsFrom settings.now trace.now (P.kept keeper.old) (P.kept keeper.new)) }
-    ensures stays { settings.now.command ≢ Resume → StaysAtKeeper (P.kept keeper.old) (P.kept keeper.new) (P.faults keeper.old) (P.faults keeper.new) }
+    ensures left { IfOk result (λ run. IsLeft input.now.trace (state run.history) run.left) }
+    ensures stops { IfErr result (StopsBy input.now.settings.command) }
+    ensures kept { input.now.settings.command ≡ Resume → IfOk result (λ run. KeepsWhole (P.kept keeper.old) (P.kept keeper.new) run.history) }
+    ensures refused { input.now.settings.command ≡ Resume → IfErr result (StopsFrom input.now.settings input.now.trace (P.kept keeper.old) (P.kept keeper.new)) }
+    ensures stays { input.now.settings.command ≢ Resume → StaysAtKeeper (P.kept keeper.old) (P.kept keeper.new) (P.faults keeper.old) (P.faults keeper.new) }
     ensures cause { IfErr result (λ status. status ≡ KeepFault → Rose (P.faults keeper.old) (P.faults keeper.new)) }
     ensures path { P.entered keeper.new ≡ P.entered keeper.old }
     ensures later { P.faults keeper.old ≤ P.faults keeper.new }
 {
-    match settings.command {
-        Command::Resume => resumed(alloc, settings, trace, keeper),
-        _ => match replayed(rt, alloc, settings, trace, gate) {
+    match input.settings.command {
+        Command::Resume => resumed(alloc, input, keeper),
+        _ => match replayed(rt, alloc, input, gate) {
             Ok(run) => Ok(run),
             Err(_) => Err(Status::NoMemory),
         },
@@ -68,29 +67,24 @@ pub fn run_of<R: Threads + Wait + Sync, G: Gate + Sync, P: Keeper>(
 }
 
 /// The run of a trace with the schedulers taking turns, which goes on from what a keeper has.
-fn resumed<P: Keeper>(
-    alloc: Global,
-    settings: &Settings,
-    trace: &TraceTables,
-    keeper: &mut P,
-) -> Result<WholeRun, Status>
-    requires range { IsInRange settings.now }
-    requires command { settings.now.command ≡ Resume }
-    ensures lawful { IfOk result (λ run. Lawful settings.now trace.now run.history) }
-    ensures timed { IfOk result (λ run. IsTimedBy settings.now.command settings.now trace.now run.history run.time) }
+fn resumed<P: Keeper>(alloc: Global, input: &RunInput, keeper: &mut P) -> Result<WholeRun, Status>
+    requires range { IsInRange input.now.settings }
+    requires command { input.now.settings.command ≡ Resume }
+    ensures lawful { IfOk result (λ run. Lawful input.now.settings input.now.trace run.history) }
+    ensures timed { IfOk result (λ run. IsTimedBy input.now.settings.command input.now.settings input.now.trace run.history run.time) }
     ensures turns { IfOk result (λ run. InTurns run.history) }
-    ensures only { IfOk result (λ run. IsTheOnly settings.now trace.now run.history) }
+    ensures only { IfOk result (λ run. IsTheOnly input.now.settings input.now.trace run.history) }
     ensures effects { IfOk result (λ run. AreEffects run.history run.effects) }
     ensures sound { IfOk result (λ run. IsSoundHistory run.history) }
-    ensures left { IfOk result (λ run. IsLeft trace.now (state run.history) run.left) }
+    ensures left { IfOk result (λ run. IsLeft input.now.trace (state run.history) run.left) }
     ensures kept { IfOk result (λ run. KeepsWhole (P.kept keeper.old) (P.kept keeper.new) run.history) }
-    ensures refused { IfErr result (StopsFrom settings.now trace.now (P.kept keeper.old) (P.kept keeper.new)) }
+    ensures refused { IfErr result (StopsFrom input.now.settings input.now.trace (P.kept keeper.old) (P.kept keeper.new)) }
     ensures cause { IfErr result (λ status. status ≡ KeepFault → Rose (P.faults keeper.old) (P.faults keeper.new)) }
     ensures path { P.entered keeper.new ≡ P.entered keeper.old }
     ensures later { P.faults keeper.old ≤ P.faults keeper.new }
 {
     let kept = load(keeper)?;
-    let Ok(world) = World::new(alloc, settings, trace) else {
+    let Ok(world) = World::new(alloc, &input.settings, &input.trace) else {
         return Err(Status::NoMemory);
     };
     let world = resume_turns(world, &kept, keeper)?;

@@ -23,12 +23,13 @@ ghost use Rattle.omega_words.specs.Built.{built_words};
 ghost use Rattle.omega_words.specs.Taken.{settings_in};
 
 use crate::auditing::audit_kept;
+use crate::replay::RunInput;
 use crate::report::report_of_run;
 use crate::resuming::run_of;
 use crate::trace::trace_of_run;
 use omega_io::{Gate, Sink, Tables, write_all};
 use omega_keep::{Keeper, audited_lines_are_not_refused};
-use omega_model::{Command, Done, Seq, Settings, Status, TraceTables};
+use omega_model::{Command, Done, Seq, Settings, Status};
 use omega_words::read_words;
 use std::alloc::Global;
 use std::sync::Wait;
@@ -205,7 +206,13 @@ pub fn omega_with<R: Threads + Wait + Sync, T: Tables, K: Sink, G: Gate + Sync, 
     match settings.command {
         Command::Audit => audit_and_write(alloc, settings, out, keeper),
         _ => match trace_of_run(alloc, settings, tables) {
-            Ok(trace) => replay_and_write(rt, alloc, settings, &trace, out, gate, keeper),
+            Ok(trace) => {
+                let input = RunInput {
+                    settings: *settings,
+                    trace,
+                };
+                replay_and_write(rt, alloc, &input, out, gate, keeper)
+            }
             Err(refusal) => refused(alloc, Status::from(refusal), Some(*settings)),
         },
     }
@@ -228,44 +235,43 @@ fn refused(alloc: Global, status: Status, settings: Option<Settings>) -> Done
 fn replay_and_write<R: Threads + Wait + Sync, K: Sink, G: Gate + Sync, P: Keeper>(
     rt: &R,
     alloc: Global,
-    settings: &Settings,
-    trace: &TraceTables,
+    input: &RunInput,
     out: &mut K,
     gate: &G,
     keeper: &mut P,
 ) -> Done
-    requires range { IsInRange settings.now }
-    requires within { IsWithinLimits trace.now }
+    requires range { IsInRange input.now.settings }
+    requires within { IsWithinLimits input.now.trace }
     requires sync { IsSync R.row × IsSync G.row }
-    ensures settings { result.settings ≡ Some settings.now }
-    ensures ends { EndsBy settings.now.command result.status }
-    ensures resume { settings.now.command ≡ Resume
-        → IsResume settings.now trace.now (P.kept keeper.old) (P.kept keeper.new) result.history result.status }
-    ensures keeper { settings.now.command ≢ Resume
+    ensures settings { result.settings ≡ Some input.now.settings }
+    ensures ends { EndsBy input.now.settings.command result.status }
+    ensures resume { input.now.settings.command ≡ Resume
+        → IsResume input.now.settings input.now.trace (P.kept keeper.old) (P.kept keeper.new) result.history result.status }
+    ensures keeper { input.now.settings.command ≢ Resume
         → StaysAtKeeper (P.kept keeper.old) (P.kept keeper.new) (P.faults keeper.old) (P.faults keeper.new) }
     ensures keep_fault { result.status ≡ KeepFault → RoseOfKeeper (P.faults keeper.old) (P.faults keeper.new) }
     ensures kept_path { P.entered keeper.new ≡ P.entered keeper.old }
     ensures kept_later { P.faults keeper.old ≤ P.faults keeper.new }
     ensures cause { result.status ≡ WriteFault → Rose (K.faults out.old) (K.faults out.new) }
-    ensures lawful { IsWholeRun settings.now trace.now result.history result.status }
-    ensures only { settings.now.command ≢ Run → IsOnlyRun settings.now trace.now result.history result.status }
-    ensures ordered { IsOrderedRun settings.now trace.now result.history result.status }
-    ensures turns { takes_turns settings.now.command ≡ true → InTurns result.history }
+    ensures lawful { IsWholeRun input.now.settings input.now.trace result.history result.status }
+    ensures only { input.now.settings.command ≢ Run → IsOnlyRun input.now.settings input.now.trace result.history result.status }
+    ensures ordered { IsOrderedRun input.now.settings input.now.trace result.history result.status }
+    ensures turns { takes_turns input.now.settings.command ≡ true → InTurns result.history }
     ensures sound { IsSoundHistory result.history }
     ensures history { HasHistory result.history result.status }
-    ensures written { IsWritten settings.now trace.now result.history result.status (K.written out.old) (K.written out.new) }
+    ensures written { IsWritten input.now.settings input.now.trace result.history result.status (K.written out.old) (K.written out.new) }
 {
-    let whole = match run_of(rt, alloc, settings, trace, gate, keeper) {
+    let whole = match run_of(rt, alloc, input, gate, keeper) {
         Ok(whole) => whole,
-        Err(status) => return refused(alloc, status, Some(*settings)),
+        Err(status) => return refused(alloc, status, Some(input.settings)),
     };
-    let Ok(bytes) = report_of_run(alloc, settings, &whole) else {
-        return refused(alloc, Status::NoMemory, Some(*settings));
+    let Ok(bytes) = report_of_run(alloc, &input.settings, &whole) else {
+        return refused(alloc, Status::NoMemory, Some(input.settings));
     };
     let status = write(out, bytes.as_slice());
     Done {
         status,
-        settings: Some(*settings),
+        settings: Some(input.settings),
         history: whole.history,
     }
 }

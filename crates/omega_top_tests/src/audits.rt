@@ -2,7 +2,7 @@
 
 ghost use Rattle.std.specs.Thread.{IsSync};
 
-use crate::runs::{End, expect, run_kept, tables_of};
+use crate::runs::{Call, End, expect, run_kept, tables_of};
 use omega_io::PassGate;
 use omega_keep::{Lines, MemoryKeeper};
 use omega_model::{NoMemory, Seq, Status};
@@ -33,6 +33,12 @@ use cpu 0 0 mem 0 0 disk 0 0
 const NOTHING_AS_JSON: &str =
     "[[\"omega\",2],[\"legal\",0],[\"use\",\"cpu\",0,0,\"mem\",0,0,\"disk\",0,0]]\n";
 
+/// An audit with room for every report of these tests.
+const AUDIT: Call<'static> = Call {
+    words: &["audit"],
+    room: 1000,
+};
+
 /// The lines of a text.
 fn lines_of(alloc: Global, text: &str) -> Result<Lines, NoMemory> {
     let mut lines = Lines::new(alloc);
@@ -42,19 +48,18 @@ fn lines_of(alloc: Global, text: &str) -> Result<Lines, NoMemory> {
     Ok(lines)
 }
 
-/// Sees that an audit of a keeper ends so, with room for so many bytes.
+/// Sees that an audit of a keeper ends so.
 fn expect_audit<R: Threads + Wait + Sync + Abort>(
     rt: &R,
     alloc: Global,
-    words: &[&str],
+    call: &Call,
     mut keeper: MemoryKeeper,
-    room: u64,
     end: &End,
 ) -> Result<(), NoMemory>
     requires { IsSync R.row }
 {
     let mut tables = tables_of(alloc, "", "")?;
-    let ran = run_kept(rt, alloc, words, &mut tables, room, &PassGate, &mut keeper)?;
+    let ran = run_kept(rt, alloc, call, &mut tables, &PassGate, &mut keeper)?;
     expect(rt, &ran, end);
     Ok(())
 }
@@ -71,27 +76,13 @@ fn audited(entries: usize, report: &str) -> End {
 #[test]
 fn an_audit_of_lines(rt: HostRuntime) -> Result<(), NoMemory> {
     let keeper = MemoryKeeper::holding(rt.alloc(), lines_of(rt.alloc(), LINES)?);
-    expect_audit(
-        &rt,
-        rt.alloc(),
-        &["audit"],
-        keeper,
-        1000,
-        &audited(4, REPORT),
-    )
+    expect_audit(&rt, rt.alloc(), &AUDIT, keeper, &audited(4, REPORT))
 }
 
 #[test]
 fn an_audit_of_nothing(rt: HostRuntime) -> Result<(), NoMemory> {
     let keeper = MemoryKeeper::new(rt.alloc());
-    expect_audit(
-        &rt,
-        rt.alloc(),
-        &["audit"],
-        keeper,
-        1000,
-        &audited(0, NOTHING),
-    )
+    expect_audit(&rt, rt.alloc(), &AUDIT, keeper, &audited(0, NOTHING))
 }
 
 #[test]
@@ -99,14 +90,14 @@ fn an_audit_of_an_end_that_is_none(rt: HostRuntime) -> Result<(), NoMemory> {
     let lines = lines_of(rt.alloc(), "add 1 5 5 5\nround 0\nend 10 0 1")?;
     let keeper = MemoryKeeper::holding(rt.alloc(), lines);
     let end = End::refused(Status::BadKept(2));
-    expect_audit(&rt, rt.alloc(), &["audit"], keeper, 1000, &end)
+    expect_audit(&rt, rt.alloc(), &AUDIT, keeper, &end)
 }
 
 #[test]
 fn an_audit_whose_loading_fails(rt: HostRuntime) -> Result<(), NoMemory> {
     let keeper = MemoryKeeper::new(rt.alloc()).fail_at(0);
     let end = End::refused(Status::KeepFault);
-    expect_audit(&rt, rt.alloc(), &["audit"], keeper, 1000, &end)
+    expect_audit(&rt, rt.alloc(), &AUDIT, keeper, &end)
 }
 
 #[test]
@@ -114,7 +105,11 @@ fn an_audit_as_json(rt: HostRuntime) -> Result<(), NoMemory> {
     let keeper = MemoryKeeper::new(rt.alloc());
     let words = ["audit", "--format", "json"];
     let end = audited(0, NOTHING_AS_JSON);
-    expect_audit(&rt, rt.alloc(), &words, keeper, 1000, &end)
+    let call = Call {
+        words: &words,
+        room: 1000,
+    };
+    expect_audit(&rt, rt.alloc(), &call, keeper, &end)
 }
 
 #[test]
@@ -124,5 +119,6 @@ fn an_audit_whose_writing_fails(rt: HostRuntime) -> Result<(), NoMemory> {
         status: Status::WriteFault,
         ..audited(4, "omega")
     };
-    expect_audit(&rt, rt.alloc(), &["audit"], keeper, 5, &end)
+    let call = Call { room: 5, ..AUDIT };
+    expect_audit(&rt, rt.alloc(), &call, keeper, &end)
 }

@@ -3,7 +3,7 @@
 
 ghost use Rattle.std.specs.Thread.{IsSync};
 
-use crate::runs::{End, MACHINE, Ran, TASK, ends_so, expect, run_past, tables_of};
+use crate::runs::{Call, End, MACHINE, Ran, TASK, ends_so, expect, run_past, tables_of};
 use omega_io::{MemoryTables, PassGate, Tables};
 use omega_model::{Cause, Kind, NoMemory, Settings, Status, Table};
 use omega_top::{exit_status, fault_line};
@@ -25,7 +25,11 @@ fn expect_replay<R: Threads + Wait + Sync + Abort, T: Tables + Drop>(
 ) -> Result<(), NoMemory>
     requires { IsSync R.row }
 {
-    let ran = run_past(rt, alloc, &["replay"], &mut tables, room, &PassGate)?;
+    let call = Call {
+        words: &["replay"],
+        room,
+    };
+    let ran = run_past(rt, alloc, &call, &mut tables, &PassGate)?;
     expect(rt, &ran, end);
     Ok(())
 }
@@ -46,7 +50,8 @@ fn expect_settings<R: Threads + Wait + Sync + Abort, T: Tables + Drop>(
 ) -> Result<(), NoMemory>
     requires { IsSync R.row }
 {
-    let ran = run_past(rt, alloc, words, &mut tables, ROOM, &PassGate)?;
+    let call = Call { words, room: ROOM };
+    let ran = run_past(rt, alloc, &call, &mut tables, &PassGate)?;
     expect_done(rt, &ran, settings);
     Ok(())
 }
@@ -100,7 +105,11 @@ fn expect_read_fault<R: Threads + Wait + Sync + Abort, T: Tables + Drop>(
 ) -> Result<(), NoMemory>
     requires { IsSync R.row }
 {
-    let ran = run_past(rt, alloc, &["replay"], &mut tables, ROOM, &PassGate)?;
+    let call = Call {
+        words: &["replay"],
+        room: ROOM,
+    };
+    let ran = run_past(rt, alloc, &call, &mut tables, &PassGate)?;
     expect_fault(rt, &ran, &tables, table);
     Ok(())
 }

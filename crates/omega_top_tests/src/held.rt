@@ -5,7 +5,7 @@
 
 ghost use Rattle.std.specs.Thread.{IsSync};
 
-use crate::runs::{End, Ran, expect, run_past, tables_of};
+use crate::runs::{Call, End, Ran, expect, run_past, tables_of};
 use omega_io::{HeldGate, Point, Tables};
 use omega_model::{Entry, Judgements, NoMemory, Status, Verdict};
 use std::alloc::Global;
@@ -40,7 +40,8 @@ fn run_over<R: Threads + Wait + Sync, T: Tables + Drop>(
 ) -> Result<Ran, NoMemory>
     requires { IsSync R.row }
 {
-    run_past(rt, alloc, words, &mut tables, ROOM, gate)
+    let call = Call { words, room: ROOM };
+    run_past(rt, alloc, &call, &mut tables, gate)
 }
 
 /// Sees that no hold of a gate has ended by its bound.

@@ -2,7 +2,7 @@
 
 ghost use Rattle.std.specs.Thread.{IsSync};
 
-use crate::runs::{End, expect, run_kept, tables_of};
+use crate::runs::{Call, End, expect, run_kept, tables_of};
 use omega_io::PassGate;
 use omega_keep::{Lines, MemoryKeeper};
 use omega_model::{NoMemory, Seq, Status};
@@ -158,15 +158,11 @@ fn expect_run<R: Threads + Wait + Sync + Abort>(
     requires { IsSync R.row }
 {
     let mut tables = tables_of(alloc, MACHINES, TASKS)?;
-    let ran = run_kept(
-        rt,
-        alloc,
-        &["resume"],
-        &mut tables,
-        10_000,
-        &PassGate,
-        keeper,
-    )?;
+    let call = Call {
+        words: &["resume"],
+        room: 10_000,
+    };
+    let ran = run_kept(rt, alloc, &call, &mut tables, &PassGate, keeper)?;
     expect(rt, &ran, &end_of(status));
     Ok(())
 }

@@ -82,35 +82,40 @@ pub fn tables_of(alloc: Global, machines: &str, tasks: &str) -> Result<MemoryTab
     Ok(MemoryTables::new(alloc, tables))
 }
 
-/// A run with these words past a gate, whose sink has room for so many bytes.
+/// What a run is called with: its words, and for how many bytes its sink has room.
+#[derive(Clone, Copy)]
+pub struct Call<'a> {
+    pub words: &'a [&'a str],
+    pub room: u64,
+}
+
+/// A run past a gate.
 pub fn run_past<R: Threads + Wait + Sync, T: Tables, G: Gate + Sync>(
     rt: &R,
     alloc: Global,
-    words: &[&str],
+    call: &Call,
     tables: &mut T,
-    room: u64,
     gate: &G,
 ) -> Result<Ran, NoMemory>
     requires { IsSync R.row × IsSync G.row }
 {
     let mut keeper = SteadyKeeper::new(alloc);
-    run_kept(rt, alloc, words, tables, room, gate, &mut keeper)
+    run_kept(rt, alloc, call, tables, gate, &mut keeper)
 }
 
 /// The same with this keeper. Each write takes a single byte.
 pub fn run_kept<R: Threads + Wait + Sync, T: Tables, G: Gate + Sync, P: Keeper>(
     rt: &R,
     alloc: Global,
-    words: &[&str],
+    call: &Call,
     tables: &mut T,
-    room: u64,
     gate: &G,
     keeper: &mut P,
 ) -> Result<Ran, NoMemory>
     requires { IsSync R.row × IsSync G.row }
 {
-    let mut sink = MemorySink::new(alloc, room)?.cut(1);
-    let done = omega(rt, alloc, words, tables, &mut sink, gate, keeper);
+    let mut sink = MemorySink::new(alloc, call.room)?.cut(1);
+    let done = omega(rt, alloc, call.words, tables, &mut sink, gate, keeper);
     Ok(Ran {
         done,
         written: sink.into_bytes(),

@@ -11,8 +11,8 @@ use Rattle.omega_top.proofs.replay.lines_of_simulated.Goals as goal
 
 pub time_lines-requires-clause-sums : goal.time_lines-requires-clause-sums
 time_lines-requires-clause-sums c =
-    let settings = c.args.settings.now in
-    let trace = c.args.trace.now in
+    let settings = c.args.input.now.settings in
+    let trace = c.args.input.now.trace in
     let history = c.args.world.now.history in
     let times = c.args.times.now in
     let few = subst (λ (rows : List ActivityFields). All (λ row. row.activities ≤ most_activities) rows) c.as_slice.ensures c.activities_are_few.ensures in
