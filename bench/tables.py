@@ -398,9 +398,9 @@ SPREAD = 0x9E37_79B9_7F4A_7C15
 
 
 def one_note(files, size):
-    """Jobs of one task on 2,000 machines, with numbers that share a note"""
+    """Jobs of one task on 100 machines, with numbers that share a note"""
     back = pow(SPREAD, -1, 2 ** 64)
-    for number in range(1, 2001):
+    for number in range(1, 101):
         files.machine(number * back % 2 ** 64)
     for job in range(1, size + 1):
         files.task(0, job * back % 2 ** 64, 0, 0, 0)
