@@ -1,4 +1,4 @@
-//! The indexes of what evictions could free, one for each precedence for which room was sought so.
+//! The indexes of what evictions could free, one for each precedence that has asked for such room.
 ghost use Rattle.std.specs.Prelude.{◌≡◌, ◌≤◌, ◌<◌, IfOk, IfSome, OnOk, length};
 ghost use Rattle.omega_model.specs.Cell.{Cell};
 ghost use Rattle.omega_board.specs.Board.{cell_of};
