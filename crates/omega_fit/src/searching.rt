@@ -65,7 +65,7 @@ fn search_in<F: Fn(usize) -> bool>(
     match search_in(left, base, from, lesser(to, half), need, test) {
         Some(found) => Some(found),
         None => {
-            if passes_here(from, half, to, need, slot.free, base + half, test) {
+            if from <= half && half < to && passes_here(need, slot.free, base + half, test) {
                 return Some(half);
             }
             let past = half + 1;
@@ -84,24 +84,19 @@ fn search_in<F: Fn(usize) -> bool>(
     }
 }
 
-/// Whether the root at `half` is asked for, has room and passes the test.
+/// Whether a slot has room, and its position passes the test.
 fn passes_here<F: Fn(usize) -> bool>(
-    from: usize,
-    half: usize,
-    to: usize,
     need: Need,
     free: Option<Need>,
     position: usize,
     test: &F,
 ) -> bool
     requires callable { F.IsAlwaysCallable test.now }
-    ensures from { IsTrue result → from ≤ half }
-    ensures to { IsTrue result → half < to }
     ensures room { IsTrue result → Holds need free }
     ensures passes { IsTrue result → F.post test.now position true }
-    ensures fails { result ≡ false → from ≤ half → half < to → Holds need free → F.post test.now position false }
+    ensures fails { result ≡ false → Holds need free → F.post test.now position false }
 {
-    from <= half && half < to && holds(need, free) && test(position)
+    holds(need, free) && test(position)
 }
 
 /// The lesser of two numbers.

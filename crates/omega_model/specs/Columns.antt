@@ -84,8 +84,8 @@ capacity_in number fields =
     Ok record { cpu = amount; mem = memory; disk = 0 }))
 
 -- the amounts of CPU, memory and disk that a task asks for, in a column and the next two
-abbrev pub request_in : ℕ → List (List ℕ) → Result Need BadColumn
-request_in number fields =
+abbrev pub need_in : ℕ → List (List ℕ) → Result Need BadColumn
+need_in number fields =
     and_then (amount_up_in number fields) (λ amount.
     and_then (amount_up_in (number + 1) fields) (λ memory.
     and_then (amount_up_in (number + 2) fields) (λ space.
@@ -102,7 +102,7 @@ key_in number fields =
 abbrev pub spec_of : List (List ℕ) → Result Spec BadColumn
 spec_of fields =
     and_then (number_or_blank_in 255 9 fields) (λ priority.
-    and_then (request_in 10 fields) (λ amounts.
+    and_then (need_in 10 fields) (λ amounts.
     and_then (number_or_blank_in 1 13 fields) (λ flag.
     Ok record { need = amounts; prec = priority; differ = flag == 1 })))
 

@@ -4,7 +4,7 @@ ghost use Rattle.csv.specs.Records.{fields_of};
 ghost use Rattle.omega_model.specs.Fields.{greatest as most_units, greatest_quantity};
 ghost use Rattle.omega_model.specs.Need.{Fits};
 ghost use Rattle.omega_model.specs.Rows.{column};
-ghost use Rattle.omega_model.specs.Columns.{bounded, number_in, number_or_blank_in, time_in, id_in, amount_down_in, amount_up_in, capacity_in, request_in, key_in, spec_of, operator, machine_row, attr_row, task_row, constraint_row, activity_row, disk_row};
+ghost use Rattle.omega_model.specs.Columns.{bounded, number_in, number_or_blank_in, time_in, id_in, amount_down_in, amount_up_in, capacity_in, need_in, key_in, spec_of, operator, machine_row, attr_row, task_row, constraint_row, activity_row, disk_row};
 ghost use Rattle.omega_tables.specs.Checking.{has_fields, attr_numbers, constraint_numbers};
 
 use csv::ByteRecord;
@@ -128,10 +128,10 @@ fn capacity_in(number: u32, fields: &ByteRecord) -> Result<Need, BadColumn>
 }
 
 /// The CPU, memory and disk that a task asks for, in a column and the next two.
-fn request_in(number: u32, fields: &ByteRecord) -> Result<Need, BadColumn>
+fn need_in(number: u32, fields: &ByteRecord) -> Result<Need, BadColumn>
     requires first { 0 < number }
     requires last { number < 100 }
-    ensures value { result ≡ request_in number (fields_of fields.now) }
+    ensures value { result ≡ need_in number (fields_of fields.now) }
     ensures most { IfOk result (λ need. Fits need most_units) }
 {
     Ok(Need {
@@ -160,7 +160,7 @@ fn spec_of(fields: &ByteRecord) -> Result<Spec, BadColumn>
     ensures most { IfOk result (λ spec. Fits spec.need most_units) }
 {
     let prec = number_or_blank_in(255, 9, fields)? as u8;
-    let need = request_in(10, fields)?;
+    let need = need_in(10, fields)?;
     let differ = number_or_blank_in(1, 13, fields)? == 1;
     Ok(Spec { need, prec, differ })
 }
