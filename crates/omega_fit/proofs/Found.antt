@@ -1,6 +1,5 @@
 -- What the first of a round says as `find`: for a caller whose test has one answer at each position.
 use Rattle.std.proofs.Common.{◌≡◌, ◌∙◌, ◌+◌, ◌++◌, ◌∷◌, ℕ, zero, suc, Bool, true, false, List, [], Option, Some, None, length, drop, take, ap, sym, subst, refl, arith}
-use Rattle.std.specs.Prelude.{get_or}
 use Rattle.std.specs.List.{All, AllZip, find, range_with_len, slice_get}
 use Rattle.std.proofs.lemmas.List.Elements.{All-head, All-tail, All-weaker}
 use Rattle.omega_model.specs.declared.cells.Need.{Need}
