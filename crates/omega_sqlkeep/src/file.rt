@@ -104,12 +104,23 @@ fn close_at(rt: &HostRuntime, path: &str, connection: FileConnection) -> Result<
 /// It tells the path and not its list. What the database refuses is a fault, as are a file that can't be
 /// opened and a load or an append before the first `enter`, but for want of memory, which is answered as
 /// such. The count of faults stops at 2^64 - 1.
-#[derive(Drop)]
 pub struct FileKeeper<'a> {
     rt: &'a HostRuntime,
     path: Option<Text>,
     connection: Option<FileConnection>,
     faults: u64,
+}
+
+// It is written out, so that who lets a keeper go doesn't prove again how each part is dropped.
+impl<'a> Drop for FileKeeper<'a> {
+    fn drop(self) {
+        let FileKeeper {
+            rt: _,
+            path: _,
+            connection: _,
+            faults: _,
+        } = self;
+    }
 }
 
 impl<'a> FileKeeper<'a> {
