@@ -79,12 +79,7 @@ fn expect_let_go<K: Keeper + Drop>(
 #[test]
 fn a_file_that_another_keeper_has(rt: HostRuntime) -> Result<(), Fail> {
     new_folder(&rt, "kept_locked")?;
-    expect_let_go(
-        &rt,
-        rt.alloc(),
-        FileKeeper::new(&rt),
-        FileKeeper::new(&rt),
-    )?;
+    expect_let_go(&rt, rt.alloc(), FileKeeper::new(&rt), FileKeeper::new(&rt))?;
     fs::remove_dir_all(&rt, "kept_locked")?;
     Ok(())
 }
