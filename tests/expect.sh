@@ -16,11 +16,17 @@ answer() {
     for at in "${!words[@]}"; do
         [ "${words[at]}" != --kept ] || base=${words[at + 1]}
     done
+    [ ! -f kept-bytes ] || cp kept-bytes "$base"
     [ ! -s kept ] || python3 "$reference/kept.py" put "$base" <kept
     python3 "$reference/omega.py" "${words[@]}" >report.txt 2>fault.txt
     echo $? >status
-    [ ! -f kept ] || python3 "$reference/kept.py" get "$base" >kept-after
-    rm -f "$base"
+    [ ! -f kept ] || kept_in "$base" >kept-after
+    [ ! -f "$base" ] || rm "$base"
+}
+
+# Writes the lines that a database has; none where there is no such file.
+kept_in() {
+    [ ! -f "$1" ] || python3 "$reference/kept.py" get "$1"
 }
 
 # Takes off the files that say no more than that they might be missing.

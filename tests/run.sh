@@ -64,6 +64,11 @@ count() {
     fi
 }
 
+# Whether a folder's run finds kept lines, or a file where they would be, and what it leaves is looked at.
+is_kept() {
+    [ -f "$1/kept" ] || [ -f "$1/kept-bytes" ]
+}
+
 # Prints what is wrong with the answer to a folder's words. Where the folder has kept lines, or its tables are made,
 # the run is in a copy of it.
 faults_in() {
@@ -73,7 +78,7 @@ faults_in() {
         where=$scratch/copy
         copy_with_made "$1" || echo "its tables weren't made"
     fi
-    if [ -f "$1/kept" ]; then
+    if is_kept "$1"; then
         where=$scratch/copy
         for at in "${!words[@]}"; do
             [ "${words[at]}" != --kept ] || base=$where/${words[at + 1]}
@@ -86,7 +91,7 @@ faults_in() {
     differences "$1/fault.txt" "$scratch/err"
     [ -f "$1/status" ] && wanted=$(<"$1/status")
     [ "$status" = "$wanted" ] || echo "the status is $status, and $wanted is wanted"
-    if [ -f "$1/kept" ]; then
+    if is_kept "$1"; then
         kept_differences "$1" "$base"
         [ "$wanted" != 0 ] || faults_again "$1" "$where" "$base" "${words[@]}"
     fi
@@ -110,20 +115,30 @@ copy_with_made() {
     (cd "$scratch/copy" && exec bash ./make.sh)
 }
 
-# Makes a copy of a folder, and in it a database of its kept lines, if it has any.
+# Makes a copy of a folder, and in it a database of its kept lines, if it has any, or the file that it has instead.
 copy_with_kept() {
     rm -rf "$scratch/copy"
     cp -r "$1" "$scratch/copy"
+    [ ! -f "$1/kept-bytes" ] || cp "$1/kept-bytes" "$2"
     [ ! -s "$1/kept" ] || python3 "$root/reference/kept.py" put "$2" <"$1/kept"
 }
 
 # Prints how the lines that a database has differ from those that a folder wants kept: the same as before, where it
-# doesn't say otherwise.
+# doesn't say otherwise. The database has to have them without a log, and where none are wanted none is made. A file
+# that stands where the database would be has to stay as it is.
 kept_differences() {
     local wanted=$1/kept
     [ ! -f "$1/kept-after" ] || wanted=$1/kept-after
-    python3 "$root/reference/kept.py" get "$2" >"$scratch/after"
-    differences "$wanted" "$scratch/after"
+    [ ! -e "$2-wal" ] || echo "a log stands beside the database"
+    if [ -f "$1/kept-bytes" ]; then
+        differences "$1/kept-bytes" "$2"
+    elif [ -f "$2" ]; then
+        python3 "$root/reference/kept.py" get "$2" >"$scratch/after"
+        differences "$wanted" "$scratch/after"
+        [ -s "$wanted" ] || echo "a database was made to keep nothing"
+    else
+        differences "$wanted" /dev/null
+    fi
 }
 
 # Prints what is wrong with the answer to words that must be refused, in a folder without tables.

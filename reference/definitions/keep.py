@@ -29,10 +29,12 @@ class MemoryKeeper:
 
 
 class DatabaseKeeper:
-    """Lines in a table of an SQLite database, in the order of their places. One that isn't there has none."""
+    """Lines in a table of an SQLite database, in the order of their places. One that isn't there has none. Names that
+    SQLite would take as something else than a file's are refused."""
 
-    def __init__(self, path: str) -> None:
-        self.path = path
+    def __init__(self, name: str, folder: str = '') -> None:
+        self.is_file = name not in ('', ':memory:') and not name.startswith('file:')
+        self.path = os.path.join(folder, name)
 
     def load(self) -> list[bytes]:
         if not os.path.exists(self.path):
@@ -47,6 +49,8 @@ class DatabaseKeeper:
 
     def run(self, command: str, rows: list[tuple] | None = None) -> list[tuple]:
         """Runs one command, for each of some rows if there are such, as one transaction; the table is made first."""
+        if not self.is_file:
+            raise keep_fault()
         try:
             base = sqlite3.connect(self.path)
             try:

@@ -55,7 +55,7 @@ def answer(words: list[str], cwd: str = '.', order: int | None = None, keeper: K
     unless a keeper is handed in."""
     try:
         settings = settings_of(words)
-        keeper = keeper or DatabaseKeeper(os.path.join(cwd, settings.kept))
+        keeper = keeper or DatabaseKeeper(settings.kept, cwd)
         lines = lines_of_run(settings, reader_of(settings, cwd), keeper, order)
         return Answer(in_format(settings.format, lines), b'', 0)
     except Refusal as refusal:

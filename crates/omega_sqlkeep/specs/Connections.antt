@@ -14,4 +14,4 @@ faults_of keeper = keeper.faults
 
 -- a keeper has its file open
 abbrev pub HasOpened : FileKeeper → Type 0
-HasOpened keeper = IsSome keeper.connection
+HasOpened keeper = IsSome keeper.file

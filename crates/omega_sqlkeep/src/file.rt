@@ -12,6 +12,26 @@ use std::{fs, io};
 /// A connection to a file and its log.
 type FileConnection = Connection<FileStore<File>>;
 
+/// A file that is open.
+struct OpenFile {
+    connection: FileConnection,
+}
+
+// It is written out, so that nobody else proves how each part of a connection to a file is dropped.
+impl Drop for OpenFile {
+    fn drop(self) {
+        let OpenFile { connection: _ } = self;
+    }
+}
+
+impl OpenFile {
+    /// Hands the connection back.
+    fn into_connection(self) -> FileConnection {
+        let OpenFile { connection } = self;
+        connection
+    }
+}
+
 const CANNOT_OPEN: Error = Error::SqliteFailure(ErrorCode::CannotOpen);
 
 /// Whether nothing stands at a path.
@@ -22,17 +42,23 @@ fn is_missing(rt: &HostRuntime, path: &str) -> bool {
     }
 }
 
-/// The connection to the file at a path, made where there is none yet.
+/// The file at a path, opened where it isn't yet.
+fn open_at(rt: &HostRuntime, path: &str) -> Result<OpenFile, Error> {
+    let connection = Connection::open(rt, path)?;
+    Ok(OpenFile { connection })
+}
+
+/// The connection to the file at a path, which is opened where it isn't yet.
 fn opened<'c>(
     rt: &HostRuntime,
     path: &str,
-    connection: &'c mut Option<FileConnection>,
+    file: &'c mut Option<OpenFile>,
 ) -> Result<&'c mut FileConnection, Error> {
-    if connection.is_none() {
-        *connection = Some(Connection::open(rt, path)?);
+    if file.is_none() {
+        *file = Some(open_at(rt, path)?);
     }
-    match connection {
-        Some(open) => Ok(open),
+    match file {
+        Some(open) => Ok(&mut open.connection),
         None => Err(CANNOT_OPEN),
     }
 }
@@ -41,28 +67,28 @@ fn opened<'c>(
 fn load_at(
     rt: &HostRuntime,
     path: &Option<Text>,
-    connection: &mut Option<FileConnection>,
+    file: &mut Option<OpenFile>,
 ) -> Result<Lines, Error> {
     let Some(path) = path else {
         return Err(CANNOT_OPEN);
     };
-    if connection.is_none() && is_missing(rt, path.as_str()) {
+    if file.is_none() && is_missing(rt, path.as_str()) {
         return Ok(Seq::new(rt.alloc()));
     }
-    load_from(rt.alloc(), opened(rt, path.as_str(), connection)?)
+    load_from(rt.alloc(), opened(rt, path.as_str(), file)?)
 }
 
 /// Puts lines at the end of the file at a path, which is made where it isn't there.
 fn append_at(
     rt: &HostRuntime,
     path: &Option<Text>,
-    connection: &mut Option<FileConnection>,
+    file: &mut Option<OpenFile>,
     lines: &Lines,
 ) -> Result<(), Error> {
     let Some(path) = path else {
         return Err(CANNOT_OPEN);
     };
-    append_to(opened(rt, path.as_str(), connection)?, lines)
+    append_to(opened(rt, path.as_str(), file)?, lines)
 }
 
 /// Below this length a log has no page, so that nothing is lost with it.
@@ -80,8 +106,8 @@ fn remove_log(rt: &HostRuntime, path: &str) -> io::Result<()> {
 
 /// Copies the log into the file and removes it, while nobody else can have the file. A log that can't be
 /// removed stays.
-fn close_at(rt: &HostRuntime, path: &str, connection: FileConnection) -> Result<(), Error> {
-    match connection.close_files() {
+fn close_at(rt: &HostRuntime, path: &str, file: OpenFile) -> Result<(), Error> {
+    match file.into_connection().close_files() {
         Ok(files) => {
             let _ = remove_log(rt, path);
             drop(files);
@@ -104,12 +130,23 @@ fn close_at(rt: &HostRuntime, path: &str, connection: FileConnection) -> Result<
 /// It tells the path and not its list. What the database refuses is a fault, as are a file that can't be
 /// opened and a load or an append before the first `enter`, but for want of memory, which is answered as
 /// such. The count of faults stops at 2^64 - 1.
-#[derive(Drop)]
 pub struct FileKeeper<'a> {
     rt: &'a HostRuntime,
     path: Option<Text>,
-    connection: Option<FileConnection>,
+    file: Option<OpenFile>,
     faults: u64,
+}
+
+// It is written out, so that who lets a keeper go doesn't prove again how each part is dropped.
+impl<'a> Drop for FileKeeper<'a> {
+    fn drop(self) {
+        let FileKeeper {
+            rt: _,
+            path: _,
+            file: _,
+            faults: _,
+        } = self;
+    }
 }
 
 impl<'a> FileKeeper<'a> {
@@ -123,7 +160,7 @@ impl<'a> FileKeeper<'a> {
         FileKeeper {
             rt,
             path: None,
-            connection: None,
+            file: None,
             faults: 0,
         }
     }
@@ -137,10 +174,10 @@ impl<'a> FileKeeper<'a> {
         let FileKeeper {
             rt,
             path,
-            connection,
+            file,
             faults: _,
         } = self;
-        match (path, connection) {
+        match (path, file) {
             (Some(path), Some(open)) => match close_at(rt, path.as_str(), open) {
                 Ok(()) => Ok(()),
                 Err(error) => Err(refusal_of(error)),
@@ -162,19 +199,19 @@ impl<'a> Keeper for FileKeeper<'a> {
     fn enter(&mut self, path: &str) -> Result<(), NoMemory> {
         let path = String::from_str(self.rt.alloc(), path)?;
         self.path = Some(Text::of(path));
-        self.connection = None;
+        self.file = None;
         Ok(())
     }
 
     fn load(&mut self) -> Result<Lines, KeepRefusal> {
-        match load_at(self.rt, &self.path, &mut self.connection) {
+        match load_at(self.rt, &self.path, &mut self.file) {
             Ok(lines) => Ok(lines),
             Err(error) => Err(counted(error, &mut self.faults)),
         }
     }
 
     fn append(&mut self, lines: &Lines) -> Result<(), KeepRefusal> {
-        match append_at(self.rt, &self.path, &mut self.connection, lines) {
+        match append_at(self.rt, &self.path, &mut self.file, lines) {
             Ok(()) => Ok(()),
             Err(error) => Err(counted(error, &mut self.faults)),
         }

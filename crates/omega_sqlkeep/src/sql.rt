@@ -22,11 +22,21 @@ use std::alloc::Global;
 ///
 /// Each statement that is refused, and each row that isn't bytes, is a fault, but for want of memory,
 /// which is answered as such. The count of faults stops at 2^64 - 1.
-#[derive(Drop)]
 pub struct SqlKeeper<S: Alter + Drop> {
     alloc: Global,
     connection: Connection<S>,
     faults: u64,
+}
+
+// It is written out, so that who lets a keeper go doesn't prove again how each part is dropped.
+impl<S: Alter + Drop> Drop for SqlKeeper<S> {
+    fn drop(self) {
+        let SqlKeeper {
+            alloc: _,
+            connection: _,
+            faults: _,
+        } = self;
+    }
 }
 
 impl<S: Alter + Drop> SqlKeeper<S> {

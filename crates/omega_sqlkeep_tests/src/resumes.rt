@@ -2,13 +2,15 @@
 
 ghost use Rattle.std.specs.Thread.{IsSync};
 
-use crate::disks::{Disk, Stopped, files_of, keeper_over, up_again};
+use crate::counted::Counted;
+use crate::disks::{Disk, Ends, Stopped, files_of, up_again};
 use crate::lines::{are_same, lines_of};
 use omega_io::{MemorySink, MemoryTables, PassGate, Tables};
 use omega_keep::{Keeper, Lines, MemoryKeeper};
 use omega_model::{Bytes, NoMemory, Seq, Status};
+use omega_sqlkeep::SqlKeeper;
 use omega_top::omega;
-use sqlite::Files;
+use sqlite::{Connection, Files, Options};
 use std::alloc::Global;
 use std::sync::Wait;
 use std::test::Fail;
@@ -38,6 +40,24 @@ struct Ran {
     status: Status,
     written: Bytes,
 }
+
+/// What a run that goes on has come to.
+#[derive(Drop)]
+struct Outcome {
+    /// The lines that were kept before it, unless they couldn't be had.
+    found: Option<Lines>,
+    /// How many of its appends were answered as done.
+    appended: usize,
+    /// Whether it was done and wrote the report.
+    is_done: bool,
+}
+
+/// What a run came to whose database couldn't be opened.
+const NOT_OPENED: Outcome = Outcome {
+    found: None,
+    appended: 0,
+    is_done: false,
+};
 
 /// Bytes of a text.
 fn bytes(alloc: Global, text: &str) -> Result<Bytes, NoMemory> {
@@ -101,53 +121,95 @@ fn is_done(ran: &Ran, report: &Bytes) -> bool {
     ran.status == Status::Done && ran.written.as_slice() == report.as_slice()
 }
 
-/// Whether lines are none, those of the first round, or all.
-fn are_whole_rounds(alloc: Global, lines: &Lines) -> Result<bool, NoMemory> {
+/// Loads what a keeper has, and goes on with the run.
+fn gone_on<R: Threads + Wait + Sync, P: Keeper>(
+    rt: &R,
+    alloc: Global,
+    keeper: &mut Counted<P>,
+    report: &Bytes,
+) -> Result<Outcome, NoMemory>
+    requires { IsSync R.row }
+{
+    let found = match keeper.load() {
+        Ok(lines) => Some(lines),
+        Err(_) => None,
+    };
+    let ran = run(rt, alloc, "resume", keeper)?;
+    Ok(Outcome {
+        found,
+        appended: keeper.appended(),
+        is_done: is_done(&ran, report),
+    })
+}
+
+/// Goes on with the run that is kept in a database, and hands its files back.
+fn gone_on_with<R: Threads + Wait + Sync, S: Ends>(
+    rt: &R,
+    alloc: Global,
+    connection: Connection<S>,
+    report: &Bytes,
+) -> Result<(Outcome, Files<Disk>), NoMemory>
+    requires { IsSync R.row }
+{
+    let mut keeper = Counted::over(SqlKeeper::over(alloc, connection));
+    let outcome = gone_on(rt, alloc, &mut keeper, report)?;
+    let store = keeper.into_keeper().into_connection().into_store();
+    Ok((outcome, store.into_files()))
+}
+
+/// Goes on with the run that is kept in two files, and hands them back. A run over files that can't be used, or in
+/// which no database can be opened, does nothing.
+fn gone_on_in<R: Threads + Wait + Sync>(
+    rt: &R,
+    alloc: Global,
+    files: Files<Disk>,
+    report: &Bytes,
+) -> Result<(Outcome, Files<Disk>), NoMemory>
+    requires { IsSync R.row }
+{
+    if !files.may_be_used() {
+        return Ok((NOT_OPENED, files));
+    }
+    match Connection::open_files(alloc, files, Options::new(7)) {
+        Ok(connection) => gone_on_with(rt, alloc, connection, report),
+        Err((_, left)) => Ok((NOT_OPENED, left.into_files())),
+    }
+}
+
+/// The lines of no round, of the first and of both.
+fn wholes_of(alloc: Global) -> Result<[Lines; 3], NoMemory> {
     let first = [KEPT[0], KEPT[1], KEPT[2]];
-    Ok(
-        lines.is_empty()
-            || are_same(lines, &lines_of(alloc, &first)?)
-            || are_same(lines, &lines_of(alloc, &KEPT)?),
-    )
+    Ok([
+        lines_of(alloc, &[])?,
+        lines_of(alloc, &first)?,
+        lines_of(alloc, &KEPT)?,
+    ])
 }
 
-/// Keeps a run over two files one of which may stop. Answers whether it was done, and the files.
-fn kept_run<R: Threads + Wait + Sync>(
+/// Whether a run that goes on has found the lines of whole rounds, no fewer than the one before it was told were
+/// kept, and came to the report.
+fn is_sound(appended: usize, outcome: &Outcome, wholes: &[Lines; 3]) -> bool {
+    let Some(found) = &outcome.found else {
+        return false;
+    };
+    let rounds = wholes.iter().position(|whole| are_same(whole, found));
+    outcome.is_done && rounds.is_some_and(|rounds| rounds >= appended)
+}
+
+/// Stops a file of a new database after so many calls of a run. Answers whether a second run goes on from what was
+/// kept to the report, and whether the first one ended without a stop.
+fn stop_at<R: Threads + Wait + Sync>(
     rt: &R,
     alloc: Global,
     files: Files<Disk>,
     report: &Bytes,
-) -> Result<(bool, Files<Disk>), NoMemory>
+) -> Result<(bool, bool), NoMemory>
     requires { IsSync R.row }
 {
-    let mut keeper = match keeper_over(alloc, files) {
-        Ok(keeper) => keeper,
-        Err(files) => return Ok((false, files)),
-    };
-    let ran = run(rt, alloc, "resume", &mut keeper)?;
-    Ok((
-        is_done(&ran, report),
-        keeper.into_connection().into_store().close(),
-    ))
-}
-
-/// Whether what a stop has left is the lines of whole rounds, and a run goes on from them to the report.
-fn goes_on<R: Threads + Wait + Sync>(
-    rt: &R,
-    alloc: Global,
-    files: Files<Disk>,
-    report: &Bytes,
-) -> Result<bool, NoMemory>
-    requires { IsSync R.row }
-{
-    let Ok(mut keeper) = keeper_over(alloc, up_again(files)) else {
-        return Ok(false);
-    };
-    let Ok(lines) = keeper.load() else {
-        return Ok(false);
-    };
-    let ran = run(rt, alloc, "resume", &mut keeper)?;
-    Ok(are_whole_rounds(alloc, &lines)? && is_done(&ran, report))
+    let (first, files) = gone_on_in(rt, alloc, files, report)?;
+    let (second, _) = gone_on_in(rt, alloc, up_again(files), report)?;
+    let wholes = wholes_of(alloc)?;
+    Ok((is_sound(first.appended, &second, &wholes), first.is_done))
 }
 
 /// Stops one file after every number of calls until a run ends without a stop. Answers how many calls that
@@ -161,11 +223,11 @@ fn stop_everywhere<R: Threads + Wait + Sync>(
 {
     let report = replayed(rt, alloc)?;
     for calls in 0..1000 {
-        let (done, files) = kept_run(rt, alloc, files_of(alloc, stopped, calls), &report)?;
-        if !goes_on(rt, alloc, files, &report)? {
+        let (sound, ended) = stop_at(rt, alloc, files_of(alloc, stopped, calls), &report)?;
+        if !sound {
             return Ok(None);
         }
-        if done {
+        if ended {
             return Ok(Some(calls));
         }
     }
