@@ -3,20 +3,17 @@ use Rattle.std.proofs.Common.{◌≡◌, ◌+◌, ◌-◌, ◌<◌, ◌≤◌, �
 use Rattle.std.specs.List.{find, filter_map, range_with_len, cons_option}
 use Rattle.std.specs.Prelude.{IfSome, option_map}
 use Rattle.std.specs.Option.{unwrap_or}
-use Rattle.std.proofs.lemmas.Bool.{and_from, and_parts, and_right, both_ways, false_from_ne_true}
-use Rattle.std.proofs.lemmas.List.{length-take-le, take-take, take_all}
+use Rattle.std.proofs.lemmas.Bool.{and_parts}
+use Rattle.std.proofs.lemmas.List.{length-take-le, take-take}
 use Rattle.std.proofs.lemmas.Option.{none-some, same_Some}
 use Rattle.omega_model.specs.Cell.{Cell}
-use Rattle.omega_model.specs.Judge.{evicted_for, judge_fine, makes_room, standing_victims, would_be_placed}
+use Rattle.omega_model.specs.Judge.{evicted_for, makes_room, would_be_placed}
 use Rattle.omega_model.specs.Keys.{beginnings}
 use Rattle.omega_model.specs.Plan.{candidates, claim_of, first_item, goes_in, or_else, victims}
 use Rattle.omega_model.specs.Planning.{claim_as_is, claim_for_wish, claim_with_victims, suiting_from}
-use Rattle.omega_model.specs.Touches.{is_placed}
 use Rattle.omega_model.specs.declared.cells.Machine.{Machine}
 use Rattle.omega_model.specs.declared.cells.TaskKey.{TaskKey}
 use Rattle.omega_model.specs.declared.claims.Claim.{Claim}
-use Rattle.omega_model.specs.declared.claims.Judgement.{Judgement}
-use Rattle.omega_model.specs.declared.claims.Verdict.TheVariants.{Placed}
 use Rattle.omega_model.specs.declared.wishes.Wish.{Wish}
 use Rattle.omega_model.proofs.Lists.{by_answer}
 use Rattle.omega_running.specs.Order.{IsInOrder}

@@ -1,4 +1,4 @@
-use Rattle.std.proofs.Common.{◌≡◌, ◌==◌, IfOk, List, Option, Some, None, is_some, position, slice_get, sym, ap, subst, ◌∙◌}
+use Rattle.std.proofs.Common.{◌≡◌, ◌==◌, IfOk, List, Option, Some, None, position, slice_get, sym, ap, subst, ◌∙◌}
 use Rattle.omega_machines.specs.Table.{machines_of}
 use Rattle.omega_machines.specs.declared.MachineState.{MachineState}
 use Rattle.omega_model.specs.Cell.{machine_at}

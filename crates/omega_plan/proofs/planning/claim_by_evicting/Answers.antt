@@ -1,4 +1,4 @@
-use Rattle.std.proofs.Common.{◌≡◌, ◌<◌, Bool, true, Option, Some, None, IfSome, length, sym, subst}
+use Rattle.std.proofs.Common.{◌<◌, Bool, true, Option, Some, None, IfSome, length, sym, subst}
 use Rattle.std.specs.Prelude.{option_map}
 use Rattle.std.proofs.lemmas.List.{length-map}
 use Rattle.omega_machines.specs.declared.MachineState.{MachineState}

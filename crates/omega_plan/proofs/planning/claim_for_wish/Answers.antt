@@ -1,4 +1,4 @@
-use Rattle.std.proofs.Common.{◌<◌, List, [], Some, None, length, sym, subst, ◌∙◌}
+use Rattle.std.proofs.Common.{◌<◌, List, [], Some, length, sym, subst, ◌∙◌}
 use Rattle.std.proofs.lemmas.List.{length-map}
 use Rattle.omega_machines.specs.declared.MachineState.{MachineState}
 use Rattle.omega_model.specs.declared.cells.TaskKey.{TaskKey}

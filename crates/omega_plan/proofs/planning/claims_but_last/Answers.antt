@@ -1,4 +1,4 @@
-use Rattle.std.proofs.Common.{◌≡◌, ◌∙◌, ap, sym}
+use Rattle.std.proofs.Common.{◌∙◌, ap, sym}
 use Rattle.omega_copy.specs.Overlays.{cell_after}
 use Rattle.omega_model.specs.Planning.{claims_for_wishes}
 use Rattle.omega_plan.proofs.Planned.{planned_last, planned_more}
