@@ -1,6 +1,7 @@
 -- What a copy keeps beside its board, and when it serves on another.
 use Rattle.std.specs.Prelude.{◌≡◌, ◌≤◌, ◌-◌, ℕ, List, length, take, drop}
 use Rattle.omega_model.specs.Applying.{EachMayApply}
+use Rattle.omega_model.specs.Cell.{Cell}
 use Rattle.omega_model.specs.State.{state}
 use Rattle.omega_model.specs.declared.entries.Entry.{Entry}
 use Rattle.omega_running.specs.Order.{Each}
@@ -9,6 +10,11 @@ use Rattle.omega_board.specs.Naming.{NameTouched}
 use Rattle.omega_copy.specs.Levels.{Tells}
 use Rattle.omega_copy.specs.Telling.{freed_of}
 use Rattle.omega_copy.specs.declared.indexes.Indexes.{Indexes}
+
+-- indexes tell of a cell what is free, and what evictions could free
+pub record TellAll (cell : Cell) (indexes : Indexes) : Type 0 where
+  pub free : indexes.index.free ≡ freed_of 0 cell
+  pub levels : Each (Tells cell) indexes.levels.items
 
 -- the indexes of a history tell what is free, and what evictions could free, after as many of its entries
 -- as they have seen

@@ -2,3 +2,4 @@ pub mod Copies
 pub mod Levels
 pub mod Telling
 pub mod Indexes
+pub mod Overlays
