@@ -23,14 +23,18 @@ pub record AreIndexesOf (history : List Entry) (indexes : Indexes) : Type 0 wher
   pub free : indexes.index.free ≡ freed_of 0 (state (take indexes.seen history))
   pub levels : Each (Tells (state (take indexes.seen history))) indexes.levels.items
 
+-- indexes have room for so many more places
+pub record HaveRoom (count : ℕ) (indexes : Indexes) : Type 0 where
+  pub free : count ≤ indexes.index.spare
+  pub levels : Each (λ level. count ≤ level.index.spare) indexes.levels.items
+
 -- how many places indexes lack for so many machines
 abbrev pub places_missing : ℕ → Indexes → ℕ
 places_missing count indexes = count - length indexes.index.free
 
 -- indexes have room for the places that they lack for so many machines
-pub record HavePlaces (count : ℕ) (indexes : Indexes) : Type 0 where
-  pub free : places_missing count indexes ≤ indexes.index.spare
-  pub levels : Each (λ level. places_missing count indexes ≤ level.index.spare) indexes.levels.items
+abbrev pub HavePlaces : ℕ → Indexes → Type 0
+HavePlaces count indexes = HaveRoom (places_missing count indexes) indexes
 
 -- indexes may go on to a board, told of these machines: they are those of a history that the board is
 -- after, each of whose entries could be applied to the state before it, and the entries that they haven't

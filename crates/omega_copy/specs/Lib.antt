@@ -3,3 +3,5 @@ pub mod Levels
 pub mod Telling
 pub mod Indexes
 pub mod Overlays
+pub mod Tenants
+pub mod Beside
