@@ -10,3 +10,4 @@ pub mod Besides
 pub mod Hosting
 pub mod Placing
 pub mod Claimed
+pub mod Overlaid

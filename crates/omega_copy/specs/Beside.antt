@@ -12,10 +12,11 @@ use Rattle.omega_copy.specs.Overlays.{OverlayState, cell_after, tasks_claimed, t
 use Rattle.omega_copy.specs.Tenants.{AreBeside}
 use Rattle.omega_copy.specs.declared.tenants.Tenants.{Tenants}
 
--- what an overlay keeps: its tenants are beside its board what the claims make of it, no machine is overcommitted,
--- and machines that aren't among these have the tasks of the board
-pub record IsOverlay (tenants : Tenants) (machines : List ℕ) (overlay : OverlayState) : Type 0 where
-  pub beside : AreBeside tenants overlay.board.tasks (tasks_claimed overlay)
+-- what an overlay keeps: its tenants are beside the tasks that run on its board what the claims make of them, no
+-- machine is overcommitted, and machines that aren't among these have the tasks of the board
+pub record IsOverlay (tenants : Tenants) (running : List Task) (machines : List ℕ) (overlay : OverlayState) : Type 0 where
+  pub run : running ≡ overlay.board.tasks
+  pub beside : AreBeside tenants running (tasks_claimed overlay)
   pub sound : Sound (cell_after overlay)
   pub elsewhere : (id : ℕ) → is_among machines id ≡ false
       → filter (is_on id) (tasks_claimed overlay) ≡ filter (is_on id) overlay.board.tasks

@@ -18,6 +18,7 @@ use crate::indexes::Indexes;
 use crate::tenants::Tenants;
 use omega_board::Board;
 use omega_model::{Claim, Need, NoMemory, TaskKey, Tasks};
+use omega_running::Running;
 use std::alloc::Global;
 use std::marker::Model;
 
@@ -29,6 +30,7 @@ use std::marker::Model;
 #[derive(Drop)]
 pub struct Overlay<'a> {
     board: &'a Board,
+    running: &'a Running,
     tenants: Tenants,
     claims: Vec<Claim>,
     machines: Vec<u64>,
@@ -42,7 +44,7 @@ impl<'a> Model for Overlay<'a> {
 
     ghost view = { λ o. record { board = o.board.now; claims = o.claims.items } };
 
-    ghost invariant = { λ o. IsOverlay o.tenants o.machines.items (record { board = o.board.now; claims = o.claims.items }) };
+    ghost invariant = { λ o. IsOverlay o.tenants o.running.now.tasks o.machines.items (record { board = o.board.now; claims = o.claims.items }) };
 }
 
 impl<'a> Overlay<'a> {
@@ -50,8 +52,10 @@ impl<'a> Overlay<'a> {
     pub fn over(alloc: Global, board: &'a Board) -> Overlay<'a>
         ensures { result ≡ record { board = board.now; claims = [] } }
     {
+        let running = board.running();
         Overlay {
             board,
+            running,
             tenants: Tenants::new(alloc),
             claims: Vec::new(alloc),
             machines: Vec::new(alloc),
@@ -74,15 +78,14 @@ impl<'a> Overlay<'a> {
         ensures sound { Sound (cell_after self.now) }
         ensures ordered { KeysRise (tasks_claimed self.now) }
     {
-        self.tenants.runs(self.board.running(), key)
+        self.tenants.runs(self.running, key)
     }
 
     /// Whether a task of this job runs on a machine after the claims. Costs three look-ups.
     pub fn has_of_job(&self, alloc: Global, job: u64, machine: u64) -> bool
         ensures { result ≡ list_any (stays_of_job job machine []) (tasks_claimed self.now) }
     {
-        self.tenants
-            .has_of_job(alloc, self.board.running(), job, machine)
+        self.tenants.has_of_job(alloc, self.running, job, machine)
     }
 
     /// The tasks on a machine after the claims, in any order. Takes the time of what the machine has.
@@ -90,7 +93,7 @@ impl<'a> Overlay<'a> {
         ensures tasks { IfOk result (λ tasks. IsPermutation (filter (is_on machine) (tasks_claimed self.now)) tasks) }
         ensures ordered { KeysRise (tasks_claimed self.now) }
     {
-        self.tenants.tasks_on(alloc, self.board.running(), machine)
+        self.tenants.tasks_on(alloc, self.running, machine)
     }
 
     /// What is free on the machine at a position after the claims, once all tasks of a lower precedence
@@ -123,9 +126,8 @@ impl<'a> Overlay<'a> {
     {
         self.claims.reserve(1)?;
         self.machines.reserve(1)?;
-        self.tenants
-            .make_room(alloc, self.board.running(), &claim)?;
-        self.tenants.place(self.board.running(), &claim);
+        self.tenants.make_room(alloc, self.running, &claim)?;
+        self.tenants.place(self.running, &claim);
         indexes.tell_claim(self.board, &self.tenants, &claim);
         self.machines.push_reserved(claim.machine);
         self.claims.push_reserved(claim);
@@ -137,8 +139,8 @@ impl<'a> Overlay<'a> {
     /// a row on one machine.
     pub fn end(self, indexes: &mut Indexes) -> Vec<Claim>
         requires tell { TellAll (cell_after self) indexes.old }
-        ensures claims { result.items ≡ self.claims }
-        ensures tell { TellAll (cell_of self.board) indexes.new }
+        ensures claims { result.items ≡ self.entry.claims }
+        ensures tell { TellAll (cell_of self.entry.board) indexes.new }
         ensures seen { indexes.new.seen ≡ indexes.old.seen }
     {
         let Overlay {
