@@ -197,7 +197,6 @@ beside_same tenants next board tasks own whole beside = record {
 
 -- a claim that is placed
 module _ (tenants : Tenants) (board : List Task) (claim : Claim) (tasks : List Task) (goes : GoesBeside tenants board claim tasks) where
-
   abbrev pub own : List Task
   own = tenants.own.tasks
 

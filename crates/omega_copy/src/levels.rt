@@ -110,12 +110,7 @@ pub(crate) fn tell_parts_each(levels: &mut [Level], board: &Board, machines: &[u
 }
 
 /// Tells each level of a claim that was placed beside the board, with these tenants after it.
-pub(crate) fn tell_claim_each(
-    levels: &mut [Level],
-    board: &Board,
-    tenants: &Tenants,
-    claim: &Claim,
-)
+pub(crate) fn tell_claim_each(levels: &mut [Level], board: &Board, tenants: &Tenants, claim: &Claim)
     requires { Each (λ level. length level.index.free ≡ length board.now.table) levels.old }
     ensures { (tasks : List Task) → IsPlacedBeside board.now tenants.now claim.now tasks
         → Each (Tells (record { machines = machines_of board.now.table; tasks = tasks })) levels.old

@@ -130,7 +130,12 @@ impl Tenants {
 
     /// Makes room for a claim with these victims on a machine, which then is whole where there are some.
     /// What runs stays the same, also where memory runs out.
-    pub fn make_room(&mut self, alloc: Global, board: &Running, claim: &Claim) -> Result<(), NoMemory>
+    pub fn make_room(
+        &mut self,
+        alloc: Global,
+        board: &Running,
+        claim: &Claim,
+    ) -> Result<(), NoMemory>
         requires { MayTakeOver self.old board.now.tasks claim.now.machine }
         ensures kept { (tasks : List Task) → AreBeside self.old board.now.tasks tasks → AreBeside self.new board.now.tasks tasks }
         ensures whole { OnOk result ((claim.now.victims ≡ []) ⊎ (is_whole self.new claim.now.machine ≡ true)) }
