@@ -1,5 +1,5 @@
 //! One history and what is committed to it: the calls of `omega_cell`.
-ghost use Rattle.std.specs.Prelude.{◌≡◌, ◌<◌, ◌^◌, false, List, None, length, IfOk, OnOk, IsTrue};
+ghost use Rattle.std.specs.Prelude.{◌≡◌, ◌<◌, ◌^◌, false, List, length, IfOk, OnOk, IsTrue};
 ghost use Rattle.omega_model.specs.Touches.{is_commit};
 ghost use Rattle.omega_copy.specs.Copies.{CopyOf};
 ghost use Rattle.omega_model.specs.Applying.{CapacityIsInRange, EndsRunning};
@@ -39,9 +39,10 @@ use std::alloc::Global;
 /// the claims, each as `TASK MACHINE VICTIMS`, `-` for none; with `evicting` evictions make room, with
 /// `sparing` they don't, and a WISH is three words: `INDEX AMOUNT PRECEDENCE`. `copy victims MACHINE JOB
 /// WISH` answers the tasks that must go for a wish, `-` where none must and `none` where no evictions make
-/// room; `copy first START AMOUNT` the first position with room. `trial CLAIM` places a claim on trial, on
-/// a new copy, and takes it back: it answers the verdict and what is evicted, and before, meanwhile and
-/// after it whether the task runs, what is free on the machine, and the first position with room for it.
+/// room; `copy first START AMOUNT` the first position with room. `trial CLAIM` places a claim beside the board
+/// of a new copy, and takes it back: it answers the verdict and what is evicted, and where all of its victims
+/// are, before, meanwhile and after it whether the task runs, what is free on the machine, and the first
+/// position with room for it.
 pub(crate) fn answer(
     alloc: Global,
     call: &str,
@@ -65,7 +66,6 @@ fn take_all(
     answers: &mut String,
 ) -> Result<(), Fault>
     requires stands { CopyOf copy.old cell.old.history }
-    requires no_trial { copy.old.trial ≡ None }
 {
     for step in words.split(|word| is_colon(word)) {
         part(answers)?;
@@ -83,9 +83,7 @@ fn take(
     answers: &mut String,
 ) -> Result<(), Fault>
     requires stands { CopyOf copy.old cell.old.history }
-    requires no_trial { copy.old.trial ≡ None }
     ensures stands { OnOk result (CopyOf copy.new cell.new.history) }
-    ensures no_trial { OnOk result (copy.new.trial ≡ None) }
 {
     let [call, words @ ..] = step else {
         return Err(Fault::UnknownCall);
@@ -222,9 +220,7 @@ fn sync(
     answers: &mut String,
 ) -> Result<(), Fault>
     requires stands { CopyOf copy.old cell.now.history }
-    requires no_trial { copy.old.trial ≡ None }
     ensures stands { OnOk result (CopyOf copy.new cell.now.history) }
-    ensures no_trial { OnOk result (copy.new.trial ≡ None) }
 {
     catch_up(copy, cell, alloc)?;
     write!(answers, "{}", copy.seen())?;
@@ -234,9 +230,7 @@ fn sync(
 /// Takes the copy up to the history.
 fn catch_up(copy: &mut PrivateCopy, cell: &Cell, alloc: Global) -> Result<(), NoMemory>
     requires stands { CopyOf copy.old cell.now.history }
-    requires no_trial { copy.old.trial ≡ None }
     ensures stands { OnOk result (CopyOf copy.new cell.now.history) }
-    ensures no_trial { copy.new.trial ≡ None }
 {
     let delta = cell.since(alloc, copy.seen())?;
     copy.catch_up(alloc, delta)?;
@@ -251,7 +245,6 @@ fn follow(
     answers: &mut String,
 ) -> Result<(), Fault>
     ensures stands { OnOk result (CopyOf copy.new cell.now.history) }
-    ensures no_trial { OnOk result (copy.new.trial ≡ None) }
 {
     *copy = following(alloc, cell)?;
     write!(answers, "{}", copy.seen())?;

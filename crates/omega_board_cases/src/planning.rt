@@ -1,22 +1,27 @@
-//! What a scheduler does on a copy before it commits: trials and plans, as steps of `cell`.
-ghost use Rattle.std.specs.Prelude.{◌≡◌, ◌<◌, None, length, IfOk, OnOk, IsSomeAnd};
+//! What a scheduler does on a copy before it commits: claims beside its board and plans, as steps of `cell`.
+ghost use Rattle.std.specs.Prelude.{◌≡◌, ◌≤◌, length, IfOk, OnOk};
+ghost use Rattle.omega_board.specs.Board.{cell_of};
 ghost use Rattle.omega_copy.specs.Copies.{CopyOf};
+ghost use Rattle.omega_copy.specs.Indexes.{TellAll};
+ghost use Rattle.omega_copy.specs.Overlays.{GoesInWhole};
 
 use crate::board::ask;
 use crate::showing::{show_free, show_judged, show_tasks};
+use omega_board::Board;
 use omega_calls::{Fault, claim, need, number, place, show_place, show_task, small, spec, text};
 use omega_cell::Cell;
-use omega_copy::PrivateCopy;
+use omega_copy::{Indexes, Overlay, PrivateCopy};
 use omega_model::{
-    Bytes, Claim, Constraints, Mode, Policy, Request, Rule, TaskKey, Verdict, Wish, Wishes,
+    Bytes, Claim, Constraints, Mode, Need, NoMemory, Policy, Request, Rule, TaskKey, Txn, Verdict,
+    Wish, Wishes,
 };
 use omega_plan::{plan, victims};
 use std::alloc::Global;
+use std::mem;
 
 /// A new copy that has followed the history of a cell.
 pub(crate) fn following(alloc: Global, cell: &Cell) -> Result<PrivateCopy, Fault>
     ensures stands { IfOk result (λ copy. CopyOf copy cell.now.history) }
-    ensures no_trial { IfOk result (λ copy. copy.trial ≡ None) }
 {
     let mut copy = PrivateCopy::new(alloc);
     copy.follow(alloc, cell.history())?;
@@ -25,33 +30,52 @@ pub(crate) fn following(alloc: Global, cell: &Cell) -> Result<PrivateCopy, Fault
 
 /// Appends what a copy answers: the first position with room, or what its board says.
 pub(crate) fn ask_copy(
-    copy: &PrivateCopy,
+    copy: &mut PrivateCopy,
     alloc: Global,
     words: &[Bytes],
     answers: &mut String,
-) -> Result<(), Fault> {
+) -> Result<(), Fault>
+    ensures { OnOk result (copy.new ≡ copy.old) }
+{
     let [call, words @ ..] = words else {
         return Err(Fault::UnknownCall);
     };
     match (text(call)?, words) {
-        ("first", [start, amount]) => show_first(copy, start, amount, answers),
+        ("first", [start, amount]) => show_first(copy, alloc, start, amount, answers),
         ("victims", [machine, wish @ ..]) => show_victims(copy, alloc, machine, wish, answers),
         (call, _) => ask(copy.board(), alloc, call, words, answers),
     }
 }
 
-/// Appends the first position with room for an amount, round from a start.
+/// Appends the first position with room for an amount, round from a start. The copy is as before.
 fn show_first(
-    copy: &PrivateCopy,
+    copy: &mut PrivateCopy,
+    alloc: Global,
     start: &Bytes,
     amount: &Bytes,
     answers: &mut String,
-) -> Result<(), Fault> {
+) -> Result<(), Fault>
+    ensures { OnOk result (copy.new ≡ copy.old) }
+{
     let (start, amount) = (place(start)?, need(amount)?);
-    if start > copy.free().len() {
+    let whole = mem::replace(copy, PrivateCopy::new(alloc));
+    let (board, indexes) = whole.into_parts();
+    let told = show_first_of(&indexes, start, amount, answers);
+    *copy = PrivateCopy::of_parts(board, indexes);
+    told
+}
+
+/// The same of indexes.
+fn show_first_of(
+    indexes: &Indexes,
+    start: usize,
+    amount: Need,
+    answers: &mut String,
+) -> Result<(), Fault> {
+    if start > indexes.free().len() {
         return Err(Fault::MayNot);
     }
-    show_place(answers, copy.free().first(start, amount, |_| true))
+    show_place(answers, indexes.free().first(start, amount, |_| true))
 }
 
 /// Appends the tasks that must go for a wish, or `none` where no evictions make room.
@@ -102,7 +126,6 @@ pub(crate) fn show_plan(
     words: &[Bytes],
     answers: &mut String,
 ) -> Result<(), Fault>
-    requires { copy.old.trial ≡ None }
     ensures { OnOk result (copy.new ≡ copy.old) }
 {
     let [mode_of, preempt, start, job, words @ ..] = words else {
@@ -152,14 +175,31 @@ fn show_planned(
     policy: &Policy,
     answers: &mut String,
 ) -> Result<(), Fault>
-    requires { copy.old.trial ≡ None }
     ensures { OnOk result (copy.new ≡ copy.old) }
 {
     if start > copy.board().machines().len() {
         return Err(Fault::MayNot);
     }
-    let txn = plan(alloc, copy, request, start, policy)?;
+    let txn = planned(copy, alloc, request, start, policy)?;
     show_claims(answers, txn.claims.as_slice())
+}
+
+/// The plan of a request on a copy, which is as before.
+fn planned(
+    copy: &mut PrivateCopy,
+    alloc: Global,
+    request: &Request,
+    start: usize,
+    policy: &Policy,
+) -> Result<Txn, NoMemory>
+    requires { start ≤ length copy.old.board.table }
+    ensures { copy.new ≡ copy.old }
+{
+    let whole = mem::replace(copy, PrivateCopy::new(alloc));
+    let (board, mut indexes) = whole.into_parts();
+    let txn = plan(alloc, &board, &mut indexes, request, start, policy);
+    *copy = PrivateCopy::of_parts(board, indexes);
+    txn
 }
 
 /// Appends claims, parted by blanks; `-` where there is none.
@@ -183,9 +223,9 @@ fn show_claim(answers: &mut String, claim: &Claim) -> Result<(), Fault> {
     show_tasks(answers, claim.victims.as_slice())
 }
 
-/// Places a claim on trial, on a new copy that has followed the history, and takes it back. Appends the
-/// verdict and what is evicted, and where the claim is placed what the copy tells before, meanwhile and
-/// after that.
+/// Places a claim beside the board of a new copy that has followed the history, and takes it back. Appends
+/// the verdict and what is evicted, and where the claim is placed and evicts all of its victims what is told
+/// before, meanwhile and after that.
 pub(crate) fn show_trial(
     cell: &Cell,
     alloc: Global,
@@ -193,85 +233,86 @@ pub(crate) fn show_trial(
     answers: &mut String,
 ) -> Result<(), Fault> {
     let claim = claim(alloc, words)?;
-    show_trial_of(cell, alloc, &claim, answers)
+    show_trial_of(cell, alloc, claim, answers)
 }
 
 /// The same with this claim.
 fn show_trial_of(
     cell: &Cell,
     alloc: Global,
-    claim: &Claim,
+    claim: Claim,
     answers: &mut String,
 ) -> Result<(), Fault> {
-    let mut copy = following(alloc, cell)?;
-    show_trial_on(&mut copy, alloc, claim, answers)
+    let (board, mut indexes) = following(alloc, cell)?.into_parts();
+    show_trial_on(alloc, &board, &mut indexes, claim, answers)
 }
 
-/// The same on this copy.
+/// The same on this board, of which these indexes tell.
 fn show_trial_on(
-    copy: &mut PrivateCopy,
     alloc: Global,
-    claim: &Claim,
+    board: &Board,
+    indexes: &mut Indexes,
+    claim: Claim,
     answers: &mut String,
 ) -> Result<(), Fault>
-    requires { copy.old.trial ≡ None }
+    requires { TellAll (cell_of board.now) indexes.old }
 {
-    if judged(copy, alloc, claim, answers)? != Verdict::Placed {
+    let mut evicted = Vec::with_capacity(alloc, claim.victims.len())?;
+    let verdict = board.judge(&claim, None, &mut evicted);
+    show_judged(answers, verdict, evicted.as_slice())?;
+    if evicted.as_slice() != claim.victims.as_slice() {
         return Ok(());
     }
-    show_around(copy, claim, answers)?;
-    place_on_trial(copy, alloc, claim, answers)?;
-    show_around(copy, claim, answers)
+    match verdict {
+        Verdict::Placed => show_beside(alloc, board, indexes, claim, answers),
+        _ => Ok(()),
+    }
 }
 
-/// Appends the verdict on a claim and what is evicted for it, and answers the verdict.
-fn judged(
-    copy: &PrivateCopy,
+/// Places a claim beside a board, and takes it back. Appends what is told before, meanwhile and after that.
+fn show_beside(
     alloc: Global,
-    claim: &Claim,
-    answers: &mut String,
-) -> Result<Verdict, Fault> {
-    let mut evicted = Vec::with_capacity(alloc, claim.victims.len())?;
-    let verdict = copy.board().judge(claim, None, &mut evicted);
-    show_judged(answers, verdict, evicted.as_slice())?;
-    Ok(verdict)
-}
-
-/// Places a claim on trial, appends what the copy tells meanwhile, and takes it back.
-fn place_on_trial(
-    copy: &mut PrivateCopy,
-    alloc: Global,
-    claim: &Claim,
+    board: &Board,
+    indexes: &mut Indexes,
+    claim: Claim,
     answers: &mut String,
 ) -> Result<(), Fault>
-    requires { copy.old.trial ≡ None }
+    requires goes_in { GoesInWhole (cell_of board.now) claim }
+    requires tell { TellAll (cell_of board.now) indexes.old }
 {
-    copy.begin_trial(alloc, 1)?;
-    place_there(copy, alloc, claim)?;
-    let told = show_around(copy, claim, answers);
-    copy.end_trial();
-    told
+    let (key, machine, need) = (claim.key, claim.machine, claim.spec.need);
+    let mut overlay = Overlay::over(alloc, board);
+    show_around(&overlay, indexes, key, machine, need, answers)?;
+    overlay.claim(alloc, indexes, claim)?;
+    show_around(&overlay, indexes, key, machine, need, answers)?;
+    overlay.end(indexes);
+    show_around(
+        &Overlay::over(alloc, board),
+        indexes,
+        key,
+        machine,
+        need,
+        answers,
+    )
 }
 
-/// Places a claim on trial.
-fn place_there(copy: &mut PrivateCopy, alloc: Global, claim: &Claim) -> Result<(), Fault>
-    requires { IsSomeAnd copy.old.trial (λ trial. 0 < trial.room) }
-{
-    let mut evicted = Vec::with_capacity(alloc, claim.victims.len())?;
-    if !copy.board().judge(claim, None, &mut evicted).is_placed() {
-        return Err(Fault::MayNot);
-    }
-    copy.claim(alloc, claim)?;
-    Ok(())
-}
-
-/// Appends, of a copy, what the machine of a claim has free, whether the claim's task runs, and the
-/// first position with room for it.
-fn show_around(copy: &PrivateCopy, claim: &Claim, answers: &mut String) -> Result<(), Fault> {
-    let runs = copy.board().running().get(claim.key).is_some();
-    let state = if runs { "runs" } else { "waits" };
+/// Appends whether a task runs after the claims beside a board, what a machine has free then, and the first
+/// position with room for an amount.
+fn show_around(
+    overlay: &Overlay,
+    indexes: &Indexes,
+    key: TaskKey,
+    machine: u64,
+    amount: Need,
+    answers: &mut String,
+) -> Result<(), Fault> {
+    let state = if overlay.runs(key) { "runs" } else { "waits" };
     write!(answers, ", {state} ")?;
-    show_free(answers, copy.board().machines().free(claim.machine))?;
+    let free = indexes.free();
+    match overlay.board().machines().position(machine) {
+        Some(position) if position < free.len() => show_free(answers, free.at(position))?,
+        _ => answers.push('-')?,
+    }
     answers.push(' ')?;
-    show_place(answers, copy.free().first(0, claim.spec.need, |_| true))
+    show_place(answers, free.first(0, amount, |_| true))
 }

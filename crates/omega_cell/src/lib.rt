@@ -8,7 +8,6 @@
 //! begins, and which tasks an entry of a machine displaces.
 #![tactic(auto)]
 
-mod apart;
 mod cell;
 mod deciding;
 mod effects;
@@ -17,7 +16,6 @@ mod prepared;
 mod room;
 mod touched;
 
-pub use apart::Log;
 pub use cell::Cell;
 pub use effects::{Effects, Usage};
 pub use laws::commits_of_legal_histories;

@@ -1,5 +1,5 @@
 -- A copy that follows a history.
-use Rattle.std.proofs.Common.{◌≡◌, ℕ, zero, suc, ◌+◌, ◌<◌, ◌≤◌, List, [], ◌∷◌, ◌++◌, length, get_or, take, drop, slice_get, Some, None, refl, sym, ap, ◌∙◌, subst, arith, if◌then◌else◌}
+use Rattle.std.proofs.Common.{◌≡◌, ℕ, zero, suc, ◌+◌, ◌<◌, ◌≤◌, List, [], ◌∷◌, ◌++◌, length, get_or, take, drop, slice_get, Some, refl, sym, ap, ◌∙◌, subst, arith, if◌then◌else◌}
 use Rattle.std.proofs.lemmas.List.{take_more, take-append-le, length-append}
 use Rattle.std.proofs.lemmas.Option.{slice_get-get_or, slice_get_within, get_or_from_slice_get}
 use Rattle.omega_model.specs.Applying.{MayApply, EachMayApply}
@@ -47,12 +47,11 @@ rest_get (x ∷ xs) (suc n) i = let next : suc (n + i) ≡ suc n + i = omega ari
 
 -- a copy has followed so many of these entries
 pub record IsFollowing (start now : CopyState) (later : List Entry) (n : ℕ) : Type 0 where
-  pub no_trial : now.trial ≡ None
   pub count : now.seen ≡ start.seen + n
   pub stands : (history : List Entry) → CopyOf start history → later ≡ drop start.seen history → CopyOf now history
 
-pub follows_none : (start : CopyState) (later : List Entry) → start.trial ≡ None → IsFollowing start start later 0
-follows_none start later none = record { no_trial = none; count = omega arith; stands = λ history stands rest. stands }
+pub follows_none : (start : CopyState) (later : List Entry) → IsFollowing start start later 0
+follows_none start later = record { count = omega arith; stands = λ history stands rest. stands }
 
 -- the next entry stands in the history where the copy is
 next_entry : (start now : CopyState) (later : List Entry) (n : ℕ) (entry : Entry) → IsFollowing start now later n → slice_get later n ≡ Some entry
@@ -72,10 +71,9 @@ module _ (start now : CopyState) (later : List Entry) (n : ℕ) (entry : Entry) 
       (may.applied now.seen entry (next_entry start now later n entry so here may.history may.rest))
 
   -- once it was, the copy has followed one more
-  pub follows_more : (after : CopyState) → after.trial ≡ None → after.seen ≡ now.seen + 1 → cell_of after.board ≡ step (cell_of now.board) entry
+  pub follows_more : (after : CopyState) → after.seen ≡ now.seen + 1 → cell_of after.board ≡ step (cell_of now.board) entry
       → ((id : ℕ) → seq_at after.board.table id ≡ seq_at now.board.table id + (if touches id entry then 1 else 0)) → IsFollowing start after later (n + 1)
-  follows_more after none seen stepped numbered = record {
-    no_trial = none;
+  follows_more after seen stepped numbered = record {
     count = omega (arith, seen, so.count);
     stands = λ history stands rest.
         subst (λ k. StandsFor (cell_of after.board) (seq_at after.board.table) k history) (sym seen)

@@ -1,7 +1,7 @@
 -- Indexes of a history that go on to a board after it.
 use Rattle.std.proofs.Common.{◌≡◌, ℕ, ◌≤◌, List, [], ◌++◌, length, take, drop, sym, ap, ◌∙◌, subst, arith}
 use Rattle.std.specs.List.{fold, list_any}
-use Rattle.std.proofs.lemmas.List.{length-map, take-append-drop}
+use Rattle.std.proofs.lemmas.List.{length-map, take-append-drop, take_all}
 use Rattle.std.proofs.lemmas.List.Sums.{fold-append}
 use Rattle.omega_model.specs.Applying.{EachMayApply}
 use Rattle.omega_model.specs.Cell.{Cell, empty_cell}
@@ -10,11 +10,12 @@ use Rattle.omega_model.specs.Touches.{touches}
 use Rattle.omega_model.specs.declared.entries.Entry.{Entry}
 use Rattle.omega_machines.specs.declared.MachineState.{MachineState}
 use Rattle.omega_machines.specs.Table.{machines_of}
-use Rattle.omega_board.specs.Board.{BoardState}
+use Rattle.omega_board.specs.Board.{BoardState, IsBoardOf, cell_of}
 use Rattle.omega_board.specs.Numbers.{is_among}
 use Rattle.omega_fit.specs.Positions.{Positions}
-use Rattle.omega_copy.specs.Indexes.{MayGoOn, places_missing}
-use Rattle.omega_copy.specs.Levels.{NearParts}
+use Rattle.omega_copy.specs.Indexes.{AreIndexesOf, MayGoOn, TellAll, places_missing}
+use Rattle.omega_running.specs.Order.{Each}
+use Rattle.omega_copy.specs.Levels.{NearParts, Tells}
 use Rattle.omega_copy.specs.Telling.{TellsBut, freed_of, freed_on, placed}
 use Rattle.omega_copy.specs.declared.indexes.Indexes.{Indexes}
 use Rattle.omega_copy.proofs.Applied.{MayAll, may_all, may_front, may_back}
@@ -47,4 +48,24 @@ near_later board indexes machines may prec index is room =
       room = omega (arith, rows, own, this, room);
       told = subst (λ (c : Cell). TellsBut (is_among machines) prec c.tasks (placed c.machines index.free) c.machines) (sym may.board_is.current)
           (subst (λ fs. TellsBut (is_among machines) prec whole.tasks (placed whole.machines fs) whole.machines) (sym is) told);
+    }
+
+-- indexes that tell of the board after a history, to whose end they have seen it, are its indexes
+pub are_now : (history : List Entry) (board : BoardState) (indexes : Indexes) → IsBoardOf board history → TellAll (cell_of board) indexes → indexes.seen ≡ length history → AreIndexesOf history indexes
+are_now history board indexes board_is tell seen =
+    let same : cell_of board ≡ state (take indexes.seen history) = board_is.current ∙ ap state (sym (ap (λ n. take n history) seen ∙ take_all (length history) history (omega arith))) in
+    record {
+      within = omega (arith, seen);
+      free = tell.free ∙ ap (freed_of 0) same;
+      levels = subst (λ (cell : Cell). Each (Tells cell) indexes.levels.items) same tell.levels;
+    }
+
+-- others that have seen as many entries, and tell all that they tell, are so too
+pub are_still : (a b : Indexes) (history : List Entry) → b.seen ≡ a.seen → AreIndexesOf history a → ((cell : Cell) → TellAll cell a → TellAll cell b) → AreIndexesOf history b
+are_still a b history seen are kept =
+    let tell = kept (state (take a.seen history)) (record { free = are.free; levels = are.levels }) in
+    record {
+      within = subst (λ n. n ≤ length history) (sym seen) are.within;
+      free = tell.free ∙ ap (λ n. freed_of 0 (state (take n history))) (sym seen);
+      levels = subst (λ n. Each (Tells (state (take n history))) b.levels.items) (sym seen) tell.levels;
     }

@@ -1,10 +1,11 @@
 -- What an index tells of the machines of a cell.
-use Rattle.std.specs.Prelude.{◌≡◌, ℕ, Bool, false, List, [], ◌∷◌, ◌++◌, Option, Some, None, not, ◌==◌, ◌||◌, length, map, drop, if◌then◌else◌}
+use Rattle.std.specs.Prelude.{◌≡◌, ℕ, Bool, false, List, [], ◌∷◌, ◌++◌, Option, Some, None, not, ◌==◌, ◌||◌, nat_lt, length, map, drop, if◌then◌else◌}
 use Rattle.std.specs.Option.{option_map_or}
 use Rattle.omega_model.specs.Cell.{Cell, use_on}
 use Rattle.omega_model.specs.Need.{minus}
 use Rattle.omega_model.specs.declared.cells.Machine.{Machine}
 use Rattle.omega_model.specs.declared.cells.Need.{Need}
+use Rattle.omega_model.specs.declared.cells.Spec.{Spec}
 use Rattle.omega_model.specs.declared.cells.Task.{Task}
 use Rattle.omega_running.specs.Staying.{staying_on}
 
@@ -23,6 +24,10 @@ freed_on prec tasks machine = if machine.up then Some (minus machine.cap (stayin
 -- the same of each machine of a cell, in order of the list
 abbrev pub freed_of : ℕ → Cell → List (Option Need)
 freed_of prec cell = map (freed_on prec cell.tasks) cell.machines
+
+-- what is left of what could be freed for a precedence once one more task runs
+abbrev pub taken_by : ℕ → Spec → Need → Need
+taken_by prec spec amount = if nat_lt spec.prec prec then amount else minus amount spec.need
 
 -- an index tells what evictions for this precedence could free on each machine, but perhaps not on those of these numbers
 abbrev pub TellsBut : (ℕ → Bool) → ℕ → List Task → List (Option Need) → List Machine → Type 0

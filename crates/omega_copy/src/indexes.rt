@@ -1,17 +1,31 @@
-//! What a copy keeps beside its board.
-ghost use Rattle.std.specs.Prelude.{◌≡◌, List, OnOk, length};
+//! What is told of a board: what is free, and what evictions could free.
+ghost use Rattle.std.specs.Prelude.{◌≡◌, ◌≤◌, List, IfOk, OnOk, length};
+ghost use Rattle.omega_model.specs.Cell.{Cell};
+ghost use Rattle.omega_model.specs.declared.cells.Task.{Task};
 ghost use Rattle.omega_model.specs.declared.entries.Entry.{Entry};
-ghost use Rattle.omega_copy.specs.Indexes.{AreIndexesOf, HavePlaces};
+ghost use Rattle.omega_machines.specs.Table.{machines_of};
+ghost use Rattle.omega_board.specs.Board.{cell_of};
+ghost use Rattle.omega_running.specs.Order.{Each};
+ghost use Rattle.omega_copy.specs.Beside.{IsPlacedBeside};
+ghost use Rattle.omega_copy.specs.Indexes.{AreIndexesOf, HavePlaces, HaveRoom, MayGoOn, TellAll};
+ghost use Rattle.omega_copy.specs.Levels.{NearEntry, NearParts, Tells};
+ghost use Rattle.omega_copy.specs.Overlays.{cell_after, tasks_with};
+ghost use Rattle.omega_copy.specs.Telling.{frees_of};
 
-use crate::levels::{Level, reserve_each};
+use crate::levels::{
+    Level, level_of, reserve_each, take_out, tell_claim_each, tell_entry_each, tell_parts_each,
+};
+use crate::overlay::Overlay;
+use crate::telling::{tell_claim, tell_entry, tell_parts};
+use crate::tenants::Tenants;
 use omega_board::Board;
 use omega_fit::FitIndex;
-use omega_model::NoMemory;
+use omega_model::{Claim, Entry, NoMemory};
 use std::alloc::Global;
 
-/// What a copy that stands for a history keeps beside its board: what is free on each machine, and what
-/// evictions could free for each precedence for which that was asked, after so many entries of the history.
-/// Kept apart, they serve on any board of the history that has gone on since (`PrivateCopy::over`).
+/// What is free on each machine of a cell, and what evictions could free for each precedence for which
+/// that was asked, after so many entries of a history. They stand beside the board, and serve on any
+/// board of the history that has gone on since, once they are told what changed.
 #[derive(Drop)]
 pub struct Indexes {
     pub(crate) index: FitIndex,
@@ -46,8 +60,107 @@ impl Indexes {
         ensures places { OnOk result (HavePlaces (length board.now.table) self.new) }
     {
         let more = board.machines().len().saturating_sub(self.index.len());
-        self.index.reserve(more)?;
-        reserve_each(&mut self.levels, more)?;
+        self.reserve(more)
+    }
+
+    /// Makes room for so many further places. They tell the same, also where memory runs out.
+    pub(crate) fn reserve(&mut self, count: usize) -> Result<(), NoMemory>
+        ensures kept { (cell : Cell) → TellAll cell self.old → TellAll cell self.new }
+        ensures seen { self.new.seen ≡ self.old.seen }
+        ensures long { length self.new.index.free ≡ length self.old.index.free }
+        ensures room { OnOk result (HaveRoom count self.new) }
+    {
+        self.index.reserve(count)?;
+        reserve_each(&mut self.levels, count)?;
         Ok(())
+    }
+
+    /// Goes on to the board after a history that they have now seen to its end, after so many entries: they
+    /// are told of these machines, the ones that the entries touch that they haven't seen. Costs these
+    /// machines, and for each level the tasks on them.
+    pub fn go_on(&mut self, board: &Board, seen: u64, machines: &[u64])
+        requires places { HavePlaces (length board.now.table) self.old }
+        requires history { MayGoOn self.old board.now machines.now }
+        ensures tell { TellAll (cell_of board.now) self.new }
+        ensures seen { self.new.seen ≡ seen }
+    {
+        self.tell_machines(board, machines);
+        self.seen = seen;
+    }
+
+    /// What is free on each machine of the cell of which they tell, in order of its list; `None` where the
+    /// machine isn't up.
+    pub fn free(&self) -> &FitIndex
+        ensures { (cell : Cell) → TellAll cell self.now → result.now.free ≡ frees_of cell }
+    {
+        &self.index
+    }
+
+    /// Lends what is free on each machine of the cell after the claims of an overlay once all tasks of a
+    /// lower precedence than this one are off it: where a need is more than that, evictions for a wish of
+    /// this precedence make no room. What is lent is given back by `take_back`, and is made anew where it
+    /// wasn't. Making it costs the machines and their tasks. From then on whatever changes a machine costs
+    /// the tasks on it, for each precedence that was asked for, but for a claim without victims.
+    pub fn lend_level(
+        &mut self,
+        alloc: Global,
+        overlay: &Overlay,
+        prec: u8,
+    ) -> Result<Level, NoMemory>
+        requires tell { TellAll (cell_after overlay.now) self.old }
+        ensures tell { TellAll (cell_after overlay.now) self.new }
+        ensures level { IfOk result (λ level. Tells (cell_after overlay.now) level) }
+        ensures prec { IfOk result (λ level. level.prec ≡ prec) }
+        ensures seen { self.new.seen ≡ self.old.seen }
+    {
+        if let Some(level) = take_out(&mut self.levels, prec) {
+            return Ok(level);
+        }
+        level_of(alloc, overlay, prec)
+    }
+
+    /// Takes a level back that was lent. Where there is no memory for it, it is made anew when it is
+    /// asked for next.
+    pub fn take_back(&mut self, level: Level)
+        ensures tell { (cell : Cell) → TellAll cell self.old → Tells cell level → TellAll cell self.new }
+        ensures seen { self.new.seen ≡ self.old.seen }
+    {
+        let _ = self.levels.push(level);
+    }
+
+    /// They are told what an entry changed that was applied to the board.
+    pub(crate) fn tell_entry(&mut self, board: &Board, entry: &Entry)
+        requires index { NearEntry board.now entry.now 0 self.old.index }
+        requires levels { Each (λ level. NearEntry board.now entry.now level.prec level.index) self.old.levels.items }
+        ensures tell { TellAll (cell_of board.now) self.new }
+        ensures seen { self.new.seen ≡ self.old.seen }
+    {
+        tell_entry(&mut self.index, 0, board, entry);
+        tell_entry_each(&mut self.levels, board, entry);
+    }
+
+    /// They are told of these machines of a board; they tell all else, and have room for the machines that
+    /// are new.
+    pub(crate) fn tell_machines(&mut self, board: &Board, machines: &[u64])
+        requires index { NearParts board.now machines.now 0 self.old.index }
+        requires levels { Each (λ level. NearParts board.now machines.now level.prec level.index) self.old.levels.items }
+        ensures tell { TellAll (cell_of board.now) self.new }
+        ensures seen { self.new.seen ≡ self.old.seen }
+    {
+        tell_parts(&mut self.index, 0, board, machines);
+        tell_parts_each(&mut self.levels, board, machines);
+    }
+
+    /// They are told of a claim that was placed beside the board, with these tenants after it.
+    pub(crate) fn tell_claim(&mut self, board: &Board, tenants: &Tenants, claim: &Claim)
+        requires index { length self.old.index.free ≡ length board.now.table }
+        requires levels { Each (λ level. length level.index.free ≡ length board.now.table) self.old.levels.items }
+        ensures tell { (tasks : List Task) → IsPlacedBeside board.now tenants.now claim.now tasks
+            → TellAll (record { machines = machines_of board.now.table; tasks = tasks }) self.old
+            → TellAll (record { machines = machines_of board.now.table; tasks = tasks_with tasks claim.now }) self.new }
+        ensures seen { self.new.seen ≡ self.old.seen }
+    {
+        tell_claim(&mut self.index, 0, board, tenants, claim);
+        tell_claim_each(&mut self.levels, board, tenants, claim);
     }
 }

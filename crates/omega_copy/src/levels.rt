@@ -1,14 +1,20 @@
 //! The indexes of what evictions could free, one for each precedence that has asked for such room.
-ghost use Rattle.std.specs.Prelude.{◌≡◌, ◌≤◌, ◌<◌, IfOk, IfSome, OnOk, length};
+ghost use Rattle.std.specs.Prelude.{◌≡◌, ◌≤◌, ◌<◌, List, IfOk, IfSome, OnOk, length};
 ghost use Rattle.omega_model.specs.Cell.{Cell};
+ghost use Rattle.omega_model.specs.declared.cells.Task.{Task};
+ghost use Rattle.omega_machines.specs.Table.{machines_of};
 ghost use Rattle.omega_board.specs.Board.{cell_of};
 ghost use Rattle.omega_running.specs.Order.{Each};
-ghost use Rattle.omega_copy.specs.Levels.{IsLevelAt, Near, NearEntry, NearParts, Tells};
+ghost use Rattle.omega_copy.specs.Beside.{IsPlacedBeside};
+ghost use Rattle.omega_copy.specs.Levels.{IsLevelAt, NearEntry, NearParts, Tells};
+ghost use Rattle.omega_copy.specs.Overlays.{cell_after, tasks_with};
 
-use crate::telling::{freed_at, tell_all, tell_entry, tell_parts};
+use crate::overlay::Overlay;
+use crate::telling::{tell_claim, tell_entry, tell_parts};
+use crate::tenants::Tenants;
 use omega_board::Board;
 use omega_fit::FitIndex;
-use omega_model::{Entry, NoMemory};
+use omega_model::{Claim, Entry, NoMemory};
 use std::alloc::Global;
 
 /// What is free on each machine of a board once all tasks of a lower precedence than this one are off it,
@@ -28,15 +34,16 @@ impl Level {
     }
 }
 
-/// The level of a precedence on a board. Costs the machines and the tasks on them.
-pub(crate) fn level_of(alloc: Global, board: &Board, prec: u8) -> Result<Level, NoMemory>
-    ensures tells { IfOk result (λ level. Tells (cell_of board.now) level) }
+/// The level of a precedence on the cell after the claims of an overlay. Costs the machines and the tasks
+/// on them.
+pub(crate) fn level_of(alloc: Global, overlay: &Overlay, prec: u8) -> Result<Level, NoMemory>
+    ensures tells { IfOk result (λ level. Tells (cell_after overlay.now) level) }
     ensures prec { IfOk result (λ level. level.prec ≡ prec) }
 {
-    let count = board.machines().len();
+    let count = overlay.board().machines().len();
     let mut freed = Vec::with_capacity(alloc, count)?;
     for position in 0..count {
-        freed.push_reserved(freed_at(board, prec, position));
+        freed.push_reserved(overlay.freed_at(prec, position));
     }
     let index = FitIndex::build(alloc, &freed)?;
     Ok(Level { prec, index })
@@ -102,14 +109,16 @@ pub(crate) fn tell_parts_each(levels: &mut [Level], board: &Board, machines: &[u
     tell_parts_each(rest, board, machines);
 }
 
-/// Tells each level what evictions for its precedence could free on these machines; it has told all else.
-pub(crate) fn tell_all_each(levels: &mut [Level], board: &Board, machines: &[u64])
-    requires { Each (λ level. Near board.now machines.now level.prec level.index) levels.old }
-    ensures { Each (Tells (cell_of board.now)) levels.new }
+/// Tells each level of a claim that was placed beside the board, with these tenants after it.
+pub(crate) fn tell_claim_each(levels: &mut [Level], board: &Board, tenants: &Tenants, claim: &Claim)
+    requires { Each (λ level. length level.index.free ≡ length board.now.table) levels.old }
+    ensures { (tasks : List Task) → IsPlacedBeside board.now tenants.now claim.now tasks
+        → Each (Tells (record { machines = machines_of board.now.table; tasks = tasks })) levels.old
+        → Each (Tells (record { machines = machines_of board.now.table; tasks = tasks_with tasks claim.now })) levels.new }
 {
     let Some((level, rest)) = levels.split_first_mut() else {
         return;
     };
-    tell_all(&mut level.index, level.prec, board, machines);
-    tell_all_each(rest, board, machines);
+    tell_claim(&mut level.index, level.prec, board, tenants, claim);
+    tell_claim_each(rest, board, tenants, claim);
 }

@@ -1,17 +1,20 @@
-//! A scheduler's private copy of the cell.
+//! A scheduler's private copy of the cell, and claims beside a board.
 //!
-//! A copy follows the history of the cell that all schedulers share. It keeps an index of what is free on
-//! its machines, and for each precedence at which evictions were tried another, of what they could free.
-//! Every change of its board is told to each of these. A scheduler plans on it: it begins a trial, makes
-//! its claims on the copy alone, and ends the trial, which takes them back.
+//! A copy follows the history of the cell that all schedulers share. It keeps indexes: of what is free on
+//! its machines, and for each precedence at which evictions were tried of what they could free. Every
+//! change of its board is told to each of these. Claims are tried beside a board, in an overlay, which
+//! answers what the board would with the claims placed; the board stays as it is, and the indexes are told
+//! of the claims and told again when they are taken back.
 #![tactic(auto)]
 
 mod copy;
 mod indexes;
 mod levels;
+mod overlay;
 mod telling;
-mod trial;
+mod tenants;
 
-pub use copy::PrivateCopy;
+pub use copy::{PrivateCopy, seqs_on};
 pub use indexes::Indexes;
 pub use levels::Level;
+pub use overlay::Overlay;

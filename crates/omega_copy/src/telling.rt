@@ -1,16 +1,20 @@
 //! What changed on a board, told to an index of what evictions for a precedence could free on its machines.
-ghost use Rattle.std.specs.Prelude.{◌≡◌, ◌≤◌, ◌+◌, ℕ, Bool, Some, None, IfSome, length, slice_get};
+ghost use Rattle.std.specs.Prelude.{◌≡◌, ◌≤◌, ◌<◌, ◌+◌, ℕ, Bool, List, Some, None, IfSome, length, option_map, slice_get};
 ghost use Rattle.std.specs.List.{zip};
 ghost use Rattle.omega_machines.specs.Table.{machines_of};
 ghost use Rattle.omega_model.specs.declared.cells.Machine.{Machine};
+ghost use Rattle.omega_model.specs.declared.cells.Task.{Task};
 ghost use Rattle.omega_board.specs.Board.{cell_of};
 ghost use Rattle.omega_model.specs.Touches.{is_claimed, is_touched_by};
 ghost use Rattle.omega_copy.specs.Levels.{Near, NearEntry, NearParts};
-ghost use Rattle.omega_copy.specs.Telling.{TellsBut, TellsOf, freed_of, freed_on, is_found, is_this_or, placed};
+ghost use Rattle.omega_copy.specs.Beside.{IsPlacedBeside};
+ghost use Rattle.omega_copy.specs.Overlays.{tasks_with};
+ghost use Rattle.omega_copy.specs.Telling.{TellsBut, TellsOf, freed_of, freed_on, is_found, is_this_or, placed, taken_by};
 
+use crate::tenants::Tenants;
 use omega_board::Board;
 use omega_fit::FitIndex;
-use omega_model::{Claim, Entry, Judgement, Need};
+use omega_model::{Claim, Entry, Judgement, Need, Spec};
 
 /// Tells an index what an entry changed that was applied to the board. It has told all before it, and
 /// has room for a machine that is new.
@@ -33,7 +37,7 @@ pub(crate) fn tell_parts(index: &mut FitIndex, prec: u8, board: &Board, machines
 }
 
 /// Tells an index what evictions for its precedence could free on these machines; it has told all else.
-pub(crate) fn tell_all(index: &mut FitIndex, prec: u8, board: &Board, machines: &[u64])
+fn tell_all(index: &mut FitIndex, prec: u8, board: &Board, machines: &[u64])
     requires { Near board.now machines.now prec index.old }
     ensures { index.new.free ≡ freed_of prec (cell_of board.now) }
 {
@@ -44,9 +48,66 @@ pub(crate) fn tell_all(index: &mut FitIndex, prec: u8, board: &Board, machines: 
     }
 }
 
+/// Tells an index of a claim that was placed beside the board, with these tenants after it; it has told all
+/// before that. Where the claim has victims, it is told what runs on the machine now; else the claim's need
+/// is taken off what it told, and nothing on the machine is looked at.
+pub(crate) fn tell_claim(
+    index: &mut FitIndex,
+    prec: u8,
+    board: &Board,
+    tenants: &Tenants,
+    claim: &Claim,
+)
+    requires { length index.old.free ≡ length board.now.table }
+    ensures { (tasks : List Task) → IsPlacedBeside board.now tenants.now claim.now tasks
+        → index.old.free ≡ freed_of prec (record { machines = machines_of board.now.table; tasks = tasks })
+        → index.new.free ≡ freed_of prec (record { machines = machines_of board.now.table; tasks = tasks_with tasks claim.now }) }
+{
+    match board.machines().position(claim.machine) {
+        Some(position) => {
+            let freed = freed_then(index, prec, board, tenants, claim, position);
+            index.put(position, freed);
+        }
+        None => {}
+    }
+}
+
+/// What could be freed on the machine of a claim, at this position, once it was placed.
+fn freed_then(
+    index: &FitIndex,
+    prec: u8,
+    board: &Board,
+    tenants: &Tenants,
+    claim: &Claim,
+    position: usize,
+) -> Option<Need>
+    requires { position < length index.now.free }
+    ensures { (tasks : List Task) → IsPlacedBeside board.now tenants.now claim.now tasks
+        → index.now.free ≡ freed_of prec (record { machines = machines_of board.now.table; tasks = tasks })
+        → (machine : Machine) → slice_get (machines_of board.now.table) position ≡ Some machine → machine.id ≡ claim.now.machine
+        → result ≡ freed_on prec (tasks_with tasks claim.now) machine }
+{
+    if claim.victims.is_empty() {
+        return taken(index.at(position), prec, &claim.spec);
+    }
+    tenants.freed_at(board, prec, position)
+}
+
+/// What could be freed for a precedence once a task like this one runs too: as much less as it needs, unless
+/// its precedence is lower.
+fn taken(freed: Option<Need>, prec: u8, spec: &Spec) -> Option<Need>
+    ensures { result ≡ option_map (taken_by prec spec.now) freed }
+{
+    let amount = freed?;
+    if spec.prec < prec {
+        return Some(amount);
+    }
+    Some(amount.minus(spec.need))
+}
+
 /// What is free on the machine at a position once all tasks of a lower precedence are off it; `None`
 /// where it isn't up. Costs the tasks on the machine, and for the least precedence a look-up.
-pub(crate) fn freed_at(board: &Board, prec: u8, position: usize) -> Option<Need>
+fn freed_at(board: &Board, prec: u8, position: usize) -> Option<Need>
     ensures { (machine : Machine) → slice_get (machines_of board.now.table) position ≡ Some machine → result ≡ freed_on prec board.now.tasks machine }
 {
     let machines = board.machines();

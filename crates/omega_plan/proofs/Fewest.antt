@@ -27,7 +27,7 @@ use Rattle.omega_board.proofs.Standing.{each_take, mentions_once, once_take}
 use Rattle.omega_plan.proofs.Candidates.{AreCandidates}
 
 -- of a claim that names candidates all stand
-all_stand : (cell : Cell) (id : ℕ) (wish : Wish) (keys : List TaskKey) → AreCandidates cell id wish keys → standing_victims cell.tasks (claim_of wish keys id) ≡ keys
+pub all_stand : (cell : Cell) (id : ℕ) (wish : Wish) (keys : List TaskKey) → AreCandidates cell id wish keys → standing_victims cell.tasks (claim_of wish keys id) ≡ keys
 all_stand cell id wish keys are =
     ap (filter (runs_on cell.tasks id)) (mentions_once keys are.once) ∙ filter_every (runs_on cell.tasks id) keys are.runs
 
@@ -101,7 +101,7 @@ goes_where_room cell id wish keys are = same_answer _ _ there back
         (ap (λ b. refusal_if (not b) (Full (free_without cell (claim_of wish keys id) (standing_victims cell.tasks (claim_of wish keys id))))) enough.0)
 
 -- the first of candidates are candidates
-first_candidates : (cell : Cell) (id : ℕ) (wish : Wish) (n : ℕ) (keys : List TaskKey) → AreCandidates cell id wish keys → AreCandidates cell id wish (take n keys)
+pub first_candidates : (cell : Cell) (id : ℕ) (wish : Wish) (n : ℕ) (keys : List TaskKey) → AreCandidates cell id wish keys → AreCandidates cell id wish (take n keys)
 first_candidates cell id wish n keys are = record {
   runs = each_take (λ key. runs_on cell.tasks id key ≡ true) n keys are.runs;
   lower = each_take (λ key. withstands cell.tasks wish.spec.prec key ≡ false) n keys are.lower;

@@ -8,5 +8,7 @@ pub mod FirstYields
 pub mod KindsOf
 pub mod Rooms
 pub mod StepsOf
-pub mod Trials
+pub mod Planned
 pub mod Leaving
+pub mod Moved
+pub mod Whole

@@ -28,7 +28,7 @@ use Rattle.omega_plan.proofs.AsIs.{as_is_found, as_is_none}
 use Rattle.omega_plan.proofs.Begins.{begins_still, begins_where_found}
 use Rattle.omega_plan.proofs.FirstYields.{yield_found, yield_none}
 use Rattle.omega_plan.proofs.KindsOf.{full_as_is, full_still, full_where_taken, full_where_yielded, room_emptied, stays_full_still, takes_is, yields_is, yields_least}
-use Rattle.omega_plan.proofs.Trials.{planned_goes}
+use Rattle.omega_plan.proofs.Planned.{planned_goes}
 
 -- a machine stands at each place of the list
 machine_there : (machines : List Machine) (place : ℕ) → place < length machines → (machine : Machine) × (slice_get machines place ≡ Some machine)

@@ -1,6 +1,8 @@
 //! The tasks that make room for a wish, and the first machine on which they do.
 ghost use Rattle.std.specs.Prelude.{◌≡◌, ◌≤◌, ◌<◌, ◌+◌, None, Some, IfOk, IfSome, IsTrue, option_map, length};
 ghost use Rattle.omega_board.specs.Board.{cell_of};
+ghost use Rattle.omega_copy.specs.Indexes.{TellAll};
+ghost use Rattle.omega_copy.specs.Overlays.{cell_after, tasks_claimed};
 ghost use Rattle.omega_copy.specs.Telling.{freed_of};
 ghost use Rattle.std.specs.List.{filter, find, range_with_len};
 ghost use Rattle.omega_model.specs.Cell.{machine_at, task_at, total};
@@ -17,7 +19,7 @@ use crate::progress::Progress;
 use crate::trying::has_rival;
 use omega_attrs::eligible;
 use omega_board::Board;
-use omega_copy::PrivateCopy;
+use omega_copy::{Indexes, Overlay};
 use omega_fit::FitIndex;
 use omega_model::{Keys, Machine, Need, NoMemory, Task, Wish};
 use omega_running::keys_of;
@@ -37,70 +39,73 @@ pub(crate) struct Candidate {
 /// look, and the first time for a precedence the making of its index (all machines and their tasks).
 pub(crate) fn first_to_yield(
     alloc: Global,
-    copy: &mut PrivateCopy,
+    overlay: &Overlay,
+    indexes: &mut Indexes,
     wish: &Wish,
     progress: &Progress,
 ) -> Result<Option<Candidate>, NoMemory>
-    requires sound { Sound (cell_of copy.old.board) }
-    requires ordered { KeysRise copy.old.board.tasks }
-    requires absent { task_at copy.old.board.tasks wish.now.key ≡ None }
-    requires serves { Serves (cell_of copy.old.board) wish.now progress.now }
-    ensures copy { copy.new ≡ copy.old }
-    ensures first { IfOk result (λ found. IsFirstToYield (cell_of copy.old.board) wish.now progress.now.start (option_map (λ f. f.position) found)) }
-    ensures below { IfOk result (λ found. IfSome found (λ f. f.position < length copy.old.board.table)) }
-    ensures victims { IfOk result (λ found. IfSome found (λ f. AreVictimsAt (cell_of copy.old.board) wish.now f.position (Some f.victims))) }
+    requires sound { Sound (cell_after overlay.now) }
+    requires ordered { KeysRise (tasks_claimed overlay.now) }
+    requires tell { TellAll (cell_after overlay.now) indexes.old }
+    requires absent { task_at (tasks_claimed overlay.now) wish.now.key ≡ None }
+    requires serves { Serves (cell_after overlay.now) wish.now progress.now }
+    ensures tell { TellAll (cell_after overlay.now) indexes.new }
+    ensures seen { indexes.new.seen ≡ indexes.old.seen }
+    ensures first { IfOk result (λ found. IsFirstToYield (cell_after overlay.now) wish.now progress.now.start (option_map (λ f. f.position) found)) }
+    ensures below { IfOk result (λ found. IfSome found (λ f. f.position < length overlay.now.board.table)) }
+    ensures victims { IfOk result (λ found. IfSome found (λ f. AreVictimsAt (cell_after overlay.now) wish.now f.position (Some f.victims))) }
 {
     let Some(begin) = progress.evicting else {
         return Ok(None);
     };
-    let level = copy.lend_level(alloc, wish.spec.prec)?;
-    let found = yielding_from(alloc, copy.board(), level.freed(), wish, begin);
-    copy.take_back(level);
+    let level = indexes.lend_level(alloc, overlay, wish.spec.prec)?;
+    let found = yielding_from(alloc, overlay, level.freed(), wish, begin);
+    indexes.take_back(level);
     found
 }
 
 /// The first position, round from `begin`, where evictions make room.
 fn yielding_from(
     alloc: Global,
-    board: &Board,
+    overlay: &Overlay,
     freed: &FitIndex,
     wish: &Wish,
     begin: usize,
 ) -> Result<Option<Candidate>, NoMemory>
-    requires sound { Sound (cell_of board.now) }
-    requires freed { freed.now.free ≡ freed_of wish.now.spec.prec (cell_of board.now) }
-    requires absent { task_at board.now.tasks wish.now.key ≡ None }
-    requires begin { begin ≤ length (cell_of board.now).machines }
-    ensures first { IfOk result (λ found. IsFirstToYield (cell_of board.now) wish.now begin (option_map (λ f. f.position) found)) }
-    ensures below { IfOk result (λ found. IfSome found (λ f. f.position < length board.now.table)) }
-    ensures victims { IfOk result (λ found. IfSome found (λ f. AreVictimsAt (cell_of board.now) wish.now f.position (Some f.victims))) }
+    requires sound { Sound (cell_after overlay.now) }
+    requires freed { freed.now.free ≡ freed_of wish.now.spec.prec (cell_after overlay.now) }
+    requires absent { task_at (tasks_claimed overlay.now) wish.now.key ≡ None }
+    requires begin { begin ≤ length (cell_after overlay.now).machines }
+    ensures first { IfOk result (λ found. IsFirstToYield (cell_after overlay.now) wish.now begin (option_map (λ f. f.position) found)) }
+    ensures below { IfOk result (λ found. IfSome found (λ f. f.position < length overlay.now.board.table)) }
+    ensures victims { IfOk result (λ found. IfSome found (λ f. AreVictimsAt (cell_after overlay.now) wish.now f.position (Some f.victims))) }
 {
-    match yielding_between(alloc, board, freed, wish, begin, freed.len())? {
+    match yielding_between(alloc, overlay, freed, wish, begin, freed.len())? {
         Some(found) => Ok(Some(found)),
-        None => yielding_between(alloc, board, freed, wish, 0, begin),
+        None => yielding_between(alloc, overlay, freed, wish, 0, begin),
     }
 }
 
 /// The first position of `from..to` where evictions make room.
 fn yielding_between(
     alloc: Global,
-    board: &Board,
+    overlay: &Overlay,
     freed: &FitIndex,
     wish: &Wish,
     from: usize,
     to: usize,
 ) -> Result<Option<Candidate>, NoMemory>
-    requires sound { Sound (cell_of board.now) }
-    requires freed { freed.now.free ≡ freed_of wish.now.spec.prec (cell_of board.now) }
-    requires absent { task_at board.now.tasks wish.now.key ≡ None }
+    requires sound { Sound (cell_after overlay.now) }
+    requires freed { freed.now.free ≡ freed_of wish.now.spec.prec (cell_after overlay.now) }
+    requires absent { task_at (tasks_claimed overlay.now) wish.now.key ≡ None }
     requires to { to ≤ length freed.now.free }
-    ensures first { IfOk result (λ found. FirstBetween (Yields (cell_of board.now) wish.now) from to (option_map (λ f. f.position) found)) }
+    ensures first { IfOk result (λ found. FirstBetween (Yields (cell_after overlay.now) wish.now) from to (option_map (λ f. f.position) found)) }
     ensures below { IfOk result (λ found. IfSome found (λ f. f.position < to)) }
-    ensures victims { IfOk result (λ found. IfSome found (λ f. AreVictimsAt (cell_of board.now) wish.now f.position (Some f.victims))) }
+    ensures victims { IfOk result (λ found. IfSome found (λ f. AreVictimsAt (cell_after overlay.now) wish.now f.position (Some f.victims))) }
 {
     let mut begin = from;
     while let Some(position) = freed.next(begin, to, wish.spec.need) {
-        if let Some(victims) = victims_at(alloc, board, wish, position)? {
+        if let Some(victims) = victims_at(alloc, overlay, wish, position)? {
             return Ok(Some(Candidate { position, victims }));
         }
         begin = position + 1;
@@ -111,21 +116,21 @@ fn yielding_between(
 /// The victims on the machine at a position, if it suits the wish and evictions make room there.
 fn victims_at(
     alloc: Global,
-    board: &Board,
+    overlay: &Overlay,
     wish: &Wish,
     position: usize,
 ) -> Result<Option<Keys>, NoMemory>
-    requires absent { task_at board.now.tasks wish.now.key ≡ None }
-    ensures { IfOk result (λ keys. AreVictimsAt (cell_of board.now) wish.now position keys) }
+    requires absent { task_at (tasks_claimed overlay.now) wish.now.key ≡ None }
+    ensures { IfOk result (λ keys. AreVictimsAt (cell_after overlay.now) wish.now position keys) }
 {
-    let machines = board.machines();
+    let machines = overlay.board().machines();
     let Some(machine) = machines.at(position) else {
         return Ok(None);
     };
     if !eligible(&wish.constraints, &machine.attrs) {
         return Ok(None);
     }
-    victims_on(alloc, board, wish, machine)
+    victims_on(alloc, overlay, wish, machine)
 }
 
 /// The fewest tasks on a machine that must go for a fine claim of the wish to be placed there: a
@@ -141,39 +146,50 @@ pub fn victims(
 ) -> Result<Option<Keys>, NoMemory>
     ensures { IfOk result (λ keys. keys ≡ victims (cell_of board.now) machine wish.now) }
 {
-    let running = board.running();
-    let machines = board.machines();
+    victims_beside(alloc, &Overlay::over(alloc, board), wish, machine)
+}
+
+/// The same on the cell after the claims beside a board.
+fn victims_beside(
+    alloc: Global,
+    overlay: &Overlay,
+    wish: &Wish,
+    machine: u64,
+) -> Result<Option<Keys>, NoMemory>
+    ensures { IfOk result (λ keys. keys ≡ victims (cell_after overlay.now) machine wish.now) }
+{
+    let machines = overlay.board().machines();
     let Some(position) = machines.position(machine) else {
         return Ok(None);
     };
     let Some(listed) = machines.at(position) else {
         return Ok(None);
     };
-    if running.get(wish.key).is_some() {
+    if overlay.runs(wish.key) {
         return Ok(None);
     }
-    victims_on(alloc, board, wish, listed)
+    victims_on(alloc, overlay, wish, listed)
 }
 
 /// The same on a listed machine, of a wish whose task doesn't run.
 fn victims_on(
     alloc: Global,
-    board: &Board,
+    overlay: &Overlay,
     wish: &Wish,
     machine: &Machine,
 ) -> Result<Option<Keys>, NoMemory>
-    requires absent { task_at board.now.tasks wish.now.key ≡ None }
-    requires listed { machine_at (cell_of board.now).machines machine.now.id ≡ Some machine.now }
-    ensures { IfOk result (λ keys. keys ≡ victims (cell_of board.now) machine.now.id wish.now) }
+    requires ordered { KeysRise (tasks_claimed overlay.now) }
+    requires absent { task_at (tasks_claimed overlay.now) wish.now.key ≡ None }
+    requires listed { machine_at (cell_after overlay.now).machines machine.now.id ≡ Some machine.now }
+    ensures { IfOk result (λ keys. keys ≡ victims (cell_after overlay.now) machine.now.id wish.now) }
 {
-    let running = board.running();
     if !machine.up {
         return Ok(None);
     }
-    if has_rival(alloc, board, wish, machine.id) {
+    if has_rival(alloc, overlay, wish, machine.id) {
         return Ok(None);
     }
-    let mut tasks = running.tasks_on(alloc, machine.id)?.into_items();
+    let mut tasks = overlay.tasks_on(alloc, machine.id)?.into_items();
     let left = left_by_staying(wish, &tasks, machine.cap);
     if !wish.spec.need.fits(left) {
         return Ok(None);

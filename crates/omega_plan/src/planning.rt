@@ -1,8 +1,9 @@
 //! The plan of a request.
-ghost use Rattle.std.specs.Prelude.{◌≡◌, ◌≤◌, ◌+◌, ◌++◌, [], None, length, IfOk, IsSomeAnd};
+ghost use Rattle.std.specs.Prelude.{◌≡◌, ◌≤◌, ◌+◌, ◌++◌, [], None, length, IfOk, IfSome, OnOk};
 ghost use Rattle.omega_board.specs.Board.{cell_of};
-ghost use Rattle.omega_copy.specs.Copies.{after_trial};
-ghost use Rattle.omega_model.specs.Plan.{and_claims, whole_or_none};
+ghost use Rattle.omega_copy.specs.Indexes.{TellAll};
+ghost use Rattle.omega_copy.specs.Overlays.{GoesInWhole, cell_after, tasks_claimed};
+ghost use Rattle.omega_model.specs.Plan.{after_planned, and_claims, whole_or_none};
 ghost use Rattle.omega_model.specs.Cell.{task_at};
 ghost use Rattle.omega_model.specs.Legal.{Sound};
 ghost use Rattle.omega_model.specs.Planning.{claims_for_wishes, plan_for};
@@ -14,87 +15,107 @@ ghost use Rattle.omega_plan.specs.Trying.{IsFirstToTake};
 use crate::evicting::first_to_yield;
 use crate::progress::{Progress, Step};
 use crate::trying::{claim_at, first_to_take};
-use omega_copy::PrivateCopy;
+use omega_board::Board;
+use omega_copy::{Indexes, Overlay};
 use omega_model::{Claim, Mode, NoMemory, Policy, Request, Seq, Txn, Wish};
 use std::alloc::Global;
 
-/// The plan of a request on a copy, whose machines are tried from `start` round, a position of at most
-/// their number. Each wish gets the first machine that suits its constraints and takes it, on the cell
-/// after the claims before it: without victims where that goes, else with them where the policy
-/// preempts; a wish without a machine gets no claim. In mode `Gang` one wish without a machine leaves no
-/// claim at all. The copy is as before afterwards, also where memory runs out.
+/// The plan of a request on a board whose indexes are at hand, which tells of its machines. They are tried
+/// from `start` round, a position of at most their number. Each wish gets the first machine that suits its
+/// constraints and takes it, on the cell after the claims before it: without victims where that goes, else
+/// with them where the policy preempts; a wish without a machine gets no claim. In mode `Gang` one wish
+/// without a machine leaves no claim at all. The indexes tell the board afterwards, also where memory runs
+/// out.
 ///
-/// Takes the memory of the claims and of what takes them back. Costs each wish a search, and wishes in a
-/// row that differ in the index alone the machines once together.
+/// Takes the memory of the claims and of what they change beside the board, but for the last one. Costs each
+/// wish a search, and wishes in a row that differ in the index alone the machines once together; and in the
+/// end, for each level, the tasks on the machines of the claims but the last one.
 pub fn plan(
     alloc: Global,
-    copy: &mut PrivateCopy,
+    board: &Board,
+    indexes: &mut Indexes,
     request: &Request,
     start: usize,
     policy: &Policy,
 ) -> Result<Txn, NoMemory>
-    requires no_trial { copy.old.trial ≡ None }
-    requires start { start ≤ length copy.old.board.table }
+    requires tell { TellAll (cell_of board.now) indexes.old }
+    requires start { start ≤ length board.now.table }
     ensures job { IfOk result (λ txn. txn.job ≡ request.now.job) }
     ensures rule { IfOk result (λ txn. txn.rule ≡ policy.now.rule) }
     ensures mode { IfOk result (λ txn. txn.mode ≡ policy.now.mode) }
-    ensures claims { IfOk result (λ txn. txn.claims ≡ plan_for (cell_of copy.old.board) request.now.wishes start policy.now) }
-    ensures copy { copy.new ≡ copy.old }
+    ensures claims { IfOk result (λ txn. txn.claims ≡ plan_for (cell_of board.now) request.now.wishes start policy.now) }
+    ensures tell { TellAll (cell_of board.now) indexes.new }
+    ensures seen { indexes.new.seen ≡ indexes.old.seen }
 {
     let wishes = request.wishes.as_slice();
-    copy.begin_trial(alloc, wishes.len().saturating_sub(1))?;
-    let claims = claims_for_wishes(alloc, copy, wishes, start, policy.preempt);
-    copy.end_trial();
+    let mut overlay = Overlay::over(alloc, board);
+    let last = claims_but_last(alloc, &mut overlay, indexes, wishes, start, policy.preempt);
+    let claims = overlay.end(indexes);
+    let all = with_claim(claims, last?)?;
     Ok(Txn {
         job: request.job,
         rule: policy.rule,
         mode: policy.mode,
-        claims: Seq::of(whole_or_none(policy.mode, wishes.len(), claims?)),
+        claims: Seq::of(whole_or_none(policy.mode, wishes.len(), all)),
     })
 }
 
-/// The claims for the wishes in order, each on the copy after the claims before it, for which its
-/// trial has room: the claim for the last one needn't be placed. The claims stay on the copy until
-/// the trial ends.
-fn claims_for_wishes(
+/// The claims for the wishes in order, each on the cell after the claims before it: all but that for the last
+/// wish are placed beside the board, where there are none before, and that one is answered. The indexes tell
+/// of the cell after the claims there, also where memory runs out.
+fn claims_but_last(
     alloc: Global,
-    copy: &mut PrivateCopy,
+    overlay: &mut Overlay,
+    indexes: &mut Indexes,
     wishes: &[Wish],
     start: usize,
     preempts: bool,
-) -> Result<Vec<Claim>, NoMemory>
-    requires start { start ≤ length copy.old.board.table }
-    requires room { IsSomeAnd copy.old.trial (λ trial. length wishes.now ≤ trial.room + 1) }
-    ensures claims { IfOk result (λ claims. claims.items ≡ claims_for_wishes (cell_of copy.old.board) start preempts wishes.now) }
-    ensures back { after_trial copy.new copy.new.trial ≡ after_trial copy.old copy.old.trial }
+) -> Result<Option<Claim>, NoMemory>
+    requires none { overlay.old.claims ≡ [] }
+    requires start { start ≤ length overlay.old.board.table }
+    requires tell { TellAll (cell_after overlay.old) indexes.old }
+    ensures claims { IfOk result (λ last. overlay.new.claims ++ and_claims last [] ≡ claims_for_wishes (cell_after overlay.old) start preempts wishes.now) }
+    ensures board { overlay.new.board ≡ overlay.old.board }
+    ensures tell { TellAll (cell_after overlay.new) indexes.new }
+    ensures seen { indexes.new.seen ≡ indexes.old.seen }
 {
-    let mut claims = Vec::new(alloc);
     let Some((last, others)) = wishes.split_last() else {
-        return Ok(claims);
+        return Ok(None);
     };
     let mut previous = last;
     let mut progress = Progress::at(start);
     for wish in others {
-        let Step {
-            claim,
-            progress: next,
-        } = claim_for_wish(
-            alloc,
-            copy,
-            wish,
-            preempts,
-            progress.advance(previous, wish),
-        )?;
-        if let Some(claim) = claim {
-            copy.claim(alloc, &claim)?;
-            claims.push(claim)?;
-        }
+        let begin = progress.advance(previous, wish);
+        let step = claim_for_wish(alloc, overlay, indexes, wish, preempts, begin)?;
+        place(alloc, overlay, indexes, step.claim)?;
         previous = wish;
-        progress = next;
+        progress = step.progress;
     }
-    let progress = progress.advance(previous, last);
-    let step = claim_for_wish(alloc, copy, last, preempts, progress)?;
-    with_claim(claims, step.claim)
+    let begin = progress.advance(previous, last);
+    let step = claim_for_wish(alloc, overlay, indexes, last, preempts, begin)?;
+    Ok(step.claim)
+}
+
+/// Places a claim, if there is one, beside the board. Where memory runs out, all is as before.
+fn place(
+    alloc: Global,
+    overlay: &mut Overlay,
+    indexes: &mut Indexes,
+    claim: Option<Claim>,
+) -> Result<(), NoMemory>
+    requires goes_in { IfSome claim (GoesInWhole (cell_after overlay.old)) }
+    requires tell { TellAll (cell_after overlay.old) indexes.old }
+    ensures board { overlay.new.board ≡ overlay.old.board }
+    ensures claims { OnOk result (overlay.new.claims ≡ overlay.old.claims ++ and_claims claim []) }
+    ensures cell { OnOk result (cell_after overlay.new ≡ after_planned (cell_after overlay.old) claim) }
+    ensures tell { TellAll (cell_after overlay.new) indexes.new }
+    ensures seen { indexes.new.seen ≡ indexes.old.seen }
+{
+    let Some(claim) = claim else {
+        return Ok(());
+    };
+    overlay.claim(alloc, indexes, claim)?;
+    Ok(())
 }
 
 /// Claims with one more, if there is one.
@@ -109,50 +130,56 @@ fn with_claim(claims: Vec<Claim>, claim: Option<Claim>) -> Result<Vec<Claim>, No
 }
 
 /// The claim for one wish: without victims where that goes, else with them if it preempts. A wish
-/// whose task runs already gets none. The copy is as before.
+/// whose task runs already gets none. The indexes tell the same afterwards.
 fn claim_for_wish(
     alloc: Global,
-    copy: &mut PrivateCopy,
+    overlay: &Overlay,
+    indexes: &mut Indexes,
     wish: &Wish,
     preempts: bool,
     progress: Progress,
 ) -> Result<Step, NoMemory>
-    requires { Serves (cell_of copy.old.board) wish.now progress }
-    ensures step { IfOk result (λ step. IsStep (cell_of copy.old.board) wish.now preempts progress step) }
-    ensures copy { copy.new ≡ copy.old }
+    requires tell { TellAll (cell_after overlay.now) indexes.old }
+    requires serves { Serves (cell_after overlay.now) wish.now progress }
+    ensures step { IfOk result (λ step. IsStep (cell_after overlay.now) wish.now preempts progress step) }
+    ensures ordered { KeysRise (tasks_claimed overlay.now) }
+    ensures tell { TellAll (cell_after overlay.now) indexes.new }
+    ensures seen { indexes.new.seen ≡ indexes.old.seen }
 {
-    let board = copy.board();
-    if board.running().get(wish.key).is_some() {
+    if overlay.runs(wish.key) {
         return Ok(Step {
             claim: None,
             progress,
         });
     }
-    match first_to_take(alloc, board, copy.free(), wish, &progress) {
+    match first_to_take(alloc, overlay, indexes.free(), wish, &progress) {
         Some(position) => Ok(Step {
-            claim: Some(claim_at(board, wish, position, Seq::new(alloc))),
+            claim: Some(claim_at(overlay, wish, position, Seq::new(alloc))),
             progress: progress.found(position),
         }),
-        None => claim_by_evicting(alloc, copy, wish, preempts, progress.full()),
+        None => claim_by_evicting(alloc, overlay, indexes, wish, preempts, progress.full()),
     }
 }
 
 /// The claim for a wish that no machine takes as it is: for one of the least precedence no task gives
-/// way. The copy is as before.
+/// way. The indexes tell the same afterwards.
 fn claim_by_evicting(
     alloc: Global,
-    copy: &mut PrivateCopy,
+    overlay: &Overlay,
+    indexes: &mut Indexes,
     wish: &Wish,
     preempts: bool,
     progress: Progress,
 ) -> Result<Step, NoMemory>
-    requires sound { Sound (cell_of copy.old.board) }
-    requires ordered { KeysRise copy.old.board.tasks }
-    requires absent { task_at copy.old.board.tasks wish.now.key ≡ None }
-    requires full { IsFirstToTake (cell_of copy.old.board) wish.now progress.start None }
-    requires serves { Serves (cell_of copy.old.board) wish.now progress }
-    ensures step { IfOk result (λ step. IsStep (cell_of copy.old.board) wish.now preempts progress step) }
-    ensures copy { copy.new ≡ copy.old }
+    requires sound { Sound (cell_after overlay.now) }
+    requires ordered { KeysRise (tasks_claimed overlay.now) }
+    requires tell { TellAll (cell_after overlay.now) indexes.old }
+    requires absent { task_at (tasks_claimed overlay.now) wish.now.key ≡ None }
+    requires full { IsFirstToTake (cell_after overlay.now) wish.now progress.start None }
+    requires serves { Serves (cell_after overlay.now) wish.now progress }
+    ensures step { IfOk result (λ step. IsStep (cell_after overlay.now) wish.now preempts progress step) }
+    ensures tell { TellAll (cell_after overlay.now) indexes.new }
+    ensures seen { indexes.new.seen ≡ indexes.old.seen }
 {
     if !preempts {
         return Ok(Step {
@@ -166,9 +193,9 @@ fn claim_by_evicting(
             progress,
         });
     }
-    match first_to_yield(alloc, copy, wish, &progress)? {
+    match first_to_yield(alloc, overlay, indexes, wish, &progress)? {
         Some(found) => Ok(Step {
-            claim: Some(claim_at(copy.board(), wish, found.position, found.victims)),
+            claim: Some(claim_at(overlay, wish, found.position, found.victims)),
             progress: progress.evicted(found.position),
         }),
         None => Ok(Step {

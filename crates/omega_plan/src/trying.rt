@@ -1,6 +1,6 @@
 //! Wishes that are tried on machines.
 ghost use Rattle.std.specs.Prelude.{◌≡◌, ◌≤◌, ◌<◌, [], None, IfSome, length};
-ghost use Rattle.omega_board.specs.Board.{cell_of};
+ghost use Rattle.omega_copy.specs.Overlays.{cell_after, tasks_claimed};
 ghost use Rattle.omega_copy.specs.Telling.{frees_of};
 ghost use Rattle.omega_model.specs.Cell.{task_at};
 ghost use Rattle.omega_model.specs.Legal.{Sound};
@@ -11,7 +11,7 @@ ghost use Rattle.omega_plan.specs.Trying.{IsClaimAt, IsFirstToTake, SuitsAlone};
 
 use crate::progress::Progress;
 use omega_attrs::eligible;
-use omega_board::Board;
+use omega_copy::Overlay;
 use omega_fit::FitIndex;
 use omega_model::{Claim, Keys, Seq, Wish};
 use std::alloc::Global;
@@ -21,20 +21,20 @@ use std::alloc::Global;
 /// little of one component; else at the machines with room, and at worst at all positions.
 pub(crate) fn first_to_take(
     alloc: Global,
-    board: &Board,
+    overlay: &Overlay,
     index: &FitIndex,
     wish: &Wish,
     progress: &Progress,
 ) -> Option<usize>
-    requires sound { Sound (cell_of board.now) }
-    requires index { index.now.free ≡ frees_of (cell_of board.now) }
-    requires absent { task_at board.now.tasks wish.now.key ≡ None }
-    requires serves { Serves (cell_of board.now) wish.now progress.now }
-    ensures first { IsFirstToTake (cell_of board.now) wish.now progress.now.start result }
-    ensures below { IfSome result (λ position. position < length board.now.table) }
+    requires sound { Sound (cell_after overlay.now) }
+    requires index { index.now.free ≡ frees_of (cell_after overlay.now) }
+    requires absent { task_at (tasks_claimed overlay.now) wish.now.key ≡ None }
+    requires serves { Serves (cell_after overlay.now) wish.now progress.now }
+    ensures first { IsFirstToTake (cell_after overlay.now) wish.now progress.now.start result }
+    ensures below { IfSome result (λ position. position < length overlay.now.board.table) }
 {
     match progress.as_is {
-        Some(begin) => first_from(alloc, board, index, wish, begin),
+        Some(begin) => first_from(alloc, overlay, index, wish, begin),
         None => None,
     }
 }
@@ -42,54 +42,50 @@ pub(crate) fn first_to_take(
 /// The first position, round from `begin`, whose machine suits the wish and takes it as it is.
 fn first_from(
     alloc: Global,
-    board: &Board,
+    overlay: &Overlay,
     index: &FitIndex,
     wish: &Wish,
     begin: usize,
 ) -> Option<usize>
-    requires sound { Sound (cell_of board.now) }
-    requires index { index.now.free ≡ frees_of (cell_of board.now) }
-    requires absent { task_at board.now.tasks wish.now.key ≡ None }
-    requires begin { begin ≤ length (cell_of board.now).machines }
-    ensures first { IsFirstToTake (cell_of board.now) wish.now begin result }
-    ensures below { IfSome result (λ position. position < length board.now.table) }
+    requires sound { Sound (cell_after overlay.now) }
+    requires index { index.now.free ≡ frees_of (cell_after overlay.now) }
+    requires absent { task_at (tasks_claimed overlay.now) wish.now.key ≡ None }
+    requires begin { begin ≤ length (cell_after overlay.now).machines }
+    ensures first { IsFirstToTake (cell_after overlay.now) wish.now begin result }
+    ensures below { IfSome result (λ position. position < length overlay.now.board.table) }
 {
     index.first(begin, wish.spec.need, |position| {
-        suits_alone(alloc, board, wish, position)
+        suits_alone(alloc, overlay, wish, position)
     })
 }
 
 /// Whether the machine at a position suits the wish, and has no other task of its job where the wish must
 /// be alone. Looks in the running tasks only then.
-fn suits_alone(alloc: Global, board: &Board, wish: &Wish, position: usize) -> bool
-    ensures { SuitsAlone (cell_of board.now) wish.now position result }
+fn suits_alone(alloc: Global, overlay: &Overlay, wish: &Wish, position: usize) -> bool
+    ensures { SuitsAlone (cell_after overlay.now) wish.now position result }
 {
-    match board.machines().at(position) {
+    match overlay.board().machines().at(position) {
         Some(machine) => {
             eligible(&wish.constraints, &machine.attrs)
-                && !has_rival(alloc, board, wish, machine.id)
+                && !has_rival(alloc, overlay, wish, machine.id)
         }
         None => false,
     }
 }
 
 /// Whether the wish must be alone of its job on a machine, and isn't.
-pub(crate) fn has_rival(alloc: Global, board: &Board, wish: &Wish, id: u64) -> bool
-    ensures { result ≡ has_rival (cell_of board.now) (claim_of wish.now [] id) [] }
+pub(crate) fn has_rival(alloc: Global, overlay: &Overlay, wish: &Wish, id: u64) -> bool
+    ensures { result ≡ has_rival (cell_after overlay.now) (claim_of wish.now [] id) [] }
 {
-    wish.spec.differ
-        && board
-            .running()
-            .other_of_job(wish.key.job, id, &Seq::new(alloc))
-            .is_some()
+    wish.spec.differ && overlay.has_of_job(alloc, wish.key.job, id)
 }
 
 /// The claim of a wish on the machine at a position, with these victims.
-pub(crate) fn claim_at(board: &Board, wish: &Wish, position: usize, victims: Keys) -> Claim
-    requires { position < length board.now.table }
-    ensures { IsClaimAt (cell_of board.now) wish.now position victims result }
+pub(crate) fn claim_at(overlay: &Overlay, wish: &Wish, position: usize, victims: Keys) -> Claim
+    requires { position < length overlay.now.board.table }
+    ensures { IsClaimAt (cell_after overlay.now) wish.now position victims result }
 {
-    let Some(machine) = board.machines().at(position) else {
+    let Some(machine) = overlay.board().machines().at(position) else {
         unreachable!()
     };
     claim_of(wish, victims, machine.id)

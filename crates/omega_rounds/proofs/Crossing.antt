@@ -6,9 +6,9 @@ use Rattle.std.specs.contracts.alloc.Global as Heap
 use Rattle.std.specs.contracts.impls.GlobalAllocator.TheImpl.{ghosts}
 use Rattle.std.specs.contracts.vec.Vec as Vec
 use Rattle.omega_copy.proofs.levels.Level.TheSendSync as level
-use Rattle.omega_copy.proofs.trial.Trial.TheSendSync as trial
 use Rattle.omega_copy.specs.contracts.copy.PrivateCopy as PrivateCopy
 use Rattle.omega_copy.specs.contracts.copy.PrivateCopy.TheInside as Inside
+use Rattle.omega_copy.specs.contracts.indexes.Indexes as Indexes
 use Rattle.omega_copy.specs.contracts.levels.Level as Level
 use Rattle.omega_desk.proofs.desk.Desk.TheSendSync as desk
 use Rattle.omega_fit.proofs.index.FitIndex.TheSendSync as index
@@ -22,9 +22,13 @@ use Rattle.omega_shared.specs.contracts.pass.Pass as Pass
 levels_send : IsSend (Vec.the_row Level.the_row Heap.the_row ghosts)
 levels_send = Vec-send Level.the_row level.the_send
 
+-- its indexes
+indexes_send : IsSend (Indexes.the_field).row
+indexes_send = search (index.the_send, levels_send, sendable) depth 20
+
 -- a scheduler's copy
 inside_send : IsSend Inside.the_row
-inside_send = search (board_send, index.the_send, levels_send, trial.the_send, sendable) depth 20
+inside_send = search (board_send, indexes_send, sendable) depth 20
 
 copy_send : IsSend PrivateCopy.the_row
 copy_send = view_send _ _ _ _ _ inside_send

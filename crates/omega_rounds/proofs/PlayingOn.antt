@@ -12,7 +12,7 @@ use Rattle.omega_model.specs.declared.rows.Row.{Row}
 use Rattle.omega_model.specs.declared.rows.TraceTables.{TraceTables}
 use Rattle.omega_model.specs.declared.settings.Settings.{Settings}
 use Rattle.omega_model.specs.declared.wishes.Request.{Request}
-use Rattle.omega_copy.specs.Copies.{CopyOf}
+use Rattle.omega_copy.specs.Copies.{CopyOf, CopyState}
 use Rattle.omega_desk.specs.Desks.{AnswersFirst, DeskState, IsSameDesk, left_at}
 use Rattle.omega_shared.specs.Commits.{GoesOnWithout, commit_after}
 use Rattle.omega_shared.specs.Passes.{PassState}
@@ -20,7 +20,7 @@ use Rattle.omega_shared.specs.Turns.{Commits, SpendsTurn}
 use Rattle.omega_laws.specs.NextCommit.{attempt}
 use Rattle.omega_rounds.specs.Players.{HasPlayed, IsOwnDesk, MayPlay, MayStand, OwnMayStand}
 use Rattle.omega_rounds.specs.PlayingOn.{IsSynced, PlansFirst, PlaysOn}
-use Rattle.omega_rounds.specs.Workers.{IsWorker, synced_of, to_do_of, IsAtRest, SyncedWithin}
+use Rattle.omega_rounds.specs.Workers.{IsWorker, synced_of, to_do_of, SyncedWithin}
 use Rattle.omega_rounds.specs.WorkerSteps.{CommitsFirst, IsFirstAttempt}
 use Rattle.omega_rounds.specs.Plans.{IsPlannedAt}
 use Rattle.omega_rounds.specs.declared.player.Player.{Player}
@@ -34,10 +34,10 @@ use Rattle.omega_rounds.proofs.Without.{after_last-without, attempt_without, des
 -- what the pass has seen
 pub plays_on_without : (old new : Player) → IsWorker old.worker.desk.settings old.pass.seen old.pass.number old.worker
     → SpendsTurn old.pass new.pass → GoesOnWithout old.pass.number old.pass.seen new.pass.seen
-    → new.worker.desk ≡ old.worker.desk → CopyOf new.worker.copy new.pass.seen → new.worker.copy.trial ≡ None
+    → new.worker.desk ≡ old.worker.desk → CopyOf new.worker.copy new.pass.seen
     → SyncedWithin new.worker.synced new.worker.copy.seen (length new.pass.seen)
     → PlaysOn old new
-plays_on_without old new worker turn on same copy no_trial seen =
+plays_on_without old new worker turn on same copy seen =
     let settings : Settings = old.worker.desk.settings in
     let here = worker_without old.pass.number old.pass.seen new.pass.seen on settings old.worker worker in
     record {
@@ -51,7 +51,6 @@ plays_on_without old new worker turn on same copy no_trial seen =
         attempts = ap (λ (d : DeskState). d.attempts) same ∙ here.attempts ∙ ap (λ (n : ℕ). commits_of n new.pass.seen) (sym turn.number);
         tries = subst (λ (d : DeskState). d.taken < settings.tries) (sym same) worker.tries;
         copy = copy;
-        no_trial = no_trial;
         seen = seen;
       };
       desk = λ trace rows opened_at within is.
@@ -129,7 +128,7 @@ module _ (old new : Player) (txn : Txn) (reply : Reply) (did : PlayerCommits old
   }
 
   worker_next : IsWorker settings new.pass.seen number next
-  worker_next = worker_after settings number before new.pass.seen old.worker new.worker.desk did.plans.request txn reply.outcomes committing new.worker.copy new.worker.planned (subst (IsAtRest before) (sym did.copy) (record { stands = worker_before.copy; no_trial = worker_before.no_trial }))
+  worker_next = worker_after settings number before new.pass.seen old.worker new.worker.desk did.plans.request txn reply.outcomes committing new.worker.copy new.worker.planned (subst (λ (k : CopyState). CopyOf k before) (sym did.copy) worker_before.copy)
 
   first_next : CommitsFirst settings number before old.worker new.pass.seen next reply.place
   first_next =

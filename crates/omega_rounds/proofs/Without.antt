@@ -83,7 +83,6 @@ module _ (scheduler : ℕ) (old new : List Entry) (on : GoesOnWithout scheduler 
     attempts = is.attempts ∙ sym commits_without;
     tries = is.tries;
     copy = copy_without worker.copy is.copy;
-    no_trial = is.no_trial;
     seen = synced_longer worker.synced worker.copy.seen (length old) (length new) longer_without is.seen;
   }
 

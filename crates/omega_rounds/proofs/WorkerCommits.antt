@@ -9,12 +9,12 @@ use Rattle.omega_model.specs.declared.entries.Entry.{Entry}
 use Rattle.omega_model.specs.declared.entries.Entry.TheVariants.{Commit}
 use Rattle.omega_model.specs.declared.settings.Settings.{Settings}
 use Rattle.omega_model.specs.declared.wishes.Request.{Request}
-use Rattle.omega_copy.specs.Copies.{CopyState}
+use Rattle.omega_copy.specs.Copies.{CopyOf, CopyState}
 use Rattle.omega_desk.specs.Desks.{AnswersFirst, DeskState, IsSameDesk, left_at}
 use Rattle.omega_desk.specs.Walks.{are_wished}
 use Rattle.omega_rounds.specs.AttemptsLeft.{attempts_left}
 use Rattle.omega_laws.specs.NextCommit.{attempt_txn}
-use Rattle.omega_rounds.specs.Workers.{IsAtRest, IsWorker, to_do_of}
+use Rattle.omega_rounds.specs.Workers.{IsWorker, to_do_of}
 use Rattle.omega_rounds.specs.WorkerSteps.{CommitsFirst, attempt_outcomes}
 use Rattle.omega_rounds.specs.declared.plans.Planned.{Planned}
 use Rattle.omega_rounds.specs.declared.worker.Worker.{Worker}
@@ -81,8 +81,8 @@ module _ (settings : Settings) (scheduler : ℕ) (before after : List Entry) (ol
   left_moved : after_outcomes settings (left_at old.desk) old.desk.requests outcomes ≡ Some (left_at desk)
   left_moved = subst (λ (s : Settings). after_outcomes s (left_at old.desk) old.desk.requests outcomes ≡ Some (left_at desk)) on.worker.settings on.moved
 
-  pub worker_after : (copy : CopyState) (planned : Option Planned) → IsAtRest before copy → IsWorker settings after scheduler (record { desk = desk; copy = copy; synced = None; planned = planned })
-  worker_after copy planned rests =
+  pub worker_after : (copy : CopyState) (planned : Option Planned) → CopyOf copy before → IsWorker settings after scheduler (record { desk = desk; copy = copy; synced = None; planned = planned })
+  worker_after copy planned stands =
       let parts = first_some old.desk.requests request on.first in
       let next = moved_to settings (left_at old.desk) (left_at desk) old.desk.requests request parts.0 outcomes parts.1 left_moved in
       let less = attempt_less settings (left_at old.desk) request parts.0 outcomes on.tries parts.1 on.worker.tries in
@@ -93,8 +93,7 @@ module _ (settings : Settings) (scheduler : ℕ) (before after : List Entry) (ol
         attempts = on.attempts ∙ ap (λ (n : ℕ). n + 1) on.worker.attempts
             ∙ sym (commits_own scheduler on.seen txn (reply_of before on.seen txn) before);
         tries = subst (λ (s : Standing). s.taken < settings.tries) (sym next) less.1;
-        copy = copy_grown copy before (entry ∷ []) rests.stands;
-        no_trial = rests.no_trial;
+        copy = copy_grown copy before (entry ∷ []) stands;
         seen = tt;
       })
 

@@ -183,7 +183,6 @@ module _ (settings : Settings) (all : List Round) (asked : Asked) (begun old_pla
           tries = omega (arith, none, some);
           copy = subst (λ (k : CopyState). CopyOf k after) (sym begun_worker.copy)
               (subst (CopyOf was.copy) (sym same) (copy_opened trace (rows_begun stage) before round was.copy is.copy));
-          no_trial = ap (λ (k : CopyState). k.trial) begun_worker.copy ∙ is.no_trial;
           seen = subst (λ (synced : Option ℕ). SyncedWithin synced worker.copy.seen (length after)) (sym begun_worker.synced) tt;
         }
 

@@ -97,7 +97,6 @@ module _ (settings : Settings) (before after : List Entry) (scheduler : ℕ) (ol
         attempts = is.attempts ∙ sym (commits_other number before entry (ne_eqb scheduler number (λ same. apart (sym same))));
         tries = is.tries;
         copy = copy_grown worker.copy before (entry ∷ []) is.copy;
-        no_trial = is.no_trial;
         seen = synced_longer worker.synced worker.copy.seen (length before) (length (before ++ entry ∷ []))
             (let count = length-append before (entry ∷ []) in omega (arith, count)) is.seen;
       })

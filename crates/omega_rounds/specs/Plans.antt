@@ -1,7 +1,10 @@
 -- What a scheduler has planned.
 use Rattle.std.specs.Prelude.{◌≡◌, ◌≢◌, ◌≤◌, ◌<◌, ◌^◌, ℕ, List, [], Some, IfSome, length}
+use Rattle.omega_machines.specs.Table.{seq_at}
+use Rattle.omega_board.specs.Board.{BoardState, cell_of}
 use Rattle.omega_copy.specs.Copies.{CopyOf, CopyState}
 use Rattle.omega_desk.specs.Desks.{DeskState}
+use Rattle.omega_model.specs.Copy.{StandsFor}
 use Rattle.omega_model.specs.Policy.{schedulers}
 use Rattle.omega_model.specs.Ranges.{IsInRange}
 use Rattle.omega_model.specs.Touches.{copied_seqs}
@@ -22,6 +25,12 @@ pub record MayPlan (desk : DeskState) : Type 0 where
 -- a desk has had as many attempts as a history has commits of its scheduler
 abbrev pub IsUpTo : List Entry → DeskState → Type 0
 IsUpTo history desk = desk.attempts ≡ commits_of desk.scheduler history
+
+-- a transaction is planned at a desk on a board: it is the attempt of the desk's scheduler on the first request that
+-- is left there, after so many entries of each history which the board is after and up to which the desk is
+abbrev pub IsPlannedOver : DeskState → BoardState → Txn → Type 0
+IsPlannedOver desk board txn = (history : List Entry) (seen : ℕ) → StandsFor (cell_of board) (seq_at board.table) seen history → IsUpTo history desk
+    → IsFirstAttempt desk.settings history desk.scheduler seen desk txn
 
 -- a transaction is planned at a desk on a copy: it is the attempt of the desk's scheduler on the first request that
 -- is left there, after what the copy has seen, in each history for a front of which the copy stands and up to which

@@ -22,26 +22,19 @@ synced_of worker = worker.synced
 abbrev pub to_do_of : Worker → ℕ
 to_do_of worker = attempts_left worker.desk.settings (left_at worker.desk)
 
--- a copy is at rest beside a history: it stands for a front of the history, and no trial has begun on it
-pub record IsAtRest (history : List Entry) (copy : CopyState) : Type 0 where
-  pub stands : CopyOf copy history
-  pub no_trial : copy.trial ≡ None
-
 -- a scheduler that has synced has seen no more than so many entries, and its copy no more than it
 abbrev pub SyncedWithin : Option ℕ → ℕ → ℕ → Type 0
 SyncedWithin synced copied count = IfSome synced (λ seen. (seen ≤ count) × (copied ≤ seen))
 
 -- a worker is that of a scheduler beside a history: the desk is the scheduler's, has had as many attempts as
 -- the history has commits of it, and a try left for its first request; the copy stands for a front of the
--- history, and no trial has begun on it; and where the scheduler has synced, it has seen a front of the
--- history, and the copy no more
+-- history; and where the scheduler has synced, it has seen a front of the history, and the copy no more
 pub record IsWorker (chosen : Settings) (history : List Entry) (number : ℕ) (worker : Worker) : Type 0 where
   pub settings : worker.desk.settings ≡ chosen
   pub scheduler : worker.desk.scheduler ≡ number
   pub attempts : worker.desk.attempts ≡ commits_of number history
   pub tries : worker.desk.taken < chosen.tries
   pub copy : CopyOf worker.copy history
-  pub no_trial : worker.copy.trial ≡ None
   pub seen : SyncedWithin worker.synced worker.copy.seen (length history)
 
 -- a scheduler works on the job of a request

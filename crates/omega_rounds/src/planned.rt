@@ -1,39 +1,67 @@
-//! What a scheduler plans on a copy.
-ghost use Rattle.std.specs.Prelude.{◌≡◌, ◌≤◌, ◌<◌, ◌^◌, None, length, IfOk};
+//! What a scheduler plans on a board.
+ghost use Rattle.std.specs.Prelude.{◌≡◌, ◌≤◌, ◌<◌, ◌^◌, length, IfOk};
+ghost use Rattle.omega_board.specs.Board.{cell_of};
+ghost use Rattle.omega_copy.specs.Indexes.{TellAll};
 ghost use Rattle.omega_model.specs.Draws.{drawn_start};
-ghost use Rattle.omega_rounds.specs.Plans.{IsPlannedAt, MayPlan};
+ghost use Rattle.omega_rounds.specs.Plans.{IsPlannedAt, IsPlannedOver, MayPlan};
 
-use omega_copy::PrivateCopy;
+use omega_board::Board;
+use omega_copy::{Indexes, PrivateCopy};
 use omega_desk::Desk;
 use omega_model::{NoMemory, Txn};
 use omega_plan::plan;
 use std::alloc::Global;
+use std::mem;
 
-/// The transaction of an attempt on the first request that is left at a desk, planned on what a copy of its
-/// scheduler has seen. One of 2^32 claims or more is want of memory. The copy is as before in both cases.
-/// Costs the plan.
-pub(crate) fn planned(alloc: Global, desk: &Desk, copy: &mut PrivateCopy) -> Result<Txn, NoMemory>
+/// The transaction of an attempt on the first request that is left at a desk, planned on a board of which
+/// these indexes tell. One of 2^32 claims or more is want of memory. They tell of the board afterwards, in
+/// both cases. Costs the plan.
+pub(crate) fn planned(
+    alloc: Global,
+    desk: &Desk,
+    board: &Board,
+    indexes: &mut Indexes,
+) -> Result<Txn, NoMemory>
     requires may { MayPlan desk.now }
-    requires no_trial { copy.old.trial ≡ None }
-    ensures txn { IfOk result (IsPlannedAt desk.now copy.old) }
+    requires tell { TellAll (cell_of board.now) indexes.old }
+    ensures txn { IfOk result (IsPlannedOver desk.now board.now) }
     ensures few { IfOk result (λ txn. length txn.claims < 2 ^ 32) }
-    ensures copy { copy.new ≡ copy.old }
+    ensures tell { TellAll (cell_of board.now) indexes.new }
+    ensures seen { indexes.new.seen ≡ indexes.old.seen }
 {
-    let start = start_on(desk, copy);
+    let start = start_on(desk, board);
     let Some(request) = desk.present() else {
         unreachable!()
     };
-    let txn = plan(alloc, copy, request, start, &desk.policy())?;
+    let txn = plan(alloc, board, indexes, request, start, &desk.policy())?;
     if txn.claims.len() > u32::MAX as usize {
         return Err(NoMemory);
     }
     Ok(txn)
 }
 
-/// The place in a copy's list of machines at which a desk's present attempt begins.
-fn start_on(desk: &Desk, copy: &PrivateCopy) -> usize
-    ensures drawn { result ≡ drawn_start desk.now.settings desk.now.scheduler desk.now.attempts (length copy.now.board.table) }
-    ensures within { result ≤ length copy.now.board.table }
+/// The same on a copy, which is as before afterwards.
+pub(crate) fn planned_on(
+    alloc: Global,
+    desk: &Desk,
+    copy: &mut PrivateCopy,
+) -> Result<Txn, NoMemory>
+    requires may { MayPlan desk.now }
+    ensures txn { IfOk result (IsPlannedAt desk.now copy.old) }
+    ensures few { IfOk result (λ txn. length txn.claims < 2 ^ 32) }
+    ensures copy { copy.new ≡ copy.old }
 {
-    desk.start(copy.board().machines().len())
+    let whole = mem::replace(copy, PrivateCopy::new(alloc));
+    let (board, mut indexes) = whole.into_parts();
+    let txn = planned(alloc, desk, &board, &mut indexes);
+    *copy = PrivateCopy::of_parts(board, indexes);
+    txn
+}
+
+/// The place in a board's list of machines at which a desk's present attempt begins.
+fn start_on(desk: &Desk, board: &Board) -> usize
+    ensures drawn { result ≡ drawn_start desk.now.settings desk.now.scheduler desk.now.attempts (length board.now.table) }
+    ensures within { result ≤ length board.now.table }
+{
+    desk.start(board.machines().len())
 }

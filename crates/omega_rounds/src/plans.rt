@@ -1,20 +1,19 @@
 //! What a scheduler of a world plans when it syncs.
-ghost use Rattle.std.specs.Prelude.{◌≡◌, None, List, length, drop, IfOk};
-ghost use Rattle.omega_copy.specs.Copies.{CopyOf};
-ghost use Rattle.omega_board.specs.Naming.{NameTouched};
-ghost use Rattle.omega_copy.specs.Indexes.{AreIndexesOf, HavePlaces};
-ghost use Rattle.omega_model.specs.State.{state};
+ghost use Rattle.std.specs.Prelude.{◌≡◌, ℕ, List, length, IfOk};
+ghost use Rattle.omega_board.specs.Board.{cell_of};
+ghost use Rattle.omega_copy.specs.Indexes.{AreIndexesOf, TellAll};
+ghost use Rattle.omega_machines.specs.Table.{seq_at};
+ghost use Rattle.omega_model.specs.Copy.{StandsFor};
 ghost use Rattle.omega_model.specs.declared.entries.Entry.{Entry};
 ghost use Rattle.omega_rounds.specs.Plans.{IsPlan, IsUpTo, MayPlan};
 
 use crate::planned::planned;
-use omega_board::touched;
+use omega_board::{Board, touched};
 use omega_cell::Cell;
-use omega_copy::{Indexes, PrivateCopy};
+use omega_copy::{Indexes, seqs_on};
 use omega_desk::Desk;
 use omega_model::{NoMemory, Txn};
 use std::alloc::Global;
-use std::mem;
 
 /// A transaction that was planned, and for each of its claims how many of the entries on which it was
 /// planned touched the claim's machine.
@@ -25,66 +24,42 @@ pub(crate) struct Planned {
 }
 
 /// The attempt on the first request that is left at a desk, planned on the cell's board with these indexes,
-/// which go on to it. A transaction of 2^32 claims or more is want of memory. The history is as before in
-/// both cases. Costs the plan, and the entries that the indexes haven't seen.
+/// which go on to it. A transaction of 2^32 claims or more is want of memory. Costs the plan, and the entries
+/// that the indexes haven't seen.
 pub(crate) fn plan_first(
     alloc: Global,
     desk: &Desk,
     indexes: &mut Indexes,
-    cell: &mut Cell,
+    cell: &Cell,
 ) -> Result<Planned, NoMemory>
     requires may { MayPlan desk.now }
-    requires up_to { IsUpTo cell.old.history desk.now }
-    requires indexes { AreIndexesOf cell.old.history indexes.old }
-    ensures history { cell.new.history ≡ cell.old.history }
-    ensures indexes { AreIndexesOf cell.new.history indexes.new }
-    ensures plan { IfOk result (IsPlan cell.old.history (length cell.old.history) desk.now) }
+    requires up_to { IsUpTo cell.now.history desk.now }
+    requires indexes { AreIndexesOf cell.now.history indexes.old }
+    ensures indexes { AreIndexesOf cell.now.history indexes.new }
+    ensures plan { IfOk result (IsPlan cell.now.history (length cell.now.history) desk.now) }
 {
-    let machines = touched(alloc, &cell.history()[indexes.seen() as usize..])?;
-    indexes.make_room(cell.board())?;
-    let own = mem::replace(indexes, Indexes::new(alloc));
-    let whole = mem::replace(cell, Cell::new(alloc));
-    let (plan, told, same) = plan_apart(alloc, desk, own, whole, &machines);
-    *indexes = told;
-    *cell = same;
-    plan
+    let (history, board) = (cell.history(), cell.board());
+    let machines = touched(alloc, &history[indexes.seen() as usize..])?;
+    indexes.make_room(board)?;
+    indexes.go_on(board, history.len() as u64, &machines);
+    plan_on(alloc, desk, board, indexes)
 }
 
-/// The attempt, planned on the board of the cell, which is lent to a copy with these indexes. They are told of
-/// these machines, for whose places they have room.
-fn plan_apart(
+/// The attempt, planned on a board of which these indexes tell.
+fn plan_on(
     alloc: Global,
     desk: &Desk,
-    indexes: Indexes,
-    cell: Cell,
-    machines: &[u64],
-) -> (Result<Planned, NoMemory>, Indexes, Cell)
+    board: &Board,
+    indexes: &mut Indexes,
+) -> Result<Planned, NoMemory>
     requires may { MayPlan desk.now }
-    requires up_to { IsUpTo cell.history desk.now }
-    requires indexes { AreIndexesOf cell.history indexes }
-    requires places { HavePlaces (length (state cell.history).machines) indexes }
-    requires touched { NameTouched (drop indexes.seen cell.history) machines.now }
-    ensures history { result.2.history ≡ cell.history }
-    ensures indexes { AreIndexesOf cell.history result.1 }
-    ensures plan { IfOk result.0 (IsPlan cell.history (length cell.history) desk.now) }
+    requires tell { TellAll (cell_of board.now) indexes.old }
+    ensures tell { TellAll (cell_of board.now) indexes.new }
+    ensures seen { indexes.new.seen ≡ indexes.old.seen }
+    ensures plan { IfOk result (λ plan. (history : List Entry) (seen : ℕ) → StandsFor (cell_of board.now) (seq_at board.now.table) seen history
+        → IsUpTo history desk.now → IsPlan history seen desk.now plan) }
 {
-    let (board, log) = cell.apart();
-    let seen = log.history().len() as u64;
-    let mut copy = PrivateCopy::over(board, indexes, seen, machines);
-    let plan = plan_on(alloc, desk, &mut copy);
-    let (board, indexes) = copy.into_parts();
-    (plan, indexes, Cell::joined(board, log))
-}
-
-/// The attempt, planned on a copy.
-fn plan_on(alloc: Global, desk: &Desk, copy: &mut PrivateCopy) -> Result<Planned, NoMemory>
-    requires may { MayPlan desk.now }
-    requires no_trial { copy.old.trial ≡ None }
-    ensures copy { copy.new ≡ copy.old }
-    ensures plan { IfOk result (λ plan. (history : List Entry) → CopyOf copy.old history
-        → IsUpTo history desk.now → IsPlan history copy.old.seen desk.now plan) }
-{
-    let txn = planned(alloc, desk, copy)?;
-    let seqs = copy.seqs(alloc, txn.claims.as_slice())?;
+    let txn = planned(alloc, desk, board, indexes)?;
+    let seqs = seqs_on(alloc, board, txn.claims.as_slice())?;
     Ok(Planned { txn, seqs })
 }

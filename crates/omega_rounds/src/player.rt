@@ -6,7 +6,7 @@ ghost use Rattle.omega_rounds.specs.Players.{HasPlayed, MayPlay};
 ghost use Rattle.omega_rounds.specs.PlayingOn.{IsSynced, PlansFirst, PlaysOn};
 ghost use Rattle.omega_rounds.specs.Workers.{IsWorker, synced_of, to_do_of};
 
-use crate::planned::planned;
+use crate::planned::planned_on;
 use crate::worker::Worker;
 use omega_io::{Gate, Point};
 use omega_model::{NoMemory, Txn};
@@ -94,7 +94,7 @@ impl Player {
         ensures few { IfOk result (λ txn. length txn.claims < 2 ^ 32) }
         ensures short { OnOk result (self.old.worker.copy.seen + 1 < 2 ^ 64) }
     {
-        let txn = planned(alloc, &self.worker.desk, &mut self.worker.copy)?;
+        let txn = planned_on(alloc, &self.worker.desk, &mut self.worker.copy)?;
         if self.worker.copy.seen() == u64::MAX {
             return Err(NoMemory);
         }

@@ -109,16 +109,15 @@ impl Worker {
         &mut self,
         alloc: Global,
         indexes: &mut Indexes,
-        cell: &mut Cell,
+        cell: &Cell,
     ) -> Result<(), NoMemory>
-        requires ready { IsReady self.old.desk cell.old.history self.old }
-        requires indexes { AreIndexesOf cell.old.history indexes.old }
+        requires ready { IsReady self.old.desk cell.now.history self.old }
+        requires indexes { AreIndexesOf cell.now.history indexes.old }
         requires synced { self.old.synced ≡ None }
         requires work { self.old.desk.requests ≢ [] }
-        ensures ready { IsReady self.old.desk cell.new.history self.new }
-        ensures indexes { AreIndexesOf cell.new.history indexes.new }
-        ensures syncs { OnOk result (SyncsWorker cell.old.history self.old cell.new.history self.new) }
-        ensures err { OnErr result (cell.new.history ≡ cell.old.history) }
+        ensures ready { IsReady self.old.desk cell.now.history self.new }
+        ensures indexes { AreIndexesOf cell.now.history indexes.new }
+        ensures syncs { OnOk result (SyncsWorker cell.now.history self.old cell.now.history self.new) }
         ensures desk { OnErr result (self.new.desk ≡ self.old.desk) }
         ensures unsynced { OnErr result (self.new.synced ≡ self.old.synced) }
     {

@@ -1,5 +1,5 @@
 //! The shared cell.
-ghost use Rattle.std.specs.Prelude.{◌≡◌, ℕ, ◌<◌, ◌≤◌, ◌+◌, ◌^◌, List, [], Some, None, true, length, drop, map, All, Any, IfOk, IfErr, OnOk, OnErr, slice_get, vec_capacity};
+ghost use Rattle.std.specs.Prelude.{◌≡◌, ℕ, ◌<◌, ◌≤◌, ◌+◌, ◌^◌, List, [], Some, true, length, drop, map, All, Any, IfOk, IfErr, OnOk, OnErr, slice_get, vec_capacity};
 ghost use Rattle.omega_copy.specs.Copies.{CopyOf};
 ghost use Rattle.omega_lock.specs.Lists.{StartsWith};
 ghost use Rattle.omega_model.specs.Applying.{EachMayApply};
@@ -93,14 +93,12 @@ impl SharedCell {
     ) -> Result<(), NoMemory>
         requires of { pass.old.of ≡ self.now.of }
         requires left { 0 < pass.old.turns }
-        requires no_trial { copy.old.trial ≡ None }
         requires stands { CopyOf copy.old pass.old.seen }
         ensures turn { SpendsTurn pass.old pass.new }
         ensures seen { GoesOnWithout pass.old.number pass.old.seen pass.new.seen }
         ensures own { pass.new.own ≡ pass.old.own }
         ensures stands { CopyOf copy.new pass.new.seen }
         ensures all { OnOk result (copy.new.seen ≡ length pass.new.seen) }
-        ensures no_trial { copy.new.trial ≡ None }
         ensures err { OnErr result (copy.new ≡ copy.old) }
     {
         let delta = self.news(rt, alloc, &mut pass.seat, copy.seen())?;

@@ -1,5 +1,5 @@
 use Rattle.std.proofs.Common.{arith}
-use Rattle.omega_board.specs.Board.{cell_of}
+use Rattle.omega_copy.specs.Overlays.{cell_after}
 use Rattle.omega_fit.specs.Needs.{IsNextWithRoom}
 use Rattle.omega_plan.proofs.Evictable.{yields_between, yields_none_between, yields_past}
 use Rattle.omega_plan.proofs.FirstYields.{yields_none, yields_some}
@@ -7,7 +7,7 @@ use Rattle.omega_plan.proofs.evicting.yielding_between.Goals as goal
 
 pub returns-in-Some-2-clause-first : goal.returns-in-Some-2-clause-first
 returns-in-Some-2-clause-first c =
-    let cell = cell_of c.args.board.now in
+    let cell = cell_after c.args.overlay.now in
     let wish = c.args.wish.now in
     yields_between cell wish c.requires.sound.numbers c.args.freed.now.free c.requires.freed c.args.from c.loop-position.begin c.args.to c.loop-position.invariant.before
     c.in-Some.position c.in-Some.ensures.next c.loop-position.invariant.within
@@ -20,7 +20,7 @@ loop-position-smaller c = omega (arith, c.in-Some.ensures.next.0, c.in-Some.ensu
 pub loop-position-preserved : goal.loop-position-preserved
 unfolding IsNextWithRoom
 loop-position-preserved c =
-    let cell = cell_of c.args.board.now in
+    let cell = cell_after c.args.overlay.now in
     let wish = c.args.wish.now in
     record {
       within = omega (arith, c.loop-position.invariant.within, c.in-Some.ensures.next.0);
@@ -31,5 +31,5 @@ loop-position-preserved c =
 
 pub returns-clause-first : goal.returns-clause-first
 returns-clause-first c =
-    yields_none_between (cell_of c.args.board.now) c.args.wish.now c.requires.sound.numbers c.args.freed.now.free c.requires.freed c.args.from c.loop-position.begin c.args.to
+    yields_none_between (cell_after c.args.overlay.now) c.args.wish.now c.requires.sound.numbers c.args.freed.now.free c.requires.freed c.args.from c.loop-position.begin c.args.to
     c.loop-position.invariant.before c.in_default.ensures.next

@@ -1,12 +1,12 @@
 use Rattle.std.proofs.Common.{◌≤◌, ◌-◌}
-use Rattle.omega_board.specs.Board.{cell_of}
+use Rattle.omega_copy.specs.Overlays.{cell_after}
 use Rattle.omega_plan.proofs.Evictable.{YieldsNowhere}
 use Rattle.omega_plan.proofs.evicting.yielding_between.Given as goal
 
 abbrev pub invariant-loop-position : goal.invariant-loop-position
 invariant-loop-position l = record {
   within : l.from ≤ l.begin;
-  before : YieldsNowhere (cell_of l.board) l.wish l.from l.begin;
+  before : YieldsNowhere (cell_after l.overlay) l.wish l.from l.begin;
 }
 
 abbrev pub decreases-loop-position : goal.decreases-loop-position

@@ -2,7 +2,7 @@ use Rattle.std.proofs.Common.{◌≡◌, ℕ, Option, Some, None, length, ap, su
 use Rattle.std.specs.Prelude.{option_map}
 use Rattle.std.proofs.lemmas.List.{length-map}
 use Rattle.std.proofs.lemmas.Result.{IfOk-weaker}
-use Rattle.omega_board.specs.Board.{cell_of}
+use Rattle.omega_copy.specs.Overlays.{cell_after}
 use Rattle.omega_copy.specs.Telling.{freed_on}
 use Rattle.omega_fit.specs.Wrapped.{FirstBetween}
 use Rattle.omega_fit.proofs.Firsts.{found_from_start, none_from_start}
@@ -13,7 +13,7 @@ use Rattle.omega_plan.proofs.evicting.yielding_from.Goals as goal
 pub returns-in-Some-clause-first : goal.returns-in-Some-clause-first
 unfolding IsFirstToYield
 returns-in-Some-clause-first c =
-    let cell = cell_of c.args.board.now in
+    let cell = cell_after c.args.overlay.now in
     let wish = c.args.wish.now in
     let long : c.len.result ≡ length cell.machines = c.len.ensures ∙ ap length c.requires.freed ∙ length-map cell.machines (freed_on wish.spec.prec cell.tasks) in
     found_from_start (Yields cell wish) c.args.begin (length cell.machines) c.in-Some.found.position c.requires.begin
@@ -23,7 +23,7 @@ returns-in-Some-clause-first c =
 pub returns-in-None-clause-first : goal.returns-in-None-clause-first
 unfolding IsFirstToYield
 returns-in-None-clause-first c =
-    let cell = cell_of c.args.board.now in
+    let cell = cell_after c.args.overlay.now in
     let wish = c.args.wish.now in
     let long : c.len.result ≡ length cell.machines = c.len.ensures ∙ ap length c.requires.freed ∙ length-map cell.machines (freed_on wish.spec.prec cell.tasks) in
     let none : FirstBetween (Yields cell wish) c.args.begin (length cell.machines) None =

@@ -1,5 +1,5 @@
 use Rattle.std.proofs.Common.{ℕ, Option, Some, None, length, subst}
-use Rattle.omega_board.specs.Board.{cell_of}
+use Rattle.omega_copy.specs.Overlays.{cell_after}
 use Rattle.omega_plan.specs.Kinds.{IsFull, MayBegin}
 use Rattle.omega_plan.specs.Trying.{IsFirstToTake, Takes}
 use Rattle.omega_plan.proofs.Begins.{begins_within, found_from, found_nowhere}
@@ -8,7 +8,7 @@ use Rattle.omega_plan.proofs.trying.first_to_take.Goals as goal
 
 pub first_from-requires-clause-begin : goal.first_from-requires-clause-begin
 first_from-requires-clause-begin c =
-    let cell = cell_of c.args.board.now in
+    let cell = cell_after c.args.overlay.now in
     let progress = c.args.progress.now in
     let may : MayBegin (IsFull cell c.args.wish.now) progress.start (length cell.machines) (Some c.in-Some.begin) =
     subst (λ (begin : Option ℕ). MayBegin (IsFull cell c.args.wish.now) progress.start (length cell.machines) begin) c.in-Some.is c.requires.serves.as_is in
@@ -17,7 +17,7 @@ first_from-requires-clause-begin c =
 pub returns-in-Some-clause-first : goal.returns-in-Some-clause-first
 unfolding IsFirstToTake
 returns-in-Some-clause-first c =
-    let cell = cell_of c.args.board.now in
+    let cell = cell_after c.args.overlay.now in
     let progress = c.args.progress.now in
     let may : MayBegin (IsFull cell c.args.wish.now) progress.start (length cell.machines) (Some c.in-Some.begin) =
     subst (λ (begin : Option ℕ). MayBegin (IsFull cell c.args.wish.now) progress.start (length cell.machines) begin) c.in-Some.is c.requires.serves.as_is in
@@ -27,7 +27,7 @@ returns-in-Some-clause-first c =
 pub returns-in-None-clause-first : goal.returns-in-None-clause-first
 unfolding IsFirstToTake
 returns-in-None-clause-first c =
-    let cell = cell_of c.args.board.now in
+    let cell = cell_after c.args.overlay.now in
     let progress = c.args.progress.now in
     let may : MayBegin (IsFull cell c.args.wish.now) progress.start (length cell.machines) None =
     subst (λ (begin : Option ℕ). MayBegin (IsFull cell c.args.wish.now) progress.start (length cell.machines) begin) c.in-None.is c.requires.serves.as_is in

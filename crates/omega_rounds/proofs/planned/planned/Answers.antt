@@ -1,7 +1,7 @@
 use Rattle.std.proofs.Common.{Bor, ◌∙◌, sym, ap}
 use Rattle.std.specs.Prelude.{option_map}
 use Rattle.omega_model.specs.declared.wishes.Request.{Request}
-use Rattle.omega_rounds.proofs.Attempted.{planned_at}
+use Rattle.omega_rounds.proofs.Attempted.{planned_over}
 use Rattle.omega_rounds.proofs.WorkerCommits.{first_none}
 use Rattle.omega_rounds.proofs.planned.planned.Goals as goal
 
@@ -12,6 +12,6 @@ unreachable-requires c =
 
 pub returns-clause-txn : goal.returns-clause-txn
 returns-clause-txn c =
-    planned_at c.args.desk.now c.args.copy.now c.in-Some.request.now c.start_on-start.result c.policy.result c.in_ok-txn.txn
+    planned_over c.args.desk.now c.args.board.now c.in-Some.request.now c.start_on-start.result c.policy.result c.in_ok-txn.txn
     (sym (ap (option_map (λ (r : Bor Request). r.now)) c.in-Some.is) ∙ c.present.ensures)
     c.start_on-start.ensures.drawn c.policy.ensures c.in_ok-txn.ensures.job c.in_ok-txn.ensures.rule c.in_ok-txn.ensures.mode c.in_ok-txn.ensures.claims

@@ -9,7 +9,7 @@ take_in-requires-clause-may c =
 pub loop-entry-preserved : goal.loop-entry-preserved
 loop-entry-preserved c =
     follows_more c.args.self.now c.loop-entry.self c.args.later.now c.loop-entry.entry-index c.entry-item.result c.loop-entry.invariant c.loop-entry-test.true c.entry-item.is
-    c.take_in.new.self c.take_in.ensures.no_trial c.in_ok-take_in.ensures.seen c.in_ok-take_in.ensures.cell c.in_ok-take_in.ensures.seqs
+    c.take_in.new.self c.in_ok-take_in.ensures.seen c.in_ok-take_in.ensures.cell c.in_ok-take_in.ensures.seqs
 
 pub take_in-requires-clause-ordered : goal.take_in-requires-clause-ordered
 take_in-requires-clause-ordered c =

@@ -9,7 +9,7 @@ pub returns-in_default-clause-plays_on : goal.returns-in_default-clause-plays_on
 returns-in_default-clause-plays_on g c =
     plays_on_without c.args.self.now
     (record { worker = c.args.self.now.worker; pass = c.commit.new.pass; failed = c.args.self.now.failed })
-    c.requires.synced.worker c.commit.ensures.turn c.in_default.ensures.seen refl c.commit.ensures.stands c.requires.synced.worker.no_trial
+    c.requires.synced.worker c.commit.ensures.turn c.in_default.ensures.seen refl c.commit.ensures.stands
     (synced_longer c.args.self.now.worker.synced c.args.self.now.worker.copy.seen (length c.args.self.now.pass.seen) (length c.commit.new.pass.seen)
     (longer_without c.args.self.now.pass.number c.args.self.now.pass.seen c.commit.new.pass.seen c.in_default.ensures.seen) c.requires.synced.worker.seen)
 

@@ -3,8 +3,8 @@ use Rattle.omega_model.specs.Policy.{schedulers}
 use Rattle.omega_rounds.proofs.PlayingOn.{plans_first}
 use Rattle.omega_rounds.proofs.player.Player.plan.Goals as goal
 
-pub planned-requires-clause-may : goal.planned-requires-clause-may
-planned-requires-clause-may c = record {
+pub planned_on-requires-clause-may : goal.planned_on-requires-clause-may
+planned_on-requires-clause-may c = record {
   batch = c.requires.range.batch.1;
   known = subst (λ (n : ℕ). n < schedulers c.args.self.now.worker.desk.settings) (sym c.requires.worker.scheduler) c.requires.known;
   work = c.requires.work;

@@ -1,6 +1,6 @@
-use Rattle.std.proofs.Common.{◌≡◌, ℕ, List, Some, length, refl, sym, ap, subst, arith, ◌∙◌}
+use Rattle.std.proofs.Common.{◌≡◌, ℕ, List, Some, length, refl, sym, ap, subst, arith}
 use Rattle.omega_model.specs.declared.entries.Entry.{Entry}
-use Rattle.omega_rounds.specs.Plans.{IsPlan, IsReady}
+use Rattle.omega_rounds.specs.Plans.{IsPlan}
 use Rattle.omega_rounds.specs.declared.worker.Worker.{Worker}
 use Rattle.omega_rounds.proofs.PlansKept.{has_plan}
 use Rattle.omega_rounds.proofs.worker.Worker.sync.Goals as goal
@@ -11,21 +11,13 @@ plan_first-requires-clause-may c = record { batch = c.requires.ready.range.batch
 pub plan_first-requires-clause-up_to : goal.plan_first-requires-clause-up_to
 plan_first-requires-clause-up_to c = c.requires.ready.is_worker.attempts
 
-pub returns-in_err-plan-clause-ready : goal.returns-in_err-plan-clause-ready
-returns-in_err-plan-clause-ready c =
-    subst (λ (h : List Entry). IsReady c.args.self.now.desk h c.args.self.now) (sym c.plan_first.ensures.history) c.requires.ready
-
--- the history is as long as the scheduler has seen
-long : (before after now : List Entry) → after ≡ before → now ≡ after → length now ≡ length before
-long before after now same is = ap (λ (h : List Entry). length h) (is ∙ same)
-
 pub returns-clause-ready : goal.returns-clause-ready
 returns-clause-ready c =
     let was = c.requires.ready.is_worker in
-    let seen = long c.args.cell.now.history c.plan_first.new.cell.history c.history.result.now c.plan_first.ensures.history c.history.ensures.history in
+    let seen : length c.history.result.now ≡ length c.args.cell.now.history = ap (λ (h : List Entry). length h) c.history.ensures.history in
     let worker : Worker = record { desk = c.args.self.now.desk; copy = c.args.self.now.copy; synced = Some (length c.history.result.now); planned = Some c.in_ok-plan.plan } in
     let within = was.copy.within in
-    subst (λ (h : List Entry). IsReady c.args.self.now.desk h worker) (sym c.plan_first.ensures.history) (record {
+    record {
       range = c.requires.ready.range;
       known = c.requires.ready.known;
       is_worker = record {
@@ -34,9 +26,8 @@ returns-clause-ready c =
         attempts = was.attempts;
         tries = was.tries;
         copy = was.copy;
-        no_trial = was.no_trial;
         seen = (omega (arith, seen), omega (arith, seen, within));
       };
       plan = has_plan c.args.cell.now.history worker (length c.history.result.now) c.in_ok-plan.plan refl refl (omega (arith, seen))
           (subst (λ (n : ℕ). IsPlan c.args.cell.now.history n c.args.self.now.desk c.in_ok-plan.plan) (sym seen) c.in_ok-plan.ensures.plan);
-    })
+    }

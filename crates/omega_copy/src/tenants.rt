@@ -1,0 +1,192 @@
+//! The tasks on machines where claims stand beside a board.
+ghost use Rattle.std.specs.Prelude.{◌≡◌, ◌<◌, ◌≤◌, ◌⊎◌, [], true, List, Some, IfOk, OnOk, IsPermutation, is_some, length, slice_get};
+ghost use Rattle.std.specs.List.{filter, list_any};
+ghost use Rattle.omega_model.specs.Cell.{is_on, task_at, without};
+ghost use Rattle.omega_model.specs.Jobs.{stays_of_job};
+ghost use Rattle.omega_model.specs.Need.{minus};
+ghost use Rattle.omega_model.specs.Reply.{task_of};
+ghost use Rattle.omega_model.specs.declared.cells.Machine.{Machine};
+ghost use Rattle.omega_model.specs.declared.cells.Task.{Task};
+ghost use Rattle.omega_machines.specs.Table.{machines_of};
+ghost use Rattle.omega_running.specs.Staying.{staying_on};
+ghost use Rattle.omega_copy.specs.Overlays.{tasks_with};
+ghost use Rattle.omega_copy.specs.Telling.{freed_on};
+ghost use Rattle.omega_copy.specs.Tenants.{AreBeside, GoesBeside, MayPlace, MayPutAll, MayTakeOver, is_whole, put_all};
+
+use omega_board::Board;
+use omega_model::{Claim, Need, NoMemory, Seq, Task, TaskKey, Tasks};
+use omega_running::Running;
+use std::alloc::Global;
+use std::collections::BTreeSet;
+
+/// The tasks of the claims that stand beside a board, and all tasks of the machines on which something
+/// was evicted, which are whole: of what runs there the board has no say. A board's other machines keep
+/// its tasks.
+#[derive(Drop)]
+pub(crate) struct Tenants {
+    pub own: Running,
+    pub whole: BTreeSet<u64>,
+}
+
+impl Tenants {
+    /// No claims.
+    pub fn new(alloc: Global) -> Tenants
+        ensures own { result.own.tasks ≡ [] }
+        ensures whole { result.whole.keys ≡ [] }
+    {
+        Tenants {
+            own: Running::new(alloc),
+            whole: BTreeSet::new(alloc),
+        }
+    }
+
+    /// Whether all tasks of a machine are here.
+    fn is_whole(&self, machine: u64) -> bool
+        ensures { result ≡ is_whole self.now machine }
+    {
+        self.whole.contains(&machine)
+    }
+
+    /// Whether the task of this name runs. Costs two look-ups.
+    pub fn runs(&self, board: &Running, key: TaskKey) -> bool
+        ensures { (tasks : List Task) → AreBeside self.now board.now.tasks tasks → result ≡ is_some (task_at tasks key) }
+    {
+        if self.own.get(key).is_some() {
+            return true;
+        }
+        match board.get(key) {
+            Some(task) => !self.is_whole(task.machine),
+            None => false,
+        }
+    }
+
+    /// Whether a task of this job runs on a machine. Costs three look-ups.
+    pub fn has_of_job(&self, alloc: Global, board: &Running, job: u64, machine: u64) -> bool
+        ensures { (tasks : List Task) → AreBeside self.now board.now.tasks tasks → result ≡ list_any (stays_of_job job machine []) tasks }
+    {
+        let none = Seq::new(alloc);
+        if self.own.other_of_job(job, machine, &none).is_some() {
+            return true;
+        }
+        if self.is_whole(machine) {
+            return false;
+        }
+        board.other_of_job(job, machine, &none).is_some()
+    }
+
+    /// The tasks on a machine, in any order. Takes the time of what the machine has.
+    pub fn tasks_on(&self, alloc: Global, board: &Running, machine: u64) -> Result<Tasks, NoMemory>
+        ensures { IfOk result (λ found. (tasks : List Task) → AreBeside self.now board.now.tasks tasks → IsPermutation (filter (is_on machine) tasks) found) }
+    {
+        let mut found = self.own.tasks_on(alloc, machine)?;
+        if self.is_whole(machine) {
+            return Ok(found);
+        }
+        found.extend_from_slice(board.tasks_on(alloc, machine)?.as_slice())?;
+        Ok(found)
+    }
+
+    /// What is left of an amount when each task on a machine of at least this precedence has taken its
+    /// need; a component stops at 0. Takes the time of what the machine has.
+    pub fn left_on(&self, board: &Running, machine: u64, prec: u8, amount: Need) -> Need
+        ensures { (tasks : List Task) → AreBeside self.now board.now.tasks tasks → result ≡ minus amount (staying_on prec tasks machine) }
+    {
+        let own = self.own.left_on(machine, prec, amount);
+        if self.is_whole(machine) {
+            return own;
+        }
+        board.left_on(machine, prec, own)
+    }
+
+    /// What is free on the machine at a position once all tasks of a lower precedence are off it; `None`
+    /// where it isn't up. Costs the tasks on the machine.
+    pub fn freed_at(&self, board: &Board, prec: u8, position: usize) -> Option<Need>
+        ensures { (tasks : List Task) (machine : Machine) → AreBeside self.now board.now.tasks tasks
+            → slice_get (machines_of board.now.table) position ≡ Some machine → result ≡ freed_on prec tasks machine }
+    {
+        let machine = board.machines().at(position)?;
+        if !machine.up {
+            return None;
+        }
+        Some(self.left_on(board.running(), machine.id, prec, machine.cap))
+    }
+
+    /// Takes over the board's tasks on a machine, unless it is whole already; then it is. What runs stays
+    /// the same, also where memory runs out. Takes the time of what the machine has.
+    fn take_over(&mut self, alloc: Global, board: &Running, machine: u64) -> Result<(), NoMemory>
+        requires { MayTakeOver self.old board.now.tasks machine }
+        ensures kept { (tasks : List Task) → AreBeside self.old board.now.tasks tasks → AreBeside self.new board.now.tasks tasks }
+        ensures whole { OnOk result (is_whole self.new machine ≡ true) }
+    {
+        if self.is_whole(machine) {
+            return Ok(());
+        }
+        let tasks = board.tasks_on(alloc, machine)?;
+        self.own.reserve(alloc, tasks.len())?;
+        self.whole.insert(machine)?;
+        put_all(&mut self.own, tasks.as_slice());
+        Ok(())
+    }
+
+    /// Makes room for a claim with these victims on a machine, which then is whole where there are some.
+    /// What runs stays the same, also where memory runs out.
+    pub fn make_room(
+        &mut self,
+        alloc: Global,
+        board: &Running,
+        claim: &Claim,
+    ) -> Result<(), NoMemory>
+        requires { MayTakeOver self.old board.now.tasks claim.now.machine }
+        ensures kept { (tasks : List Task) → AreBeside self.old board.now.tasks tasks → AreBeside self.new board.now.tasks tasks }
+        ensures whole { OnOk result ((claim.now.victims ≡ []) ⊎ (is_whole self.new claim.now.machine ≡ true)) }
+        ensures room { OnOk result (0 < self.new.own.spare) }
+    {
+        if !claim.victims.is_empty() {
+            self.take_over(alloc, board, claim.machine)?;
+        }
+        self.own.reserve(alloc, 1)?;
+        Ok(())
+    }
+
+    /// Places a claim, for which room was made: its victims stop, and its task runs.
+    pub fn place(&mut self, board: &Running, claim: &Claim)
+        requires may { MayPlace self.old board.now.tasks claim.now }
+        requires room { 0 < self.old.own.spare }
+        ensures { (tasks : List Task) → GoesBeside self.old board.now.tasks claim.now tasks → AreBeside self.new board.now.tasks (tasks_with tasks claim.now) }
+    {
+        take_out(&mut self.own, claim.victims.as_slice());
+        self.own.insert_reserved(task_of(claim));
+    }
+}
+
+/// The task of a claim.
+fn task_of(claim: &Claim) -> Task
+    ensures { result ≡ task_of claim.now }
+{
+    Task {
+        key: claim.key,
+        machine: claim.machine,
+        spec: claim.spec,
+    }
+}
+
+/// Takes out the tasks of these names that are there.
+fn take_out(own: &mut Running, keys: &[TaskKey])
+    ensures tasks { own.new.tasks ≡ without keys.now own.old.tasks }
+    ensures room { own.old.spare ≤ own.new.spare }
+{
+    for key in keys {
+        let _ = own.remove(*key);
+    }
+}
+
+/// Puts tasks in that aren't there, for which room was made.
+fn put_all(own: &mut Running, tasks: &[Task])
+    requires may { MayPutAll own.old.tasks tasks.now }
+    requires room { length tasks.now ≤ own.old.spare }
+    ensures { own.new.tasks ≡ put_all own.old.tasks tasks.now }
+{
+    for task in tasks {
+        own.insert_reserved(*task);
+    }
+}
