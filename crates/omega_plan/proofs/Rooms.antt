@@ -31,14 +31,6 @@ use Rattle.omega_fit.specs.Wrapped.{IsFirst, positions_from}
 use Rattle.omega_plan.specs.Trying.{IsFirstToTake, SuitsAlone, Takes, suits_alone, takes}
 use Rattle.omega_plan.proofs.KindsOf.{takes_is}
 
--- whether another of a job stays on a machine
-pub some_other : (tasks : List Task) (job id : ℕ) (gone : List TaskKey) → is_some (other_of_job tasks job id gone) ≡ list_any (stays_of_job job id gone) tasks
-some_other [] job id gone = refl
-some_other (t ∷ tasks) job id gone =
-    by_answer (stays_of_job job id gone t)
-    (λ stays. rw stays refl)
-    (λ goes. rw goes (some_other tasks job id gone))
-
 -- a machine on which a wish goes as it is: it is up, and what it has free holds the need
 pub record HasRoom (cell : Cell) (wish : Wish) (id : ℕ) : Type 0 where
   pub up : is_up (machine_at cell.machines id) ≡ true

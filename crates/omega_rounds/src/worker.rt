@@ -105,12 +105,7 @@ impl Worker {
 
     /// The scheduler has seen the history to its end, and plans its attempt on the first request that is left.
     /// Where memory runs out it hasn't synced.
-    fn sync(
-        &mut self,
-        alloc: Global,
-        indexes: &mut Indexes,
-        cell: &Cell,
-    ) -> Result<(), NoMemory>
+    fn sync(&mut self, alloc: Global, indexes: &mut Indexes, cell: &Cell) -> Result<(), NoMemory>
         requires ready { IsReady self.old.desk cell.now.history self.old }
         requires indexes { AreIndexesOf cell.now.history indexes.old }
         requires synced { self.old.synced ≡ None }
