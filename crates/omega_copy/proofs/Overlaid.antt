@@ -26,11 +26,10 @@ use Rattle.omega_model.proofs.Amounts.{fits_beside, fits_tested, fits_trans, plu
 use Rattle.omega_model.proofs.Listed.{only_machine}
 use Rattle.omega_model.proofs.Lists.{by_answer, each_both, filter_turned}
 use Rattle.omega_machines.specs.Table.{machines_of}
-use Rattle.omega_machines.specs.declared.MachineState.{MachineState}
 use Rattle.omega_running.specs.declared.orders.Order.TheVariants.{ByKey}
 use Rattle.omega_running.specs.Order.{Each, IsInOrder}
 use Rattle.omega_running.proofs.Kept.{each_filter}
-use Rattle.omega_running.proofs.Lists.{all_of_each, each_map, each_of_all}
+use Rattle.omega_running.proofs.Lists.{all_of_each, each_of_all}
 use Rattle.omega_board.specs.Board.{BoardState, cell_of}
 use Rattle.omega_board.proofs.Claims.{absent_still}
 use Rattle.omega_board.proofs.Parts.{not_refused}
@@ -43,11 +42,8 @@ use Rattle.omega_board.proofs.Uses.{total-with}
 use Rattle.omega_board.specs.Numbers as numbers
 use Rattle.omega_fit.specs.Positions.{Positions}
 use Rattle.omega_copy.specs.Beside.{IsOverlay, IsPlacedBeside}
-use Rattle.omega_copy.specs.Indexes.{TellAll}
-use Rattle.omega_copy.specs.Levels.{NearParts, Tells}
+use Rattle.omega_copy.specs.Levels.{NearParts}
 use Rattle.omega_copy.specs.Telling.{TellsBut, freed_of, freed_on}
-use Rattle.omega_copy.specs.declared.indexes.Indexes.{Indexes}
-use Rattle.omega_copy.specs.declared.levels.Level.{Level}
 use Rattle.omega_copy.proofs.Tells.{tells_placed, tells_while}
 use Rattle.omega_copy.specs.Overlays.{GoesInWhole, OverlayState, cell_after, tasks_claimed, tasks_with}
 use Rattle.omega_copy.specs.Tenants.{AreBeside, GoesBeside, either, is_whole, kept}
@@ -175,13 +171,6 @@ module _ (overlay : OverlayState) (claim : Claim) (goes_in : GoesInWhole (cell_a
             let parts = or_parts _ _ (sym (list_any-append (λ machine. machine == id) before (claim.machine ∷ [])) ∙ ap (list_any (λ machine. machine == id)) (sym noted) ∙ out) in
             ap (filter (is_on id)) tasks ∙ local.elsewhere id (or_parts _ _ parts.1).0 ∙ so.elsewhere id parts.0;
       }
-
--- levels that tell of a cell have a place for each of its machines
-pub told_long : (overlay : OverlayState) (indexes : Indexes) → TellAll (cell_after overlay) indexes → Each (λ level. length level.index.free ≡ length overlay.board.table) indexes.levels.items
-told_long overlay indexes tell =
-    each_map (Tells (cell_after overlay)) (λ (level : Level). length level.index.free ≡ length overlay.board.table)
-    (λ level told. ap length told ∙ length-map (machines_of overlay.board.table) (freed_on level.prec (tasks_claimed overlay)) ∙ length-map overlay.board.table (λ (s : MachineState). s.machine))
-    indexes.levels.items tell.levels
 
 -- once the claims are taken back, an index tells all but their machines
 pub near_back : (tenants : Tenants) (running : List Task) (machines shown : List ℕ) (overlay : OverlayState) → IsOverlay tenants running machines overlay → shown ≡ machines

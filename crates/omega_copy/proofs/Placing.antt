@@ -103,9 +103,9 @@ may_take_over tenants board tasks machine beside partly =
         let none : kept tenants (Some t) ≡ None = ap (kept tenants) (sym here) ∙ beside.apart t.key s is in
         absurd (both_ways _ partly (ap (is_whole tenants) (sym (eqb-true t.machine machine on)) ∙ kept_none tenants t none))
 
--- a number's place among numbers
-same_number : (n m : ℕ) → is_at (nat_cmp n) m ≡ (m == n)
-same_number n m =
+-- one more number among some
+one_added : (n m : ℕ) (b : Bool) → cond (is_at (nat_cmp n) m) true b ≡ cond (m == n) true b
+one_added n m b =
     elim (cases_order n m) [
       | inl e ↦ rw (le-ltb n m (omega arith), eq-eqb n m e, eq-eqb m n (sym e)) refl
       | inr (inl less) ↦ rw (lt-ltb n m less, ne_eqb m n (λ d. omega arith)) refl
@@ -116,7 +116,7 @@ same_number n m =
 module _ (tenants next : Tenants) (board : List Task) (machine : ℕ) (may : MayTakeOver tenants board machine) (partly : is_whole tenants machine ≡ false)
     (put : next.own.tasks ≡ put_all tenants.own.tasks (filter (is_on machine) board)) (updates : Updates nat_cmp tenants.whole next.whole machine true) where
   whole_now : (id : ℕ) → is_whole next id ≡ cond (id == machine) true (is_whole tenants id)
-  whole_now id = updates.0 id ∙ ap (λ b. cond b true (is_whole tenants id)) (same_number machine id)
+  whole_now id = updates.0 id ∙ one_added machine id (is_whole tenants id)
 
   pub is_whole_now : is_whole next machine ≡ true
   is_whole_now = whole_now machine ∙ ap (λ b. cond b true (is_whole tenants machine)) (eq-eqb machine machine refl)

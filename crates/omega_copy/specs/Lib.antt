@@ -5,3 +5,4 @@ pub mod Indexes
 pub mod Overlays
 pub mod Tenants
 pub mod Beside
+pub mod News

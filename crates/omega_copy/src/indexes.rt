@@ -9,14 +9,13 @@ ghost use Rattle.omega_running.specs.Order.{Each};
 ghost use Rattle.omega_copy.specs.Beside.{IsPlacedBeside};
 ghost use Rattle.omega_copy.specs.Indexes.{AreIndexesOf, HavePlaces, HaveRoom, MayGoOn, TellAll};
 ghost use Rattle.omega_copy.specs.Levels.{NearEntry, NearParts, Tells};
+ghost use Rattle.omega_copy.specs.News.{Due, MayTell, MayTellClaim, MayTellEach};
 ghost use Rattle.omega_copy.specs.Overlays.{cell_after, tasks_with};
 ghost use Rattle.omega_copy.specs.Telling.{frees_of};
 
-use crate::levels::{
-    Level, level_of, reserve_each, take_out, tell_claim_each, tell_entry_each, tell_parts_each,
-};
+use crate::levels::{Level, level_of, reserve_each, take_out, tell_each};
+use crate::news::{News, tell};
 use crate::overlay::Overlay;
-use crate::telling::{tell_claim, tell_entry, tell_parts};
 use crate::tenants::Tenants;
 use omega_board::Board;
 use omega_fit::FitIndex;
@@ -135,8 +134,7 @@ impl Indexes {
         ensures tell { TellAll (cell_of board.now) self.new }
         ensures seen { self.new.seen ≡ self.old.seen }
     {
-        tell_entry(&mut self.index, 0, board, entry);
-        tell_entry_each(&mut self.levels, board, entry);
+        self.tell(board, &News::Entered(entry));
     }
 
     /// They are told of these machines of a board; they tell all else, and have room for the machines that
@@ -147,20 +145,29 @@ impl Indexes {
         ensures tell { TellAll (cell_of board.now) self.new }
         ensures seen { self.new.seen ≡ self.old.seen }
     {
-        tell_parts(&mut self.index, 0, board, machines);
-        tell_parts_each(&mut self.levels, board, machines);
+        self.tell(board, &News::Changed(machines));
     }
 
     /// They are told of a claim that was placed beside the board, with these tenants after it.
     pub(crate) fn tell_claim(&mut self, board: &Board, tenants: &Tenants, claim: &Claim)
-        requires index { length self.old.index.free ≡ length board.now.table }
-        requires levels { Each (λ level. length level.index.free ≡ length board.now.table) self.old.levels.items }
+        requires { MayTellClaim board.now tenants.now claim.now self.old }
         ensures tell { (tasks : List Task) → IsPlacedBeside board.now tenants.now claim.now tasks
             → TellAll (record { machines = machines_of board.now.table; tasks = tasks }) self.old
             → TellAll (record { machines = machines_of board.now.table; tasks = tasks_with tasks claim.now }) self.new }
         ensures seen { self.new.seen ≡ self.old.seen }
     {
-        tell_claim(&mut self.index, 0, board, tenants, claim);
-        tell_claim_each(&mut self.levels, board, tenants, claim);
+        self.tell(board, &News::Claimed(tenants, claim));
+    }
+
+    /// They are told the news of a board.
+    fn tell(&mut self, board: &Board, news: &News)
+        requires index { MayTell board.now news.now 0 self.old.index }
+        requires levels { MayTellEach board.now news.now self.old.levels.items }
+        ensures tell { (cell : Cell) → Due board.now news.now 0 self.old.index cell
+            → Each (λ level. Due board.now news.now level.prec level.index cell) self.old.levels.items → TellAll cell self.new }
+        ensures seen { self.new.seen ≡ self.old.seen }
+    {
+        tell(&mut self.index, 0, board, news);
+        tell_each(&mut self.levels, board, news);
     }
 }

@@ -1,20 +1,16 @@
 //! The indexes of what evictions could free, one for each precedence that has asked for such room.
-ghost use Rattle.std.specs.Prelude.{◌≡◌, ◌≤◌, ◌<◌, List, IfOk, IfSome, OnOk, length};
+ghost use Rattle.std.specs.Prelude.{◌≡◌, ◌≤◌, ◌<◌, IfOk, IfSome, OnOk, length};
 ghost use Rattle.omega_model.specs.Cell.{Cell};
-ghost use Rattle.omega_model.specs.declared.cells.Task.{Task};
-ghost use Rattle.omega_machines.specs.Table.{machines_of};
-ghost use Rattle.omega_board.specs.Board.{cell_of};
 ghost use Rattle.omega_running.specs.Order.{Each};
-ghost use Rattle.omega_copy.specs.Beside.{IsPlacedBeside};
-ghost use Rattle.omega_copy.specs.Levels.{IsLevelAt, NearEntry, NearParts, Tells};
-ghost use Rattle.omega_copy.specs.Overlays.{cell_after, tasks_with};
+ghost use Rattle.omega_copy.specs.Levels.{IsLevelAt, Tells};
+ghost use Rattle.omega_copy.specs.News.{Due, MayTellEach};
+ghost use Rattle.omega_copy.specs.Overlays.{cell_after};
 
+use crate::news::{News, tell};
 use crate::overlay::Overlay;
-use crate::telling::{tell_claim, tell_entry, tell_parts};
-use crate::tenants::Tenants;
 use omega_board::Board;
 use omega_fit::FitIndex;
-use omega_model::{Claim, Entry, NoMemory};
+use omega_model::NoMemory;
 use std::alloc::Global;
 
 /// What is free on each machine of a board once all tasks of a lower precedence than this one are off it,
@@ -85,40 +81,14 @@ pub(crate) fn reserve_each(levels: &mut [Level], count: usize) -> Result<(), NoM
     reserve_each(rest, count)
 }
 
-/// Tells each level what an entry changed that was applied to the board.
-pub(crate) fn tell_entry_each(levels: &mut [Level], board: &Board, entry: &Entry)
-    requires { Each (λ level. NearEntry board.now entry.now level.prec level.index) levels.old }
-    ensures { Each (Tells (cell_of board.now)) levels.new }
+/// Tells each level the news of a board.
+pub(crate) fn tell_each(levels: &mut [Level], board: &Board, news: &News)
+    requires { MayTellEach board.now news.now levels.old }
+    ensures { (cell : Cell) → Each (λ level. Due board.now news.now level.prec level.index cell) levels.old → Each (Tells cell) levels.new }
 {
     let Some((level, rest)) = levels.split_first_mut() else {
         return;
     };
-    tell_entry(&mut level.index, level.prec, board, entry);
-    tell_entry_each(rest, board, entry);
-}
-
-/// Tells each level what parts of these machines changed that were put on the board.
-pub(crate) fn tell_parts_each(levels: &mut [Level], board: &Board, machines: &[u64])
-    requires { Each (λ level. NearParts board.now machines.now level.prec level.index) levels.old }
-    ensures { Each (Tells (cell_of board.now)) levels.new }
-{
-    let Some((level, rest)) = levels.split_first_mut() else {
-        return;
-    };
-    tell_parts(&mut level.index, level.prec, board, machines);
-    tell_parts_each(rest, board, machines);
-}
-
-/// Tells each level of a claim that was placed beside the board, with these tenants after it.
-pub(crate) fn tell_claim_each(levels: &mut [Level], board: &Board, tenants: &Tenants, claim: &Claim)
-    requires { Each (λ level. length level.index.free ≡ length board.now.table) levels.old }
-    ensures { (tasks : List Task) → IsPlacedBeside board.now tenants.now claim.now tasks
-        → Each (Tells (record { machines = machines_of board.now.table; tasks = tasks })) levels.old
-        → Each (Tells (record { machines = machines_of board.now.table; tasks = tasks_with tasks claim.now })) levels.new }
-{
-    let Some((level, rest)) = levels.split_first_mut() else {
-        return;
-    };
-    tell_claim(&mut level.index, level.prec, board, tenants, claim);
-    tell_claim_each(rest, board, tenants, claim);
+    tell(&mut level.index, level.prec, board, news);
+    tell_each(rest, board, news);
 }

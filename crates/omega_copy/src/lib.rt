@@ -10,6 +10,7 @@
 mod copy;
 mod indexes;
 mod levels;
+mod news;
 mod overlay;
 mod telling;
 mod tenants;

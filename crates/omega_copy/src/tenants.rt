@@ -122,7 +122,7 @@ impl Tenants {
             return Ok(());
         }
         let tasks = board.tasks_on(alloc, machine)?;
-        self.own.reserve(alloc, tasks.len())?;
+        reserve(&mut self.own, alloc, tasks.len())?;
         self.whole.insert(machine)?;
         put_all(&mut self.own, tasks.as_slice());
         Ok(())
@@ -144,7 +144,7 @@ impl Tenants {
         if !claim.victims.is_empty() {
             self.take_over(alloc, board, claim.machine)?;
         }
-        self.own.reserve(alloc, 1)?;
+        reserve(&mut self.own, alloc, 1)?;
         Ok(())
     }
 
@@ -157,6 +157,15 @@ impl Tenants {
         take_out(&mut self.own, claim.victims.as_slice());
         self.own.insert_reserved(task_of(claim));
     }
+}
+
+/// Makes room for at least `n` more tasks among few, which stand in one tree. They stay as they are.
+fn reserve(own: &mut Running, alloc: Global, n: usize) -> Result<(), NoMemory>
+    ensures tasks { own.new.tasks ≡ own.old.tasks }
+    ensures room { OnOk result (n ≤ own.new.spare) }
+{
+    own.keep_small(alloc)?;
+    own.reserve(alloc, n)
 }
 
 /// The task of a claim.

@@ -17,9 +17,9 @@ use omega_model::{Keys, Need, NoMemory, Task, TaskKey};
 use std::alloc::Global;
 use std::marker::Model;
 
-/// How many trees there are: as many as there may be machines, so that few share one, and few jobs. A
-/// tree takes 16 bytes beside its nodes, so the two forests of a board take 2 MiB.
-const TREES: usize = 65_536;
+/// How many trees a board's forests have: as many as there may be machines, so that few share one, and few
+/// jobs. A tree takes 16 bytes beside its nodes, so the two forests of a board take 2 MiB.
+pub(crate) const TREES: usize = 65_536;
 
 /// Tasks in one of the two orders. The tasks of a job, or those of a machine, stand in one tree,
 /// which the number of the job or the machine names, so that a way down is short however many
@@ -56,16 +56,17 @@ impl Forest {
         }
     }
 
-    /// Makes the trees, where there are none. The tasks stay as they are. Takes the memory of the
+    /// Makes so many trees, where there are none. The tasks stay as they are. Takes the memory of the
     /// trees, once.
-    pub fn plant(&mut self, alloc: Global) -> Result<(), NoMemory>
+    pub fn plant(&mut self, alloc: Global, count: usize) -> Result<(), NoMemory>
+        requires { 0 < count }
         ensures order { self.new.order ≡ self.old.order }
         ensures tasks { self.new.tasks ≡ self.old.tasks }
         ensures planted { OnOk result (0 < self.new.trees) }
         ensures kept { self.old.trees ≤ self.new.trees }
     {
         if self.trees.is_empty() {
-            self.trees = leaves(alloc)?;
+            self.trees = leaves(alloc, count)?;
         }
         Ok(())
     }
@@ -165,13 +166,14 @@ impl Forest {
     }
 }
 
-/// Trees of no task.
-fn leaves(alloc: Global) -> Result<Vec<Tree>, NoMemory>
+/// So many trees of no task.
+fn leaves(alloc: Global, count: usize) -> Result<Vec<Tree>, NoMemory>
+    requires { 0 < count }
     ensures some { IfOk result (λ trees. 0 < length trees.items) }
     ensures empty { IfOk result (λ trees. Each (λ tree. tree ≡ Leaf) trees.items) }
 {
-    let mut trees = Vec::with_capacity(alloc, TREES)?;
-    for _tree in 0..TREES {
+    let mut trees = Vec::with_capacity(alloc, count)?;
+    for _tree in 0..count {
         trees.push_reserved(Tree::Leaf);
     }
     Ok(trees)

@@ -8,7 +8,7 @@ ghost use Rattle.omega_running.specs.Staying.{staying_on};
 ghost use Rattle.omega_running.specs.Kept.{KeysRise};
 ghost use Rattle.omega_running.specs.Standing.{stands_in};
 
-use crate::forest::Forest;
+use crate::forest::{Forest, TREES};
 use crate::nodes::Node;
 use crate::orders::Order;
 use crate::standing::same_task;
@@ -91,10 +91,21 @@ impl Running {
         let Some(room) = self.count.checked_add(n - spare) else {
             return Err(NoMemory);
         };
-        self.by_key.plant(alloc)?;
-        self.by_machine.plant(alloc)?;
+        self.by_key.plant(alloc, TREES)?;
+        self.by_machine.plant(alloc, TREES)?;
         self.pool.reserve(room)?;
         fill(&mut self.pool, alloc, n)
+    }
+
+    /// Makes one tree for all tasks in each order, where there are no trees yet: for tasks of which there are
+    /// few, and which many such tables have. The tasks and the room stay as they are.
+    pub fn keep_small(&mut self, alloc: Global) -> Result<(), NoMemory>
+        ensures tasks { self.new.tasks ≡ self.old.tasks }
+        ensures spare { self.new.spare ≡ self.old.spare }
+    {
+        self.by_key.plant(alloc, 1)?;
+        self.by_machine.plant(alloc, 1)?;
+        Ok(())
     }
 
     /// Puts a task in, for which room was reserved. Takes time logarithmic in the number of tasks.

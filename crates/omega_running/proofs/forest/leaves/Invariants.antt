@@ -4,4 +4,4 @@ use Rattle.omega_running.specs.Order.{Each}
 use Rattle.omega_running.proofs.forest.leaves.Given as goal
 
 abbrev pub invariant-loop-tree : goal.invariant-loop-tree
-invariant-loop-tree l = (vec_len l.trees ≡ l._tree) × (4096 ≤ vec_capacity l.trees) × Each (λ tree. tree ≡ Leaf) l.trees.items
+invariant-loop-tree l = (vec_len l.trees ≡ l._tree) × (l.count ≤ vec_capacity l.trees) × Each (λ tree. tree ≡ Leaf) l.trees.items

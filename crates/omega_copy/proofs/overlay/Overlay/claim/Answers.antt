@@ -4,7 +4,7 @@ use Rattle.omega_model.specs.declared.claims.Claim.{Claim}
 use Rattle.omega_machines.specs.Table.{machines_of}
 use Rattle.omega_copy.specs.Indexes.{TellAll}
 use Rattle.omega_copy.specs.Overlays.{GoesInWhole, OverlayState, cell_after, tasks_claimed}
-use Rattle.omega_copy.proofs.Overlaid.{goes_beside, one_claimed, overlay_more, placed_claim, told_long}
+use Rattle.omega_copy.proofs.Overlaid.{goes_beside, one_claimed, overlay_more, placed_claim}
 use Rattle.omega_copy.proofs.Placing.{may_take_over}
 use Rattle.omega_copy.proofs.overlay.Overlay.claim.Goals as goal
 
@@ -22,10 +22,17 @@ place-requires-clause-may c =
           (c.in_ok-make_room.ensures.kept (tasks_claimed overlay) c.self.invariant.beside) c.in_ok-make_room.ensures.whole;
     }
 
-pub tell_claim-requires-clause-levels : goal.tell_claim-requires-clause-levels
-tell_claim-requires-clause-levels c =
+pub tell_claim-requires : goal.tell_claim-requires
+tell_claim-requires c =
     let overlay : OverlayState = record { board = c.self.inside.board.now; claims = c.self.inside.claims.items } in
-    told_long overlay c.args.indexes.now (subst (λ (o : OverlayState). TellAll (cell_after o) c.args.indexes.now) (sym c.self.view_is) c.requires.tell)
+    let goes = subst (λ (o : OverlayState). GoesInWhole (cell_after o) c.args.claim) (sym c.self.view_is) c.requires.goes_in in
+    let placed = goes_beside overlay c.args.claim goes c.make_room.new.self c.self.inside.running.now.tasks
+    (c.in_ok-make_room.ensures.kept (tasks_claimed overlay) c.self.invariant.beside) c.in_ok-make_room.ensures.whole in
+    record {
+      tasks = tasks_claimed overlay;
+      placed = placed_claim overlay c.args.claim goes c.place.new.self c.self.inside.running.now.tasks c.self.invariant.run c.self.invariant.beside.ordered (c.place.ensures (tasks_claimed overlay) placed);
+      tell = subst (λ (o : OverlayState). TellAll (cell_after o) c.args.indexes.now) (sym c.self.view_is) c.requires.tell;
+    }
 
 pub invariant_of-self-2 : goal.invariant_of-self-2
 invariant_of-self-2 c =
