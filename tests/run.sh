@@ -129,10 +129,10 @@ copy_with_kept() {
 kept_differences() {
     local wanted=$1/kept
     [ ! -f "$1/kept-after" ] || wanted=$1/kept-after
-    [ ! -e "$2-wal" ] || echo "a log stands beside the database"
     if [ -f "$1/kept-bytes" ]; then
         differences "$1/kept-bytes" "$2"
     elif [ -f "$2" ]; then
+        [ ! -e "$2-wal" ] || echo "a log stands beside the database"
         python3 "$root/reference/kept.py" get "$2" >"$scratch/after"
         differences "$wanted" "$scratch/after"
         [ -s "$wanted" ] || echo "a database was made to keep nothing"
