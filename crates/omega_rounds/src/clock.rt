@@ -39,27 +39,27 @@ pub fn in_time(world: World) -> Result<(World, Times), NoMemory>
     let mut times = Times::new(world.alloc());
     let mut world = world;
     loop {
-        let (next, step) = world.next_round()?;
+        let (mut next, step) = world.next_round()?;
         match step {
-            RoundStep::Begun(_) => world = play_round(next, &mut times)?,
+            RoundStep::Begun(_) => play_round(&mut next, &mut times)?,
             RoundStep::Unfinished(_) => unreachable!(),
             RoundStep::Over => return Ok((next, times)),
         }
+        world = next;
     }
 }
 
 /// Plays the round that is under way to its end, and appends the times of its commits.
-fn play_round(world: World, times: &mut Times) -> Result<World, NoMemory>
-    requires begins { (timed : TimedRound) × BeginsInTime timed world times.old }
-    ensures stage { IfOk result (λ after. after.stage ≡ world.stage) }
-    ensures plays { IfOk result (λ after. PlaysInTime world times.old after times.new) }
+fn play_round(world: &mut World, times: &mut Times) -> Result<(), NoMemory>
+    requires begins { (timed : TimedRound) × BeginsInTime timed world.old times.old }
+    ensures stage { OnOk result (world.new.stage ≡ world.old.stage) }
+    ensures plays { OnOk result (PlaysInTime world.old times.old world.new times.new) }
 {
-    let mut world = world;
     let mut agenda = Agenda::new(world.alloc(), world.schedulers())?;
-    let base = base_of(&world, times.as_slice());
-    sync_all(&mut world, &mut agenda, base)?;
-    commit_all(&mut world, &mut agenda, times)?;
-    Ok(world)
+    let base = base_of(world, times.as_slice());
+    sync_all(world, &mut agenda, base)?;
+    commit_all(world, &mut agenda, times)?;
+    Ok(())
 }
 
 /// When the round that is under way begins, after these commits: at the greatest time of its rows, or when the

@@ -54,38 +54,39 @@ pub fn resume_turns<P: Keeper>(
     let mut world = world;
     loop {
         let from = world.history().len();
-        let (next, step) = world.next_round()?;
+        let (mut next, step) = world.next_round()?;
         match step {
-            RoundStep::Begun(_) => world = resume_round(next, from, kept, keeper)?,
+            RoundStep::Begun(_) => resume_round(&mut next, from, kept, keeper)?,
             RoundStep::Unfinished(_) => unreachable!(),
             RoundStep::Over => {
                 end_kept(&next, kept)?;
                 return Ok(next);
             }
         }
+        world = next;
     }
 }
 
 /// Plays the round that is under way to its end and takes it. The history before it has so many entries.
 fn resume_round<P: Keeper>(
-    world: World,
+    world: &mut World,
     from: usize,
     kept: &Lines,
     keeper: &mut P,
-) -> Result<World, ResumeRefusal>
-    requires { BeginsAgreed kept.now from world }
-    ensures stage { IfOk result (λ after. after.stage ≡ world.stage) }
-    ensures plays { IfOk result (λ after. PlaysRound world after) }
-    ensures takes { IfOk result (λ after. TakesRound kept.now from after.history (P.kept keeper.old) (P.kept keeper.new)) }
-    ensures stops { IfErr result (StopsRound world kept.now from) }
+) -> Result<(), ResumeRefusal>
+    requires { BeginsAgreed kept.now from world.old }
+    ensures stage { OnOk result (world.new.stage ≡ world.old.stage) }
+    ensures plays { OnOk result (PlaysRound world.old world.new) }
+    ensures takes { OnOk result (TakesRound kept.now from world.new.history (P.kept keeper.old) (P.kept keeper.new)) }
+    ensures stops { IfErr result (StopsRound world.old kept.now from) }
     ensures stays { OnErr result (P.kept keeper.new ≡ P.kept keeper.old) }
     ensures cause { IfErr result (λ refusal. refusal ≡ KeepFault → Rose (P.faults keeper.old) (P.faults keeper.new)) }
     ensures path { P.entered keeper.new ≡ P.entered keeper.old }
     ensures later { P.faults keeper.old ≤ P.faults keeper.new }
 {
-    let world = play_round(world)?;
+    play_round(world)?;
     take_round(world.alloc(), world.history(), from, kept, keeper)?;
-    Ok(world)
+    Ok(())
 }
 
 /// Refuses kept lines of which there are more than entries in the whole history of a world.

@@ -30,24 +30,24 @@ pub fn in_turns(world: World) -> Result<World, NoMemory>
 {
     let mut world = world;
     loop {
-        let (next, step) = world.next_round()?;
+        let (mut next, step) = world.next_round()?;
         match step {
-            RoundStep::Begun(_) => world = play_round(next)?,
+            RoundStep::Begun(_) => play_round(&mut next)?,
             RoundStep::Unfinished(_) => unreachable!(),
             RoundStep::Over => return Ok(next),
         }
+        world = next;
     }
 }
 
-/// Plays the round that is under way to its end. Where memory runs out the world is gone. Costs its attempts.
-pub(crate) fn play_round(world: World) -> Result<World, NoMemory>
-    ensures stage { IfOk result (λ after. after.stage ≡ world.stage) }
-    ensures plays { IfOk result (λ after. PlaysRound world after) }
+/// Plays the round that is under way to its end. Costs its attempts.
+pub(crate) fn play_round(world: &mut World) -> Result<(), NoMemory>
+    ensures stage { OnOk result (world.new.stage ≡ world.old.stage) }
+    ensures plays { OnOk result (PlaysRound world.old world.new) }
 {
-    let mut world = world;
     loop {
-        if !take_turn(&mut world)? {
-            return Ok(world);
+        if !take_turn(world)? {
+            return Ok(());
         }
     }
 }

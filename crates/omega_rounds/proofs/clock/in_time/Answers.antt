@@ -26,17 +26,17 @@ pub loop-times-smaller : goal.loop-times-smaller
 loop-times-smaller c =
     let now = c.loop-times.world in
     let next = c.in_ok-next.next in
-    fewer_rounds now next c.in_ok-world-in-Begun.world c.in-Begun.field-0 (subst (MovesOn now next) c.in-Begun.is c.in_ok-next.ensures.stage)
-    c.in_ok-world-in-Begun.ensures.stage
+    fewer_rounds now next c.play_round.new.world c.in-Begun.field-0 (subst (MovesOn now next) c.in-Begun.is c.in_ok-next.ensures.stage)
+    c.in_ok-play_round-in-Begun.ensures.stage
 
 pub loop-times-preserved : goal.loop-times-preserved
 loop-times-preserved c =
     let now = c.loop-times.world in
     let next = c.in_ok-next.next in
-    ticked_more c.args.world now next c.in_ok-world-in-Begun.world c.loop-times.times c.play_round.new.times c.in-Begun.field-0 c.loop-times.invariant c.next_round.ensures.start
+    ticked_more c.args.world now next c.play_round.new.world c.loop-times.times c.play_round.new.times c.in-Begun.field-0 c.loop-times.invariant c.next_round.ensures.start
     (subst (MovesOn now next) c.in-Begun.is c.in_ok-next.ensures.stage)
     (subst (λ (step : RoundStep). (trace : TraceTables) → IsInRunOf now.stage trace → GoesOn trace now next step) c.in-Begun.is c.in_ok-next.ensures.run)
-    c.in_ok-world-in-Begun.ensures.stage c.in_ok-world-in-Begun.ensures.plays
+    c.in_ok-play_round-in-Begun.ensures.stage c.in_ok-play_round-in-Begun.ensures.plays
 
 pub unreachable-requires : goal.unreachable-requires
 unreachable-requires c =

@@ -31,29 +31,29 @@ resume_round-requires g c =
     c.loop-next.invariant.resumed c.next_round.ensures.start c.next_round.ensures.made reaches opens
     (length c.history-from.result.now) (ap (λ (h : List Entry). length h) c.history-from.ensures.history)
 
-pub returns-in_err-world-in-Begun-clause-refused : goal.returns-in_err-world-in-Begun-clause-refused
-returns-in_err-world-in-Begun-clause-refused g c =
+pub returns-in_err-resume_round-in-Begun-clause-refused : goal.returns-in_err-resume_round-in-Begun-clause-refused
+returns-in_err-resume_round-in-Begun-clause-refused g c =
     let now = c.loop-next.world in
     let next = c.in_ok-next.next in
     let reaches = subst (MovesOn now next) c.in-Begun.is c.in_ok-next.ensures.stage in
     let opens = subst (λ (step : RoundStep). (trace : TraceTables) → IsInRunOf now.stage trace → GoesOn trace now next step) c.in-Begun.is c.in_ok-next.ensures.run in
-    let p = err_from_is_err_and c.from_residual-in_err-world-in-Begun.result c.from_residual-in_err-world-in-Begun.ensures.1 in
+    let p = err_from_is_err_and c.from_residual-in_err-resume_round-in-Begun.result c.from_residual-in_err-resume_round-in-Begun.ensures.1 in
     rw (p.1, p.2) (stops_refused c.args.kept.now (g.P.Keeper.kept c.args.keeper.now) c.args.world now next c.in-Begun.field-0 (g.P.Keeper.kept c.loop-next.keeper)
     c.loop-next.invariant.resumed c.next_round.ensures.start c.next_round.ensures.made reaches opens
-    (length c.history-from.result.now) (ap (λ (h : List Entry). length h) c.history-from.ensures.history) c.in_err-world-in-Begun.field-0.0
-    c.in_err-world-in-Begun.ensures.stops)
+    (length c.history-from.result.now) (ap (λ (h : List Entry). length h) c.history-from.ensures.history) c.in_err-resume_round-in-Begun.field-0.0
+    c.in_err-resume_round-in-Begun.ensures.stops)
 
-pub returns-in_err-world-in-Begun-clause-rounds : goal.returns-in_err-world-in-Begun-clause-rounds
-returns-in_err-world-in-Begun-clause-rounds g c =
+pub returns-in_err-resume_round-in-Begun-clause-rounds : goal.returns-in_err-resume_round-in-Begun-clause-rounds
+returns-in_err-resume_round-in-Begun-clause-rounds g c =
     let now = c.loop-next.world in
     let next = c.in_ok-next.next in
     let reaches = subst (MovesOn now next) c.in-Begun.is c.in_ok-next.ensures.stage in
     let opens = subst (λ (step : RoundStep). (trace : TraceTables) → IsInRunOf now.stage trace → GoesOn trace now next step) c.in-Begun.is c.in_ok-next.ensures.run in
-    let p = err_from_is_err_and c.from_residual-in_err-world-in-Begun.result c.from_residual-in_err-world-in-Begun.ensures.1 in
-    rw (p.1, p.2, c.in_err-world-in-Begun.ensures.stays) (stops_leaves c.args.kept.now (g.P.Keeper.kept c.args.keeper.now) c.args.world now next c.in-Begun.field-0 (g.P.Keeper.kept c.loop-next.keeper)
+    let p = err_from_is_err_and c.from_residual-in_err-resume_round-in-Begun.result c.from_residual-in_err-resume_round-in-Begun.ensures.1 in
+    rw (p.1, p.2, c.in_err-resume_round-in-Begun.ensures.stays) (stops_leaves c.args.kept.now (g.P.Keeper.kept c.args.keeper.now) c.args.world now next c.in-Begun.field-0 (g.P.Keeper.kept c.loop-next.keeper)
     c.loop-next.invariant.resumed c.next_round.ensures.start c.next_round.ensures.made reaches opens
-    (length c.history-from.result.now) (ap (λ (h : List Entry). length h) c.history-from.ensures.history) c.in_err-world-in-Begun.field-0.0
-    c.in_err-world-in-Begun.ensures.stops)
+    (length c.history-from.result.now) (ap (λ (h : List Entry). length h) c.history-from.ensures.history) c.in_err-resume_round-in-Begun.field-0.0
+    c.in_err-resume_round-in-Begun.ensures.stops)
 
 pub loop-next-preserved : goal.loop-next-preserved
 loop-next-preserved g c =
@@ -61,11 +61,11 @@ loop-next-preserved g c =
     let next = c.in_ok-next.next in
     let reaches = subst (MovesOn now next) c.in-Begun.is c.in_ok-next.ensures.stage in
     let opens = subst (λ (step : RoundStep). (trace : TraceTables) → IsInRunOf now.stage trace → GoesOn trace now next step) c.in-Begun.is c.in_ok-next.ensures.run in
-    let played = c.in_ok-world-in-Begun in
+    let played = c.in_ok-resume_round-in-Begun in
     record {
       resumed = resumed_more c.args.kept.now (g.P.Keeper.kept c.args.keeper.now) c.args.world now next c.in-Begun.field-0 (g.P.Keeper.kept c.loop-next.keeper)
           c.loop-next.invariant.resumed c.next_round.ensures.start c.next_round.ensures.made reaches opens
-          played.world played.ensures.stage played.ensures.plays (g.P.Keeper.kept c.resume_round.new.keeper)
+          c.resume_round.new.world played.ensures.stage played.ensures.plays (g.P.Keeper.kept c.resume_round.new.keeper)
           (length c.history-from.result.now) (ap (λ (h : List Entry). length h) c.history-from.ensures.history) played.ensures.takes;
       path = c.resume_round.ensures.path ∙ c.loop-next.invariant.path;
       later = omega (arith, c.resume_round.ensures.later, c.loop-next.invariant.later);

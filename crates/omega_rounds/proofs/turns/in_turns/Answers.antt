@@ -18,10 +18,10 @@ pub loop-next-preserved : goal.loop-next-preserved
 loop-next-preserved c =
     let now = c.loop-next.world in
     let next = c.in_ok-next.next in
-    played_more c.args.world now next c.in_ok-world-in-Begun.world c.in-Begun.field-0 c.loop-next.invariant c.next_round.ensures.start c.next_round.ensures.made
+    played_more c.args.world now next c.play_round.new.world c.in-Begun.field-0 c.loop-next.invariant c.next_round.ensures.start c.next_round.ensures.made
     (subst (MovesOn now next) c.in-Begun.is c.in_ok-next.ensures.stage)
     (subst (λ (step : RoundStep). (trace : TraceTables) → IsInRunOf now.stage trace → GoesOn trace now next step) c.in-Begun.is c.in_ok-next.ensures.run)
-    c.in_ok-world-in-Begun.ensures.stage c.in_ok-world-in-Begun.ensures.plays
+    c.in_ok-play_round-in-Begun.ensures.stage c.in_ok-play_round-in-Begun.ensures.plays
 
 pub returns-in-Over-clause-turns : goal.returns-in-Over-clause-turns
 returns-in-Over-clause-turns c =

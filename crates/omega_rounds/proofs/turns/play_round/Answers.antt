@@ -5,11 +5,11 @@ use Rattle.omega_rounds.proofs.turns.play_round.Goals as goal
 
 pub returns-then-not-branch-clause-plays : goal.returns-then-not-branch-clause-plays
 returns-then-not-branch-clause-plays c =
-    turns_last c.args.world c.loop-world.world c.take_turn.new.world c.loop-world.invariant.1
-    (subst (TakesTurnFrom c.loop-world.world c.take_turn.new.world) c.if-not-branch.true c.in_ok-take_turn.ensures.turn)
+    turns_last c.args.world.now c.loop.world c.take_turn.new.world c.loop.invariant.1
+    (subst (TakesTurnFrom c.loop.world c.take_turn.new.world) c.if-not-branch.true c.in_ok-take_turn.ensures.turn)
 
-pub loop-world-preserved : goal.loop-world-preserved
-loop-world-preserved c = (
-  c.in_ok-take_turn.ensures.stage ∙ c.loop-world.invariant.0,
-  turns_more c.args.world c.loop-world.world c.take_turn.new.world c.in_ok-take_turn.field-0 c.loop-world.invariant.1 c.in_ok-take_turn.ensures.turn,
+pub loop-preserved : goal.loop-preserved
+loop-preserved c = (
+  c.in_ok-take_turn.ensures.stage ∙ c.loop.invariant.0,
+  turns_more c.args.world.now c.loop.world c.take_turn.new.world c.in_ok-take_turn.field-0 c.loop.invariant.1 c.in_ok-take_turn.ensures.turn,
 )
