@@ -1,12 +1,11 @@
 -- Where a machine hasn't the room that a wish needs, it doesn't take the wish as it is.
-use Rattle.std.proofs.Common.{◌≡◌, ◌&&◌, ℕ, Bool, true, false, not, List, [], get_or, length, nat_eq, slice_get, Option, Some, None, is_some, refl, sym, ap, subst, ◌∙◌, ◌∷◌}
-use Rattle.std.specs.List.{IsDistinct, list_any}
+use Rattle.std.proofs.Common.{◌≡◌, ◌&&◌, ℕ, Bool, true, false, not, List, [], get_or, length, nat_eq, slice_get, Option, Some, None, sym, ap, subst, ◌∙◌}
+use Rattle.std.specs.List.{IsDistinct}
 use Rattle.std.specs.Prelude.{option_map}
 use Rattle.std.proofs.lemmas.Bool.{and_parts, and_right}
 use Rattle.std.proofs.lemmas.List.{length-map}
 use Rattle.std.proofs.lemmas.Option.{get_or_from_slice_get, slice_get-map}
 use Rattle.omega_model.specs.Cell.{Cell, machine_at, rest_on, task_at, use_on}
-use Rattle.omega_model.specs.Jobs.{other_of_job, stays_of_job}
 use Rattle.omega_model.specs.Judge.{capacity_of, free_without, has_rival, is_up, makes_room}
 use Rattle.omega_model.specs.Machines.{numbers_of}
 use Rattle.omega_model.specs.Need.{Fits, fits, minus}
@@ -14,8 +13,6 @@ use Rattle.omega_model.specs.Plan.{claim_of, goes_in}
 use Rattle.omega_model.specs.Planning.{suits}
 use Rattle.omega_model.specs.declared.cells.Machine.{Machine}
 use Rattle.omega_model.specs.declared.cells.Need.{Need}
-use Rattle.omega_model.specs.declared.cells.Task.{Task}
-use Rattle.omega_model.specs.declared.cells.TaskKey.{TaskKey}
 use Rattle.omega_model.specs.declared.wishes.Wish.{Wish}
 use Rattle.omega_model.proofs.Amounts.{fits_tested, rest_is}
 use Rattle.omega_model.proofs.Lists.{by_answer}

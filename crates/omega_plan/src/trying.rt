@@ -13,7 +13,7 @@ use crate::progress::Progress;
 use omega_attrs::eligible;
 use omega_copy::Overlay;
 use omega_fit::FitIndex;
-use omega_model::{Claim, Keys, Seq, Wish};
+use omega_model::{Claim, Keys, Wish};
 use std::alloc::Global;
 
 /// The first position, round from the plan's start, whose machine suits the wish and takes it as it

@@ -1,11 +1,9 @@
 -- In a legal history each commit's reply is as long as its claims.
-use Rattle.std.proofs.Common.{◌≡◌, ℕ, List, length, take, get_or, ap, ◌∙◌}
+use Rattle.std.proofs.Common.{List, length, take, get_or, ap, ◌∙◌}
 use Rattle.std.specs.Prelude.{All}
 use Rattle.std.proofs.lemmas.Option.{slice_get-get_or}
 use Rattle.omega_model.specs.Legal.{Follows, Legal}
-use Rattle.omega_model.specs.State.{reply_of, state}
 use Rattle.omega_model.specs.declared.claims.Judgement.{Judgement}
-use Rattle.omega_model.specs.declared.claims.Txn.{Txn}
 use Rattle.omega_model.specs.declared.entries.Entry.{Entry}
 use Rattle.omega_model.specs.declared.entries.Entry.TheVariants.{Round, MachineAdd, MachineUpdate, MachineRemove, AttrSet, AttrDelete, End, Commit}
 use Rattle.omega_keep.specs.KeptLines.{IsAnswered}

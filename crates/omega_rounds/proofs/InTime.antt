@@ -11,7 +11,7 @@ use Rattle.omega_model.specs.declared.rows.Row.{Row}
 use Rattle.omega_model.specs.declared.settings.Settings.{Settings}
 use Rattle.omega_laws.specs.NextCommit.{NobodyHasWork}
 use Rattle.omega_laws.specs.Simulated.{greatest_time, until_after}
-use Rattle.omega_laws.specs.VirtualTime.{Clock, Timed, clock_of, decision, next_time, next_wishes, timed_commits}
+use Rattle.omega_laws.specs.VirtualTime.{Clock, Timed, clock_of, decision, next_wishes, timed_commits}
 use Rattle.omega_laws.proofs.TickingOn.{clock_none, ticking_ends}
 use Rattle.omega_laws.proofs.TimeOrder.{next_time-is}
 use Rattle.omega_sim.specs.Agenda.{IsFirst}

@@ -36,7 +36,6 @@ pub mod PlayersBack
 pub mod RunOn
 pub mod Reopened
 pub mod PlansKept
-pub mod Planning
 pub mod KeptRounds
 pub mod RoundStarts
 pub mod ResumedRounds

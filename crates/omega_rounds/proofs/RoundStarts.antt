@@ -7,7 +7,7 @@ use Rattle.std.proofs.lemmas.List.Elements.{All-head, All-tail}
 use Rattle.std.proofs.lemmas.Option.{slice_get_within}
 use Rattle.omega_model.proofs.Growing.{by_place_push}
 use Rattle.omega_model.proofs.RoundsInOrder.{commit_begins_none}
-use Rattle.omega_model.specs.Lawful.{Applied, IsCommitOfRound, RoundSoFar, Rounds, begins_round, opened, with_row}
+use Rattle.omega_model.specs.Lawful.{Applied, RoundSoFar, Rounds, begins_round, opened, with_row}
 use Rattle.omega_model.specs.State.{state}
 use Rattle.omega_model.specs.RowEntries.{row_entries}
 use Rattle.omega_model.specs.Wanted.{wanted}

@@ -4,7 +4,7 @@ use Rattle.std.proofs.Common.{◌≡◌, ◌<◌, ◌-◌, ◌+◌, ℕ, zero, s
 use Rattle.std.specs.Prelude.{slice_get, ◌==◌}
 use Rattle.std.proofs.lemmas.Bool.{ne_eqb}
 use Rattle.omega_model.specs.Feed.{rounds}
-use Rattle.omega_model.specs.Lawful.{opened, rows_of}
+use Rattle.omega_model.specs.Lawful.{rows_of}
 use Rattle.omega_model.specs.Stepping.{BeginsRound}
 use Rattle.omega_model.specs.declared.entries.Entry.{Entry}
 use Rattle.omega_model.specs.declared.rows.Row.{Row}

@@ -1,5 +1,5 @@
 -- A scheduler's worker: its desk, and its copy of the cell; what it has planned is in `Plans`.
-use Rattle.std.specs.Prelude.{◌≡◌, ◌<◌, ◌≤◌, ℕ, List, Option, Some, None, IfSome, All, length}
+use Rattle.std.specs.Prelude.{◌≡◌, ◌<◌, ◌≤◌, ℕ, List, Option, Some, IfSome, All, length}
 use Rattle.omega_model.specs.Requests.{failed}
 use Rattle.omega_model.specs.Routing.{scheduler_of}
 use Rattle.omega_model.specs.Work.{HasLeft, Standing, commits_of, standing_of}
@@ -8,7 +8,7 @@ use Rattle.omega_model.specs.declared.rows.Row.{Row}
 use Rattle.omega_model.specs.declared.rows.TraceTables.{TraceTables}
 use Rattle.omega_model.specs.declared.settings.Settings.{Settings}
 use Rattle.omega_model.specs.declared.wishes.Request.{Request}
-use Rattle.omega_copy.specs.Copies.{CopyOf, CopyState}
+use Rattle.omega_copy.specs.Copies.{CopyOf}
 use Rattle.omega_desk.specs.Counts.{count_of}
 use Rattle.omega_desk.specs.Desks.{DeskState, left_at}
 use Rattle.omega_rounds.specs.AttemptsLeft.{attempts_left}

@@ -1,5 +1,5 @@
 //! Players that play at the same time, each on a thread of its own.
-ghost use Rattle.std.specs.Prelude.{◌≡◌, All};
+ghost use Rattle.std.specs.Prelude.{All};
 ghost use Rattle.std.specs.Thread.{IsSync};
 ghost use Rattle.omega_rounds.specs.Players.{HavePlayed, MayPlay};
 

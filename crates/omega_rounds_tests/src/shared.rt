@@ -1,5 +1,5 @@
 //! Passes take their turns, also on threads of their own, and the cell comes back.
-ghost use Rattle.std.specs.Prelude.{◌≡◌, ◌<◌, ◌≤◌, ◌+◌, ◌^◌, ◌∷◌, [], None, length, IfSome, OnOk};
+ghost use Rattle.std.specs.Prelude.{◌≡◌, ◌<◌, ◌≤◌, ◌+◌, ◌^◌, ◌∷◌, [], length, IfSome, OnOk};
 ghost use Rattle.omega_copy.specs.Copies.{CopyOf};
 
 use omega_cell::Cell;
@@ -23,11 +23,9 @@ fn attempt<R: Wait>(
 ) -> Result<(), NoMemory>
     requires of { pass.old.of ≡ shared.now.of }
     requires left { 2 ≤ pass.old.turns }
-    requires no_trial { copy.old.trial ≡ None }
     requires stands { CopyOf copy.old pass.old.seen }
     ensures of { pass.new.of ≡ pass.old.of }
     ensures turns { OnOk result (pass.new.turns + 2 ≡ pass.old.turns) }
-    ensures no_trial { copy.new.trial ≡ None }
     ensures stands { OnOk result (CopyOf copy.new pass.new.seen) }
 {
     shared.sync(rt, alloc, pass, copy)?;
@@ -52,7 +50,6 @@ fn attempt_all<R: Wait>(
     copy: &mut PrivateCopy,
 )
     requires of { pass.old.of ≡ shared.now.of }
-    requires no_trial { copy.old.trial ≡ None }
     requires stands { CopyOf copy.old pass.old.seen }
     ensures { pass.new.of ≡ pass.old.of }
 {
@@ -205,10 +202,8 @@ fn sync<R: Wait>(
 ) -> Option<Answer>
     requires of { pass.old.of ≡ shared.now.of }
     requires left { 0 < pass.old.turns }
-    requires no_trial { copy.old.trial ≡ None }
     requires stands { CopyOf copy.old pass.old.seen }
     ensures of { pass.new.of ≡ pass.old.of }
-    ensures no_trial { copy.new.trial ≡ None }
     ensures stands { CopyOf copy.new pass.new.seen }
 {
     match shared.sync(rt, alloc, pass, copy) {
@@ -271,10 +266,8 @@ fn take_step<R: Wait>(
     step: Step,
 ) -> Option<Answer>
     requires of { pass.old.of ≡ shared.now.of }
-    requires no_trial { copy.old.trial ≡ None }
     requires stands { CopyOf copy.old pass.old.seen }
     ensures of { pass.new.of ≡ pass.old.of }
-    ensures no_trial { copy.new.trial ≡ None }
     ensures stands { CopyOf copy.new pass.new.seen }
 {
     if pass.turns_left() == 0 {
@@ -298,7 +291,6 @@ struct Pair {
     here: PrivateCopy,
     there: PrivateCopy,
     ghost of: { (first.of ≡ shared.of) × (second.of ≡ shared.of) },
-    ghost no_trial: { (here.trial ≡ None) × (there.trial ≡ None) },
     ghost stands: { CopyOf here first.seen × CopyOf there second.seen },
 }
 

@@ -1,7 +1,6 @@
 use Rattle.std.proofs.Common.{◌∙◌, List, ap, take}
 use Rattle.omega_model.specs.Touches.{copied_seqs}
 use Rattle.omega_model.specs.declared.claims.Claim.{Claim}
-use Rattle.omega_machines.specs.Table.{seq_at}
 use Rattle.omega_board.proofs.Histories.{numbers_alike}
 use Rattle.omega_rounds.proofs.plans.plan_on.Goals as goal
 

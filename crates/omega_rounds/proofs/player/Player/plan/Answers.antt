@@ -3,11 +3,13 @@ use Rattle.omega_model.specs.Policy.{schedulers}
 use Rattle.omega_rounds.proofs.PlayingOn.{plans_first}
 use Rattle.omega_rounds.proofs.player.Player.plan.Goals as goal
 
-pub planned_on-requires-clause-may : goal.planned_on-requires-clause-may
-planned_on-requires-clause-may c = record {
-  batch = c.requires.range.batch.1;
-  known = subst (λ (n : ℕ). n < schedulers c.args.self.now.worker.desk.settings) (sym c.requires.worker.scheduler) c.requires.known;
-  work = c.requires.work;
+pub planned_on-requires : goal.planned_on-requires
+planned_on-requires c = record {
+  may = record {
+    batch = c.requires.range.batch.1;
+    known = subst (λ (n : ℕ). n < schedulers c.args.self.now.worker.desk.settings) (sym c.requires.worker.scheduler) c.requires.known;
+    work = c.requires.work;
+  };
 }
 
 pub returns-clause-plans : goal.returns-clause-plans
