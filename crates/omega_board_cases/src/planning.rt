@@ -1,5 +1,5 @@
 //! What a scheduler does on a copy before it commits: claims beside its board and plans, as steps of `cell`.
-ghost use Rattle.std.specs.Prelude.{◌≡◌, ◌≤◌, length, IfOk, OnOk};
+ghost use Rattle.std.specs.Prelude.{◌≡◌, ◌≤◌, ◌↔◌, length, IfOk, IsTrue, OnOk};
 ghost use Rattle.omega_board.specs.Board.{cell_of};
 ghost use Rattle.omega_copy.specs.Copies.{CopyOf};
 ghost use Rattle.omega_copy.specs.Indexes.{TellAll};
@@ -11,6 +11,7 @@ use omega_board::Board;
 use omega_calls::{Fault, claim, need, number, place, show_place, show_task, small, spec, text};
 use omega_cell::Cell;
 use omega_copy::{Indexes, Overlay, PrivateCopy};
+use omega_fit::FitIndex;
 use omega_model::{
     Bytes, Claim, Constraints, Mode, Need, NoMemory, Policy, Request, Rule, TaskKey, Txn, Verdict,
     Wish, Wishes,
@@ -60,22 +61,22 @@ fn show_first(
     let (start, amount) = (place(start)?, need(amount)?);
     let whole = mem::replace(copy, PrivateCopy::new(alloc));
     let (board, indexes) = whole.into_parts();
-    let told = show_first_of(&indexes, start, amount, answers);
+    let told = show_first_of(indexes.free(), start, amount, answers);
     *copy = PrivateCopy::of_parts(board, indexes);
     told
 }
 
-/// The same of indexes.
+/// The same of what is free.
 fn show_first_of(
-    indexes: &Indexes,
+    free: &FitIndex,
     start: usize,
     amount: Need,
     answers: &mut String,
 ) -> Result<(), Fault> {
-    if start > indexes.free().len() {
+    if start > free.len() {
         return Err(Fault::MayNot);
     }
-    show_place(answers, indexes.free().first(start, amount, |_| true))
+    show_place(answers, free.first(start, amount, |_| true))
 }
 
 /// Appends the tasks that must go for a wish, or `none` where no evictions make room.
@@ -260,13 +261,31 @@ fn show_trial_on(
     let mut evicted = Vec::with_capacity(alloc, claim.victims.len())?;
     let verdict = board.judge(&claim, None, &mut evicted);
     show_judged(answers, verdict, evicted.as_slice())?;
-    if evicted.as_slice() != claim.victims.as_slice() {
-        return Ok(());
+    if verdict.is_placed() && are_same(evicted.as_slice(), claim.victims.as_slice()) {
+        return show_beside(alloc, board, indexes, claim, answers);
     }
-    match verdict {
-        Verdict::Placed => show_beside(alloc, board, indexes, claim, answers),
-        _ => Ok(()),
+    Ok(())
+}
+
+/// Whether two lists have the same names in the same order.
+fn are_same(some: &[TaskKey], others: &[TaskKey]) -> bool
+    ensures { IsTrue result ↔ (some.now ≡ others.now) }
+{
+    if some.len() != others.len() {
+        return false;
     }
+    for (i, key) in some.iter().enumerate() {
+        if !is_same(key, &others[i]) {
+            return false;
+        }
+    }
+    true
+}
+
+fn is_same(a: &TaskKey, b: &TaskKey) -> bool
+    ensures { IsTrue result ↔ (a.now ≡ b.now) }
+{
+    a.job == b.job && a.index == b.index
 }
 
 /// Places a claim beside a board, and takes it back. Appends what is told before, meanwhile and after that.
