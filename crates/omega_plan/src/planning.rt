@@ -20,12 +20,11 @@ use omega_copy::{Indexes, Overlay};
 use omega_model::{Claim, Mode, NoMemory, Policy, Request, Seq, Txn, Wish};
 use std::alloc::Global;
 
-/// The plan of a request on a board whose indexes are at hand, which tells of its machines. They are tried
-/// from `start` round, a position of at most their number. Each wish gets the first machine that suits its
-/// constraints and takes it, on the cell after the claims before it: without victims where that goes, else
-/// with them where the policy preempts; a wish without a machine gets no claim. In mode `Gang` one wish
-/// without a machine leaves no claim at all. The indexes tell the board afterwards, also where memory runs
-/// out.
+/// The plan of a request on a board of which these indexes tell. Its machines are tried from `start` round,
+/// a position of at most their number. Each wish gets the first machine that suits its constraints and takes
+/// it, on the cell after the claims before it: without victims where that goes, else with them where the
+/// policy preempts; a wish without a machine gets no claim. In mode `Gang` one wish without a machine leaves
+/// no claim at all. The indexes tell of the board afterwards, also where memory runs out.
 ///
 /// Takes the memory of the claims and of what they change beside the board, but for the last one. Costs each
 /// wish a search, and wishes in a row that differ in the index alone the machines once together; and in the
