@@ -38,8 +38,8 @@ at_middle {order} {d} {l} {x} {r} rises is =
     let s = sides (precedes order) l x r u in
     record { is = is; rises = u; before = s.before; after = s.after; left = s.left; right = s.right }
 
-pub at_fork : {order : Order} {tree : Tree} {node : Box Node Global} → IsInOrder order (tasks_of tree) → tree ≡ Fork node → AtFork order (tasks_of tree) (tasks_of node.value.left) node.value.task (tasks_of node.value.right)
-at_fork {order} {tree} {node} rises is =
+pub at_fork : {order : Order} {tree : Tree} {height : ℕ} {node : Box Node Global} → IsInOrder order (tasks_of tree) → tree ≡ Fork height node → AtFork order (tasks_of tree) (tasks_of node.value.left) node.value.task (tasks_of node.value.right)
+at_fork {order} {tree} {height} {node} rises is =
     let u : IsInOrder order (tasks_of node.value.left ++ node.value.task ∷ tasks_of node.value.right) = subst (λ z. IsInOrder order (tasks_of z)) is rises in
     let s = sides (precedes order) (tasks_of node.value.left) node.value.task (tasks_of node.value.right) u in
     record { is = ap tasks_of is; rises = u; before = s.before; after = s.after; left = s.left; right = s.right }

@@ -8,7 +8,7 @@ use Rattle.omega_running.specs.declared.nodes.Tree.TheVariants.{Leaf, Fork'}
 -- the tasks of a tree from left to right
 abbrev pub tasks_of : Tree → List Task
 tasks_of Leaf = []
-tasks_of (Fork' p left right height task) = tasks_of left ++ task ∷ tasks_of right
+tasks_of (Fork' height p left right task) = tasks_of left ++ task ∷ tasks_of right
 
 -- the tasks at and below a node
 abbrev pub tasks_at : Node → List Task

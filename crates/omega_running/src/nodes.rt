@@ -14,12 +14,14 @@ use std::alloc::Global;
 use std::mem;
 
 /// A tree of tasks, from left to right in an order. Where a change makes one side of a node higher
-/// than the other by two, the node is turned, so that a way down stays logarithmic.
+/// than the other by two, the node is turned, so that a way down stays logarithmic. The number of nodes
+/// on the longest way down stands beside the node on top, so that to compare two sides nobody looks
+/// into them.
 #[cycle(tree)]
 #[derive(Debug, Drop)]
 pub enum Tree {
     Leaf,
-    Fork(Box<Node>),
+    Fork(u8, Box<Node>),
 }
 
 /// A task and the trees at its two sides.
@@ -28,7 +30,6 @@ pub enum Tree {
 pub struct Node {
     left: Tree,
     right: Tree,
-    height: u8,
     task: Task,
 }
 
@@ -51,9 +52,8 @@ impl Node {
             alloc,
             Node {
                 left: Tree::Leaf,
-                task,
-                height: 0,
                 right: Tree::Leaf,
+                task,
             },
         )?)
     }
@@ -64,7 +64,7 @@ impl Tree {
     fn height(&self) -> u8 {
         match self {
             Tree::Leaf => 0,
-            Tree::Fork(node) => node.height,
+            Tree::Fork(height, _node) => *height,
         }
     }
 
@@ -88,17 +88,13 @@ impl Tree {
                 room.right = Tree::Leaf;
                 fork(room)
             }
-            Tree::Fork(mut node) => {
+            Tree::Fork(_height, mut node) => {
                 if order.precedes(&task, &node.task) {
-                    let before = node.left.height();
                     node.left = node.left.take().insert(order, task, room);
-                    let after = node.left.height();
-                    return settled(node, before, after);
+                    return balanced(node);
                 }
-                let before = node.right.height();
                 node.right = node.right.take().insert(order, task, room);
-                let after = node.right.height();
-                settled(node, before, after)
+                balanced(node)
             }
         }
     }
@@ -109,22 +105,18 @@ impl Tree {
         requires there { IsTrue (has_place order task.now (tasks_of self)) }
         ensures { tasks_of result.0 ≡ taken_out order task.now (tasks_of self) }
     {
-        let Tree::Fork(mut node) = self else {
+        let Tree::Fork(_height, mut node) = self else {
             unreachable!()
         };
         if order.precedes(task, &node.task) {
-            let before = node.left.height();
             let (left, out) = node.left.take().remove(order, task);
-            let after = left.height();
             node.left = left;
-            return (settled(node, before, after), out);
+            return (balanced(node), out);
         }
         if order.precedes(&node.task, task) {
-            let before = node.right.height();
             let (right, out) = node.right.take().remove(order, task);
-            let after = right.height();
             node.right = right;
-            return (settled(node, before, after), out);
+            return (balanced(node), out);
         }
         let (left, right) = (node.left.take(), node.right.take());
         (joined(left, right), node)
@@ -135,7 +127,7 @@ impl Tree {
         requires { IsInOrder ByKey (tasks_of self.now) }
         ensures { option_map (λ task. task.now) result ≡ task_at (tasks_of self.now) key }
     {
-        let Tree::Fork(node) = self else {
+        let Tree::Fork(_height, node) = self else {
             return None;
         };
         if key_lt(key, node.task.key) {
@@ -153,7 +145,7 @@ impl Tree {
         requires { IsInOrder order (tasks_of self.now) }
         ensures { OnOk result (found.new.items ≡ found.old.items ++ led_by order number (tasks_of self.now)) }
     {
-        let Tree::Fork(node) = self else {
+        let Tree::Fork(_height, node) = self else {
             return Ok(());
         };
         let here = order.lead(&node.task);
@@ -174,7 +166,7 @@ impl Tree {
         requires { IsInOrder ByMachine (tasks_of self.now) }
         ensures { result ≡ minus amount (staying_on prec (tasks_of self.now) machine) }
     {
-        let Tree::Fork(node) = self else {
+        let Tree::Fork(_height, node) = self else {
             return amount;
         };
         let here = node.task.machine;
@@ -195,7 +187,7 @@ impl Tree {
         requires { IsInOrder ByMachine (tasks_of self.now) }
         ensures { result ≡ other_of_job (tasks_of self.now) job machine gone.now }
     {
-        let Tree::Fork(node) = self else {
+        let Tree::Fork(_height, node) = self else {
             return None;
         };
         if is_before(&node.task, machine, job) {
@@ -225,24 +217,12 @@ fn left_beside(task: &Task, prec: u8, amount: Need) -> Need
     amount
 }
 
-/// The tree of a node, with its height set right.
-fn fork(mut node: Box<Node>) -> Tree
+/// The tree of a node, with its height beside it.
+fn fork(node: Box<Node>) -> Tree
     ensures { tasks_of result ≡ tasks_at node.value }
 {
     let height = node.left.height().max(node.right.height());
-    node.height = height.saturating_add(1);
-    Tree::Fork(node)
-}
-
-/// The tree of a node of which one side had the first height and has the second one now. Where they
-/// are the same, nothing changes above, and the other side isn't looked at.
-fn settled(node: Box<Node>, before: u8, after: u8) -> Tree
-    ensures { tasks_of result ≡ tasks_at node.value }
-{
-    if before == after {
-        return Tree::Fork(node);
-    }
-    balanced(node)
+    Tree::Fork(height.saturating_add(1), node)
 }
 
 /// The tree of a node. Where one side is higher by more than one, tasks move to the other side.
@@ -267,11 +247,11 @@ fn leaning_left(tree: Tree) -> Tree
 {
     match tree {
         Tree::Leaf => Tree::Leaf,
-        Tree::Fork(node) => {
+        Tree::Fork(height, node) => {
             if node.left.height() < node.right.height() {
                 rotated_left(node)
             } else {
-                Tree::Fork(node)
+                Tree::Fork(height, node)
             }
         }
     }
@@ -283,11 +263,11 @@ fn leaning_right(tree: Tree) -> Tree
 {
     match tree {
         Tree::Leaf => Tree::Leaf,
-        Tree::Fork(node) => {
+        Tree::Fork(height, node) => {
             if node.right.height() < node.left.height() {
                 rotated_right(node)
             } else {
-                Tree::Fork(node)
+                Tree::Fork(height, node)
             }
         }
     }
@@ -299,7 +279,7 @@ fn rotated_right(mut node: Box<Node>) -> Tree
 {
     match node.left.take() {
         Tree::Leaf => fork(node),
-        Tree::Fork(mut top) => {
+        Tree::Fork(_height, mut top) => {
             node.left = top.right.take();
             top.right = fork(node);
             fork(top)
@@ -313,7 +293,7 @@ fn rotated_left(mut node: Box<Node>) -> Tree
 {
     match node.right.take() {
         Tree::Leaf => fork(node),
-        Tree::Fork(mut top) => {
+        Tree::Fork(_height, mut top) => {
             node.right = top.left.take();
             top.left = fork(node);
             fork(top)
@@ -327,7 +307,7 @@ fn joined(left: Tree, right: Tree) -> Tree
 {
     match right {
         Tree::Leaf => left,
-        Tree::Fork(node) => {
+        Tree::Fork(_height, node) => {
             let (mut first, rest) = without_first(node);
             first.left = left;
             first.right = rest;
@@ -345,7 +325,7 @@ fn without_first(mut node: Box<Node>) -> (Box<Node>, Tree)
             let rest = node.right.take();
             (node, rest)
         }
-        Tree::Fork(left) => {
+        Tree::Fork(_height, left) => {
             let (first, rest) = without_first(left);
             node.left = rest;
             (first, balanced(node))
