@@ -81,19 +81,27 @@ impl Tree {
         requires { IsInOrder order (tasks_of self) }
         ensures { tasks_of result ≡ put_in order task (tasks_of self) }
     {
+        room.task = task;
+        self.put(order, room)
+    }
+
+    /// Puts in the task of a node that is in no tree. Goes down one way.
+    fn put(self, order: Order, mut room: Box<Node>) -> Tree
+        requires { IsInOrder order (tasks_of self) }
+        ensures { tasks_of result ≡ put_in order room.value.task (tasks_of self) }
+    {
         match self {
             Tree::Leaf => {
                 room.left = Tree::Leaf;
-                room.task = task;
                 room.right = Tree::Leaf;
                 fork(room)
             }
             Tree::Fork(_height, mut node) => {
-                if order.precedes(&task, &node.task) {
-                    node.left = node.left.take().insert(order, task, room);
+                if order.precedes(&room.task, &node.task) {
+                    node.left = node.left.take().put(order, room);
                     return balanced(node);
                 }
-                node.right = node.right.take().insert(order, task, room);
+                node.right = node.right.take().put(order, room);
                 balanced(node)
             }
         }
@@ -127,16 +135,17 @@ impl Tree {
         requires { IsInOrder ByKey (tasks_of self.now) }
         ensures { option_map (λ task. task.now) result ≡ task_at (tasks_of self.now) key }
     {
-        let Tree::Fork(_height, node) = self else {
-            return None;
-        };
-        if key_lt(key, node.task.key) {
-            return node.left.find(key);
+        let mut tree = self;
+        'down: while let Tree::Fork(_height, node) = tree {
+            if key_lt(key, node.task.key) {
+                tree = &node.left;
+            } else if key_lt(node.task.key, key) {
+                tree = &node.right;
+            } else {
+                return Some(&node.task);
+            }
         }
-        if key_lt(node.task.key, key) {
-            return node.right.find(key);
-        }
-        Some(&node.task)
+        None
     }
 
     /// Appends, in order, the tasks of which the order's first number is this one. Costs what they
