@@ -96,13 +96,17 @@ impl Tree {
                 room.right = Tree::Leaf;
                 fork(room)
             }
-            Tree::Fork(_height, mut node) => {
+            Tree::Fork(height, mut node) => {
                 if order.precedes(&room.task, &node.task) {
+                    let before = node.left.height();
                     node.left = node.left.take().put(order, room);
-                    return balanced(node);
+                    let after = node.left.height();
+                    return settled(height, node, before, after);
                 }
+                let before = node.right.height();
                 node.right = node.right.take().put(order, room);
-                balanced(node)
+                let after = node.right.height();
+                settled(height, node, before, after)
             }
         }
     }
@@ -113,18 +117,22 @@ impl Tree {
         requires there { IsTrue (has_place order task.now (tasks_of self)) }
         ensures { tasks_of result.0 ≡ taken_out order task.now (tasks_of self) }
     {
-        let Tree::Fork(_height, mut node) = self else {
+        let Tree::Fork(height, mut node) = self else {
             unreachable!()
         };
         if order.precedes(task, &node.task) {
+            let before = node.left.height();
             let (left, out) = node.left.take().remove(order, task);
+            let after = left.height();
             node.left = left;
-            return (balanced(node), out);
+            return (settled(height, node, before, after), out);
         }
         if order.precedes(&node.task, task) {
+            let before = node.right.height();
             let (right, out) = node.right.take().remove(order, task);
+            let after = right.height();
             node.right = right;
-            return (balanced(node), out);
+            return (settled(height, node, before, after), out);
         }
         let (left, right) = (node.left.take(), node.right.take());
         (joined(left, right), node)
@@ -232,6 +240,17 @@ fn fork(node: Box<Node>) -> Tree
 {
     let height = node.left.height().max(node.right.height());
     Tree::Fork(height.saturating_add(1), node)
+}
+
+/// The tree of a node that had this height when one side had the first of two others. That side has the
+/// second one now; where they are the same, nothing changes above.
+fn settled(height: u8, node: Box<Node>, before: u8, after: u8) -> Tree
+    ensures { tasks_of result ≡ tasks_at node.value }
+{
+    if before == after {
+        return Tree::Fork(height, node);
+    }
+    balanced(node)
 }
 
 /// The tree of a node. Where one side is higher by more than one, tasks move to the other side.

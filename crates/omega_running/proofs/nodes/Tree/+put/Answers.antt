@@ -18,11 +18,11 @@ put-requires-in-Fork t c =
 pub returns-then-precedes : goal.returns-then-precedes
 returns-then-precedes t c =
     let p : precedes c.args.order c.args.room.value.task c.in-Fork.node.value.task ≡ true = cc in
-    rw (c.balanced.ensures, c.deref_mut-then-precedes-2.ensures.value, c.put.ensures, c.take.ensures.taken, c.deref_mut-then-precedes.ensures.value)
+    rw (c.settled.ensures, c.deref_mut-then-precedes-2.ensures.value, c.put.ensures, c.take.ensures.taken, c.deref_mut-then-precedes.ensures.value)
     (sym (put_at_left c.args.room.value.task (at_fork c.requires c.in-Fork.is) p))
 
 pub returns-else-precedes : goal.returns-else-precedes
 returns-else-precedes t c =
     let p : precedes c.args.order c.args.room.value.task c.in-Fork.node.value.task ≡ false = cc in
-    rw (c.balanced-in-Fork.ensures, c.deref_mut-in-Fork-2.ensures.value, c.put-in-Fork.ensures, c.take-in-Fork.ensures.taken, c.deref_mut-in-Fork.ensures.value)
+    rw (c.settled-in-Fork.ensures, c.deref_mut-in-Fork-2.ensures.value, c.put-in-Fork.ensures, c.take-in-Fork.ensures.taken, c.deref_mut-in-Fork.ensures.value)
     (sym (put_at_right c.args.room.value.task (at_fork c.requires c.in-Fork.is) p))

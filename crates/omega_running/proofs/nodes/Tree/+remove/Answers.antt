@@ -17,7 +17,7 @@ pub returns-then-precedes : goal.returns-then-precedes
 returns-then-precedes t c =
     let f = at_fork c.requires.ordered c.in-Fork.is in
     let p : precedes c.args.order c.args.task.now c.in-Fork.node.value.task ≡ true = cc in
-    rw (c.balanced.ensures, c.deref_mut-then-precedes.ensures.value, c.remove-left.ensures, c.take.ensures.taken, c.deref_mut.ensures.value) (sym (taken_at_left c.args.task.now f p))
+    rw (c.settled.ensures, c.deref_mut-then-precedes.ensures.value, c.remove-left.ensures, c.take.ensures.taken, c.deref_mut.ensures.value) (sym (taken_at_left c.args.task.now f p))
 
 pub remove-right-requires : goal.remove-right-requires
 remove-right-requires t c =
@@ -31,7 +31,7 @@ pub returns-then-precedes-2 : goal.returns-then-precedes-2
 returns-then-precedes-2 t c =
     let f = at_fork c.requires.ordered c.in-Fork.is in
     let p : precedes c.args.order c.in-Fork.node.value.task c.args.task.now ≡ true = cc in
-    rw (c.balanced-then-precedes-2.ensures, c.deref_mut-then-precedes-2-2.ensures.value, c.remove-right.ensures, c.take-then-precedes-2.ensures.taken, c.deref_mut-then-precedes-2.ensures.value) (sym (taken_at_right c.args.task.now f p))
+    rw (c.settled-then-precedes-2.ensures, c.deref_mut-then-precedes-2-2.ensures.value, c.remove-right.ensures, c.take-then-precedes-2.ensures.taken, c.deref_mut-then-precedes-2.ensures.value) (sym (taken_at_right c.args.task.now f p))
 
 pub returns : goal.returns
 returns t c =
