@@ -1,6 +1,6 @@
 -- The wanted tasks as entries of a map in order of key.
 use Rattle.std.proofs.Common.{◌≡◌, ℕ, ◌<◌, ◌≤◌, ◌^◌, Bool, true, false, cond, not, ◌&&◌, ◌||◌, ◌==◌, List, [], ◌∷◌, ◌++◌, Option, Some, None, map, length, refl, ap, sym, ◌∙◌, inl, inr, arith, subst, nat_lt}
-use Rattle.std.specs.Prelude.{is_some, MatchOption}
+use Rattle.std.specs.Prelude.{is_some, MatchOption, ◌↔◌}
 use Rattle.std.specs.BTreeMap.{insert_entry, is_at}
 use Rattle.std.specs.BTreeMap.Range.{entries_between, range_contains}
 use Rattle.std.specs.List.{All, AllByRecursion, filter, list_any}
@@ -212,19 +212,15 @@ any_here : (job : ℕ) (es : List (TaskKey × Spec)) → list_any (is_task_of jo
 any_here job [] = refl
 any_here job (e ∷ es) = ap (λ z. (e.0.job == job) || z) (any_here job es)
 
-pub some_left : (job : ℕ) (es : List (TaskKey × Spec)) → list_any (is_task_of job) (map wanted_task es) ≡ not (length (filter (λ e. e.0.job == job) es) == 0)
-some_left job [] = refl
-some_left job (e ∷ es) = by_cases (e.0.job == job) (some_left job es) where
-  by_cases : (b : Bool) → list_any (is_task_of job) (map wanted_task es) ≡ not (length (filter (λ e. e.0.job == job) es) == 0)
-      → (b || list_any (is_task_of job) (map wanted_task es)) ≡ not (length (cond b (e ∷ filter (λ e. e.0.job == job) es) (filter (λ e. e.0.job == job) es)) == 0)
-  by_cases true rest = rw (ne_eqb (length (e ∷ filter (λ e. e.0.job == job) es)) 0 (λ d. omega arith)) refl
-  by_cases false rest = rest
-
--- the first of some entries is there where any is
-pub first_is : {Y : Type 0} (o : Option Y) (es rest : List (TaskKey × Spec)) (entry : Y → TaskKey × Spec) (Q : Type 0)
-    → MatchOption o ((es ≡ []) × Q) (λ y. es ≡ entry y ∷ rest) → is_some o ≡ not (length es == 0)
-first_is None es rest entry Q h = rw h.0 refl
-first_is (Some y) es rest entry Q h = rw (h, ne_eqb (length (entry y ∷ rest)) 0 (λ d. omega arith)) refl
+-- where all tasks are of one job, one of it is wanted unless there is none
+pub any_there : (job : ℕ) (es : List (TaskKey × Spec)) (none : Bool) → Each (λ task. is_task_of job task ≡ true) (map wanted_task es) → ((none ≡ true) ↔ (length es ≡ 0))
+    → list_any (is_task_of job) (map wanted_task es) ≡ not none
+any_there job [] none own is = rw (is.1 refl) refl
+any_there job (e ∷ es) none own is =
+    elim (cases_Bool none) [
+      | inl t ↦ absurd (let long : length (e ∷ es) ≡ 0 = is.0 t in omega (arith, long))
+      | inr f ↦ rw (own.0, f) refl
+    ]
 
 pub between_at : (job : ℕ) (low high : TaskKey) (es : List (TaskKey × Spec)) → All (λ (key : TaskKey). key.index < 2 ^ 31) (keys_of es)
     → low ≡ record { job = job; index = 0 } → high ≡ record { job = job; index = 4294967295 }

@@ -1,5 +1,5 @@
 //! Wanted tasks in one tree.
-ghost use Rattle.std.specs.Prelude.{◌≡◌, ◌↔◌, ◌++◌, [], All, not, map, ◌<◌, IfOk, IsTrue, OnOk, OnErr};
+ghost use Rattle.std.specs.Prelude.{◌≡◌, ◌↔◌, ◌++◌, ℕ, [], true, All, not, map, ◌<◌, IfOk, IsTrue, OnOk, OnErr};
 ghost use Rattle.std.specs.List.{filter, list_any};
 ghost use Rattle.omega_model.specs.ExtraTasks.{HasLowIndex, first_extra, is_wanted, wanted_of};
 ghost use Rattle.omega_model.specs.Wanted.{with_wanted, is_named};
@@ -7,6 +7,7 @@ ghost use Rattle.omega_feed.specs.Asked.{is_task_of};
 ghost use Rattle.omega_feed.specs.Index.{wanted_task};
 ghost use Rattle.omega_feed.specs.Open.{RunsIfOf};
 ghost use Rattle.omega_feed.specs.Parts.{waiting_jobs};
+ghost use Rattle.omega_running.specs.Order.{Each};
 
 use omega_model::{NoMemory, Spec, TaskKey};
 use omega_running::Running;
@@ -71,13 +72,12 @@ impl TaskTree {
         self.specs.contains_key(&key)
     }
 
-    /// Whether a task of a job is wanted. Costs the logarithm of their number.
-    pub fn has_job(&self, job: u64) -> bool
-        ensures any { result ≡ list_any (is_task_of job) self.now }
-        ensures wanted { result ≡ is_wanted self.now job }
+    /// Whether there is any, where all are tasks of one job. Takes the same time for any number of them.
+    pub fn has_any(&self) -> bool
+        ensures any { (job : ℕ) → Each (λ task. is_task_of job task ≡ true) self.now → result ≡ list_any (is_task_of job) self.now }
+        ensures wanted { (job : ℕ) → Each (λ task. is_task_of job task ≡ true) self.now → result ≡ is_wanted self.now job }
     {
-        let (first, last) = keys_of(job);
-        self.specs.range(first..=last).next().is_some()
+        !self.specs.is_empty()
     }
 
     /// Appends the job of each task that doesn't run, in order of the tasks' keys. Costs the tasks, each

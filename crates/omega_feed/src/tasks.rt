@@ -143,14 +143,13 @@ impl WantedTasks {
         }
     }
 
-    /// Whether a task of a job is wanted. Costs the logarithms of the number of jobs and of the job's
-    /// tasks.
+    /// Whether a task of a job is wanted. Costs the logarithm of the number of jobs.
     pub fn has_job(&self, job: u64) -> bool
         ensures any { result ≡ list_any (is_task_of job) self.now }
         ensures wanted { result ≡ is_wanted self.now job }
     {
         match self.find(job) {
-            Some(tasks) => tasks.has_job(job),
+            Some(tasks) => tasks.has_any(),
             None => false,
         }
     }
