@@ -8,6 +8,8 @@
 #![tactic(auto)]
 
 mod clock;
+mod course;
+mod crew;
 mod kept;
 mod opening;
 mod planned;

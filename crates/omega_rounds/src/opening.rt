@@ -21,10 +21,20 @@ use omega_model::{Entries, Entry, MOST_MACHINES, NoMemory, Round, Row};
 use std::alloc::Global;
 
 /// What a trace asks for, and the jobs of which something of that may have to be placed.
-#[derive(Drop)]
+///
+/// It writes its `Drop` out, so that whoever lets it go cites one function.
 pub(crate) struct Demand {
     pub wanted: Wanted,
     pub open_jobs: OpenJobs,
+}
+
+impl Drop for Demand {
+    fn drop(self) {
+        let Demand {
+            wanted: _,
+            open_jobs: _,
+        } = self;
+    }
 }
 
 /// Opens a round: appends its entry and those of its rows to the cell, and hands each scheduler, which has

@@ -9,6 +9,7 @@ ghost use Rattle.omega_model.specs.declared.cells.Task.{Task};
 ghost use Rattle.omega_rounds.specs.Keeping.{WereQuiet};
 ghost use Rattle.omega_rounds.specs.Reopening.{OpensJobs, may_stop};
 
+use crate::opening::Demand;
 use omega_board::Board;
 use omega_cell::Cell;
 use omega_feed::{OpenJobs, Wanted};
@@ -19,17 +20,18 @@ use std::alloc::Global;
 /// entries are commits. Then all others are quiet on the cell, if they were at that place. Costs the
 /// entries since then and what they evicted, each of these the logarithm of the number of jobs.
 pub(crate) fn reopen_since(
-    open_jobs: &mut OpenJobs,
-    wanted: &Wanted,
+    demand: &mut Demand,
     cell: &Cell,
     opened_at: usize,
 ) -> Result<(), NoMemory>
     requires within { opened_at ≤ length cell.now.history }
     requires commits { All (λ entry. is_commit entry ≡ true) (drop opened_at cell.now.history) }
-    requires quiet { WereQuiet open_jobs.old wanted.now opened_at cell.now.history }
-    ensures { OnOk result (OthersAreQuiet open_jobs.new wanted.now (state cell.now.history).tasks) }
+    requires quiet { WereQuiet demand.old.open_jobs demand.old.wanted opened_at cell.now.history }
+    ensures wanted { demand.new.wanted ≡ demand.old.wanted }
+    ensures quiet { OnOk result (OthersAreQuiet demand.new.open_jobs demand.new.wanted (state cell.now.history).tasks) }
 {
-    reopen_all(open_jobs, wanted, &cell.history()[opened_at..])
+    let entries = &cell.history()[opened_at..];
+    reopen_all(&mut demand.open_jobs, &demand.wanted, entries)
 }
 
 /// Opens the jobs of the tasks that commits evicted.

@@ -1,5 +1,5 @@
 //! A run in which each scheduler works on a thread of its own.
-ghost use Rattle.std.specs.Prelude.{◌≡◌, ◌≤◌, ◌<◌, ◌*◌, ◌^◌, ℕ, [], false, All, IfOk, IfErr, Some, length, map, slice_get, vec_capacity};
+ghost use Rattle.std.specs.Prelude.{◌≡◌, ◌≤◌, ◌<◌, ◌*◌, ◌^◌, ℕ, [], false, All, IfOk, OnOk, Some, length, map, slice_get, vec_capacity};
 ghost use Rattle.std.specs.List.{list_any};
 ghost use Rattle.std.specs.Thread.{IsSync};
 ghost use Rattle.omega_model.specs.Lawful.{Lawful};
@@ -60,13 +60,15 @@ pub fn on_threads<R: Threads + Wait + Sync, G: Gate + Sync>(
 }
 
 /// Lets the schedulers of these workers work until nothing is left at any desk, each on a thread of its
-/// own, and answers the cell and the workers. Where memory runs out both are gone. May wait.
+/// own with so many turns at the cell, and answers the cell and the workers. Where memory runs out both
+/// are gone. May wait.
 pub(crate) fn play_shared<R: Threads + Wait + Sync, G: Gate + Sync>(
     rt: &R,
     alloc: Global,
     settings: &Settings,
     cell: Cell,
     workers: Vec<Worker>,
+    turns: u32,
     gate: &G,
 ) -> Result<(Cell, Vec<Worker>), NoMemory>
     requires sync { IsSync R.row × IsSync G.row }
@@ -75,26 +77,19 @@ pub(crate) fn play_shared<R: Threads + Wait + Sync, G: Gate + Sync>(
     requires count { length workers.items ≡ schedulers settings.now }
     requires each { (number : ℕ) (worker : Worker) → slice_get workers.items number ≡ Some worker
         → IsWorker settings.now cell.history number worker }
+    requires suffice { Suffice settings.now workers.items turns }
     ensures back { IfOk result (λ back. AreBack settings.now cell.history back.0.history workers.items back.1.items) }
 {
-    let turns = turns_for(settings, workers.as_slice())?;
-    let callers = settings.schedulers();
-    let players = Vec::with_capacity(alloc, workers.len())?;
-    let workers_room = Vec::with_capacity(alloc, workers.len())?;
-    let passes_room = Vec::with_capacity(alloc, workers.len())?;
-    let (shared, passes) = share(rt, alloc, cell, callers, turns)?;
-    let mut players = players_of(workers, passes, players);
+    let (shared, passes) = share(rt, alloc, cell, settings.schedulers(), turns)?;
+    let mut players = players_of(alloc, workers, passes)?;
     play_all(rt, alloc, &shared, &mut players, gate);
-    if any_failed(&players) {
-        return Err(NoMemory);
-    }
-    let (workers, passes) = apart(players, workers_room, passes_room);
+    let (workers, passes) = back_from(alloc, players)?;
     Ok((shared.close(passes), workers))
 }
 
 /// Two turns for each attempt that a scheduler can make: as many as for all tries of as many requests as
 /// the desk with most has. More than a number of turns can be is want of memory.
-fn turns_for(settings: &Settings, workers: &[Worker]) -> Result<u32, NoMemory>
+pub(crate) fn turns_for(settings: &Settings, workers: &[Worker]) -> Result<u32, NoMemory>
     ensures { IfOk result (Suffice settings.now workers.now) }
 {
     let most = most_requests(workers);
@@ -118,8 +113,23 @@ fn most_requests(workers: &[Worker]) -> u128
     most
 }
 
-/// The players of the schedulers, by number. There is room for them.
-fn players_of(workers: Vec<Worker>, passes: Vec<Pass>, mut players: Vec<Player>) -> Vec<Player>
+/// The players of the schedulers, by number. Where memory runs out the workers and passes are gone.
+fn players_of(
+    alloc: Global,
+    workers: Vec<Worker>,
+    passes: Vec<Pass>,
+) -> Result<Vec<Player>, NoMemory>
+    requires as_many { length passes.items ≡ length workers.items }
+    ensures workers { IfOk result (λ players. map (λ player. player.worker) players.items ≡ workers.items) }
+    ensures passes { IfOk result (λ players. map (λ player. player.pass) players.items ≡ passes.items) }
+    ensures fresh { IfOk result (λ players. All (λ player. player.failed ≡ false) players.items) }
+{
+    let room = Vec::with_capacity(alloc, workers.len())?;
+    Ok(paired(workers, passes, room))
+}
+
+/// Each worker with its pass. There is room for them.
+fn paired(workers: Vec<Worker>, passes: Vec<Pass>, mut players: Vec<Player>) -> Vec<Player>
     requires as_many { length passes.items ≡ length workers.items }
     requires room { (players.items ≡ []) × (length workers.items ≤ vec_capacity players) }
     ensures workers { map (λ player. player.worker) result.items ≡ workers.items }
@@ -138,6 +148,21 @@ fn players_of(workers: Vec<Worker>, passes: Vec<Pass>, mut players: Vec<Player>)
         });
     }
     players
+}
+
+/// The workers and the passes of players that have played. Where one has met want of memory, or memory runs
+/// out, they are gone.
+fn back_from(alloc: Global, players: Vec<Player>) -> Result<(Vec<Worker>, Vec<Pass>), NoMemory>
+    ensures succeeded { OnOk result (list_any (λ player. player.failed) players.items ≡ false) }
+    ensures workers { IfOk result (λ back. back.0.items ≡ map (λ player. player.worker) players.items) }
+    ensures passes { IfOk result (λ back. back.1.items ≡ map (λ player. player.pass) players.items) }
+{
+    if any_failed(&players) {
+        return Err(NoMemory);
+    }
+    let workers = Vec::with_capacity(alloc, players.len())?;
+    let passes = Vec::with_capacity(alloc, players.len())?;
+    Ok(apart(players, workers, passes))
 }
 
 /// Whether a player has met want of memory.

@@ -20,16 +20,17 @@ ghost use Rattle.omega_rounds.specs.Opening.{AreNewWorkers};
 ghost use Rattle.omega_rounds.specs.Playing.{IsAtStart, IsInSomeRun};
 ghost use Rattle.omega_rounds.specs.Stages.{AllHaveBegun, IsInRunOf, first_stage, rows_begun, world_of};
 
+use crate::course::Course;
+use crate::crew::Crew;
 use crate::opening::{Demand, first_at_work, open_round};
 use crate::reopening::reopen_since;
 use crate::steps::{RoundStep, Stepped};
-use crate::threads::play_shared;
 use crate::worker::Worker;
 use omega_cell::{Cell, Effects};
 use omega_copy::Indexes;
 use omega_feed::{OpenJobs, WaitingTasks, Wanted, feed, rounds};
 use omega_io::Gate;
-use omega_model::{Entries, Entry, NoMemory, Round, Rounds, Settings, TraceTables};
+use omega_model::{Entries, Entry, NoMemory, Round, Settings, TraceTables};
 use omega_sim::greatest_time;
 use std::alloc::Global;
 use std::marker::Model;
@@ -45,18 +46,8 @@ use std::thread::Threads;
 #[derive(Drop)]
 pub struct World {
     alloc: Global,
-    settings: Settings,
-    /// All rounds of the trace, and how many of them have begun.
-    rounds: Rounds,
-    begun: usize,
-    /// The place in the history after the rows of the last round that has begun.
-    opened_at: usize,
-    /// The jobs that aren't open in it were quiet at `opened_at`.
-    demand: Demand,
-    cell: Cell,
-    workers: Vec<Worker>,
-    /// What a plan needs beside the cell's board.
-    indexes: Indexes,
+    course: Course,
+    crew: Crew,
 }
 
 impl Model for World {
@@ -69,11 +60,11 @@ impl Model for World {
 
     ghost Value = { WorldState };
 
-    ghost view = { λ w. record { stage = stage_of w.settings w.rounds w.demand.wanted w.begun w.opened_at; history = w.cell.history; synced = map synced_of w.workers.items; to_do = sum_by to_do_of w.workers.items } };
+    ghost view = { λ w. record { stage = stage_of w.course.settings w.course.rounds w.course.demand.wanted w.course.begun w.course.opened_at; history = w.crew.cell.history; synced = map synced_of w.crew.workers.items; to_do = sum_by to_do_of w.crew.workers.items } };
 
-    ghost invariant = { λ w. IsWorld (stage_of w.settings w.rounds w.demand.wanted w.begun w.opened_at) w.demand.wanted.tasks w.cell.history w.workers.items
-        × WereQuiet w.demand.open_jobs w.demand.wanted w.opened_at w.cell.history
-        × AreIndexesOf w.cell.history w.indexes };
+    ghost invariant = { λ w. IsWorld (stage_of w.course.settings w.course.rounds w.course.demand.wanted w.course.begun w.course.opened_at) w.course.demand.wanted.tasks w.crew.cell.history w.crew.workers.items
+        × WereQuiet w.course.demand.open_jobs w.course.demand.wanted w.course.opened_at w.crew.cell.history
+        × AreIndexesOf w.crew.cell.history w.crew.indexes };
 }
 
 impl World {
@@ -87,21 +78,24 @@ impl World {
     {
         let rows = feed(alloc, tables)?;
         let wanted = Wanted::new(alloc, tables, &rows, settings)?;
+        let open_jobs = OpenJobs::new(alloc);
+        let demand = Demand { wanted, open_jobs };
         let rounds = rounds(alloc, rows, settings.window)?;
         let workers = new_workers(alloc, settings)?;
         Ok(World {
             alloc,
-            settings: *settings,
-            rounds,
-            begun: 0,
-            opened_at: 0,
-            demand: Demand {
-                wanted,
-                open_jobs: OpenJobs::new(alloc),
+            course: Course {
+                settings: *settings,
+                rounds,
+                begun: 0,
+                opened_at: 0,
+                demand,
             },
-            cell: Cell::new(alloc),
-            workers,
-            indexes: Indexes::new(alloc),
+            crew: Crew {
+                cell: Cell::new(alloc),
+                workers,
+                indexes: Indexes::new(alloc),
+            },
         })
     }
 
@@ -114,7 +108,7 @@ impl World {
         ensures legal { Legal self.now.history }
         ensures sound { (n : ℕ) → Sound (state (take n self.now.history)) }
     {
-        self.cell.history()
+        self.crew.cell.history()
     }
 
     /// What is wanted of the rounds that have begun and doesn't run. Where all have begun that is what
@@ -125,7 +119,10 @@ impl World {
         ensures end { (trace : TraceTables) → IsInRunOf self.now.stage trace → AllHaveBegun self.now.stage
             → IfOk result (IsLeft trace (state self.now.history)) }
     {
-        self.demand.wanted.left(self.alloc, self.cell.board())
+        self.course
+            .demand
+            .wanted
+            .left(self.alloc, self.crew.cell.board())
     }
 
     /// The history itself.
@@ -137,8 +134,8 @@ impl World {
         ensures applied { EachMayApply self.history }
         ensures sound { (n : ℕ) → Sound (state (take n self.history)) }
     {
-        let World { cell, .. } = self;
-        cell.into_history()
+        let World { crew, .. } = self;
+        crew.into_cell().into_history()
     }
 
     /// The history itself, and what its entries did.
@@ -151,8 +148,8 @@ impl World {
         ensures applied { EachMayApply self.history }
         ensures sound { (n : ℕ) → Sound (state (take n self.history)) }
     {
-        let World { cell, .. } = self;
-        cell.into_run()
+        let World { crew, .. } = self;
+        crew.into_cell().into_run()
     }
 
     /// Goes on to the next round, if nobody has work: appends the entries of its rows, and hands each
@@ -170,10 +167,10 @@ impl World {
         ensures made { IsInSomeRun self.stage }
         ensures start { self.stage.begun ≡ 0 → IsAtStart self }
     {
-        if let Some(scheduler) = first_at_work(self.workers.as_slice()) {
+        if let Some(scheduler) = first_at_work(self.crew.workers.as_slice()) {
             return Ok((self, RoundStep::Unfinished(scheduler as u32)));
         }
-        if self.begun == self.rounds.len() {
+        if self.course.begun == self.course.rounds.len() {
             return Ok((self, RoundStep::Over));
         }
         let (world, number) = self.begin_round()?;
@@ -190,32 +187,27 @@ impl World {
     {
         let World {
             alloc,
-            settings,
-            rounds,
-            begun,
-            opened_at,
-            mut demand,
-            mut cell,
-            mut workers,
-            indexes,
+            mut course,
+            mut crew,
         } = self;
-        let Some(round) = rounds.get(begun) else {
+        let Some(round) = course.rounds.get(course.begun) else {
             unreachable!()
         };
         let number = round.number;
-        reopen_since(&mut demand.open_jobs, &demand.wanted, &cell, opened_at)?;
-        open_round(alloc, round, &mut demand, &mut cell, &mut workers)?;
-        let opened_at = cell.history().len();
+        reopen_since(&mut course.demand, &crew.cell, course.opened_at)?;
+        open_round(
+            alloc,
+            round,
+            &mut course.demand,
+            &mut crew.cell,
+            &mut crew.workers,
+        )?;
+        course.begun += 1;
+        course.opened_at = crew.cell.history().len();
         let world = World {
             alloc,
-            settings,
-            rounds,
-            begun: begun + 1,
-            opened_at,
-            demand,
-            cell,
-            workers,
-            indexes,
+            course,
+            crew,
         };
         Ok((world, number))
     }
@@ -234,8 +226,8 @@ impl World {
         ensures err { OnErr result (self.new ≡ self.old) }
     {
         let alloc = self.alloc;
-        let worker = &mut self.workers[scheduler as usize];
-        let stepped = worker.step(alloc, &mut self.indexes, &mut self.cell)?;
+        let worker = &mut self.crew.workers[scheduler as usize];
+        let stepped = worker.step(alloc, &mut self.crew.indexes, &mut self.crew.cell)?;
         Ok(stepped)
     }
 
@@ -253,34 +245,19 @@ impl World {
         ensures stage { IfOk result (λ after. after.stage ≡ self.stage) }
         ensures done { IfOk result IsDone }
     {
-        if first_at_work(self.workers.as_slice()).is_none() {
+        if first_at_work(self.crew.workers.as_slice()).is_none() {
             return Ok(self);
-        }
-        if self.cell.history().len() as u64 >= 1 << 63 {
-            return Err(NoMemory);
         }
         let World {
             alloc,
-            settings,
-            rounds,
-            begun,
-            opened_at,
-            demand,
-            cell,
-            workers,
-            indexes,
+            course,
+            crew,
         } = self;
-        let (cell, workers) = play_shared(rt, alloc, &settings, cell, workers, gate)?;
+        let crew = crew.play_on_threads(rt, alloc, &course.settings, gate)?;
         Ok(World {
             alloc,
-            settings,
-            rounds,
-            begun,
-            opened_at,
-            demand,
-            cell,
-            workers,
-            indexes,
+            course,
+            crew,
         })
     }
 
@@ -290,7 +267,7 @@ impl World {
         ensures wishes { HasWishesLeft self.now scheduler result }
         ensures idle { IsNoneWithoutWork self.now scheduler result }
     {
-        self.workers[scheduler as usize].left()
+        self.crew.workers[scheduler as usize].left()
     }
 
     /// The greatest time of the rows of the round that is under way, in microseconds. `None` exactly before
@@ -299,8 +276,8 @@ impl World {
         ensures rows { result ≡ rows_time self.now.stage }
         ensures none { result ≡ None → self.now.stage.begun ≡ 0 }
     {
-        let last = self.begun.checked_sub(1)?;
-        let round = self.rounds.get(last)?;
+        let last = self.course.begun.checked_sub(1)?;
+        let round = self.course.rounds.get(last)?;
         Some(greatest_time(round.rows.as_slice()))
     }
 
@@ -308,14 +285,14 @@ impl World {
     pub fn rounds(&self) -> &[Round]
         ensures { result.now ≡ self.now.stage.source.rounds }
     {
-        self.rounds.as_slice()
+        self.course.rounds.as_slice()
     }
 
     /// The settings of the run.
     pub(crate) fn settings(&self) -> Settings
         ensures is { result ≡ self.now.stage.settings }
     {
-        self.settings
+        self.course.settings
     }
 
     /// Where the world's lists get their memory.
@@ -327,7 +304,7 @@ impl World {
     pub fn schedulers(&self) -> u32
         ensures { result ≡ schedulers self.now.stage.settings }
     {
-        self.settings.schedulers()
+        self.course.settings.schedulers()
     }
 }
 

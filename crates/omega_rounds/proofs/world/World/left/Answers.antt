@@ -9,19 +9,19 @@ use Rattle.omega_rounds.proofs.world.World.left.Goals as goal
 pub returns-clause-wishes : goal.returns-clause-wishes
 returns-clause-wishes c =
     let inside = c.self.inside in
-    let stage = stage_of inside.settings inside.rounds inside.demand.wanted inside.begun inside.opened_at in
+    let stage = stage_of inside.course.settings inside.course.rounds inside.course.demand.wanted inside.course.begun inside.course.opened_at in
     let known = subst (λ (w : WorldState). c.args.scheduler < schedulers w.stage.settings) (sym c.self.view_is) c.requires in
-    let here = slice_get_read inside.workers.items (schedulers inside.settings) c.args.scheduler c.index.result.now (sym c.self.invariant.0.count) known c.index.ensures in
+    let here = slice_get_read inside.crew.workers.items (schedulers inside.course.settings) c.args.scheduler c.index.result.now (sym c.self.invariant.0.count) known c.index.ensures in
     subst (λ (w : WorldState). HasWishesLeft w c.args.scheduler c.left.result) c.self.view_is
-    (λ trace made. wishes_of_left inside.settings trace (rows_begun stage) inside.opened_at c.args.scheduler c.left.result inside.cell.history c.index.result.now.desk.requests
+    (λ trace made. wishes_of_left inside.course.settings trace (rows_begun stage) inside.course.opened_at c.args.scheduler c.left.result inside.crew.cell.history c.index.result.now.desk.requests
     ((c.self.invariant.0.lawful trace made).desks c.args.scheduler c.index.result.now here).left c.left.ensures)
 
 pub returns-clause-idle : goal.returns-clause-idle
 returns-clause-idle c =
     let inside = c.self.inside in
-    let stage = stage_of inside.settings inside.rounds inside.demand.wanted inside.begun inside.opened_at in
+    let stage = stage_of inside.course.settings inside.course.rounds inside.course.demand.wanted inside.course.begun inside.course.opened_at in
     let known = subst (λ (w : WorldState). c.args.scheduler < schedulers w.stage.settings) (sym c.self.view_is) c.requires in
-    let here = slice_get_read inside.workers.items (schedulers inside.settings) c.args.scheduler c.index.result.now (sym c.self.invariant.0.count) known c.index.ensures in
+    let here = slice_get_read inside.crew.workers.items (schedulers inside.course.settings) c.args.scheduler c.index.result.now (sym c.self.invariant.0.count) known c.index.ensures in
     subst (λ (w : WorldState). IsNoneWithoutWork w c.args.scheduler c.left.result) c.self.view_is
-    (λ trace made. none_without_work inside.settings trace (rows_begun stage) inside.opened_at c.args.scheduler c.left.result inside.cell.history c.index.result.now.desk.requests
+    (λ trace made. none_without_work inside.course.settings trace (rows_begun stage) inside.course.opened_at c.args.scheduler c.left.result inside.crew.cell.history c.index.result.now.desk.requests
     ((c.self.invariant.0.lawful trace made).desks c.args.scheduler c.index.result.now here).left c.left.ensures)

@@ -35,21 +35,21 @@ returns-clause-start c = starts _ _ _ _ _ c.self.invariant.0 c.self.view_is
 pub returns-in-Some-clause-run : goal.returns-in-Some-clause-run
 returns-in-Some-clause-run c =
     subst (λ (w : WorldState). (trace : TraceTables) → IsInRunOf w.stage trace → IsFirstAtWork trace w c.in-Some.scheduler) c.self.view_is
-    (λ trace made. first_works trace (stage_of c.self.inside.settings c.self.inside.rounds c.self.inside.demand.wanted c.self.inside.begun c.self.inside.opened_at) c.self.inside.demand.wanted.tasks
-    c.self.inside.cell.history c.self.inside.workers.items c.self.invariant.0 made c.in-Some.scheduler
+    (λ trace made. first_works trace (stage_of c.self.inside.course.settings c.self.inside.course.rounds c.self.inside.course.demand.wanted c.self.inside.course.begun c.self.inside.course.opened_at) c.self.inside.course.demand.wanted.tasks
+    c.self.inside.crew.cell.history c.self.inside.crew.workers.items c.self.invariant.0 made c.in-Some.scheduler
     (ap (λ (workers : List Worker). position has_work workers) (sym c.as_slice.ensures.value) ∙ sym c.first_at_work.ensures ∙ c.in-Some.is))
 
 pub returns-then-self-len-clause-run : goal.returns-then-self-len-clause-run
 returns-then-self-len-clause-run c =
-    let idle : HaveNoWork c.self.inside.workers.items =
-    idle_first c.self.inside.workers.items (ap (λ (workers : List Worker). position has_work workers) (sym c.as_slice.ensures.value) ∙ sym c.first_at_work.ensures ∙ c.in_default.is) in
-    let last : c.self.inside.begun ≡ length c.self.inside.rounds = c.if-self-len.true ∙ c.len.ensures in
+    let idle : HaveNoWork c.self.inside.crew.workers.items =
+    idle_first c.self.inside.crew.workers.items (ap (λ (workers : List Worker). position has_work workers) (sym c.as_slice.ensures.value) ∙ sym c.first_at_work.ensures ∙ c.in_default.is) in
+    let last : c.self.inside.course.begun ≡ length c.self.inside.course.rounds = c.if-self-len.true ∙ c.len.ensures in
     subst (λ (w : WorldState). (trace : TraceTables) → IsInRunOf w.stage trace → Lawful w.stage.settings trace w.history) c.self.view_is
-    (λ trace made. run_over trace (stage_of c.self.inside.settings c.self.inside.rounds c.self.inside.demand.wanted c.self.inside.begun c.self.inside.opened_at) c.self.inside.demand.wanted.tasks
-    c.self.inside.cell.history c.self.inside.workers.items c.self.invariant.0 made idle last)
+    (λ trace made. run_over trace (stage_of c.self.inside.course.settings c.self.inside.course.rounds c.self.inside.course.demand.wanted c.self.inside.course.begun c.self.inside.course.opened_at) c.self.inside.course.demand.wanted.tasks
+    c.self.inside.crew.cell.history c.self.inside.crew.workers.items c.self.invariant.0 made idle last)
 
 pub begin_round-requires-clause-no_work : goal.begin_round-requires-clause-no_work
 begin_round-requires-clause-no_work c =
     sym (ap (λ (w : WorldState). w.to_do) c.self.view_is)
-    ∙ none_to_do c.self.inside.workers.items
-    (idle_first c.self.inside.workers.items (ap (λ (workers : List Worker). position has_work workers) (sym c.as_slice.ensures.value) ∙ sym c.first_at_work.ensures ∙ c.in_default.is))
+    ∙ none_to_do c.self.inside.crew.workers.items
+    (idle_first c.self.inside.crew.workers.items (ap (λ (workers : List Worker). position has_work workers) (sym c.as_slice.ensures.value) ∙ sym c.first_at_work.ensures ∙ c.in_default.is))

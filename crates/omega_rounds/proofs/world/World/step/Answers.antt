@@ -32,26 +32,26 @@ leaves old new Idle is = is
 pub step-requires-clause-ready : goal.step-requires-clause-ready
 step-requires-clause-ready c =
     let known = knows c.args.scheduler _ _ c.self.view_is c.requires in
-    let here = stands c.self.inside.workers.items (schedulers c.self.inside.settings) c.args.scheduler c.index_mut-worker.result.now c.self.invariant.0.count known c.index_mut-worker.ensures.value in
-    ready_at c.self.inside.settings c.args.scheduler c.self.inside.cell.history c.index_mut-worker.result.now
+    let here = stands c.self.inside.crew.workers.items (schedulers c.self.inside.course.settings) c.args.scheduler c.index_mut-worker.result.now c.self.invariant.0.count known c.index_mut-worker.ensures.value in
+    ready_at c.self.inside.course.settings c.args.scheduler c.self.inside.crew.cell.history c.index_mut-worker.result.now
     (c.self.invariant.0.each_worker c.args.scheduler c.index_mut-worker.result.now here) c.self.invariant.0.range known
     (c.self.invariant.0.each_plan c.args.scheduler c.index_mut-worker.result.now here)
 
 pub invariant_of-self : goal.invariant_of-self
 invariant_of-self c =
     let known = knows c.args.scheduler _ _ c.self.view_is c.requires in
-    let here = stands c.self.inside.workers.items (schedulers c.self.inside.settings) c.args.scheduler c.index_mut-worker.result.now c.self.invariant.0.count known c.index_mut-worker.ensures.value in
-    let now = ready_for c.self.inside.settings c.args.scheduler c.self.inside.cell.history c.index_mut-worker.result.now
+    let here = stands c.self.inside.crew.workers.items (schedulers c.self.inside.course.settings) c.args.scheduler c.index_mut-worker.result.now c.self.invariant.0.count known c.index_mut-worker.ensures.value in
+    let now = ready_for c.self.inside.course.settings c.args.scheduler c.self.inside.crew.cell.history c.index_mut-worker.result.now
     (c.self.invariant.0.each_worker c.args.scheduler c.index_mut-worker.result.now here)
     c.step.new.cell.history c.step.new.self c.step.ensures.ready in
-    let stage = stage_of c.self.inside.settings c.self.inside.rounds c.self.inside.demand.wanted c.self.inside.begun c.self.inside.opened_at in (
-      world_kept stage c.self.inside.demand.wanted.tasks
-          c.self.inside.cell.history c.step.new.cell.history c.self.inside.workers.items c.args.scheduler c.index_mut-worker.result.now c.step.new.self c.self.invariant.0
+    let stage = stage_of c.self.inside.course.settings c.self.inside.course.rounds c.self.inside.course.demand.wanted c.self.inside.course.begun c.self.inside.course.opened_at in (
+      world_kept stage c.self.inside.course.demand.wanted.tasks
+          c.self.inside.crew.cell.history c.step.new.cell.history c.self.inside.crew.workers.items c.args.scheduler c.index_mut-worker.result.now c.step.new.self c.self.invariant.0
           here
           c.in_err-stepped.ensures.err c.in_err-stepped.ensures.desk c.in_err-stepped.ensures.synced now c.step.ensures.ready.plan,
-      were_quiet stage c.self.inside.demand.wanted.tasks c.self.inside.cell.history c.self.inside.workers.items c.self.invariant.0
-          c.self.inside.demand.open_jobs c.self.inside.demand.wanted c.step.new.cell.history
-          (goes_on_same c.self.inside.cell.history c.step.new.cell.history c.in_err-stepped.ensures.err) c.self.invariant.1,
+      were_quiet stage c.self.inside.course.demand.wanted.tasks c.self.inside.crew.cell.history c.self.inside.crew.workers.items c.self.invariant.0
+          c.self.inside.course.demand.open_jobs c.self.inside.course.demand.wanted c.step.new.cell.history
+          (goes_on_same c.self.inside.crew.cell.history c.step.new.cell.history c.in_err-stepped.ensures.err) c.self.invariant.1,
       c.step.ensures.indexes,
     )
 
@@ -59,30 +59,30 @@ pub returns-in_err-stepped-clause-err : goal.returns-in_err-stepped-clause-err
 returns-in_err-stepped-clause-err c =
     let known = knows c.args.scheduler _ _ c.self.view_is c.requires in
     on_err c.from_residual.result
-    (seen_as (stage_of c.self.inside.settings c.self.inside.rounds c.self.inside.demand.wanted c.self.inside.begun c.self.inside.opened_at) c.self.inside.demand.wanted.tasks
-    c.self.inside.cell.history c.step.new.cell.history c.self.inside.workers.items c.args.scheduler c.index_mut-worker.result.now c.step.new.self c.self.invariant.0
-    (stands c.self.inside.workers.items (schedulers c.self.inside.settings) c.args.scheduler c.index_mut-worker.result.now c.self.invariant.0.count known c.index_mut-worker.ensures.value)
+    (seen_as (stage_of c.self.inside.course.settings c.self.inside.course.rounds c.self.inside.course.demand.wanted c.self.inside.course.begun c.self.inside.course.opened_at) c.self.inside.course.demand.wanted.tasks
+    c.self.inside.crew.cell.history c.step.new.cell.history c.self.inside.crew.workers.items c.args.scheduler c.index_mut-worker.result.now c.step.new.self c.self.invariant.0
+    (stands c.self.inside.crew.workers.items (schedulers c.self.inside.course.settings) c.args.scheduler c.index_mut-worker.result.now c.self.invariant.0.count known c.index_mut-worker.ensures.value)
     c.in_err-stepped.ensures.err c.in_err-stepped.ensures.desk c.in_err-stepped.ensures.synced
     ∙ c.self.view_is)
 
 pub invariant_of-self-2 : goal.invariant_of-self-2
 invariant_of-self-2 c =
     let known = knows c.args.scheduler _ _ c.self.view_is c.requires in
-    let here = stands c.self.inside.workers.items (schedulers c.self.inside.settings) c.args.scheduler c.index_mut-worker.result.now c.self.invariant.0.count known c.index_mut-worker.ensures.value in
-    let now = ready_for c.self.inside.settings c.args.scheduler c.self.inside.cell.history c.index_mut-worker.result.now
+    let here = stands c.self.inside.crew.workers.items (schedulers c.self.inside.course.settings) c.args.scheduler c.index_mut-worker.result.now c.self.invariant.0.count known c.index_mut-worker.ensures.value in
+    let now = ready_for c.self.inside.course.settings c.args.scheduler c.self.inside.crew.cell.history c.index_mut-worker.result.now
     (c.self.invariant.0.each_worker c.args.scheduler c.index_mut-worker.result.now here)
     c.step.new.cell.history c.step.new.self c.step.ensures.ready in
-    let did = steps_for c.self.inside.settings c.args.scheduler c.self.inside.cell.history c.index_mut-worker.result.now
+    let did = steps_for c.self.inside.course.settings c.args.scheduler c.self.inside.crew.cell.history c.index_mut-worker.result.now
     (c.self.invariant.0.each_worker c.args.scheduler c.index_mut-worker.result.now here)
     c.step.new.cell.history c.step.new.self c.in_ok-stepped.stepped c.in_ok-stepped.ensures.step in
-    let stage = stage_of c.self.inside.settings c.self.inside.rounds c.self.inside.demand.wanted c.self.inside.begun c.self.inside.opened_at in (
-      world_after stage c.self.inside.demand.wanted.tasks
-          c.self.inside.cell.history c.step.new.cell.history c.self.inside.workers.items c.args.scheduler c.index_mut-worker.result.now c.step.new.self c.self.invariant.0
+    let stage = stage_of c.self.inside.course.settings c.self.inside.course.rounds c.self.inside.course.demand.wanted c.self.inside.course.begun c.self.inside.course.opened_at in (
+      world_after stage c.self.inside.course.demand.wanted.tasks
+          c.self.inside.crew.cell.history c.step.new.cell.history c.self.inside.crew.workers.items c.args.scheduler c.index_mut-worker.result.now c.step.new.self c.self.invariant.0
           here
           c.in_ok-stepped.stepped known now c.step.ensures.ready.plan did,
-      were_quiet stage c.self.inside.demand.wanted.tasks c.self.inside.cell.history c.self.inside.workers.items c.self.invariant.0
-          c.self.inside.demand.open_jobs c.self.inside.demand.wanted c.step.new.cell.history
-          (goes_on_step c.self.inside.settings c.args.scheduler c.self.inside.cell.history c.step.new.cell.history c.index_mut-worker.result.now c.step.new.self
+      were_quiet stage c.self.inside.course.demand.wanted.tasks c.self.inside.crew.cell.history c.self.inside.crew.workers.items c.self.invariant.0
+          c.self.inside.course.demand.open_jobs c.self.inside.course.demand.wanted c.step.new.cell.history
+          (goes_on_step c.self.inside.course.settings c.args.scheduler c.self.inside.crew.cell.history c.step.new.cell.history c.index_mut-worker.result.now c.step.new.self
           c.in_ok-stepped.stepped did) c.self.invariant.1,
       c.step.ensures.indexes,
     )
@@ -90,30 +90,30 @@ invariant_of-self-2 c =
 pub returns-clause-step : goal.returns-clause-step
 returns-clause-step c =
     let known = knows c.args.scheduler _ _ c.self.view_is c.requires in
-    let stage = stage_of c.self.inside.settings c.self.inside.rounds c.self.inside.demand.wanted c.self.inside.begun c.self.inside.opened_at in
-    let here = stands c.self.inside.workers.items (schedulers c.self.inside.settings) c.args.scheduler c.index_mut-worker.result.now c.self.invariant.0.count known c.index_mut-worker.ensures.value in
-    let did = steps_for c.self.inside.settings c.args.scheduler c.self.inside.cell.history c.index_mut-worker.result.now
+    let stage = stage_of c.self.inside.course.settings c.self.inside.course.rounds c.self.inside.course.demand.wanted c.self.inside.course.begun c.self.inside.course.opened_at in
+    let here = stands c.self.inside.crew.workers.items (schedulers c.self.inside.course.settings) c.args.scheduler c.index_mut-worker.result.now c.self.invariant.0.count known c.index_mut-worker.ensures.value in
+    let did = steps_for c.self.inside.course.settings c.args.scheduler c.self.inside.crew.cell.history c.index_mut-worker.result.now
     (c.self.invariant.0.each_worker c.args.scheduler c.index_mut-worker.result.now here)
     c.step.new.cell.history c.step.new.self c.in_ok-stepped.stepped c.in_ok-stepped.ensures.step in
-    subst (λ (w : WorldState). (trace : TraceTables) → IsInRunOf w.stage trace → StepsOn trace w c.args.scheduler (state_at stage c.step.new.cell.history (set c.self.inside.workers.items c.args.scheduler c.step.new.self)) c.in_ok-stepped.stepped) c.self.view_is
-    (λ trace made. step_is c.self.inside.settings c.self.inside.cell.history c.step.new.cell.history c.args.scheduler c.index_mut-worker.result.now c.step.new.self
-    trace (rows_begun stage) c.self.inside.opened_at c.self.inside.workers.items here c.in_ok-stepped.stepped did
+    subst (λ (w : WorldState). (trace : TraceTables) → IsInRunOf w.stage trace → StepsOn trace w c.args.scheduler (state_at stage c.step.new.cell.history (set c.self.inside.crew.workers.items c.args.scheduler c.step.new.self)) c.in_ok-stepped.stepped) c.self.view_is
+    (λ trace made. step_is c.self.inside.course.settings c.self.inside.crew.cell.history c.step.new.cell.history c.args.scheduler c.index_mut-worker.result.now c.step.new.self
+    trace (rows_begun stage) c.self.inside.course.opened_at c.self.inside.crew.workers.items here c.in_ok-stepped.stepped did
     ((c.self.invariant.0.lawful trace made).desks c.args.scheduler c.index_mut-worker.result.now here))
 
 pub returns-clause-to_do : goal.returns-clause-to_do
 returns-clause-to_do c =
     let known = knows c.args.scheduler _ _ c.self.view_is c.requires in
-    let here = stands c.self.inside.workers.items (schedulers c.self.inside.settings) c.args.scheduler c.index_mut-worker.result.now c.self.invariant.0.count known c.index_mut-worker.ensures.value in
-    let now = ready_for c.self.inside.settings c.args.scheduler c.self.inside.cell.history c.index_mut-worker.result.now
+    let here = stands c.self.inside.crew.workers.items (schedulers c.self.inside.course.settings) c.args.scheduler c.index_mut-worker.result.now c.self.invariant.0.count known c.index_mut-worker.ensures.value in
+    let now = ready_for c.self.inside.course.settings c.args.scheduler c.self.inside.crew.cell.history c.index_mut-worker.result.now
     (c.self.invariant.0.each_worker c.args.scheduler c.index_mut-worker.result.now here)
     c.step.new.cell.history c.step.new.self c.step.ensures.ready in
-    let did = steps_for c.self.inside.settings c.args.scheduler c.self.inside.cell.history c.index_mut-worker.result.now
+    let did = steps_for c.self.inside.course.settings c.args.scheduler c.self.inside.crew.cell.history c.index_mut-worker.result.now
     (c.self.invariant.0.each_worker c.args.scheduler c.index_mut-worker.result.now here)
     c.step.new.cell.history c.step.new.self c.in_ok-stepped.stepped c.in_ok-stepped.ensures.step in
-    let stage = stage_of c.self.inside.settings c.self.inside.rounds c.self.inside.demand.wanted c.self.inside.begun c.self.inside.opened_at in
-    let after = state_at stage c.step.new.cell.history (set c.self.inside.workers.items c.args.scheduler c.step.new.self) in
+    let stage = stage_of c.self.inside.course.settings c.self.inside.course.rounds c.self.inside.course.demand.wanted c.self.inside.course.begun c.self.inside.course.opened_at in
+    let after = state_at stage c.step.new.cell.history (set c.self.inside.crew.workers.items c.args.scheduler c.step.new.self) in
     subst (λ (w : WorldState). LeavesToDo w after c.in_ok-stepped.stepped) c.self.view_is
-    (leaves (state_at stage c.self.inside.cell.history c.self.inside.workers.items) after c.in_ok-stepped.stepped
-    (to_do_after c.self.inside.settings c.self.inside.cell.history c.step.new.cell.history c.args.scheduler c.index_mut-worker.result.now c.step.new.self
-    c.in_ok-stepped.stepped c.self.inside.workers.items here c.self.invariant.0.range.tries.0
+    (leaves (state_at stage c.self.inside.crew.cell.history c.self.inside.crew.workers.items) after c.in_ok-stepped.stepped
+    (to_do_after c.self.inside.course.settings c.self.inside.crew.cell.history c.step.new.cell.history c.args.scheduler c.index_mut-worker.result.now c.step.new.self
+    c.in_ok-stepped.stepped c.self.inside.crew.workers.items here c.self.invariant.0.range.tries.0
     (c.self.invariant.0.each_worker c.args.scheduler c.index_mut-worker.result.now here) now did))

@@ -1,7 +1,7 @@
 use Rattle.std.proofs.Common.{◌≡◌, ◌++◌, false}
 use Rattle.std.specs.Prelude.{All, map, vec_capacity}
 use Rattle.std.specs.Vec.Iter.{into_iter_items}
-use Rattle.omega_rounds.proofs.threads.players_of.Given as goal
+use Rattle.omega_rounds.proofs.threads.paired.Given as goal
 
 -- the players so far have the workers and the passes so far, and as many passes remain as workers
 abbrev pub invariant-loop-worker : goal.invariant-loop-worker

@@ -1,0 +1,30 @@
+//! How far a world has come in the run of its trace.
+
+use crate::opening::Demand;
+use omega_model::{Rounds, Settings};
+
+/// The rounds of a trace under these settings, and what the trace asks for.
+///
+/// It writes its `Drop` out, so that whoever lets it go cites one function.
+pub(crate) struct Course {
+    pub settings: Settings,
+    /// All rounds of the trace, and how many of them have begun.
+    pub rounds: Rounds,
+    pub begun: usize,
+    /// The place in the history after the rows of the last round that has begun.
+    pub opened_at: usize,
+    /// The jobs that aren't open in it were quiet at `opened_at`.
+    pub demand: Demand,
+}
+
+impl Drop for Course {
+    fn drop(self) {
+        let Course {
+            settings: _,
+            rounds: _,
+            begun: _,
+            opened_at: _,
+            demand: _,
+        } = self;
+    }
+}
