@@ -8,6 +8,7 @@
 #![tactic(auto)]
 
 mod clock;
+mod forked;
 mod kept;
 mod opening;
 mod planned;
@@ -21,6 +22,7 @@ mod together;
 mod turns;
 mod worker;
 mod world;
+mod worth;
 
 pub use clock::in_time;
 pub use kept::ResumeRefusal;

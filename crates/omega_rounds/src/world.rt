@@ -17,16 +17,17 @@ ghost use Rattle.omega_rounds.specs.Going.{GoesOn, IsOverAtLast, LeavesToDo, Mov
 ghost use Rattle.omega_rounds.specs.InTime.{HasWishesLeft, IsNoneWithoutWork, rows_time};
 ghost use Rattle.omega_rounds.specs.Keeping.{IsNew, LawfulWorld};
 ghost use Rattle.omega_rounds.specs.Opening.{AreNewWorkers};
-ghost use Rattle.omega_rounds.specs.Playing.{IsAtStart, IsInSomeRun};
+ghost use Rattle.omega_rounds.specs.Playing.{IsAtStart, IsInSomeRun, SyncsTurn};
 ghost use Rattle.omega_rounds.specs.Stages.{AllHaveBegun, IsInRunOf, first_stage, rows_begun, world_of};
 
+use crate::forked::{PieceIndexes, indexes_for, sync_pieces};
 use crate::opening::{Demand, first_at_work, open_round};
 use crate::reopening::reopen_since;
 use crate::steps::{RoundStep, Stepped};
 use crate::threads::play_shared;
 use crate::worker::Worker;
+use crate::worth::are_worth_threads;
 use omega_cell::{Cell, Effects};
-use omega_copy::Indexes;
 use omega_feed::{OpenJobs, WaitingTasks, Wanted, feed, rounds};
 use omega_io::Gate;
 use omega_model::{Entries, Entry, NoMemory, Round, Rounds, Settings, TraceTables};
@@ -55,14 +56,13 @@ pub struct World {
     demand: Demand,
     cell: Cell,
     workers: Vec<Worker>,
-    /// What a plan needs beside the cell's board.
-    indexes: Indexes,
+    indexes: PieceIndexes,
 }
 
 impl Model for World {
     ghost use Rattle.std.specs.Prelude.{map};
     ghost use Rattle.std.specs.List.{sum_by};
-    ghost use Rattle.omega_copy.specs.Indexes.{AreIndexesOf};
+    ghost use Rattle.omega_rounds.specs.Forked.{AreAllIndexesOf};
     ghost use Rattle.omega_rounds.specs.Keeping.{IsWorld, WereQuiet};
     ghost use Rattle.omega_rounds.specs.Workers.{synced_of, to_do_of};
     ghost use Rattle.omega_rounds.specs.Stages.{WorldState, stage_of};
@@ -73,7 +73,7 @@ impl Model for World {
 
     ghost invariant = { λ w. IsWorld (stage_of w.settings w.rounds w.demand.wanted w.begun w.opened_at) w.demand.wanted.tasks w.cell.history w.workers.items
         × WereQuiet w.demand.open_jobs w.demand.wanted w.opened_at w.cell.history
-        × AreIndexesOf w.cell.history w.indexes };
+        × AreAllIndexesOf w.cell.history w.indexes };
 }
 
 impl World {
@@ -101,7 +101,7 @@ impl World {
             },
             cell: Cell::new(alloc),
             workers,
-            indexes: Indexes::new(alloc),
+            indexes: PieceIndexes::new(alloc),
         })
     }
 
@@ -235,8 +235,46 @@ impl World {
     {
         let alloc = self.alloc;
         let worker = &mut self.workers[scheduler as usize];
-        let stepped = worker.step(alloc, &mut self.indexes, &mut self.cell)?;
+        let stepped = worker.step(alloc, &mut self.indexes.first, &mut self.cell)?;
         Ok(stepped)
+    }
+
+    /// From now on the schedulers may be let plan at the same time in so many further pieces.
+    pub(crate) fn plan_in_pieces(&mut self, further: usize) -> Result<(), NoMemory>
+        ensures { self.new ≡ self.old }
+    {
+        self.indexes.further = indexes_for(self.alloc, further)?;
+        Ok(())
+    }
+
+    /// Whether the plans that are to be made now are worth threads, and the world may make them so. Costs a
+    /// look at a few machines for each scheduler whose first wish has constraints.
+    pub(crate) fn is_worth_threads(&self) -> bool {
+        self.indexes.further.len() > 0
+            && are_worth_threads(
+                self.workers.as_slice(),
+                &self.indexes.first,
+                self.cell.board(),
+            )
+    }
+
+    /// Lets all schedulers that have work and haven't synced do so, at the same time in as many pieces as the
+    /// world has indexes for, each on a thread of its own where one can be made. Returns where these do, which
+    /// wait for nobody. Where memory runs out some have synced.
+    pub(crate) fn sync_together<R: Threads + Sync>(&mut self, rt: &R) -> Result<(), NoMemory>
+        requires sync { IsSync R.row }
+        ensures stage { self.new.stage ≡ self.old.stage }
+        ensures synced { OnOk result (SyncsTurn self.old self.new) }
+        ensures to_do { self.new.to_do ≡ self.old.to_do }
+    {
+        sync_pieces(
+            rt,
+            self.alloc,
+            &self.cell,
+            &mut self.workers,
+            &mut self.indexes.first,
+            &mut self.indexes.further,
+        )
     }
 
     /// Plays the round that is under way to its end, with a thread for each scheduler. A history of

@@ -121,14 +121,16 @@ fn a_scheduler_step_by_step(rt: HostRuntime) -> Result<(), NoMemory> {
 }
 
 /// How many entries the history has at the end, where the schedulers take turns.
-fn entries_in_turns(alloc: Global) -> Result<usize, NoMemory> {
-    let world = in_turns(world(alloc, &Settings::default())?)?;
+fn entries_in_turns<R: Threads + Sync>(rt: &R, alloc: Global) -> Result<usize, NoMemory>
+    requires { IsSync R.row }
+{
+    let world = in_turns(rt, world(alloc, &Settings::default())?)?;
     Ok(world.into_history().len())
 }
 
 #[test]
 fn schedulers_in_turns(rt: HostRuntime) -> Result<(), NoMemory> {
-    assert_eq!(rt; entries_in_turns(rt.alloc())?, 4);
+    assert_eq!(rt; entries_in_turns(&rt, rt.alloc())?, 4);
     Ok(())
 }
 
