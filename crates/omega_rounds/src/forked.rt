@@ -1,5 +1,5 @@
 //! Plans of one turn that are made at the same time, all on the one board that the schedulers share.
-ghost use Rattle.std.specs.Prelude.{IfOk, List, OnOk};
+ghost use Rattle.std.specs.Prelude.{◌≤◌, IfOk, List, OnOk};
 ghost use Rattle.std.specs.Thread.{IsSync};
 ghost use Rattle.omega_copy.specs.Indexes.{AreIndexesOf};
 ghost use Rattle.omega_model.specs.declared.entries.Entry.{Entry};
@@ -23,6 +23,8 @@ const MOST_PIECES: usize = 8;
 pub(crate) struct PieceIndexes {
     pub first: Indexes,
     pub further: Vec<Indexes>,
+    /// In how many pieces plans are made, once that was asked for.
+    pub pieces: Option<usize>,
 }
 
 impl PieceIndexes {
@@ -33,26 +35,43 @@ impl PieceIndexes {
         PieceIndexes {
             first: Indexes::new(alloc),
             further: Vec::new(alloc),
+            pieces: None,
         }
+    }
+
+    /// Makes indexes for each further piece, if that hasn't been done. They are those of the empty board, and
+    /// go on to any other when they are used.
+    pub fn prepare<R: Threads>(&mut self, rt: &R, alloc: Global) -> Result<(), NoMemory>
+        ensures { (history : List Entry) → AreAllIndexesOf history self.old → AreAllIndexesOf history self.new }
+    {
+        if self.pieces.is_some() {
+            return Ok(());
+        }
+        let pieces = pieces_on(rt);
+        self.further = indexes_for(alloc, pieces - 1)?;
+        self.pieces = Some(pieces);
+        Ok(())
     }
 }
 
-/// The indexes of the empty board for so many pieces.
-pub(crate) fn indexes_for(alloc: Global, pieces: usize) -> Result<Vec<Indexes>, NoMemory>
+/// The indexes of the empty board, so many times.
+fn indexes_for(alloc: Global, count: usize) -> Result<Vec<Indexes>, NoMemory>
     ensures { IfOk result (λ indexes. (history : List Entry) → Each (AreIndexesOf history) indexes.items) }
 {
     let mut all = Vec::new(alloc);
-    for _ in 0..pieces {
+    for _ in 0..count {
         all.push(Indexes::new(alloc))?;
     }
     Ok(all)
 }
 
-/// In how many further pieces the workers of a turn may be cut: none where there is one processor.
-pub(crate) fn further_pieces<R: Threads>(rt: &R) -> usize {
+/// In how many pieces plans are made: in one where there is one processor.
+fn pieces_on<R: Threads>(rt: &R) -> usize
+    ensures { 1 ≤ result }
+{
     match available_parallelism(rt) {
-        Ok(count) if count.get() > 1 => MOST_PIECES - 1,
-        _ => 0,
+        Ok(count) if count.get() > 1 => MOST_PIECES,
+        _ => 1,
     }
 }
 

@@ -12,7 +12,6 @@ ghost use Rattle.omega_rounds.specs.Resuming.{BeginsAgreed, IsPastEnd, LeavesKep
 ghost use Rattle.omega_rounds.specs.Stages.{AllHaveBegun, IsInRunOf};
 ghost use Rattle.omega_rounds.specs.declared.kept.ResumeRefusal.TheVariants.{KeepFault};
 
-use crate::forked::further_pieces;
 use crate::kept::{ResumeRefusal, take_round};
 use crate::steps::RoundStep;
 use crate::turns::play_round;
@@ -57,7 +56,6 @@ pub fn resume_turns<R: Threads + Sync, P: Keeper>(
     ensures later { P.faults keeper.old ≤ P.faults keeper.new }
 {
     let mut world = world;
-    world.plan_in_pieces(further_pieces(rt))?;
     loop {
         let from = world.history().len();
         let (mut next, step) = world.next_round()?;

@@ -8,7 +8,6 @@ ghost use Rattle.omega_model.specs.declared.rows.TraceTables.{TraceTables};
 ghost use Rattle.omega_rounds.specs.Playing.{CommitsTurn, PlaysRound, SyncsTurn, TakesTurnFrom};
 ghost use Rattle.omega_rounds.specs.Stages.{AllHaveBegun, IsInRunOf};
 
-use crate::forked::further_pieces;
 use crate::steps::RoundStep;
 use crate::world::World;
 use omega_model::NoMemory;
@@ -38,7 +37,6 @@ pub fn in_turns<R: Threads + Sync>(rt: &R, world: World) -> Result<World, NoMemo
         → other ≡ after.history) }
 {
     let mut world = world;
-    world.plan_in_pieces(further_pieces(rt))?;
     loop {
         let (mut next, step) = world.next_round()?;
         match step {

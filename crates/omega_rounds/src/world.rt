@@ -20,7 +20,7 @@ ghost use Rattle.omega_rounds.specs.Opening.{AreNewWorkers};
 ghost use Rattle.omega_rounds.specs.Playing.{IsAtStart, IsInSomeRun, SyncsTurn};
 ghost use Rattle.omega_rounds.specs.Stages.{AllHaveBegun, IsInRunOf, first_stage, rows_begun, world_of};
 
-use crate::forked::{PieceIndexes, indexes_for, sync_pieces};
+use crate::forked::{PieceIndexes, sync_pieces};
 use crate::opening::{Demand, first_at_work, open_round};
 use crate::reopening::reopen_since;
 use crate::steps::{RoundStep, Stepped};
@@ -239,18 +239,10 @@ impl World {
         Ok(stepped)
     }
 
-    /// From now on the schedulers may be let plan at the same time in so many further pieces.
-    pub(crate) fn plan_in_pieces(&mut self, further: usize) -> Result<(), NoMemory>
-        ensures { self.new ≡ self.old }
-    {
-        self.indexes.further = indexes_for(self.alloc, further)?;
-        Ok(())
-    }
-
-    /// Whether the plans that are to be made now are worth threads, and the world may make them so. Costs a
+    /// Whether the plans that are to be made now are worth threads. No, where there is one processor. Costs a
     /// look at a few machines for each scheduler whose first wish has constraints.
     pub(crate) fn is_worth_threads(&self) -> bool {
-        self.indexes.further.len() > 0
+        self.indexes.pieces != Some(1)
             && are_worth_threads(
                 self.workers.as_slice(),
                 &self.indexes.first,
@@ -258,15 +250,16 @@ impl World {
             )
     }
 
-    /// Lets all schedulers that have work and haven't synced do so, at the same time in as many pieces as the
-    /// world has indexes for, each on a thread of its own where one can be made. Returns where these do, which
-    /// wait for nobody. Where memory runs out some have synced.
+    /// Lets all schedulers that have work and haven't synced do so, at the same time in some pieces, each on a
+    /// thread of its own where one can be made. Returns where these do, which wait for nobody. Where memory
+    /// runs out some have synced.
     pub(crate) fn sync_together<R: Threads + Sync>(&mut self, rt: &R) -> Result<(), NoMemory>
         requires sync { IsSync R.row }
         ensures stage { self.new.stage ≡ self.old.stage }
         ensures synced { OnOk result (SyncsTurn self.old self.new) }
         ensures to_do { self.new.to_do ≡ self.old.to_do }
     {
+        self.indexes.prepare(rt, self.alloc)?;
         sync_pieces(
             rt,
             self.alloc,

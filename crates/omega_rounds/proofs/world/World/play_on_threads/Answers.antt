@@ -6,7 +6,7 @@ use Rattle.omega_rounds.specs.Opening.{HaveNoWork, has_work}
 use Rattle.omega_rounds.specs.Stages.{WorldState, stage_of, world_of}
 use Rattle.omega_rounds.specs.declared.worker.Worker.{Worker}
 use Rattle.omega_rounds.proofs.ClosedRounds.{closed_done, world_closed}
-use Rattle.omega_rounds.proofs.PlansKept.{indexes_on}
+use Rattle.omega_rounds.proofs.PlansKept.{all_indexes_on}
 use Rattle.omega_rounds.proofs.Reopened.{were_quiet}
 use Rattle.omega_rounds.proofs.WorldBegins.{nobody_works}
 use Rattle.omega_rounds.proofs.WorldGoes.{idle_found}
@@ -22,7 +22,7 @@ invariant_of-result g c = (
   were_quiet (stage_of c.self.inside.settings c.self.inside.rounds c.self.inside.demand.wanted c.self.inside.begun c.self.inside.opened_at) c.self.inside.demand.wanted.tasks
       c.self.inside.cell.history c.self.inside.workers.items c.self.invariant.0 c.self.inside.demand.open_jobs c.self.inside.demand.wanted c.in_ok-cell.cell.history
       c.in_ok-cell.ensures.back.begins c.self.invariant.1,
-  indexes_on c.self.inside.indexes c.self.inside.cell.history c.in_ok-cell.cell.history c.in_ok-cell.ensures.back.begins c.self.invariant.2,
+  all_indexes_on c.self.inside.indexes c.self.inside.cell.history c.in_ok-cell.cell.history c.in_ok-cell.ensures.back.begins c.self.invariant.2,
 )
 
 pub returns-then-is_none-clause-done : goal.returns-then-is_none-clause-done
