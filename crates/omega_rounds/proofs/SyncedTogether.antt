@@ -93,7 +93,7 @@ module _ (stage : Stage) (tasks : List WantedTask) (history : List Entry) (olds 
   -- the workers of a world are ready
   pub are_ready : AreReady history olds
   are_ready =
-      each_place olds (λ number worker here.
+      each_place (λ worker. IsReady worker.desk history worker) olds (λ number worker here.
       ready_at stage.settings number history worker (world.each_worker number worker here) world.range
       (let all : length olds ≡ schedulers stage.settings = world.count in let within : number < length olds = slice_get_within olds number worker here in omega (arith, all, within))
       (world.each_plan number worker here))
@@ -150,10 +150,10 @@ module _ (stage : Stage) (tasks : List WantedTask) (history : List Entry) (olds 
       run = elim was.run [
         | inl none ↦ inl (none_syncs trace was none)
         | inr begun ↦ inr (record {
-              in_round = record { underway = begun.in_round.underway; synced = between trace begun };
-              count = begun.count;
-              rows = begun.rows;
-            })
+          in_round = record { underway = begun.in_round.underway; synced = between trace begun };
+          count = begun.count;
+          rows = begun.rows;
+        })
       ];
       desks = desk_after trace was;
     }
@@ -190,7 +190,7 @@ module _ (stage : Stage) (tasks : List WantedTask) (history : List Entry) (olds 
               ∙ elim old.1.1.does [
                 | inl before ↦
                     let unsynced : synced_of new ≡ None = before.synced ∙ sym (seen_at synced_of olds scheduler old.0 old.1.0) ∙ nobody scheduler in
-                    let idle : old.0.desk.requests ≡ [] = sym (ap (λ (d : DeskState). d.requests) before.desk) ∙ each_get news scheduler new due some.2 unsynced in
+                    let idle : old.0.desk.requests ≡ [] = sym (ap (λ (d : DeskState). d.requests) before.desk) ∙ each_get IsNotDue news scheduler new due some.2 unsynced in
                     let clash : Some [] ≡ Some (request ∷ works.0) = sym (left_there scheduler old.0 old.1.0 ∙ ap (λ (l : List Request). Some l) idle) ∙ works.1 in
                     absurd (cc)
                 | inr syncs ↦ syncs.seen_all

@@ -118,7 +118,10 @@ impl Worker {
         ensures indexes { AreIndexesOf cell.now.history indexes.new }
         ensures synced { OnOk result (IsNotDue self.new) }
     {
-        if self.synced.is_some() || self.desk.present().is_none() {
+        if self.desk.present().is_none() {
+            return Ok(());
+        }
+        if self.synced.is_some() {
             return Ok(());
         }
         self.sync(alloc, indexes, cell)?;
