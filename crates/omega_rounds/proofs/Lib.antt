@@ -1,4 +1,5 @@
 mod Crossing
+mod SyncedTogether
 mod PlayersTogether
 pub mod TurnsTaken
 pub mod Taking

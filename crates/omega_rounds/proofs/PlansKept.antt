@@ -15,6 +15,7 @@ use Rattle.omega_model.specs.declared.rows.TraceTables.{TraceTables}
 use Rattle.omega_model.specs.declared.settings.Settings.{Settings}
 use Rattle.omega_model.specs.Cell.{Cell}
 use Rattle.omega_model.specs.Lawful.{opened}
+use Rattle.omega_running.proofs.Lists.{each_map}
 use Rattle.omega_running.specs.Order.{Each}
 use Rattle.omega_copy.specs.Indexes.{AreIndexesOf}
 use Rattle.omega_copy.specs.Levels.{Tells}
@@ -24,9 +25,11 @@ use Rattle.omega_desk.specs.Desks.{DeskState}
 use Rattle.omega_lock.specs.Lists.{StartsWith}
 use Rattle.omega_shared.specs.Commits.{GoesOnWithout}
 use Rattle.omega_laws.specs.NextCommit.{attempt}
+use Rattle.omega_rounds.specs.Forked.{AreAllIndexesOf}
 use Rattle.omega_rounds.specs.Plans.{HasPlan, HasPlanAfter, IsPlan, IsReady}
 use Rattle.omega_rounds.specs.Workers.{IsWorker}
 use Rattle.omega_rounds.specs.WorkerSteps.{WorkerSteps}
+use Rattle.omega_rounds.specs.declared.forked.PieceIndexes.{PieceIndexes}
 use Rattle.omega_rounds.specs.declared.plans.Planned.{Planned}
 use Rattle.omega_rounds.specs.declared.worker.Worker.{Worker}
 use Rattle.omega_rounds.specs.declared.steps.Stepped.{Stepped}
@@ -55,6 +58,23 @@ pub indexes_opened : (trace : TraceTables) (rows : List Row) (start : List Entry
 indexes_opened trace rows start round indexes are =
     stays_opened (λ history. AreIndexesOf history indexes)
     (λ history entry none here. indexes_on indexes history (history ++ entry ∷ []) (entry ∷ [], refl) here) trace rows start round are
+
+-- so are those of some pieces, and those of all
+pub further_on : (further : List Indexes) (before after : List Entry) → StartsWith after before → Each (AreIndexesOf before) further → Each (AreIndexesOf after) further
+further_on further before after on are = each_map (AreIndexesOf before) (AreIndexesOf after) (λ one. indexes_on one before after on) further are
+
+pub all_indexes_on : (indexes : PieceIndexes) (before after : List Entry) → StartsWith after before → AreAllIndexesOf before indexes → AreAllIndexesOf after indexes
+all_indexes_on indexes before after on are = record {
+  first = indexes_on indexes.first before after on are.first;
+  further = further_on indexes.further.items before after on are.further;
+}
+
+pub all_indexes_opened : (trace : TraceTables) (rows : List Row) (start : List Entry) (round : Round) (indexes : PieceIndexes) → AreAllIndexesOf start indexes
+    → AreAllIndexesOf (opened trace rows start round).history indexes
+all_indexes_opened trace rows start round indexes are = record {
+  first = indexes_opened trace rows start round indexes.first are.first;
+  further = each_map (AreIndexesOf start) (AreIndexesOf (opened trace rows start round).history) (indexes_opened trace rows start round) indexes.further.items are.further;
+}
 
 -- who hasn't synced needs no plan
 pub plan_none : (history : List Entry) (worker : Worker) → worker.synced ≡ None → HasPlan history worker

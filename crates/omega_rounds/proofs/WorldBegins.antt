@@ -27,12 +27,12 @@ use Rattle.omega_model.specs.declared.rows.Round.{Round}
 use Rattle.omega_model.specs.declared.rows.TraceTables.{TraceTables}
 use Rattle.omega_model.specs.declared.settings.Settings.{Settings}
 use Rattle.omega_model.specs.declared.wishes.Request.{Request}
-use Rattle.omega_copy.specs.Indexes.{AreIndexesOf}
-use Rattle.omega_copy.specs.declared.indexes.Indexes.{Indexes}
 use Rattle.omega_copy.specs.Copies.{CopyOf, CopyState}
 use Rattle.omega_desk.specs.Counts.{count_of}
 use Rattle.omega_desk.specs.Desks.{DeskState, left_at, still_tried}
 use Rattle.omega_rounds.specs.AttemptsLeft.{attempts_left}
+use Rattle.omega_rounds.specs.Forked.{AreAllIndexesOf}
+use Rattle.omega_rounds.specs.declared.forked.PieceIndexes.{PieceIndexes}
 use Rattle.omega_laws.specs.InRound.{RoundIsOver, rows_now}
 use Rattle.omega_rounds.specs.Keeping.{HasBegun, HasNotBegun, IsLawful, IsWorld, world_at}
 use Rattle.omega_laws.specs.NextCommit.{NobodyHasWork}
@@ -41,7 +41,7 @@ use Rattle.omega_rounds.specs.Playing.{IsAtStart}
 use Rattle.omega_rounds.specs.Workers.{IsDeskOf, IsRoutedTo, IsWorker, synced_of, to_do_of, SyncedWithin}
 use Rattle.omega_rounds.specs.Stages.{IsInRunOf, Source, Stage, next_stage, rows_begun, stage_of}
 use Rattle.omega_rounds.specs.declared.worker.Worker.{Worker}
-use Rattle.omega_rounds.proofs.PlansKept.{indexes_opened, plan_none}
+use Rattle.omega_rounds.proofs.PlansKept.{all_indexes_opened, plan_none}
 use Rattle.omega_rounds.proofs.OpenedEntries.{commits_opened, copy_opened, failed_opened}
 use Rattle.omega_laws.proofs.Places.{take_next}
 use Rattle.omega_rounds.proofs.Requested.{open_own, requests_own}
@@ -191,10 +191,10 @@ module _ (settings : Settings) (all : List Round) (asked : Asked) (begun old_pla
     nobody_later = seen_none synced_of new (λ number worker here. (begins.each number worker here).1.1.synced)
 
     -- indexes of the history are so still
-    pub indexes_later : (indexes : Indexes) → AreIndexesOf before indexes → AreIndexesOf after indexes
+    pub indexes_later : (indexes : PieceIndexes) → AreAllIndexesOf before indexes → AreAllIndexesOf after indexes
     indexes_later indexes are =
-        subst (λ (h : List Entry). AreIndexesOf h indexes) (sym (after_is world.made.0 world.made.1))
-        (indexes_opened world.made.0 (rows_begun stage) before round indexes are)
+        subst (λ (h : List Entry). AreAllIndexesOf h indexes) (sym (after_is world.made.0 world.made.1))
+        (all_indexes_opened world.made.0 (rows_begun stage) before round indexes are)
 
     -- the round of the definition begins
     pub begins_round : (trace : TraceTables) → IsInRunOf stage trace → BeginsRound trace (rows_begun stage) round (world_at before old) (world_at after new)

@@ -4,6 +4,7 @@ pub mod AttemptsLeft
 pub mod Stages
 pub mod Workers
 pub mod Keeping
+pub mod Forked
 pub mod Going
 pub mod WorkerSteps
 pub mod Plans

@@ -7,10 +7,10 @@ ghost use Rattle.omega_rounds.specs.Closed.{AreBack};
 ghost use Rattle.omega_rounds.specs.Workers.{IsWorker};
 ghost use Rattle.omega_rounds.specs.declared.worker.Worker.{Worker};
 
+use crate::forked::PieceIndexes;
 use crate::threads::{play_shared, turns_for};
 use crate::worker::Worker;
 use omega_cell::Cell;
-use omega_copy::Indexes;
 use omega_io::Gate;
 use omega_model::{NoMemory, Settings};
 use std::alloc::Global;
@@ -24,7 +24,7 @@ pub(crate) struct Crew {
     pub cell: Cell,
     pub workers: Vec<Worker>,
     /// What a plan needs beside the cell's board.
-    pub indexes: Indexes,
+    pub indexes: PieceIndexes,
 }
 
 impl Drop for Crew {

@@ -10,6 +10,7 @@
 mod clock;
 mod course;
 mod crew;
+mod forked;
 mod kept;
 mod opening;
 mod planned;
@@ -23,6 +24,7 @@ mod together;
 mod turns;
 mod worker;
 mod world;
+mod worth;
 
 pub use clock::in_time;
 pub use kept::ResumeRefusal;

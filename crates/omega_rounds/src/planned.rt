@@ -59,7 +59,7 @@ pub(crate) fn planned_on(
 }
 
 /// The place in a board's list of machines at which a desk's present attempt begins.
-fn start_on(desk: &Desk, board: &Board) -> usize
+pub(crate) fn start_on(desk: &Desk, board: &Board) -> usize
     ensures drawn { result ≡ drawn_start desk.now.settings desk.now.scheduler desk.now.attempts (length board.now.table) }
     ensures within { result ≤ length board.now.table }
 {

@@ -1,5 +1,6 @@
 //! A run in turns that goes on from the lines that are kept of it.
 ghost use Rattle.std.specs.Prelude.{◌≡◌, ◌≤◌, None, List, IfErr, IfOk, OnErr, OnOk, length};
+ghost use Rattle.std.specs.Thread.{IsSync};
 ghost use Rattle.omega_keep.specs.Keeping.{Adds, Rose};
 ghost use Rattle.omega_keep.specs.Resumed.{refused_for};
 ghost use Rattle.omega_model.specs.Lawful.{Lawful};
@@ -16,6 +17,7 @@ use crate::steps::RoundStep;
 use crate::turns::play_round;
 use crate::world::World;
 use omega_keep::{Keeper, Lines};
+use std::thread::Threads;
 
 /// Runs all rounds of a new world to their end as `in_turns` does, and keeps the lines of its history: the
 /// first of them are kept already, up to the end of a round, and are compared with those of the run, round by
@@ -28,12 +30,14 @@ use omega_keep::{Keeper, Lines};
 /// world is gone, and the keeper's list has grown by the lines of whole rounds, by none where the kept lines
 /// are refused. Costs what `in_turns` costs and the lines of all entries, of which those of one round are held
 /// in memory.
-pub fn resume_turns<P: Keeper>(
+pub fn resume_turns<R: Threads + Sync, P: Keeper>(
+    rt: &R,
     world: World,
     kept: &Lines,
     keeper: &mut P,
 ) -> Result<World, ResumeRefusal>
-    requires { world.stage.begun ≡ 0 }
+    requires new { world.stage.begun ≡ 0 }
+    requires sync { IsSync R.row }
     ensures source { IfOk result (λ after. after.stage.source ≡ world.stage.source) }
     ensures settings { IfOk result (λ after. after.stage.settings ≡ world.stage.settings) }
     ensures last { IfOk result (λ after. AllHaveBegun after.stage) }
@@ -56,7 +60,7 @@ pub fn resume_turns<P: Keeper>(
         let from = world.history().len();
         let (mut next, step) = world.next_round()?;
         match step {
-            RoundStep::Begun(_) => resume_round(&mut next, from, kept, keeper)?,
+            RoundStep::Begun(_) => resume_round(rt, &mut next, from, kept, keeper)?,
             RoundStep::Unfinished(_) => unreachable!(),
             RoundStep::Over => {
                 end_kept(&next, kept)?;
@@ -68,13 +72,15 @@ pub fn resume_turns<P: Keeper>(
 }
 
 /// Plays the round that is under way to its end and takes it. The history before it has so many entries.
-fn resume_round<P: Keeper>(
+fn resume_round<R: Threads + Sync, P: Keeper>(
+    rt: &R,
     world: &mut World,
     from: usize,
     kept: &Lines,
     keeper: &mut P,
 ) -> Result<(), ResumeRefusal>
-    requires { BeginsAgreed kept.now from world.old }
+    requires agreed { BeginsAgreed kept.now from world.old }
+    requires sync { IsSync R.row }
     ensures stage { OnOk result (world.new.stage ≡ world.old.stage) }
     ensures plays { OnOk result (PlaysRound world.old world.new) }
     ensures takes { OnOk result (TakesRound kept.now from world.new.history (P.kept keeper.old) (P.kept keeper.new)) }
@@ -84,7 +90,7 @@ fn resume_round<P: Keeper>(
     ensures path { P.entered keeper.new ≡ P.entered keeper.old }
     ensures later { P.faults keeper.old ≤ P.faults keeper.new }
 {
-    play_round(world)?;
+    play_round(rt, world)?;
     take_round(world.alloc(), world.history(), from, kept, keeper)?;
     Ok(())
 }

@@ -7,6 +7,7 @@ ghost use Rattle.omega_desk.specs.Walks.{HasDistinctWishes};
 ghost use Rattle.omega_laws.specs.VirtualTime.{first_wishes};
 ghost use Rattle.omega_model.specs.Ranges.{IsInRange};
 ghost use Rattle.omega_model.specs.Work.{fresh};
+ghost use Rattle.omega_rounds.specs.Forked.{IsNotDue, MaySync};
 ghost use Rattle.omega_rounds.specs.Plans.{IsReady};
 ghost use Rattle.omega_rounds.specs.Workers.{IsWorker};
 ghost use Rattle.omega_rounds.specs.WorkerSteps.{CommitsFirst, WorkerSteps, SyncsWorker};
@@ -101,6 +102,30 @@ impl Worker {
         };
         let place = self.commit(alloc, seen, cell)?;
         Ok(Stepped::Committed(place))
+    }
+
+    /// Syncs if its scheduler has work and hasn't synced. Where memory runs out neither the desk has changed
+    /// nor whether the scheduler has synced.
+    pub fn sync_if_due(
+        &mut self,
+        alloc: Global,
+        indexes: &mut Indexes,
+        cell: &Cell,
+    ) -> Result<(), NoMemory>
+        requires ready { IsReady self.old.desk cell.now.history self.old }
+        requires indexes { AreIndexesOf cell.now.history indexes.old }
+        ensures may { MaySync cell.now.history self.old self.new }
+        ensures indexes { AreIndexesOf cell.now.history indexes.new }
+        ensures synced { OnOk result (IsNotDue self.new) }
+    {
+        if self.desk.present().is_none() {
+            return Ok(());
+        }
+        if self.synced.is_some() {
+            return Ok(());
+        }
+        self.sync(alloc, indexes, cell)?;
+        Ok(())
     }
 
     /// The scheduler has seen the history to its end, and plans its attempt on the first request that is left.

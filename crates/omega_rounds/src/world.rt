@@ -17,17 +17,18 @@ ghost use Rattle.omega_rounds.specs.Going.{GoesOn, IsOverAtLast, LeavesToDo, Mov
 ghost use Rattle.omega_rounds.specs.InTime.{HasWishesLeft, IsNoneWithoutWork, rows_time};
 ghost use Rattle.omega_rounds.specs.Keeping.{IsNew, LawfulWorld};
 ghost use Rattle.omega_rounds.specs.Opening.{AreNewWorkers};
-ghost use Rattle.omega_rounds.specs.Playing.{IsAtStart, IsInSomeRun};
+ghost use Rattle.omega_rounds.specs.Playing.{IsAtStart, IsInSomeRun, SyncsTurn};
 ghost use Rattle.omega_rounds.specs.Stages.{AllHaveBegun, IsInRunOf, first_stage, rows_begun, world_of};
 
 use crate::course::Course;
 use crate::crew::Crew;
+use crate::forked::{PieceIndexes, sync_pieces};
 use crate::opening::{Demand, first_at_work, open_round};
 use crate::reopening::reopen_since;
 use crate::steps::{RoundStep, Stepped};
 use crate::worker::Worker;
+use crate::worth::are_worth_threads;
 use omega_cell::{Cell, Effects};
-use omega_copy::Indexes;
 use omega_feed::{OpenJobs, WaitingTasks, Wanted, feed, rounds};
 use omega_io::Gate;
 use omega_model::{Entries, Entry, NoMemory, Round, Settings, TraceTables};
@@ -53,7 +54,7 @@ pub struct World {
 impl Model for World {
     ghost use Rattle.std.specs.Prelude.{map};
     ghost use Rattle.std.specs.List.{sum_by};
-    ghost use Rattle.omega_copy.specs.Indexes.{AreIndexesOf};
+    ghost use Rattle.omega_rounds.specs.Forked.{AreAllIndexesOf};
     ghost use Rattle.omega_rounds.specs.Keeping.{IsWorld, WereQuiet};
     ghost use Rattle.omega_rounds.specs.Workers.{synced_of, to_do_of};
     ghost use Rattle.omega_rounds.specs.Stages.{WorldState, stage_of};
@@ -64,7 +65,7 @@ impl Model for World {
 
     ghost invariant = { λ w. IsWorld (stage_of w.course.settings w.course.rounds w.course.demand.wanted w.course.begun w.course.opened_at) w.course.demand.wanted.tasks w.crew.cell.history w.crew.workers.items
         × WereQuiet w.course.demand.open_jobs w.course.demand.wanted w.course.opened_at w.crew.cell.history
-        × AreIndexesOf w.crew.cell.history w.crew.indexes };
+        × AreAllIndexesOf w.crew.cell.history w.crew.indexes };
 }
 
 impl World {
@@ -94,7 +95,7 @@ impl World {
             crew: Crew {
                 cell: Cell::new(alloc),
                 workers,
-                indexes: Indexes::new(alloc),
+                indexes: PieceIndexes::new(alloc),
             },
         })
     }
@@ -227,8 +228,39 @@ impl World {
     {
         let alloc = self.alloc;
         let worker = &mut self.crew.workers[scheduler as usize];
-        let stepped = worker.step(alloc, &mut self.crew.indexes, &mut self.crew.cell)?;
+        let stepped = worker.step(alloc, &mut self.crew.indexes.first, &mut self.crew.cell)?;
         Ok(stepped)
+    }
+
+    /// Whether the plans that are to be made now are worth threads. No, where there is one processor. Costs a
+    /// look at a few machines for each scheduler whose first wish has constraints.
+    pub(crate) fn is_worth_threads(&self) -> bool {
+        self.crew.indexes.pieces != Some(1)
+            && are_worth_threads(
+                self.crew.workers.as_slice(),
+                &self.crew.indexes.first,
+                self.crew.cell.board(),
+            )
+    }
+
+    /// Lets all schedulers that have work and haven't synced do so, at the same time in some pieces, each on a
+    /// thread of its own where one can be made. Returns where these do, which wait for nobody. Where memory
+    /// runs out some have synced.
+    pub(crate) fn sync_together<R: Threads + Sync>(&mut self, rt: &R) -> Result<(), NoMemory>
+        requires sync { IsSync R.row }
+        ensures stage { self.new.stage ≡ self.old.stage }
+        ensures synced { OnOk result (SyncsTurn self.old self.new) }
+        ensures to_do { self.new.to_do ≡ self.old.to_do }
+    {
+        self.crew.indexes.prepare(rt, self.alloc)?;
+        sync_pieces(
+            rt,
+            self.alloc,
+            &self.crew.cell,
+            &mut self.crew.workers,
+            &mut self.crew.indexes.first,
+            &mut self.crew.indexes.further,
+        )
     }
 
     /// Plays the round that is under way to its end, with a thread for each scheduler. A history of

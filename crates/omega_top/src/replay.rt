@@ -128,7 +128,7 @@ fn run_to_end<R: Threads + Wait + Sync, G: Gate + Sync>(
             let (world, times) = in_time(world)?;
             Ok((world, Some(times)))
         }
-        _ => Ok((in_turns(world)?, None)),
+        _ => Ok((in_turns(rt, world)?, None)),
     }
 }
 

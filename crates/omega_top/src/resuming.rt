@@ -58,7 +58,7 @@ pub fn run_of<R: Threads + Wait + Sync, G: Gate + Sync, P: Keeper>(
     ensures later { P.faults keeper.old ≤ P.faults keeper.new }
 {
     match input.settings.command {
-        Command::Resume => resumed(alloc, input, keeper),
+        Command::Resume => resumed(rt, alloc, input, keeper),
         _ => match replayed(rt, alloc, input, gate) {
             Ok(run) => Ok(run),
             Err(_) => Err(Status::NoMemory),
@@ -67,7 +67,13 @@ pub fn run_of<R: Threads + Wait + Sync, G: Gate + Sync, P: Keeper>(
 }
 
 /// The run of a trace with the schedulers taking turns, which goes on from what a keeper has.
-fn resumed<P: Keeper>(alloc: Global, input: &RunInput, keeper: &mut P) -> Result<WholeRun, Status>
+fn resumed<R: Threads + Sync, P: Keeper>(
+    rt: &R,
+    alloc: Global,
+    input: &RunInput,
+    keeper: &mut P,
+) -> Result<WholeRun, Status>
+    requires sync { IsSync R.row }
     requires range { IsInRange input.now.settings }
     requires command { input.now.settings.command ≡ Resume }
     ensures lawful { IfOk result (λ run. Lawful input.now.settings input.now.trace run.history) }
@@ -87,7 +93,7 @@ fn resumed<P: Keeper>(alloc: Global, input: &RunInput, keeper: &mut P) -> Result
     let Ok(world) = World::new(alloc, &input.settings, &input.trace) else {
         return Err(Status::NoMemory);
     };
-    let world = resume_turns(world, &kept, keeper)?;
+    let world = resume_turns(rt, world, &kept, keeper)?;
     match whole_run(world, None) {
         Ok(run) => Ok(run),
         Err(_) => Err(Status::NoMemory),

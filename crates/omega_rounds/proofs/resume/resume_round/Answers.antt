@@ -11,7 +11,7 @@ use Rattle.omega_rounds.proofs.resume.resume_round.Goals as goal
 pub take_round-requires-clause-within : goal.take_round-requires-clause-within
 take_round-requires-clause-within g c =
     subst (λ (h : List Entry). c.args.from ≤ length h) (sym c.history.ensures.history)
-    (within_played c.args.kept.now c.args.from c.args.world.now c.play_round.new.world c.requires c.in_ok-play_round.ensures.plays)
+    (within_played c.args.kept.now c.args.from c.args.world.now c.play_round.new.world c.requires.agreed c.in_ok-play_round.ensures.plays)
 
 pub take_round-requires-clause-answered : goal.take_round-requires-clause-answered
 take_round-requires-clause-answered g c =
@@ -20,13 +20,13 @@ take_round-requires-clause-answered g c =
 pub take_round-requires-clause-agree : goal.take_round-requires-clause-agree
 take_round-requires-clause-agree g c =
     subst (λ (h : List Entry). Agree c.args.kept.now (take c.args.from h)) (sym c.history.ensures.history)
-    (agree_played c.args.kept.now c.args.from c.args.world.now c.play_round.new.world c.requires c.in_ok-play_round.ensures.plays)
+    (agree_played c.args.kept.now c.args.from c.args.world.now c.play_round.new.world c.requires.agreed c.in_ok-play_round.ensures.plays)
 
 pub returns-in_err-take_round-clause-stops : goal.returns-in_err-take_round-clause-stops
 returns-in_err-take_round-clause-stops g c =
     let p = err_from_is_err_and c.from_residual-in_err-take_round.result c.from_residual-in_err-take_round.ensures.1 in
     let refusal = c.in_err-take_round.field-0.0 in
-    rw (p.1, p.2) (stops_played c.args.kept.now c.args.from c.args.world.now c.play_round.new.world c.requires c.in_ok-play_round.ensures.plays c.in_ok-play_round.ensures.stage refusal
+    rw (p.1, p.2) (stops_played c.args.kept.now c.args.from c.args.world.now c.play_round.new.world c.requires.agreed c.in_ok-play_round.ensures.plays c.in_ok-play_round.ensures.stage refusal
     (subst (λ (h : List Entry). RefusesRound c.args.kept.now c.args.from h refusal) c.history.ensures.history c.in_err-take_round.ensures.refused))
 
 pub returns-clause-takes : goal.returns-clause-takes

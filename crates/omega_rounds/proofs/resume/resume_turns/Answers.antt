@@ -21,8 +21,8 @@ returns-in_err-next-clause-rounds g c =
     rw (p.1, p.2) (leaves_rounds c.args.kept.now (g.P.Keeper.kept c.args.keeper.now) c.args.world c.loop-next.world (g.P.Keeper.kept c.loop-next.keeper)
     c.loop-next.invariant.resumed c.next_round.ensures.start)
 
-pub resume_round-requires : goal.resume_round-requires
-resume_round-requires g c =
+pub resume_round-requires-clause-agreed : goal.resume_round-requires-clause-agreed
+resume_round-requires-clause-agreed g c =
     let now = c.loop-next.world in
     let next = c.in_ok-next.next in
     let reaches = subst (MovesOn now next) c.in-Begun.is c.in_ok-next.ensures.stage in

@@ -12,10 +12,10 @@ use Rattle.omega_laws.proofs.TurnOrder.{only_history}
 use Rattle.omega_rounds.proofs.turns.in_turns.Goals as goal
 
 pub loop-next-init : goal.loop-next-init
-loop-next-init c = played_none c.args.world c.requires
+loop-next-init g c = played_none c.args.world c.requires.new
 
 pub loop-next-preserved : goal.loop-next-preserved
-loop-next-preserved c =
+loop-next-preserved g c =
     let now = c.loop-next.world in
     let next = c.in_ok-next.next in
     played_more c.args.world now next c.play_round.new.world c.in-Begun.field-0 c.loop-next.invariant c.next_round.ensures.start c.next_round.ensures.made
@@ -24,13 +24,13 @@ loop-next-preserved c =
     c.in_ok-play_round-in-Begun.ensures.stage c.in_ok-play_round-in-Begun.ensures.plays
 
 pub returns-in-Over-clause-turns : goal.returns-in-Over-clause-turns
-returns-in-Over-clause-turns c =
+returns-in-Over-clause-turns g c =
     let now = c.loop-next.world in
     subst (λ (w : WorldState). InTurns w.history) (sym (subst (MovesOn now c.in_ok-next.next) c.in-Over.is c.in_ok-next.ensures.stage))
     (turns_now c.args.world now c.loop-next.invariant c.next_round.ensures.start)
 
 pub returns-in-Over-clause-only : goal.returns-in-Over-clause-only
-returns-in-Over-clause-only c trace made other lawful turns =
+returns-in-Over-clause-only g c trace made other lawful turns =
     let now = c.loop-next.world in
     let next = c.in_ok-next.next in
     let same = subst (MovesOn now next) c.in-Over.is c.in_ok-next.ensures.stage in

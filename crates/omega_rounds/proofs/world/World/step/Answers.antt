@@ -8,7 +8,7 @@ use Rattle.omega_rounds.specs.Stages.{IsInRunOf, WorldState, rows_begun, stage_o
 use Rattle.omega_rounds.specs.declared.worker.Worker.{Worker}
 use Rattle.omega_rounds.specs.declared.steps.Stepped.{Stepped}
 use Rattle.omega_rounds.specs.declared.steps.Stepped.TheVariants.{Synced, Committed, Idle}
-use Rattle.omega_rounds.proofs.PlansKept.{ready_at, ready_for, steps_for}
+use Rattle.omega_rounds.proofs.PlansKept.{further_on, ready_at, ready_for, steps_for}
 use Rattle.omega_rounds.proofs.Reopened.{goes_on_same, goes_on_step, were_quiet}
 use Rattle.omega_rounds.proofs.WorldSteps.{LeavesAt, seen_as, state_at, step_is, to_do_after, world_after, world_kept}
 use Rattle.omega_rounds.proofs.world.World.step.Goals as goal
@@ -52,7 +52,11 @@ invariant_of-self c =
       were_quiet stage c.self.inside.course.demand.wanted.tasks c.self.inside.crew.cell.history c.self.inside.crew.workers.items c.self.invariant.0
           c.self.inside.course.demand.open_jobs c.self.inside.course.demand.wanted c.step.new.cell.history
           (goes_on_same c.self.inside.crew.cell.history c.step.new.cell.history c.in_err-stepped.ensures.err) c.self.invariant.1,
-      c.step.ensures.indexes,
+      record {
+        first = c.step.ensures.indexes;
+        further = further_on c.self.inside.crew.indexes.further.items c.self.inside.crew.cell.history c.step.new.cell.history
+            (goes_on_same c.self.inside.crew.cell.history c.step.new.cell.history c.in_err-stepped.ensures.err) c.self.invariant.2.further;
+      },
     )
 
 pub returns-in_err-stepped-clause-err : goal.returns-in_err-stepped-clause-err
@@ -84,7 +88,12 @@ invariant_of-self-2 c =
           c.self.inside.course.demand.open_jobs c.self.inside.course.demand.wanted c.step.new.cell.history
           (goes_on_step c.self.inside.course.settings c.args.scheduler c.self.inside.crew.cell.history c.step.new.cell.history c.index_mut-worker.result.now c.step.new.self
           c.in_ok-stepped.stepped did) c.self.invariant.1,
-      c.step.ensures.indexes,
+      record {
+        first = c.step.ensures.indexes;
+        further = further_on c.self.inside.crew.indexes.further.items c.self.inside.crew.cell.history c.step.new.cell.history
+            (goes_on_step c.self.inside.course.settings c.args.scheduler c.self.inside.crew.cell.history c.step.new.cell.history c.index_mut-worker.result.now c.step.new.self
+            c.in_ok-stepped.stepped did) c.self.invariant.2.further;
+      },
     )
 
 pub returns-clause-step : goal.returns-clause-step

@@ -1,7 +1,7 @@
 use Rattle.std.proofs.Common.{◌≡◌, arith}
 use Rattle.omega_model.specs.Policy.{schedulers}
 use Rattle.omega_rounds.proofs.PlayedTurns.{syncing_all, syncing_more}
-use Rattle.omega_rounds.proofs.turns.sync_all.Goals as goal
+use Rattle.omega_rounds.proofs.turns.sync_in_order.Goals as goal
 
 pub loop-scheduler-preserved : goal.loop-scheduler-preserved
 loop-scheduler-preserved c =
