@@ -1,4 +1,4 @@
--- A player may go to another thread.
+-- A player may go to another thread, and so may workers that are lent.
 use denote.Param.Send.{IsSend, recorded_send, sendable, struct_send, view_send}
 use denote.Struct.Declared.{shape}
 use Rattle.std.proofs.Crossing.{Vec-send}
@@ -43,3 +43,7 @@ pass_field_send = search (pass_send, sendable) depth 20
 -- a player, with its worker
 pub player_send : IsSend Player.the_row
 player_send = recorded_send (Player.the_field).row _ _ (Player.the_type).to_one (struct_send (shape Player.the_type) (worker_send, (pass_field_send, (search sendable, tt))))
+
+-- a worker that is lent to another thread
+pub lent_worker_send : IsSend Worker.the_row
+lent_worker_send = search (copy_send, planned.the_send, desk.the_send, sendable) depth 40

@@ -8,6 +8,7 @@
 #![tactic(auto)]
 
 mod clock;
+mod following;
 mod kept;
 mod opening;
 mod planned;

@@ -20,10 +20,10 @@ ghost use Rattle.omega_rounds.specs.Opening.{AreNewWorkers};
 ghost use Rattle.omega_rounds.specs.Playing.{IsAtStart, IsInSomeRun};
 ghost use Rattle.omega_rounds.specs.Stages.{AllHaveBegun, IsInRunOf, first_stage, rows_begun, world_of};
 
+use crate::following::follow_and_play;
 use crate::opening::{Demand, first_at_work, open_round};
 use crate::reopening::reopen_since;
 use crate::steps::{RoundStep, Stepped};
-use crate::threads::play_shared;
 use crate::worker::Worker;
 use omega_cell::{Cell, Effects};
 use omega_copy::Indexes;
@@ -270,7 +270,7 @@ impl World {
             workers,
             indexes,
         } = self;
-        let (cell, workers) = play_shared(rt, alloc, &settings, cell, workers, gate)?;
+        let (cell, workers) = follow_and_play(rt, alloc, &settings, cell, workers, gate)?;
         Ok(World {
             alloc,
             settings,
