@@ -46,8 +46,9 @@ pub(crate) fn follow_and_play<R: Threads + Wait + Sync, G: Gate + Sync>(
 
 /// Lets the copies of all workers whose schedulers are to sync take over a history at the same time, each on
 /// a thread of its own. Where no thread can be made they do so one after the other. Where memory runs out
-/// each has taken over some of it. Costs each of these copies what the entries change that it hasn't seen.
-pub(crate) fn follow_all<R: Threads + Sync>(
+/// each has taken over some of it, and stands for it still. Costs each of these copies what the entries
+/// change that it hasn't seen.
+fn follow_all<R: Threads + Sync>(
     rt: &R,
     alloc: Global,
     history: &[Entry],
