@@ -7,8 +7,8 @@ ghost use Rattle.omega_rounds.specs.Closed.{AreBack};
 ghost use Rattle.omega_rounds.specs.Workers.{IsWorker};
 ghost use Rattle.omega_rounds.specs.declared.worker.Worker.{Worker};
 
+use crate::following::follow_and_play;
 use crate::forked::PieceIndexes;
-use crate::threads::{play_shared, turns_for};
 use crate::worker::Worker;
 use omega_cell::Cell;
 use omega_io::Gate;
@@ -72,13 +72,12 @@ impl Crew {
         if self.cell.history().len() as u64 >= 1 << 63 {
             return Err(NoMemory);
         }
-        let turns = turns_for(settings, self.workers.as_slice())?;
         let Crew {
             cell,
             workers,
             indexes,
         } = self;
-        let (cell, workers) = play_shared(rt, alloc, settings, cell, workers, turns, gate)?;
+        let (cell, workers) = follow_and_play(rt, alloc, settings, cell, workers, gate)?;
         Ok(Crew {
             cell,
             workers,

@@ -10,6 +10,7 @@
 mod clock;
 mod course;
 mod crew;
+mod following;
 mod forked;
 mod kept;
 mod opening;

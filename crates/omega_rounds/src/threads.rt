@@ -25,11 +25,11 @@ use std::alloc::Global;
 use std::sync::Wait;
 use std::thread::Threads;
 
-/// Runs all rounds of a new world to their end, with a thread for each scheduler. In each round the
-/// schedulers share the cell: each makes attempts until it has no work, and an attempt is a sync, a
-/// plan on the scheduler's own copy and a commit. The gate is asked after each of the three. Where no
-/// thread can be made the schedulers work one after the other. Where memory runs out the world is
-/// gone. May wait.
+/// Runs all rounds of a new world to their end, with a thread for each scheduler that has work. In each
+/// round their copies first take over the history, all at the same time, and then the schedulers share the
+/// cell: each makes attempts until it has no work, and an attempt is a sync, a plan on the scheduler's own
+/// copy and a commit. The gate is asked after each of the three. Where no thread can be made the
+/// schedulers work one after the other. Where memory runs out the world is gone. May wait.
 ///
 /// The history is lawful for the settings and the trace, in whatever order the schedulers came to the
 /// cell. Nothing is said of that order, of time, nor that plans of different schedulers are made at

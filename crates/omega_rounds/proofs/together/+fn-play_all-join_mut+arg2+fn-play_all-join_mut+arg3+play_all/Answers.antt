@@ -1,20 +1,39 @@
-use Rattle.std.proofs.Common.{rules, ℕ, ◌≡◌, ◌++◌, List, subst}
+use Rattle.std.proofs.Common.{rules, ℕ, ◌≡◌, false}
+use Rattle.std.specs.Prelude.{All}
+use Rattle.std.specs.List.{list_any}
 use denote.Param.{param}
 use denote.Param.Send.{IsSync, param_sync, sendable}
 use Rattle.std.proofs.Crossing.{crosses, sync}
 use Rattle.omega_shared.proofs.Crossing.{shared_sync}
 use Rattle.omega_rounds.proofs.Crossing.{player_send}
-use Rattle.omega_rounds.specs.Players.{HavePlayed}
-use Rattle.omega_rounds.specs.declared.player.Player.{Player}
-use Rattle.omega_rounds.proofs.PlayersTogether.{played_both}
+use Rattle.omega_rounds.specs.Opening.{has_work}
+use Rattle.omega_rounds.specs.Players.{MayPlay}
+use Rattle.omega_rounds.proofs.PlayersTogether.{idle_all, played_whole}
 use Rattle.omega_rounds.proofs.together.+fn-play_all-join_mut+arg2+fn-play_all-join_mut+arg3+play_all.Goals as goal
 
+pub returns-then-not-any_has_work : goal.returns-then-not-any_has_work
+returns-then-not-any_has_work g t c =
+    let may : All (MayPlay c.args.shared.now.of) c.split_at_mut-left.result.0.now = search rules in
+    let none : list_any (λ player. has_work player.worker) c.split_at_mut-left.result.0.now ≡ false = search rules in
+    record {
+      played = played_whole _ c.split_at_mut-left.result.0.now c.split_at_mut-left.result.1.now _ _ (search rules)
+          (idle_all c.args.shared.now.of c.split_at_mut-left.result.0.now may none) c.play_all.ensures.played;
+    }
+
+pub returns-then-not-any_has_work-2 : goal.returns-then-not-any_has_work-2
+returns-then-not-any_has_work-2 g t c =
+    let may : All (MayPlay c.args.shared.now.of) c.split_at_mut-left.result.1.now = search rules in
+    let none : list_any (λ player. has_work player.worker) c.split_at_mut-left.result.1.now ≡ false = search rules in
+    record {
+      played = played_whole _ c.split_at_mut-left.result.0.now c.split_at_mut-left.result.1.now _ _ (search rules)
+          c.play_all-then-not-any_has_work-2.ensures.played (idle_all c.args.shared.now.of c.split_at_mut-left.result.1.now may none);
+    }
+
 pub returns : goal.returns
-returns g t c =
-    let left : HavePlayed c.split_at_mut-left.result.0.now c.left-1.given.0 = search rules in
-    let right : HavePlayed c.split_at_mut-left.result.1.now c.right-1.given.0 = search rules in
-    let whole : c.split_at_mut-left.result.0.now ++ c.split_at_mut-left.result.1.now ≡ c.args.players.now = search rules in
-    record { played = subst (λ (old : List Player). HavePlayed old (c.left-1.given.0 ++ c.right-1.given.0)) whole (played_both _ _ _ _ left right) }
+returns g t c = record {
+  played = played_whole c.args.players.now c.split_at_mut-left.result.0.now c.split_at_mut-left.result.1.now c.left-2-1.given.0 c.right-2-1.given.0
+      (search rules) (search rules) (search rules);
+}
 
 -- the runtime and the gate are shared as what stands for a type parameter, at whatever place
 pub join_mut-requires-send-F : goal.join_mut-requires-send-F
