@@ -32,7 +32,7 @@ pub(crate) fn are_worth_threads(workers: &[Worker], indexes: &Indexes, board: &B
         all = all.saturating_add(looks);
         longest = longest.max(looks);
     }
-    all - longest >= WORTH
+    all.saturating_sub(longest) >= WORTH
 }
 
 /// About how many looks a worker's next plan takes; 0 where it makes none in this step.

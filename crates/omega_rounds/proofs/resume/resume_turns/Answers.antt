@@ -22,7 +22,7 @@ returns-in_err-next-clause-rounds g c =
     c.loop-next.invariant.resumed c.next_round.ensures.start)
 
 pub resume_round-requires-clause-agreed : goal.resume_round-requires-clause-agreed
-resume_round-requires-clause-agreed g c =
+resume_round-requires-clause-agreed g c κs within =
     let now = c.loop-next.world in
     let next = c.in_ok-next.next in
     let reaches = subst (MovesOn now next) c.in-Begun.is c.in_ok-next.ensures.stage in
