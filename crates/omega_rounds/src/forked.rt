@@ -13,8 +13,8 @@ use omega_model::NoMemory;
 use std::alloc::Global;
 use std::thread::{Threads, available_parallelism, join_mut};
 
-/// In how many pieces the workers of a turn are cut where there is more than one processor. They are more
-/// than four, since some plans take many times as long as others.
+/// In how many pieces the workers of a turn are cut at most. Each has indexes of its own, which have to be told
+/// what changed.
 const MOST_PIECES: usize = 8;
 
 /// What plans need beside the cell's board: the indexes of the first piece, which are used too where plans
@@ -52,6 +52,14 @@ impl PieceIndexes {
         self.pieces = Some(pieces);
         Ok(())
     }
+
+    /// How many of so many entries the indexes of the further pieces haven't seen; all, where there are none.
+    pub fn unseen(&self, entries: u64) -> u64 {
+        match self.further.first() {
+            Some(indexes) => entries.saturating_sub(indexes.seen()),
+            None => entries,
+        }
+    }
 }
 
 /// The indexes of the empty board, so many times.
@@ -65,13 +73,14 @@ fn indexes_for(alloc: Global, count: usize) -> Result<Vec<Indexes>, NoMemory>
     Ok(all)
 }
 
-/// In how many pieces plans are made: in one where there is one processor.
+/// In how many pieces plans are made: in as many as there are processors, up to `MOST_PIECES`, and in one where
+/// their number isn't known.
 fn pieces_on<R: Threads>(rt: &R) -> usize
     ensures { 1 ≤ result }
 {
     match available_parallelism(rt) {
-        Ok(count) if count.get() > 1 => MOST_PIECES,
-        _ => 1,
+        Ok(count) => count.get().min(MOST_PIECES),
+        Err(_) => 1,
     }
 }
 

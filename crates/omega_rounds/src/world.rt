@@ -235,12 +235,11 @@ impl World {
     /// Whether the plans that are to be made now are worth threads. No, where there is one processor. Costs a
     /// look at a few machines for each scheduler whose first wish has constraints.
     pub(crate) fn is_worth_threads(&self) -> bool {
-        self.crew.indexes.pieces != Some(1)
-            && are_worth_threads(
-                self.crew.workers.as_slice(),
-                &self.crew.indexes.first,
-                self.crew.cell.board(),
-            )
+        let crew = &self.crew;
+        let unseen = crew.indexes.unseen(crew.cell.history().len() as u64);
+        let workers = crew.workers.as_slice();
+        crew.indexes.pieces != Some(1)
+            && are_worth_threads(workers, &crew.indexes.first, crew.cell.board(), unseen)
     }
 
     /// Lets all schedulers that have work and haven't synced do so, at the same time in some pieces, each on a

@@ -4,6 +4,9 @@
 //! counts one. Where none of the first `LOOKS` machines with room, from where its attempt begins, suits a wish,
 //! the search goes on for long, and the wish counts as `LONG` looks; one in a hundred machines suits the wish
 //! then, or none.
+//!
+//! Threads cost what it takes to begin and to join them, and that the indexes of each further piece are told
+//! what the entries changed that they haven't seen.
 
 use crate::planned::start_on;
 use crate::worker::Worker;
@@ -19,12 +22,20 @@ const LOOKS: usize = 12;
 /// How many looks a long search is counted as.
 const LONG: u64 = 300;
 
-/// From how many looks on, beside those of the longest plan, the plans of a turn are made on threads. It is
-/// what some threads cost, several times over.
-const WORTH: u64 = 1_500;
+/// What threads cost, in looks, several times over: about a millisecond.
+const THREADS: u64 = 4_000;
 
-/// Whether the plans of these workers that are to be made take so long that threads serve.
-pub(crate) fn are_worth_threads(workers: &[Worker], indexes: &Indexes, board: &Board) -> bool {
+/// What an entry costs that the indexes of the further pieces haven't seen, in looks.
+const UNSEEN: u64 = 4;
+
+/// Whether the plans of these workers that are to be made take so long that threads serve: all of them but the
+/// longest, beside what threads cost where the indexes of the further pieces haven't seen so many entries.
+pub(crate) fn are_worth_threads(
+    workers: &[Worker],
+    indexes: &Indexes,
+    board: &Board,
+    unseen: u64,
+) -> bool {
     let mut all: u64 = 0;
     let mut longest: u64 = 0;
     for worker in workers {
@@ -32,7 +43,7 @@ pub(crate) fn are_worth_threads(workers: &[Worker], indexes: &Indexes, board: &B
         all = all.saturating_add(looks);
         longest = longest.max(looks);
     }
-    all.saturating_sub(longest) >= WORTH
+    all.saturating_sub(longest) >= unseen.saturating_mul(UNSEEN).saturating_add(THREADS)
 }
 
 /// About how many looks a worker's next plan takes; 0 where it makes none in this step.

@@ -5,10 +5,7 @@ ghost use Rattle.std.specs.Thread.{IsSync};
 ghost use Rattle.omega_model.specs.Ranges.{IsInRange};
 
 use omega_io::PassGate;
-use omega_model::{
-    Bytes, Constraint, ConstraintRow, MachineRow, Need, NoMemory, Op, Settings, Spec, TaskKey,
-    TaskRow, TraceTables,
-};
+use omega_model::{MachineRow, Need, NoMemory, Settings, Spec, TaskKey, TaskRow, TraceTables};
 use omega_rounds::{RoundStep, Stepped, World, in_time, in_turns, on_threads};
 use omega_sim::Timed;
 use std::alloc::Global;
@@ -137,29 +134,8 @@ fn schedulers_in_turns(rt: HostRuntime) -> Result<(), NoMemory> {
     Ok(())
 }
 
-/// A text of one byte.
-fn letter(alloc: Global, byte: u8) -> Result<Bytes, NoMemory> {
-    let mut text = Bytes::new(alloc);
-    text.push(byte)?;
-    Ok(text)
-}
-
-/// A constraint that no machine without attributes meets, for the one task of a job.
-fn constraint_row(alloc: Global, job: u64) -> Result<ConstraintRow, NoMemory> {
-    let name = letter(alloc, b'a')?;
-    let value = letter(alloc, b'b')?;
-    Ok(ConstraintRow {
-        key: TaskKey { job, index: 0 },
-        constraint: Constraint {
-            op: Op::Equal,
-            name,
-            value,
-        },
-    })
-}
-
-/// Sixty machines, and eight jobs with a task each that suits none of them.
-fn picky_tables(alloc: Global) -> Result<TraceTables, NoMemory> {
+/// Sixty machines, and eight jobs of a thousand tasks each.
+fn many_tables(alloc: Global) -> Result<TraceTables, NoMemory> {
     let mut tables = TraceTables::new(alloc);
     for machine in 1..61 {
         tables.machines.push(MachineRow {
@@ -168,16 +144,20 @@ fn picky_tables(alloc: Global) -> Result<TraceTables, NoMemory> {
         })?;
     }
     for job in 1..9 {
-        tables.tasks.push(task_row(job, 1))?;
-        tables.constraints.push(constraint_row(alloc, job)?)?;
+        for index in 0..1000 {
+            tables.tasks.push(TaskRow {
+                key: TaskKey { job, index },
+                ..task_row(job, 1)
+            })?;
+        }
     }
     Ok(tables)
 }
 
 /// How many entries the history of these has at the end, where each of the jobs has a scheduler of its own
-/// and is tried once. Each scheduler looks at all machines, so their plans are made at the same time where
+/// and is tried once. Each scheduler has so much to plan that their plans are made at the same time where
 /// there is more than one processor.
-fn entries_of_picky<R: Threads + Sync>(rt: &R, alloc: Global) -> Result<usize, NoMemory>
+fn entries_of_many<R: Threads + Sync>(rt: &R, alloc: Global) -> Result<usize, NoMemory>
     requires { IsSync R.row }
 {
     let settings = Settings {
@@ -185,15 +165,15 @@ fn entries_of_picky<R: Threads + Sync>(rt: &R, alloc: Global) -> Result<usize, N
         tries: 1,
         ..Settings::default()
     };
-    let tables = picky_tables(alloc)?;
+    let tables = many_tables(alloc)?;
     let world = in_turns(rt, World::new(alloc, &settings, &tables)?)?;
     Ok(world.into_history().len())
 }
 
-/// The round, the machines, and a commit of each scheduler that placed nothing.
+/// The round, the machines, and a commit of each scheduler, of which the first has all the room.
 #[test]
 fn plans_at_the_same_time(rt: HostRuntime) -> Result<(), NoMemory> {
-    assert_eq!(rt; entries_of_picky(&rt, rt.alloc())?, 69);
+    assert_eq!(rt; entries_of_many(&rt, rt.alloc())?, 69);
     Ok(())
 }
 
