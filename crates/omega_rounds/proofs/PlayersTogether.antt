@@ -1,16 +1,16 @@
 -- Players that have played in two parts have played as a whole; those without work have played.
 use Rattle.std.proofs.Common.{◌≡◌, ℕ, zero, suc, false, List, [], ◌∷◌, ◌++◌, length, refl, ap, subst, ◌∙◌, arith, Some, length-append}
-use Rattle.std.specs.Prelude.{All, is_some, slice_get, unwrap_or}
+use Rattle.std.specs.Prelude.{All, slice_get, unwrap_or}
 use Rattle.std.specs.List.{list_any}
 use Rattle.std.proofs.lemmas.Bool.{both_ways}
 use Rattle.std.proofs.lemmas.List.Folds.{list_any_at}
 use Rattle.std.proofs.lemmas.Option.{get_or_from_slice_get, slice_get_within}
 use Rattle.atomic_table.specs.Seated.{TableId}
 use Rattle.omega_model.proofs.Lists.{by_answer}
-use Rattle.omega_model.specs.declared.wishes.Request.{Request}
 use Rattle.omega_rounds.specs.declared.player.Player.{Player}
 use Rattle.omega_rounds.specs.Opening.{has_work}
 use Rattle.omega_rounds.specs.Players.{HasPlayed, HavePlayed, MayPlay}
+use Rattle.omega_rounds.proofs.WorldGoes.{not_first}
 
 -- a player of two parts is in the first or in the second
 each_of_both : (old new others now : List Player) → length new ≡ length old
@@ -54,11 +54,6 @@ played_alone old new played = record { count = refl; each = at }
 pub played_none : HavePlayed [] []
 played_none = record { count = refl; each = λ place player is. absurd (cc is) }
 
--- where no first request is left, none is
-none_left : (requests : List Request) → is_some (slice_get requests 0) ≡ false → requests ≡ []
-none_left [] none = refl
-none_left (request ∷ requests) none = absurd (cc)
-
 -- a player without work has played
 idle_played : (shared : TableId) (player : Player) → MayPlay shared player → has_work player.worker ≡ false → HasPlayed player player
 idle_played shared player may idle = record {
@@ -69,7 +64,7 @@ idle_played shared player may idle = record {
   worker = may.worker;
   desk = λ trace rows opened_at within own. own;
   commits = λ opened_at within stand. stand;
-  no_work = λ ok. none_left player.worker.desk.requests idle;
+  no_work = λ ok. not_first player.worker.desk.requests idle;
   spent = λ ok before none. none;
 }
 

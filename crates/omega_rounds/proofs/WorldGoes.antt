@@ -27,7 +27,7 @@ use Rattle.omega_rounds.proofs.WorldSteps.{rows_same, state_at}
 use Rattle.omega_rounds.proofs.Worlds.{world_ends}
 
 -- requests of which none is the first
-not_first : (requests : List Request) → is_some (slice_get requests 0) ≡ false → requests ≡ []
+pub not_first : (requests : List Request) → is_some (slice_get requests 0) ≡ false → requests ≡ []
 not_first [] none = refl
 not_first (request ∷ rest) none = absurd (cc)
 
