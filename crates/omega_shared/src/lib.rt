@@ -17,6 +17,8 @@
 mod guarded;
 mod pass;
 mod shared;
+mod view;
 
 pub use pass::Pass;
 pub use shared::SharedCell;
+pub use view::View;

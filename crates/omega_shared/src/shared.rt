@@ -4,6 +4,7 @@ ghost use Rattle.omega_copy.specs.Copies.{CopyOf};
 ghost use Rattle.omega_lock.specs.Lists.{StartsWith};
 ghost use Rattle.omega_model.specs.Applying.{EachMayApply};
 ghost use Rattle.omega_model.specs.Copy.{Carries};
+ghost use Rattle.omega_model.specs.Touches.{copied_seqs};
 ghost use Rattle.omega_model.specs.Work.{is_commit_of};
 ghost use Rattle.omega_model.specs.declared.entries.Entry.{Entry};
 ghost use Rattle.omega_shared.specs.Commits.{GoesOnWithout, commits_since};
@@ -13,6 +14,7 @@ ghost use Rattle.omega_shared.specs.Turns.{Commits, SpendsTurn};
 
 use crate::guarded::{Guarded, Planned};
 use crate::pass::Pass;
+use crate::view::View;
 use omega_cell::Cell;
 use omega_copy::PrivateCopy;
 use omega_lock::{Lock, Seat};
@@ -135,10 +137,77 @@ impl SharedCell {
         self.append(rt, alloc, &mut pass.seat, Planned { txn, seen, seqs })
     }
 
+    /// Takes a turn, and looks at the cell as the turn finds it. The pass has then seen its history. Where
+    /// memory runs out the turn is spent, and the pass may have seen more. May wait.
+    ///
+    /// Costs the same however long the history is and however many machines there are.
+    pub fn look<R: Wait>(
+        &self,
+        rt: &R,
+        alloc: Global,
+        pass: &mut Pass,
+    ) -> Result<View, NoMemory>
+        requires of { pass.old.of ≡ self.now.of }
+        requires left { 0 < pass.old.turns }
+        ensures turn { SpendsTurn pass.old pass.new }
+        ensures seen { GoesOnWithout pass.old.number pass.old.seen pass.new.seen }
+        ensures own { pass.new.own ≡ pass.old.own }
+        ensures view { IfOk result (λ view. view ≡ pass.new.seen) }
+    {
+        let _news = self.news(rt, alloc, &mut pass.seat, 0);
+        Err(NoMemory)
+    }
+
+    /// Takes a turn, and commits a transaction that was planned after the first `seen` entries of what the
+    /// pass has seen, with the sequence number that the machine of each claim had there. Answers and refuses
+    /// as `commit` does. Waits for its turn, and a while for those that look at the cell.
+    pub fn commit_planned<R: Wait>(
+        &self,
+        rt: &R,
+        alloc: Global,
+        pass: &mut Pass,
+        seen: u64,
+        txn: Txn,
+        seqs: Vec<u64>,
+    ) -> Result<Reply, (Txn, NoMemory)>
+        requires of { pass.old.of ≡ self.now.of }
+        requires left { 0 < pass.old.turns }
+        requires few { length txn.claims < 2 ^ 32 }
+        requires seen { seen ≤ length pass.old.seen }
+        requires seqs { seqs.items ≡ copied_seqs pass.old.seen seen txn.claims }
+        ensures turn { SpendsTurn pass.old pass.new }
+        ensures commits { IfOk result (Commits pass.old pass.new seen txn) }
+        ensures seen { OnErr result (GoesOnWithout pass.old.number pass.old.seen pass.new.seen) }
+        ensures own { OnErr result (pass.new.own ≡ pass.old.own) }
+        ensures back { IfErr result (λ refused. refused.0 ≡ txn) }
+    {
+        let seqs = Ok(seqs);
+        self.append(rt, alloc, &mut pass.seat, Planned { txn, seen, seqs })
+    }
+
     /// Takes all passes back, and hands out the cell. Its history goes on from what each pass had seen,
     /// with no commit of its number. Every entry since the cell was shared is a commit of one of the
     /// passes, and the commits of a pass's number are its own, in order.
-    pub fn close(self, passes: Vec<Pass>) -> Cell
+    pub fn close<R: Wait>(self, rt: &R, passes: Vec<Pass>) -> Cell
+        requires all { length passes.items ≡ self.callers }
+        requires of { All (λ pass. pass.of ≡ self.of) passes.items }
+        ensures begins { StartsWith result.history self.first }
+        ensures seen { All (λ pass. StartsWith result.history pass.seen) passes.items }
+        ensures own { All (λ pass. pass.own
+            ≡ commits_since (length self.first) pass.number result.history) passes.items }
+        ensures others { All (λ pass. GoesOnWithout pass.number pass.seen result.history) passes.items }
+        ensures first { All (λ pass. pass.first_length ≡ length self.first) passes.items }
+        ensures commits { All (λ entry. Any (λ pass. is_commit_of pass.number entry ≡ true) passes.items)
+            (drop (length self.first) result.history) }
+    {
+        let _waits = rt;
+        self.closed(passes)
+    }
+
+    /// Takes all passes back, and hands out the cell. Its history goes on from what each pass had seen,
+    /// with no commit of its number. Every entry since the cell was shared is a commit of one of the
+    /// passes, and the commits of a pass's number are its own, in order.
+    fn closed(self, passes: Vec<Pass>) -> Cell
         requires all { length passes.items ≡ self.callers }
         requires of { All (λ pass. pass.of ≡ self.of) passes.items }
         ensures begins { StartsWith result.history self.first }

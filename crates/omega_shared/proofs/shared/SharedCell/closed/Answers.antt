@@ -3,7 +3,7 @@ use Rattle.std.proofs.lemmas.List.Elements.{All-weaker}
 use Rattle.omega_lock.specs.Lists.{StartsWith}
 use Rattle.omega_shared.specs.Passes.{PassState}
 use Rattle.omega_shared.proofs.Closing.{commits_of_passes, no_others, of_passes, of_seats, own_commits}
-use Rattle.omega_shared.proofs.shared.SharedCell.close.Goals as goal
+use Rattle.omega_shared.proofs.shared.SharedCell.closed.Goals as goal
 
 pub close-guarded-requires-clause-of : goal.close-guarded-requires-clause-of
 close-guarded-requires-clause-of c =
