@@ -1,5 +1,5 @@
--- What a commit adds to what is counted and copied.
-use Rattle.std.proofs.Common.{◌≡◌, ◌≢◌, ◌≤◌, ◌+◌, ℕ, Bool, true, false, cond, List, Option, Some, None, [], ◌∷◌, ◌++◌, length, take, refl, sym, ap, arith, ◌∙◌, inl, inr, ◌==◌, if◌then◌else◌, length-append, add-zero}
+-- What a commit adds to what is counted, and what stays in a longer history.
+use Rattle.std.proofs.Common.{◌≡◌, ◌≢◌, ◌≤◌, ◌+◌, ℕ, Bool, subst, true, false, cond, List, Option, Some, None, [], ◌∷◌, ◌++◌, length, take, refl, sym, ap, arith, ◌∙◌, inl, inr, ◌==◌, if◌then◌else◌, length-append, add-zero}
 use Rattle.std.specs.List.{list_any}
 use Rattle.std.proofs.lemmas.Bool.{eq-eqb, ne_eqb}
 use Rattle.std.proofs.lemmas.Bool.Decides.{eqb_tells}
@@ -10,7 +10,6 @@ use Rattle.omega_model.proofs.Standing.{failed_push, placed_outcomes}
 use Rattle.omega_model.specs.Reply.{admits, by_mode, judgements}
 use Rattle.omega_model.specs.Requests.{failed}
 use Rattle.omega_model.specs.State.{reply_of, state}
-use Rattle.omega_model.specs.Touches.{seq}
 use Rattle.omega_model.specs.Work.{commits_of, failing_with, is_commit_of, outcomes_of}
 use Rattle.omega_model.specs.declared.claims.Judgement.{Judgement}
 use Rattle.omega_model.specs.declared.claims.Mode.{Mode}
@@ -18,7 +17,13 @@ use Rattle.omega_model.specs.declared.claims.Mode.TheVariants.{Incremental, Gang
 use Rattle.omega_model.specs.declared.claims.Txn.{Txn}
 use Rattle.omega_model.specs.declared.entries.Entry.{Entry}
 use Rattle.omega_model.specs.declared.entries.Entry.TheVariants.{Commit}
-use Rattle.omega_copy.specs.Copies.{CopyOf, CopyState}
+use Rattle.omega_copy.specs.Indexes.{AreIndexesOf}
+use Rattle.omega_copy.specs.Levels.{Tells}
+use Rattle.omega_copy.specs.Telling.{freed_of}
+use Rattle.omega_copy.specs.declared.indexes.Indexes.{Indexes}
+use Rattle.omega_lock.specs.Lists.{StartsWith}
+use Rattle.omega_model.specs.Cell.{Cell}
+use Rattle.omega_running.specs.Order.{Each}
 use Rattle.omega_rounds.specs.Workers.{SyncedWithin}
 
 commits_more : (scheduler : ℕ) (before : List Entry) (entry : Entry)
@@ -45,22 +50,23 @@ pub commits_other : (scheduler : ℕ) (before : List Entry) (entry : Entry) → 
 commits_other scheduler before entry other =
     commits_more scheduler before entry ∙ ap (λ (b : Bool). commits_of scheduler before + cond b 1 0) other ∙ add-zero (commits_of scheduler before)
 
--- a copy stands for a history after more entries too
-pub copy_grown : (copy : CopyState) (before later : List Entry) → CopyOf copy before → CopyOf copy (before ++ later)
-copy_grown copy before later stands =
-    let within : copy.seen ≤ length before = stands.within in
-    let same : take copy.seen (before ++ later) ≡ take copy.seen before = take-append-le copy.seen before later within in
+-- indexes of a history are those of a longer one
+pub indexes_on : (indexes : Indexes) (before after : List Entry) → StartsWith after before → AreIndexesOf before indexes → AreIndexesOf after indexes
+indexes_on indexes before after on are =
+    let within : indexes.seen ≤ length before = are.within in
+    let longer : length after ≡ length before + length on.0 = ap length on.1 ∙ length-append before on.0 in
+    let front : state (take indexes.seen before) ≡ state (take indexes.seen after) =
+    ap state (sym (take-append-le indexes.seen before on.0 within) ∙ ap (take indexes.seen) (sym on.1)) in
     record {
-      within = rw (length-append before later) (omega (arith, within));
-      machines = stands.machines ∙ ap (λ (h : List Entry). (state h).machines) (sym same);
-      tasks = stands.tasks ∙ ap (λ (h : List Entry). (state h).tasks) (sym same);
-      numbers = λ id. stands.numbers id ∙ ap (λ (h : List Entry). seq h id) (sym same);
+      within = omega (arith, within, longer);
+      free = are.free ∙ ap (freed_of 0) front;
+      levels = subst (λ (cell : Cell). Each (Tells cell) indexes.levels.items) front are.levels;
     }
 
 -- what a scheduler has seen stays within a longer history
-pub synced_longer : (synced : Option ℕ) (copied count longer : ℕ) → count ≤ longer → SyncedWithin synced copied count → SyncedWithin synced copied longer
-synced_longer None copied count longer more within = tt
-synced_longer (Some seen) copied count longer more within = let few = within.0 in (omega (arith, few, more), within.1)
+pub synced_longer : (synced : Option ℕ) (count longer : ℕ) → count ≤ longer → SyncedWithin synced count → SyncedWithin synced longer
+synced_longer None count longer more within = tt
+synced_longer (Some seen) count longer more within = omega (arith, within, more)
 
 length-by_mode : (mode : Mode) (reply : List Judgement) → length (by_mode mode reply) ≡ length reply
 length-by_mode Incremental reply = refl

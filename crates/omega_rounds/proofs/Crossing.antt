@@ -9,8 +9,6 @@ use Rattle.omega_board.specs.contracts.board.Board as Board
 use Rattle.omega_cell.proofs.effects.Notes.TheSendSync as notes
 use Rattle.omega_cell.specs.contracts.cell.Cell as Cell
 use Rattle.omega_copy.proofs.levels.Level.TheSendSync as level
-use Rattle.omega_copy.specs.contracts.copy.PrivateCopy as PrivateCopy
-use Rattle.omega_copy.specs.contracts.copy.PrivateCopy.TheInside as Inside
 use Rattle.omega_copy.specs.contracts.indexes.Indexes as Indexes
 use Rattle.omega_copy.specs.contracts.levels.Level as Level
 use Rattle.omega_desk.proofs.desk.Desk.TheSendSync as desk
@@ -25,30 +23,23 @@ use Rattle.omega_running.specs.contracts.nodes.Tree as Tree
 use Rattle.omega_running.specs.contracts.table.Pair as Pair
 use Rattle.omega_running.specs.contracts.table.Running as Running
 use Rattle.omega_running.specs.contracts.table.Running.TheInside as RunningInside
-use Rattle.omega_shared.proofs.Crossing.{board_send, pass_send}
+use Rattle.omega_shared.proofs.Crossing.{pass_send}
 use Rattle.omega_rounds.proofs.plans.Planned.TheSendSync as planned
 use Rattle.omega_rounds.specs.contracts.player.Player as Player
 use Rattle.omega_rounds.specs.contracts.worker.Worker as Worker
 use Rattle.omega_shared.specs.contracts.pass.Pass as Pass
 
--- the levels of a copy
+-- the levels of indexes
 levels_send : IsSend (Vec.the_row Level.the_row Heap.the_row ghosts)
 levels_send = Vec-send Level.the_row level.the_send
 
--- its indexes
+-- the indexes of a worker
 indexes_send : IsSend (Indexes.the_field).row
 indexes_send = search (index.the_send, levels_send, sendable) depth 20
 
--- a scheduler's copy
-inside_send : IsSend Inside.the_row
-inside_send = search (board_send, indexes_send, sendable) depth 20
-
-copy_send : IsSend PrivateCopy.the_row
-copy_send = view_send _ _ _ _ _ inside_send
-
 -- what a worker and a pass hold goes to another thread with them
 worker_send : IsSend (Worker.the_field).row
-worker_send = search (copy_send, planned.the_send, desk.the_send, sendable) depth 40
+worker_send = search (indexes_send, planned.the_send, desk.the_send, sendable) depth 40
 
 pass_field_send : IsSend (Pass.the_field).row
 pass_field_send = search (pass_send, sendable) depth 20
@@ -98,7 +89,7 @@ cell_sync = search (board_sync, entry.the_sync, notes.the_sync, Vec-sync, sendab
 
 -- a worker and indexes that are lent to another thread
 pub lent_worker_send : IsSend Worker.the_row
-lent_worker_send = search (copy_send, planned.the_send, desk.the_send, sendable) depth 40
+lent_worker_send = search (indexes_send, planned.the_send, desk.the_send, sendable) depth 40
 
 pub lent_indexes_send : IsSend Indexes.the_row
 lent_indexes_send = search (index.the_send, levels_send, sendable) depth 20

@@ -34,7 +34,6 @@ pub mod PlayingOn
 pub mod RoundFailures
 pub mod ClosedRounds
 pub mod PlayersBack
-pub mod Followed
 pub mod RunOn
 pub mod Reopened
 pub mod PlansKept

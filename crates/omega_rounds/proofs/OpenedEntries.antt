@@ -17,8 +17,9 @@ use Rattle.omega_model.specs.declared.rows.Row.{Row}
 use Rattle.omega_model.specs.declared.rows.Round.{Round}
 use Rattle.omega_model.specs.declared.rows.TraceTables.{TraceTables}
 use Rattle.omega_model.specs.Touches.{is_commit}
-use Rattle.omega_copy.specs.Copies.{CopyOf, CopyState}
-use Rattle.omega_rounds.proofs.CommitCounts.{commits_other, copy_grown}
+use Rattle.omega_copy.specs.Indexes.{AreIndexesOf}
+use Rattle.omega_copy.specs.declared.indexes.Indexes.{Indexes}
+use Rattle.omega_rounds.proofs.CommitCounts.{commits_other, indexes_on}
 use Rattle.omega_laws.proofs.RowEntries.{IsOfRow, are_of_row}
 
 -- an entry of a row is no commit
@@ -91,7 +92,8 @@ module _ (trace : TraceTables) (rows : List Row) (start : List Entry) (round : R
       (λ history entry none same. failed_push history entry job ∙ failed_none job (failed history job) entry none ∙ same)
       trace rows start round refl
 
-  -- for what a copy stands
-  pub copy_opened : (copy : CopyState) → CopyOf copy start → CopyOf copy (opened trace rows start round).history
-  copy_opened copy stands =
-      stays_opened (CopyOf copy) (λ history entry none here. copy_grown copy history (entry ∷ []) here) trace rows start round stands
+  -- whose indexes some are
+  pub indexes_opened : (indexes : Indexes) → AreIndexesOf start indexes → AreIndexesOf (opened trace rows start round).history indexes
+  indexes_opened indexes are =
+      stays_opened (λ history. AreIndexesOf history indexes)
+      (λ history entry none here. indexes_on indexes history (history ++ entry ∷ []) (entry ∷ [], refl) here) trace rows start round are

@@ -18,8 +18,6 @@ use Rattle.omega_model.specs.Lawful.{opened}
 use Rattle.omega_running.proofs.Lists.{each_map}
 use Rattle.omega_running.specs.Order.{Each}
 use Rattle.omega_copy.specs.Indexes.{AreIndexesOf}
-use Rattle.omega_copy.specs.Levels.{Tells}
-use Rattle.omega_copy.specs.Telling.{freed_of}
 use Rattle.omega_copy.specs.declared.indexes.Indexes.{Indexes}
 use Rattle.omega_desk.specs.Desks.{DeskState}
 use Rattle.omega_lock.specs.Lists.{StartsWith}
@@ -34,32 +32,12 @@ use Rattle.omega_rounds.specs.declared.plans.Planned.{Planned}
 use Rattle.omega_rounds.specs.declared.worker.Worker.{Worker}
 use Rattle.omega_rounds.specs.declared.steps.Stepped.{Stepped}
 use Rattle.omega_rounds.specs.declared.steps.Stepped.TheVariants.{Synced, Committed, Idle}
-use Rattle.omega_rounds.proofs.CommitCounts.{commits_other}
-use Rattle.omega_rounds.proofs.OpenedEntries.{stays_opened}
+use Rattle.omega_rounds.proofs.CommitCounts.{commits_other, indexes_on}
+use Rattle.omega_rounds.proofs.OpenedEntries.{indexes_opened}
 use Rattle.omega_rounds.proofs.WorkerLists.{set_cases}
 use Rattle.omega_rounds.proofs.Without.{attempt_without, front_without, longer_without}
 
--- indexes of a history are those of a longer one
-pub indexes_on : (indexes : Indexes) (before after : List Entry) → StartsWith after before → AreIndexesOf before indexes → AreIndexesOf after indexes
-indexes_on indexes before after on are =
-    let within : indexes.seen ≤ length before = are.within in
-    let longer : length after ≡ length before + length on.0 = ap length on.1 ∙ length-append before on.0 in
-    let front : state (take indexes.seen before) ≡ state (take indexes.seen after) =
-    ap state (sym (take-append-le indexes.seen before on.0 within) ∙ ap (take indexes.seen) (sym on.1)) in
-    record {
-      within = omega (arith, within, longer);
-      free = are.free ∙ ap (freed_of 0) front;
-      levels = subst (λ (cell : Cell). Each (Tells cell) indexes.levels.items) front are.levels;
-    }
-
--- and of one in which a round opens
-pub indexes_opened : (trace : TraceTables) (rows : List Row) (start : List Entry) (round : Round) (indexes : Indexes) → AreIndexesOf start indexes
-    → AreIndexesOf (opened trace rows start round).history indexes
-indexes_opened trace rows start round indexes are =
-    stays_opened (λ history. AreIndexesOf history indexes)
-    (λ history entry none here. indexes_on indexes history (history ++ entry ∷ []) (entry ∷ [], refl) here) trace rows start round are
-
--- so are those of some pieces, and those of all
+-- indexes of some pieces, and those of all, are those of a longer history
 pub further_on : (further : List Indexes) (before after : List Entry) → StartsWith after before → Each (AreIndexesOf before) further → Each (AreIndexesOf after) further
 further_on further before after on are = each_map (AreIndexesOf before) (AreIndexesOf after) (λ one. indexes_on one before after on) further are
 

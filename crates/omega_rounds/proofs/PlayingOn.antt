@@ -12,7 +12,7 @@ use Rattle.omega_model.specs.declared.rows.Row.{Row}
 use Rattle.omega_model.specs.declared.rows.TraceTables.{TraceTables}
 use Rattle.omega_model.specs.declared.settings.Settings.{Settings}
 use Rattle.omega_model.specs.declared.wishes.Request.{Request}
-use Rattle.omega_copy.specs.Copies.{CopyOf, CopyState}
+use Rattle.omega_copy.specs.Indexes.{AreIndexesOf}
 use Rattle.omega_desk.specs.Desks.{AnswersFirst, DeskState, IsSameDesk, left_at}
 use Rattle.omega_shared.specs.Commits.{GoesOnWithout, commit_after}
 use Rattle.omega_shared.specs.Passes.{PassState}
@@ -22,7 +22,8 @@ use Rattle.omega_rounds.specs.Players.{HasPlayed, IsOwnDesk, MayPlay, MayStand, 
 use Rattle.omega_rounds.specs.PlayingOn.{IsSynced, PlansFirst, PlaysOn}
 use Rattle.omega_rounds.specs.Workers.{IsWorker, synced_of, to_do_of, SyncedWithin}
 use Rattle.omega_rounds.specs.WorkerSteps.{CommitsFirst, IsFirstAttempt}
-use Rattle.omega_rounds.specs.Plans.{IsPlannedAt}
+use Rattle.omega_rounds.specs.Plans.{IsPlan}
+use Rattle.omega_rounds.specs.declared.plans.Planned.{Planned}
 use Rattle.omega_rounds.specs.declared.player.Player.{Player}
 use Rattle.omega_rounds.specs.declared.worker.Worker.{Worker}
 use Rattle.omega_rounds.proofs.DeskCommits.{own_desk_own}
@@ -30,14 +31,14 @@ use Rattle.omega_laws.proofs.LastCommits.{after_last-within}
 use Rattle.omega_rounds.proofs.WorkerCommits.{IsCommitting, answers_first, commits_first, fewer_left, worker_after}
 use Rattle.omega_rounds.proofs.Without.{after_last-without, attempt_without, desk_without, longer_without, worker_without, stand_without}
 
--- a turn after which the pass has seen commits of others, the desk is as before, and the copy stands for
+-- a turn after which the pass has seen commits of others, the desk is as before, and the indexes are those of
 -- what the pass has seen
 pub plays_on_without : (old new : Player) → IsWorker old.worker.desk.settings old.pass.seen old.pass.number old.worker
     → SpendsTurn old.pass new.pass → GoesOnWithout old.pass.number old.pass.seen new.pass.seen
-    → new.worker.desk ≡ old.worker.desk → CopyOf new.worker.copy new.pass.seen
-    → SyncedWithin new.worker.synced new.worker.copy.seen (length new.pass.seen)
+    → new.worker.desk ≡ old.worker.desk → AreIndexesOf new.pass.seen new.worker.indexes
+    → SyncedWithin new.worker.synced (length new.pass.seen)
     → PlaysOn old new
-plays_on_without old new worker turn on same copy seen =
+plays_on_without old new worker turn on same indexes seen =
     let settings : Settings = old.worker.desk.settings in
     let here = worker_without old.pass.number old.pass.seen new.pass.seen on settings old.worker worker in
     record {
@@ -50,7 +51,7 @@ plays_on_without old new worker turn on same copy seen =
         scheduler = ap (λ (d : DeskState). d.scheduler) same ∙ worker.scheduler ∙ sym turn.number;
         attempts = ap (λ (d : DeskState). d.attempts) same ∙ here.attempts ∙ ap (λ (n : ℕ). commits_of n new.pass.seen) (sym turn.number);
         tries = subst (λ (d : DeskState). d.taken < settings.tries) (sym same) worker.tries;
-        copy = copy;
+        indexes = indexes;
         seen = seen;
       };
       desk = λ trace rows opened_at within is.
@@ -62,21 +63,20 @@ plays_on_without old new worker turn on same copy seen =
           (stand_without old.pass.number old.pass.seen new.pass.seen on settings opened_at stand);
     }
 
--- what is planned on its copy at its desk is a player's attempt
-pub plans_first : (player : Player) (txn : Txn) → IsWorker player.worker.desk.settings player.pass.seen player.pass.number player.worker
-    → IsPlannedAt player.worker.desk player.worker.copy txn → PlansFirst player txn
-plans_first player txn worker planned =
-    subst (λ (n : ℕ). IsFirstAttempt player.worker.desk.settings player.pass.seen n player.worker.copy.seen player.worker.desk txn) worker.scheduler
-    (planned player.pass.seen worker.copy (worker.attempts ∙ ap (λ (n : ℕ). commits_of n player.pass.seen) (sym worker.scheduler)))
+-- what is planned at its desk after all that its pass has seen is a player's attempt
+pub plans_first : (player : Player) (plan : Planned) → IsWorker player.worker.desk.settings player.pass.seen player.pass.number player.worker
+    → IsPlan player.pass.seen (length player.pass.seen) player.worker.desk plan → PlansFirst player plan.txn
+plans_first player plan worker is =
+    subst (λ (n : ℕ). IsFirstAttempt player.worker.desk.settings player.pass.seen n (length player.pass.seen) player.worker.desk plan.txn) worker.scheduler is.txn
 
 -- what a commit was answered is for the first request at the desk
 pub takes_answers : (old : Player) → IsWorker old.worker.desk.settings old.pass.seen old.pass.number old.worker
-    → (new : PassState) (txn : Txn) (reply : Reply) → PlansFirst old txn → Commits old.pass new old.worker.copy.seen txn reply
+    → (new : PassState) (txn : Txn) (reply : Reply) → PlansFirst old txn → Commits old.pass new (length old.pass.seen) txn reply
     → AnswersFirst old.worker.desk.requests reply.outcomes
 takes_answers old worker new txn reply plans did =
-    answers_first old.worker.desk.settings old.pass.number did.before did.before old.worker.copy.seen old.worker.desk.requests plans.request txn reply.outcomes
+    answers_first old.worker.desk.settings old.pass.number did.before did.before (length old.pass.seen) old.worker.desk.requests plans.request txn reply.outcomes
     (sym (ap (λ (rs : List Request). slice_get rs 0) plans.work))
-    (plans.is ∙ attempt_without old.pass.number old.pass.seen did.before did.others old.worker.desk.settings old.worker.copy.seen plans.request worker.copy.within)
+    (plans.is ∙ attempt_without old.pass.number old.pass.seen did.before did.others old.worker.desk.settings (length old.pass.seen) plans.request (omega arith))
     did.answers.outcomes
 
 -- a player before a commit, and what its pass and its desk say after it
@@ -85,11 +85,11 @@ pub record PlayerCommits (old new : Player) (txn : Txn) (reply : Reply) : Type 0
   pub synced : IsSynced shared old
   pub plans : PlansFirst old txn
   pub turn : SpendsTurn old.pass new.pass
-  pub commits : Commits old.pass new.pass old.worker.copy.seen txn reply
+  pub commits : Commits old.pass new.pass (length old.pass.seen) txn reply
   pub same : IsSameDesk old.worker.desk new.worker.desk
   pub attempts : new.worker.desk.attempts ≡ old.worker.desk.attempts + 1
   pub moved : after_outcomes old.worker.desk.settings (left_at old.worker.desk) old.worker.desk.requests reply.outcomes ≡ Some (left_at new.worker.desk)
-  pub copy : new.worker.copy ≡ old.worker.copy
+  pub indexes : new.worker.indexes ≡ old.worker.indexes
   pub spent : new.worker.synced ≡ None
 
 module _ (old new : Player) (txn : Txn) (reply : Reply) (did : PlayerCommits old new txn reply) where
@@ -103,10 +103,10 @@ module _ (old new : Player) (txn : Txn) (reply : Reply) (did : PlayerCommits old
   before = did.commits.before
 
   abbrev next : Worker
-  next = record { desk = new.worker.desk; copy = new.worker.copy; synced = None; planned = new.worker.planned }
+  next = record { desk = new.worker.desk; indexes = new.worker.indexes; synced = None; planned = new.worker.planned }
 
   next_is : next ≡ new.worker
-  next_is = ap (λ (o : Option ℕ). record { desk = new.worker.desk; copy = new.worker.copy; synced = o; planned = new.worker.planned }) (sym did.spent)
+  next_is = ap (λ (o : Option ℕ). record { desk = new.worker.desk; indexes = new.worker.indexes; synced = o; planned = new.worker.planned }) (sym did.spent)
 
   -- the worker beside what was there before the commit
   worker_before : IsWorker settings before number old.worker
@@ -116,10 +116,10 @@ module _ (old new : Player) (txn : Txn) (reply : Reply) (did : PlayerCommits old
   committing = record {
     worker = worker_before;
     tries = did.synced.range.tries.0;
-    seen = old.worker.copy.seen;
-    synced = did.synced.all ∙ ap (λ (n : ℕ). Some n) (sym did.synced.copied);
+    seen = length old.pass.seen;
+    synced = did.synced.all;
     first = sym (ap (λ (rs : List Request). slice_get rs 0) did.plans.work);
-    is = did.plans.is ∙ attempt_without number old.pass.seen before did.commits.others settings old.worker.copy.seen did.plans.request did.synced.worker.copy.within;
+    is = did.plans.is ∙ attempt_without number old.pass.seen before did.commits.others settings (length old.pass.seen) did.plans.request (omega arith);
     appended = did.commits.commit_seen;
     outcome = did.commits.answers.outcomes;
     same = did.same;
@@ -128,12 +128,12 @@ module _ (old new : Player) (txn : Txn) (reply : Reply) (did : PlayerCommits old
   }
 
   worker_next : IsWorker settings new.pass.seen number next
-  worker_next = worker_after settings number before new.pass.seen old.worker new.worker.desk did.plans.request txn reply.outcomes committing new.worker.copy new.worker.planned (subst (λ (k : CopyState). CopyOf k before) (sym did.copy) worker_before.copy)
+  worker_next = worker_after settings number before new.pass.seen old.worker new.worker.desk did.plans.request txn reply.outcomes committing new.worker.indexes new.worker.planned (subst (AreIndexesOf before) (sym did.indexes) worker_before.indexes)
 
   first_next : CommitsFirst settings number before old.worker new.pass.seen next reply.place
   first_next =
       commits_first settings number before new.pass.seen old.worker new.worker.desk did.plans.request txn reply.outcomes committing
-      new.worker.copy new.worker.planned reply.place did.commits.answers.place
+      new.worker.indexes new.worker.planned reply.place did.commits.answers.place
 
   -- it had seen all that its pass had
   seen_all : first_next.seen ≡ length old.pass.seen
@@ -202,7 +202,7 @@ module _ (old new : Player) (txn : Txn) (reply : Reply) (did : PlayerCommits old
       } where
         commit_longer : length before ≤ length new.pass.seen
         commit_longer = subst (λ (h : List Entry). length before ≤ length h) (sym did.commits.commit_seen)
-            (let count = length-append before (commit_after before number old.worker.copy.seen txn ∷ []) in omega (arith, count))
+            (let count = length-append before (commit_after before number (length old.pass.seen) txn ∷ []) in omega (arith, count))
 
 -- a player that plays on twice plays on
 pub plays_on_both : (old now new : Player) → PlaysOn old now → PlaysOn now new → PlaysOn old new

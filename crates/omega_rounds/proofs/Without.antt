@@ -12,14 +12,15 @@ use Rattle.omega_model.specs.declared.rows.Row.{Row}
 use Rattle.omega_model.specs.declared.rows.TraceTables.{TraceTables}
 use Rattle.omega_model.specs.declared.settings.Settings.{Settings}
 use Rattle.omega_model.specs.declared.wishes.Request.{Request}
-use Rattle.omega_copy.specs.Copies.{CopyOf, CopyState}
+use Rattle.omega_copy.specs.Indexes.{AreIndexesOf}
+use Rattle.omega_copy.specs.declared.indexes.Indexes.{Indexes}
 use Rattle.omega_desk.specs.Desks.{DeskState}
 use Rattle.omega_shared.specs.Commits.{GoesOnWithout}
 use Rattle.omega_laws.specs.NextCommit.{attempt_txn}
 use Rattle.omega_rounds.specs.Players.{IsOwnDesk, MayStand, OwnMayStand}
 use Rattle.omega_rounds.specs.Workers.{IsWorker}
 use Rattle.omega_rounds.specs.declared.worker.Worker.{Worker}
-use Rattle.omega_rounds.proofs.CommitCounts.{commits_other, copy_grown, synced_longer}
+use Rattle.omega_rounds.proofs.CommitCounts.{commits_other, indexes_on, synced_longer}
 use Rattle.omega_rounds.proofs.DeskCommits.{own_desk_other}
 use Rattle.omega_laws.proofs.LastCommits.{after_last-none}
 
@@ -71,9 +72,9 @@ module _ (scheduler : ℕ) (old new : List Entry) (on : GoesOnWithout scheduler 
       stays_without scheduler (λ history. after_last scheduler history ≡ after_last scheduler old)
       (λ history entry other same. after_last-none scheduler history entry other ∙ same) old new on refl
 
-  -- a copy stands for it
-  pub copy_without : (copy : CopyState) → CopyOf copy old → CopyOf copy new
-  copy_without copy stands = subst (CopyOf copy) (sym on.goes_on) (copy_grown copy old on.later stands)
+  -- indexes are its indexes
+  pub indexes_without : (indexes : Indexes) → AreIndexesOf old indexes → AreIndexesOf new indexes
+  indexes_without indexes are = indexes_on indexes old new (on.later, on.goes_on) are
 
   -- the scheduler's worker is its worker
   pub worker_without : (settings : Settings) (worker : Worker) → IsWorker settings old scheduler worker → IsWorker settings new scheduler worker
@@ -82,11 +83,11 @@ module _ (scheduler : ℕ) (old new : List Entry) (on : GoesOnWithout scheduler 
     scheduler = is.scheduler;
     attempts = is.attempts ∙ sym commits_without;
     tries = is.tries;
-    copy = copy_without worker.copy is.copy;
-    seen = synced_longer worker.synced worker.copy.seen (length old) (length new) longer_without is.seen;
+    indexes = indexes_without worker.indexes is.indexes;
+    seen = synced_longer worker.synced (length old) (length new) longer_without is.seen;
   }
 
-  -- its attempt, on a copy that had seen some of the old history, is the same
+  -- its attempt, after some of the old history, is the same
   pub attempt_without : (settings : Settings) (seen : ℕ) (request : Request) → seen ≤ length old
       → attempt_txn settings old scheduler seen request ≡ attempt_txn settings new scheduler seen request
   attempt_without settings seen request within = rw (commits_without, front_without seen within) refl

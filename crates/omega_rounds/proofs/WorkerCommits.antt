@@ -9,7 +9,8 @@ use Rattle.omega_model.specs.declared.entries.Entry.{Entry}
 use Rattle.omega_model.specs.declared.entries.Entry.TheVariants.{Commit}
 use Rattle.omega_model.specs.declared.settings.Settings.{Settings}
 use Rattle.omega_model.specs.declared.wishes.Request.{Request}
-use Rattle.omega_copy.specs.Copies.{CopyOf, CopyState}
+use Rattle.omega_copy.specs.Indexes.{AreIndexesOf}
+use Rattle.omega_copy.specs.declared.indexes.Indexes.{Indexes}
 use Rattle.omega_desk.specs.Desks.{AnswersFirst, DeskState, IsSameDesk, left_at}
 use Rattle.omega_desk.specs.Walks.{are_wished}
 use Rattle.omega_rounds.specs.AttemptsLeft.{attempts_left}
@@ -20,7 +21,7 @@ use Rattle.omega_rounds.specs.declared.plans.Planned.{Planned}
 use Rattle.omega_rounds.specs.declared.worker.Worker.{Worker}
 use Rattle.omega_rounds.proofs.Answering.{planned_answers}
 use Rattle.omega_rounds.proofs.AttemptsLeft.{attempt_less}
-use Rattle.omega_rounds.proofs.CommitCounts.{commits_own, copy_grown}
+use Rattle.omega_rounds.proofs.CommitCounts.{commits_own, indexes_on}
 
 -- no request is the first where none is left
 pub first_none : (requests : List Request) → None ≡ slice_get requests 0 → requests ≡ []
@@ -81,25 +82,25 @@ module _ (settings : Settings) (scheduler : ℕ) (before after : List Entry) (ol
   left_moved : after_outcomes settings (left_at old.desk) old.desk.requests outcomes ≡ Some (left_at desk)
   left_moved = subst (λ (s : Settings). after_outcomes s (left_at old.desk) old.desk.requests outcomes ≡ Some (left_at desk)) on.worker.settings on.moved
 
-  pub worker_after : (copy : CopyState) (planned : Option Planned) → CopyOf copy before → IsWorker settings after scheduler (record { desk = desk; copy = copy; synced = None; planned = planned })
-  worker_after copy planned stands =
+  pub worker_after : (indexes : Indexes) (planned : Option Planned) → AreIndexesOf before indexes → IsWorker settings after scheduler (record { desk = desk; indexes = indexes; synced = None; planned = planned })
+  worker_after indexes planned are =
       let parts = first_some old.desk.requests request on.first in
       let next = moved_to settings (left_at old.desk) (left_at desk) old.desk.requests request parts.0 outcomes parts.1 left_moved in
       let less = attempt_less settings (left_at old.desk) request parts.0 outcomes on.tries parts.1 on.worker.tries in
       let entry : Entry = Commit scheduler on.seen txn (reply_of before on.seen txn) in
-      subst (λ (h : List Entry). IsWorker settings h scheduler (record { desk = desk; copy = copy; synced = None; planned = planned })) (sym on.appended) (record {
+      subst (λ (h : List Entry). IsWorker settings h scheduler (record { desk = desk; indexes = indexes; synced = None; planned = planned })) (sym on.appended) (record {
         settings = on.same.settings ∙ on.worker.settings;
         scheduler = on.same.scheduler ∙ on.worker.scheduler;
         attempts = on.attempts ∙ ap (λ (n : ℕ). n + 1) on.worker.attempts
             ∙ sym (commits_own scheduler on.seen txn (reply_of before on.seen txn) before);
         tries = subst (λ (s : Standing). s.taken < settings.tries) (sym next) less.1;
-        copy = copy_grown copy before (entry ∷ []) stands;
+        indexes = indexes_on indexes before (before ++ entry ∷ []) (entry ∷ [], refl) are;
         seen = tt;
       })
 
-  pub commits_first : (copy : CopyState) (planned : Option Planned) (place : ℕ) → place ≡ length before
-      → CommitsFirst settings scheduler before old after (record { desk = desk; copy = copy; synced = None; planned = planned }) place
-  commits_first copy planned place at_end =
+  pub commits_first : (indexes : Indexes) (planned : Option Planned) (place : ℕ) → place ≡ length before
+      → CommitsFirst settings scheduler before old after (record { desk = desk; indexes = indexes; synced = None; planned = planned }) place
+  commits_first indexes planned place at_end =
       let parts = first_some old.desk.requests request on.first in
       record {
         request = request;

@@ -27,7 +27,8 @@ use Rattle.omega_model.specs.declared.rows.Round.{Round}
 use Rattle.omega_model.specs.declared.rows.TraceTables.{TraceTables}
 use Rattle.omega_model.specs.declared.settings.Settings.{Settings}
 use Rattle.omega_model.specs.declared.wishes.Request.{Request}
-use Rattle.omega_copy.specs.Copies.{CopyOf, CopyState}
+use Rattle.omega_copy.specs.Indexes.{AreIndexesOf}
+use Rattle.omega_copy.specs.declared.indexes.Indexes.{Indexes}
 use Rattle.omega_desk.specs.Counts.{count_of}
 use Rattle.omega_desk.specs.Desks.{DeskState, left_at, still_tried}
 use Rattle.omega_rounds.specs.AttemptsLeft.{attempts_left}
@@ -42,7 +43,7 @@ use Rattle.omega_rounds.specs.Workers.{IsDeskOf, IsRoutedTo, IsWorker, synced_of
 use Rattle.omega_rounds.specs.Stages.{IsInRunOf, Source, Stage, next_stage, rows_begun, stage_of}
 use Rattle.omega_rounds.specs.declared.worker.Worker.{Worker}
 use Rattle.omega_rounds.proofs.PlansKept.{all_indexes_opened, plan_none}
-use Rattle.omega_rounds.proofs.OpenedEntries.{commits_opened, copy_opened, failed_opened}
+use Rattle.omega_rounds.proofs.OpenedEntries.{commits_opened, failed_opened, indexes_opened}
 use Rattle.omega_laws.proofs.Places.{take_next}
 use Rattle.omega_rounds.proofs.Requested.{open_own, requests_own}
 use Rattle.omega_laws.proofs.RoundGrows.{has_left_opened}
@@ -181,9 +182,9 @@ module _ (settings : Settings) (all : List Round) (asked : Asked) (begun old_pla
           attempts = begun_worker.attempts ∙ is.attempts ∙ sym (commits_opened trace (rows_begun stage) before round number)
               ∙ ap (λ (h : List Entry). commits_of number h) (sym same);
           tries = omega (arith, none, some);
-          copy = subst (λ (k : CopyState). CopyOf k after) (sym begun_worker.copy)
-              (subst (CopyOf was.copy) (sym same) (copy_opened trace (rows_begun stage) before round was.copy is.copy));
-          seen = subst (λ (synced : Option ℕ). SyncedWithin synced worker.copy.seen (length after)) (sym begun_worker.synced) tt;
+          indexes = subst (λ (k : Indexes). AreIndexesOf after k) (sym begun_worker.indexes)
+              (subst (λ (h : List Entry). AreIndexesOf h was.indexes) (sym same) (indexes_opened trace (rows_begun stage) before round was.indexes is.indexes));
+          seen = subst (λ (synced : Option ℕ). SyncedWithin synced (length after)) (sym begun_worker.synced) tt;
         }
 
     -- nobody has synced

@@ -33,7 +33,7 @@ use Rattle.omega_rounds.specs.Stages.{IsInRunOf, Source, Stage, WorldState, rows
 use Rattle.omega_rounds.specs.declared.worker.Worker.{Worker}
 use Rattle.omega_rounds.specs.declared.steps.Stepped.{Stepped}
 use Rattle.omega_rounds.specs.declared.steps.Stepped.TheVariants.{Synced, Committed, Idle}
-use Rattle.omega_rounds.proofs.CommitCounts.{commits_other, copy_grown, synced_longer}
+use Rattle.omega_rounds.proofs.CommitCounts.{commits_other, indexes_on, synced_longer}
 use Rattle.omega_rounds.proofs.DeskCommits.{desk_other, desk_own}
 use Rattle.omega_laws.proofs.Places.{take_next}
 use Rattle.omega_rounds.proofs.PlansKept.{plans_after}
@@ -96,8 +96,8 @@ module _ (settings : Settings) (before after : List Entry) (scheduler : ℕ) (ol
         scheduler = is.scheduler;
         attempts = is.attempts ∙ sym (commits_other number before entry (ne_eqb scheduler number (λ same. apart (sym same))));
         tries = is.tries;
-        copy = copy_grown worker.copy before (entry ∷ []) is.copy;
-        seen = synced_longer worker.synced worker.copy.seen (length before) (length (before ++ entry ∷ []))
+        indexes = indexes_on worker.indexes before (before ++ entry ∷ []) (entry ∷ [], refl) is.indexes;
+        seen = synced_longer worker.synced (length before) (length (before ++ entry ∷ []))
             (let count = length-append before (entry ∷ []) in omega (arith, count)) is.seen;
       })
 

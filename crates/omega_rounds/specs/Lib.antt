@@ -15,6 +15,5 @@ pub mod InTime
 pub mod Players
 pub mod PlayingOn
 pub mod Closed
-pub mod Following
 pub mod Reopening
 pub mod Resuming

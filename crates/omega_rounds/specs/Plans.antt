@@ -2,7 +2,6 @@
 use Rattle.std.specs.Prelude.{◌≡◌, ◌≢◌, ◌≤◌, ◌<◌, ◌^◌, ℕ, List, [], Some, IfSome, length}
 use Rattle.omega_machines.specs.Table.{seq_at}
 use Rattle.omega_board.specs.Board.{BoardState, cell_of}
-use Rattle.omega_copy.specs.Copies.{CopyOf, CopyState}
 use Rattle.omega_desk.specs.Desks.{DeskState}
 use Rattle.omega_model.specs.Copy.{StandsFor}
 use Rattle.omega_model.specs.Policy.{schedulers}
@@ -31,13 +30,6 @@ IsUpTo history desk = desk.attempts ≡ commits_of desk.scheduler history
 abbrev pub IsPlannedOver : DeskState → BoardState → Txn → Type 0
 IsPlannedOver desk board txn = (history : List Entry) (seen : ℕ) → StandsFor (cell_of board) (seq_at board.table) seen history → IsUpTo history desk
     → IsFirstAttempt desk.settings history desk.scheduler seen desk txn
-
--- a transaction is planned at a desk on a copy: it is the attempt of the desk's scheduler on the first request that
--- is left there, after what the copy has seen, in each history for a front of which the copy stands and up to which
--- the desk is
-abbrev pub IsPlannedAt : DeskState → CopyState → Txn → Type 0
-IsPlannedAt desk copy txn = (history : List Entry) → CopyOf copy history → IsUpTo history desk
-    → IsFirstAttempt desk.settings history desk.scheduler copy.seen desk txn
 
 -- a plan is the attempt of the desk's scheduler on the first request that is left there, after so many entries
 -- that it has seen, with the sequence numbers that the machines of its claims have there

@@ -27,13 +27,14 @@ pub record PlaysOn (old new : Player) : Type 0 where
       → OwnMayStand old.worker.desk.settings opened_at old.pass.number old.pass.seen
       → OwnMayStand old.worker.desk.settings opened_at new.pass.number new.pass.seen
 
--- a transaction is a player's attempt on the first request that is left at its desk, planned on its copy
+-- a transaction is a player's attempt on the first request that is left at its desk, planned after all that
+-- its pass has seen
 abbrev pub PlansFirst : Player → Txn → Type 0
 PlansFirst player txn =
-    IsFirstAttempt player.worker.desk.settings player.pass.seen player.pass.number player.worker.copy.seen player.worker.desk txn
+    IsFirstAttempt player.worker.desk.settings player.pass.seen player.pass.number (length player.pass.seen) player.worker.desk txn
 
 -- a player may commit on this shared cell: it has a turn left and is one of the schedulers of its settings, and
--- its copy has taken over all that its pass has seen
+-- its scheduler has synced after all that its pass has seen
 pub record IsSynced (shared : TableId) (player : Player) : Type 0 where
   pub range : IsInRange player.worker.desk.settings
   pub of : player.pass.of ≡ shared
@@ -41,4 +42,3 @@ pub record IsSynced (shared : TableId) (player : Player) : Type 0 where
   pub known : player.pass.number < schedulers player.worker.desk.settings
   pub worker : IsWorker player.worker.desk.settings player.pass.seen player.pass.number player.worker
   pub all : synced_of player.worker ≡ Some (length player.pass.seen)
-  pub copied : player.worker.copy.seen ≡ length player.pass.seen

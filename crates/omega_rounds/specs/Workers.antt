@@ -1,4 +1,4 @@
--- A scheduler's worker: its desk, and its copy of the cell; what it has planned is in `Plans`.
+-- A scheduler's worker: its desk, and its indexes; what it has planned is in `Plans`.
 use Rattle.std.specs.Prelude.{◌≡◌, ◌<◌, ◌≤◌, ℕ, List, Option, Some, IfSome, All, length}
 use Rattle.omega_model.specs.Requests.{failed}
 use Rattle.omega_model.specs.Routing.{scheduler_of}
@@ -8,7 +8,7 @@ use Rattle.omega_model.specs.declared.rows.Row.{Row}
 use Rattle.omega_model.specs.declared.rows.TraceTables.{TraceTables}
 use Rattle.omega_model.specs.declared.settings.Settings.{Settings}
 use Rattle.omega_model.specs.declared.wishes.Request.{Request}
-use Rattle.omega_copy.specs.Copies.{CopyOf}
+use Rattle.omega_copy.specs.Indexes.{AreIndexesOf}
 use Rattle.omega_desk.specs.Counts.{count_of}
 use Rattle.omega_desk.specs.Desks.{DeskState, left_at}
 use Rattle.omega_rounds.specs.AttemptsLeft.{attempts_left}
@@ -22,20 +22,20 @@ synced_of worker = worker.synced
 abbrev pub to_do_of : Worker → ℕ
 to_do_of worker = attempts_left worker.desk.settings (left_at worker.desk)
 
--- a scheduler that has synced has seen no more than so many entries, and its copy no more than it
-abbrev pub SyncedWithin : Option ℕ → ℕ → ℕ → Type 0
-SyncedWithin synced copied count = IfSome synced (λ seen. (seen ≤ count) × (copied ≤ seen))
+-- a scheduler that has synced has seen no more than so many entries
+abbrev pub SyncedWithin : Option ℕ → ℕ → Type 0
+SyncedWithin synced count = IfSome synced (λ seen. seen ≤ count)
 
 -- a worker is that of a scheduler beside a history: the desk is the scheduler's, has had as many attempts as
--- the history has commits of it, and a try left for its first request; the copy stands for a front of the
--- history; and where the scheduler has synced, it has seen a front of the history, and the copy no more
+-- the history has commits of it, and a try left for its first request; the indexes are those of the history;
+-- and where the scheduler has synced, it has seen a front of the history
 pub record IsWorker (chosen : Settings) (history : List Entry) (number : ℕ) (worker : Worker) : Type 0 where
   pub settings : worker.desk.settings ≡ chosen
   pub scheduler : worker.desk.scheduler ≡ number
   pub attempts : worker.desk.attempts ≡ commits_of number history
   pub tries : worker.desk.taken < chosen.tries
-  pub copy : CopyOf worker.copy history
-  pub seen : SyncedWithin worker.synced worker.copy.seen (length history)
+  pub indexes : AreIndexesOf history worker.indexes
+  pub seen : SyncedWithin worker.synced (length history)
 
 -- a scheduler works on the job of a request
 abbrev pub IsRoutedTo : Settings → TraceTables → ℕ → Request → Type 0

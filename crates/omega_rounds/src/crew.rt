@@ -7,8 +7,8 @@ ghost use Rattle.omega_rounds.specs.Closed.{AreBack};
 ghost use Rattle.omega_rounds.specs.Workers.{IsWorker};
 ghost use Rattle.omega_rounds.specs.declared.worker.Worker.{Worker};
 
-use crate::following::follow_and_play;
 use crate::forked::PieceIndexes;
+use crate::threads::{play_shared, turns_for};
 use crate::worker::Worker;
 use omega_cell::Cell;
 use omega_io::Gate;
@@ -77,7 +77,8 @@ impl Crew {
             workers,
             indexes,
         } = self;
-        let (cell, workers) = follow_and_play(rt, alloc, settings, cell, workers, gate)?;
+        let turns = turns_for(settings, workers.as_slice())?;
+        let (cell, workers) = play_shared(rt, alloc, settings, cell, workers, turns, gate)?;
         Ok(Crew {
             cell,
             workers,

@@ -1,8 +1,8 @@
 //! Rounds in which schedulers commit in an order.
 //!
 //! A world is a cell that schedulers share, with a desk for each of them. Where they take steps of the
-//! world, each plans on the cell's own board when it syncs; on a thread of its own it has a private copy of
-//! the cell. Whatever steps they do in whatever order, its history is lawful so far; `in_turns` runs it
+//! world, each plans on the cell's own board when it syncs; on a thread of its own it plans on a view of the
+//! cell that all share. Whatever steps they do in whatever order, its history is lawful so far; `in_turns` runs it
 //! to the end with the schedulers in turns, `resume_turns` does so and keeps the lines of the history,
 //! `in_time` runs it by a virtual clock, `on_threads` with a thread for each.
 #![tactic(auto)]
@@ -10,7 +10,6 @@
 mod clock;
 mod course;
 mod crew;
-mod following;
 mod forked;
 mod kept;
 mod opening;

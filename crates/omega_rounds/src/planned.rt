@@ -3,15 +3,14 @@ ghost use Rattle.std.specs.Prelude.{◌≡◌, ◌≤◌, ◌<◌, ◌^◌, leng
 ghost use Rattle.omega_board.specs.Board.{cell_of};
 ghost use Rattle.omega_copy.specs.Indexes.{TellAll};
 ghost use Rattle.omega_model.specs.Draws.{drawn_start};
-ghost use Rattle.omega_rounds.specs.Plans.{IsPlannedAt, IsPlannedOver, MayPlan};
+ghost use Rattle.omega_rounds.specs.Plans.{IsPlannedOver, MayPlan};
 
 use omega_board::Board;
-use omega_copy::{Indexes, PrivateCopy};
+use omega_copy::Indexes;
 use omega_desk::Desk;
 use omega_model::{NoMemory, Txn};
 use omega_plan::plan;
 use std::alloc::Global;
-use std::mem;
 
 /// The transaction of an attempt on the first request that is left at a desk, planned on a board of which
 /// these indexes tell. One of 2^32 claims or more is want of memory. They tell of the board afterwards, in
@@ -38,24 +37,6 @@ pub(crate) fn planned(
         return Err(NoMemory);
     }
     Ok(txn)
-}
-
-/// The same on a copy, which is as before afterwards.
-pub(crate) fn planned_on(
-    alloc: Global,
-    desk: &Desk,
-    copy: &mut PrivateCopy,
-) -> Result<Txn, NoMemory>
-    requires may { MayPlan desk.now }
-    ensures txn { IfOk result (IsPlannedAt desk.now copy.old) }
-    ensures few { IfOk result (λ txn. length txn.claims < 2 ^ 32) }
-    ensures copy { copy.new ≡ copy.old }
-{
-    let whole = mem::replace(copy, PrivateCopy::new(alloc));
-    let (board, mut indexes) = whole.into_parts();
-    let txn = planned(alloc, desk, &board, &mut indexes);
-    *copy = PrivateCopy::of_parts(board, indexes);
-    txn
 }
 
 /// The place in a board's list of machines at which a desk's present attempt begins.

@@ -26,14 +26,13 @@ use std::sync::Wait;
 use std::thread::Threads;
 
 /// Runs all rounds of a new world to their end, with a thread for each scheduler that has work. In each
-/// round their copies first take over the history, all at the same time, and then the schedulers share the
-/// cell: each makes attempts until it has no work, and an attempt is a sync, a plan on the scheduler's own
-/// copy and a commit. The gate is asked after each of the three. Where no thread can be made the
-/// schedulers work one after the other. Where memory runs out the world is gone. May wait.
+/// round they share the cell: each makes attempts until it has no work, and an attempt is a look at the cell,
+/// a plan on what was seen there and a commit. The gate is asked after each of the three. Where no thread can
+/// be made the schedulers work one after the other. Where memory runs out the world is gone. May wait.
 ///
 /// The history is lawful for the settings and the trace, in whatever order the schedulers came to the
 /// cell. Nothing is said of that order, of time, nor that plans of different schedulers are made at
-/// the same time. Costs the attempts, of which another order may need more, for each sync and each
+/// the same time. Costs the attempts, of which another order may need more, for each look and each
 /// commit a turn at the cell, and for each round in which somebody has work the threads.
 pub fn on_threads<R: Threads + Wait + Sync, G: Gate + Sync>(
     rt: &R,
@@ -84,7 +83,7 @@ pub(crate) fn play_shared<R: Threads + Wait + Sync, G: Gate + Sync>(
     let mut players = players_of(alloc, workers, passes)?;
     play_all(rt, alloc, &shared, &mut players, gate);
     let (workers, passes) = back_from(alloc, players)?;
-    Ok((shared.close(passes), workers))
+    Ok((shared.close(rt, passes), workers))
 }
 
 /// Two turns for each attempt that a scheduler can make: as many as for all tries of as many requests as

@@ -1,4 +1,4 @@
-//! A scheduler's worker: its desk, its copy of the cell, and its plan.
+//! A scheduler's worker: its desk, its indexes of the cell, and its plan.
 ghost use Rattle.std.specs.Prelude.{◌≡◌, ◌≢◌, [], None, Some, IfOk, OnOk, OnErr};
 ghost use Rattle.std.specs.List.{All};
 ghost use Rattle.omega_copy.specs.Indexes.{AreIndexesOf};
@@ -15,7 +15,7 @@ ghost use Rattle.omega_rounds.specs.WorkerSteps.{CommitsFirst, WorkerSteps, Sync
 use crate::plans::{Planned, plan_first};
 use crate::steps::Stepped;
 use omega_cell::Cell;
-use omega_copy::{Indexes, PrivateCopy};
+use omega_copy::Indexes;
 use omega_desk::Desk;
 use omega_model::{NoMemory, Requests, Settings};
 use std::alloc::Global;
@@ -24,8 +24,8 @@ use std::alloc::Global;
 #[derive(Drop)]
 pub(crate) struct Worker {
     pub desk: Desk,
-    /// The copy on which a scheduler plans that has a thread of its own.
-    pub copy: PrivateCopy,
+    /// What it plans by beside the cell, where it has a thread of its own.
+    pub indexes: Indexes,
     /// How many entries the scheduler has seen, if it has synced since its last commit.
     pub synced: Option<u64>,
     /// Its plan after these, where it takes steps of a world.
@@ -42,7 +42,7 @@ impl Worker {
     {
         Worker {
             desk: Desk::new(alloc, settings, scheduler),
-            copy: PrivateCopy::new(alloc),
+            indexes: Indexes::new(alloc),
             synced: None,
             planned: None,
         }
@@ -57,7 +57,7 @@ impl Worker {
         ensures attempts { self.new.desk.attempts ≡ self.old.desk.attempts }
         ensures left { OnOk result (left_at self.new.desk ≡ fresh (left_at self.old.desk).failing
             (still_tried self.old.desk.settings (left_at self.old.desk).failing requests)) }
-        ensures copy { self.new.copy ≡ self.old.copy }
+        ensures indexes { self.new.indexes ≡ self.old.indexes }
         ensures synced { OnOk result (self.new.synced ≡ None) }
     {
         self.desk.begin(requests)?;

@@ -1,35 +1,48 @@
-use Rattle.std.proofs.Common.{None, length, refl}
+use Rattle.std.proofs.Common.{◌≡◌, ◌∙◌, ℕ, None, Some, length, refl, sym, subst}
+use Rattle.omega_shared.specs.Turns.{Commits}
 use Rattle.omega_rounds.proofs.CommitCounts.{synced_longer}
-use Rattle.omega_rounds.proofs.PlayingOn.{plays_on_commit, plays_on_without, takes_answers}
-use Rattle.omega_rounds.proofs.Without.{longer_without}
+use Rattle.omega_rounds.proofs.PlayingOn.{plans_first, plays_on_commit, plays_on_without, takes_answers}
+use Rattle.omega_rounds.proofs.Without.{indexes_without, longer_without}
 use Rattle.omega_rounds.specs.declared.player.Player.{Player}
 use Rattle.omega_rounds.proofs.player.Player.commit.Goals as goal
 
-pub returns-in_default-clause-plays_on : goal.returns-in_default-clause-plays_on
-returns-in_default-clause-plays_on g c =
-    plays_on_without c.args.self.now
-    (record { worker = c.args.self.now.worker; pass = c.commit.new.pass; failed = c.args.self.now.failed })
-    c.requires.synced.worker c.commit.ensures.turn c.in_default.ensures.seen refl c.commit.ensures.stands
-    (synced_longer c.args.self.now.worker.synced c.args.self.now.worker.copy.seen (length c.args.self.now.pass.seen) (length c.commit.new.pass.seen)
-    (longer_without c.args.self.now.pass.number c.args.self.now.pass.seen c.commit.new.pass.seen c.in_default.ensures.seen) c.requires.synced.worker.seen)
+-- who has synced has seen what its pass has
+all_seen : (synced : ℕ) (count : ℕ) → Some synced ≡ Some count → synced ≡ count
+all_seen synced count both = cc
+
+pub returns-in_default-commit_planned-clause-plays_on : goal.returns-in_default-commit_planned-clause-plays_on
+returns-in_default-commit_planned-clause-plays_on g c =
+    let was : Player = c.args.self.now in
+    let others = c.in_default-commit_planned.ensures.seen in
+    plays_on_without was (record { worker = was.worker; pass = c.commit_planned.new.pass; failed = was.failed })
+    c.requires.synced.worker c.commit_planned.ensures.turn others refl
+    (indexes_without was.pass.number was.pass.seen c.commit_planned.new.pass.seen others was.worker.indexes c.requires.synced.worker.indexes)
+    (synced_longer was.worker.synced (length was.pass.seen) (length c.commit_planned.new.pass.seen)
+    (longer_without was.pass.number was.pass.seen c.commit_planned.new.pass.seen others) c.requires.synced.worker.seen)
 
 pub take-requires-clause-answers : goal.take-requires-clause-answers
 take-requires-clause-answers g c =
-    takes_answers c.args.self.now c.requires.synced.worker c.commit.new.pass c.args.txn c.in-Ok.reply c.requires.plans c.in-Ok.ensures.commits
+    let was : Player = c.args.self.now in
+    let same = all_seen c.in-Some.seen (length was.pass.seen) (sym c.in-Some.is ∙ c.requires.synced.all) in
+    takes_answers was c.requires.synced.worker c.commit_planned.new.pass c.args.plan.txn c.in-Ok.reply
+    (plans_first was c.args.plan c.requires.synced.worker c.requires.plan)
+    (subst (λ (n : ℕ). Commits was.pass c.commit_planned.new.pass n c.args.plan.txn c.in-Ok.reply) same c.in-Ok.ensures.commits)
 
 pub returns-clause-plays_on : goal.returns-clause-plays_on
 returns-clause-plays_on g c =
-    let after : Player = record { worker = record { desk = c.take.new.self; copy = c.args.self.now.worker.copy; synced = None; planned = c.args.self.now.worker.planned }; pass = c.commit.new.pass; failed = c.args.self.now.failed } in
-    plays_on_commit c.args.self.now after c.args.txn c.in-Ok.reply
+    let was : Player = c.args.self.now in
+    let same = all_seen c.in-Some.seen (length was.pass.seen) (sym c.in-Some.is ∙ c.requires.synced.all) in
+    let after : Player = record { worker = record { desk = c.take.new.self; indexes = was.worker.indexes; synced = None; planned = was.worker.planned }; pass = c.commit_planned.new.pass; failed = was.failed } in
+    plays_on_commit was after c.args.plan.txn c.in-Ok.reply
     (record {
       shared = c.args.shared.now.of;
       synced = c.requires.synced;
-      plans = c.requires.plans;
-      turn = c.commit.ensures.turn;
-      commits = c.in-Ok.ensures.commits;
+      plans = plans_first was c.args.plan c.requires.synced.worker c.requires.plan;
+      turn = c.commit_planned.ensures.turn;
+      commits = subst (λ (n : ℕ). Commits was.pass c.commit_planned.new.pass n c.args.plan.txn c.in-Ok.reply) same c.in-Ok.ensures.commits;
       same = c.take.ensures.desk;
       attempts = c.take.ensures.attempts;
       moved = c.take.ensures.left;
-      copy = refl;
+      indexes = refl;
       spent = refl;
     })

@@ -45,6 +45,6 @@ returns-in-Ok-clause-ready c = record {
         same = c.take-in-Ok.ensures.desk;
         attempts = c.take-in-Ok.ensures.attempts;
         moved = c.take-in-Ok.ensures.left;
-      }) c.args.self.now.copy c.take.new.self c.requires.ready.is_worker.copy);
+      }) c.args.self.now.indexes c.take.new.self c.requires.ready.is_worker.indexes);
   plan = tt;
 }

@@ -1,6 +1,6 @@
 use Rattle.std.proofs.Common.{refl, not, ap, ◌∙◌, subst, sym}
 use Rattle.omega_copy.specs.Indexes.{AreIndexesOf}
-use Rattle.omega_rounds.proofs.PlansKept.{indexes_on}
+use Rattle.omega_rounds.proofs.CommitCounts.{indexes_on}
 use Rattle.omega_rounds.proofs.WorkerCommits.{first_unseen}
 use Rattle.omega_rounds.proofs.worker.Worker.step.Goals as goal
 

@@ -15,8 +15,7 @@ pub returns-clause-ready : goal.returns-clause-ready
 returns-clause-ready c =
     let was = c.requires.ready.is_worker in
     let seen : length c.history.result.now ≡ length c.args.cell.now.history = ap (λ (h : List Entry). length h) c.history.ensures.history in
-    let worker : Worker = record { desk = c.args.self.now.desk; copy = c.args.self.now.copy; synced = Some (length c.history.result.now); planned = Some c.in_ok-plan.plan } in
-    let within = was.copy.within in
+    let worker : Worker = record { desk = c.args.self.now.desk; indexes = c.args.self.now.indexes; synced = Some (length c.history.result.now); planned = Some c.in_ok-plan.plan } in
     record {
       range = c.requires.ready.range;
       known = c.requires.ready.known;
@@ -25,8 +24,8 @@ returns-clause-ready c =
         scheduler = refl;
         attempts = was.attempts;
         tries = was.tries;
-        copy = was.copy;
-        seen = (omega (arith, seen), omega (arith, seen, within));
+        indexes = was.indexes;
+        seen = omega (arith, seen);
       };
       plan = has_plan c.args.cell.now.history worker (length c.history.result.now) c.in_ok-plan.plan refl refl (omega (arith, seen))
           (subst (λ (n : ℕ). IsPlan c.args.cell.now.history n c.args.self.now.desk c.in_ok-plan.plan) (sym seen) c.in_ok-plan.ensures.plan);
