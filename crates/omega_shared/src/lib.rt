@@ -14,8 +14,9 @@
 //! Nothing is said of time: not who comes first, nor that a turn comes soon, nor that it comes.
 #![tactic(auto)]
 
-mod guarded;
+mod held;
 mod pass;
+mod planned;
 mod shared;
 mod view;
 
