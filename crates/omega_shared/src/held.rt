@@ -125,7 +125,7 @@ impl Held {
     }
 }
 
-/// The cell that was lent, once nobody looks at it, or what lends it, if it was asked for often.
+/// The cell that was lent, if nobody looks at it any more before it was tried often.
 fn take_back(mut lent: Arc<Cell, Global>) -> Result<Cell, Arc<Cell, Global>>
     ensures cell { IfOk result (λ cell. cell ≡ arc_value lent) }
     ensures still { IfErr result (λ still. arc_value still ≡ arc_value lent) }
