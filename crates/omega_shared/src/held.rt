@@ -15,8 +15,9 @@ use std::alloc::Global;
 use std::sync::{Arc, Wait};
 use std::thread::yield_now;
 
-/// How often a commit asks whether nobody looks at the cell any more, and lets another thread run, before it
-/// goes on with a copy. Who looks is then either slow or held up: to plan takes less.
+/// How often a commit asks whether nobody looks at the cell any more, and lets other threads run, before it goes
+/// on with a copy. With few tries a whole cell would be copied where a plan is about to end; with many all others
+/// would wait for one that is held up.
 const TRIES: u32 = 10_000;
 
 /// The cell behind the lock. Its list is the history, in which each commit has its scheduler's number.
@@ -96,8 +97,8 @@ impl Held {
         }
     }
 
-    /// The cell alone, or a copy of it where others look at it for long. Where there is no memory for that it
-    /// is handed back.
+    /// The cell alone, or a copy where others look at it for long. Where there is no memory for that, what lends
+    /// it is handed back.
     fn own(self, alloc: Global) -> Result<Cell, (Held, NoMemory)>
         ensures cell { IfOk result (λ cell. cell.history ≡ held_history self) }
         ensures back { IfErr result (λ refused. held_history refused.0 ≡ held_history self) }
@@ -125,7 +126,7 @@ impl Held {
     }
 }
 
-/// The cell that was lent, if nobody looks at it any more before it was tried often.
+/// The cell that was lent, if within so many tries nobody looks at it any more.
 fn take_back(mut lent: Arc<Cell, Global>) -> Result<Cell, Arc<Cell, Global>>
     ensures cell { IfOk result (λ cell. cell ≡ arc_value lent) }
     ensures still { IfErr result (λ still. arc_value still ≡ arc_value lent) }
