@@ -34,16 +34,24 @@ cell_push board after history entry kept follows may stepped numbered = record {
   applied = by_place_push (λ (before : List Entry). MayApply (state before) (seq before)) history entry kept.applied may;
 }
 
--- another board with the same machines and tasks serves as well
-pub cell_same : (board after : BoardState) (history : List Entry) → IsCell board history → after.table ≡ board.table → after.tasks ≡ board.tasks → IsCell after history
-cell_same board after history kept table tasks = record {
+-- another board of the same cell, with the same sequence numbers, serves as well
+pub cell_alike : (board after : BoardState) (history : List Entry) → IsCell board history → cell_of after ≡ cell_of board
+    → ((id : ℕ) → seq_at after.table id ≡ seq_at board.table id) → IsCell after history
+cell_alike board after history kept current numbered = record {
   board_is = record {
-    current = ap₂ (λ (t : List MachineState) (u : List Task). let cell : Cell = record { machines = machines_of t; tasks = u } in cell) table tasks ∙ kept.board_is.current;
-    numbered = λ id. ap (λ (t : List MachineState). seq_at t id) table ∙ kept.board_is.numbered id;
+    current = current ∙ kept.board_is.current;
+    numbered = λ id. numbered id ∙ kept.board_is.numbered id;
   };
   legal = kept.legal;
   applied = kept.applied;
 }
+
+-- so does one with the same machines and tasks
+pub cell_same : (board after : BoardState) (history : List Entry) → IsCell board history → after.table ≡ board.table → after.tasks ≡ board.tasks → IsCell after history
+cell_same board after history kept table tasks =
+    cell_alike board after history kept
+    (ap₂ (λ (t : List MachineState) (u : List Task). let cell : Cell = record { machines = machines_of t; tasks = u } in cell) table tasks)
+    (λ id. ap (λ (t : List MachineState). seq_at t id) table)
 
 -- sequence numbers are at most the number of entries
 short : (history : List Entry) (entry : Entry) → length history < 2 ^ 64 - 1 → (id : ℕ) → IsTrue (touches id entry) → seq history id < 2 ^ 64 - 1

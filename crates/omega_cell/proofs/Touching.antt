@@ -11,7 +11,6 @@ use Rattle.std.proofs.lemmas.Option.{none-some, same_Some, cond_some, slice_get-
 use Rattle.omega_model.specs.Machines.{is_listed, numbers_of}
 use Rattle.omega_model.specs.declared.cells.Machine.{Machine}
 use Rattle.omega_running.specs.Order.{Each}
-use Rattle.omega_running.proofs.Kept.{or_no}
 use Rattle.omega_running.proofs.Lists.{each_map, each_of}
 use Rattle.omega_board.specs.Numbers.{is_among}
 use Rattle.omega_board.proofs.Numbered.{differ_back, others_behind}

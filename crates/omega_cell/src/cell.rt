@@ -13,6 +13,7 @@ ghost use Rattle.omega_model.specs.Work.{outcomes_of};
 ghost use Rattle.omega_cell.specs.Cells.{HasRoom, KeepsRoom};
 ghost use Rattle.omega_cell.specs.Effects.{AreEffects};
 
+use crate::copying::copy_all;
 use crate::deciding::{decide, outcomes_of};
 use crate::effects::{Effects, Notes, Usage};
 use crate::prepared::Prepared;
@@ -88,6 +89,18 @@ impl Cell {
         let positions = touched_positions(alloc, self.board.machines(), later)?;
         let parts = parts_at(alloc, &self.board, &positions)?;
         Ok(Delta::of(n, self.entries.len() as u64, parts))
+    }
+
+    /// A cell with the same history. Costs its entries and what it has noted of them, its machines with their
+    /// attributes, and its tasks, also in memory.
+    pub fn copy(&self, alloc: Global) -> Result<Cell, NoMemory>
+        ensures history { IfOk result (λ cell. cell.history ≡ self.now.history) }
+    {
+        Ok(Cell {
+            board: self.board.copy(alloc)?,
+            entries: copy_all(alloc, self.entries.as_slice())?,
+            notes: self.notes.copy(alloc)?,
+        })
     }
 
     /// The history itself.

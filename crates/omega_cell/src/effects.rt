@@ -1,10 +1,11 @@
 //! What the entries of a history do that doesn't stand in them.
-ghost use Rattle.std.specs.Prelude.{◌≡◌, ◌++◌, [], OnOk};
+ghost use Rattle.std.specs.Prelude.{◌≡◌, ◌++◌, [], IfOk, OnOk};
 ghost use Rattle.omega_board.specs.Board.{cell_of};
 ghost use Rattle.omega_model.specs.Cell.{Cell, keys_of};
 ghost use Rattle.omega_model.specs.State.{displaced};
 ghost use Rattle.omega_cell.specs.Effects.{HasNoteRoom, displaced_at, usage_at, usage_in};
 
+use crate::copying::copy_all;
 use omega_board::Board;
 use omega_model::{Entry, Keys, Need, NoMemory, Seq};
 use std::alloc::Global;
@@ -104,6 +105,17 @@ impl Notes {
             | Entry::End { .. }
             | Entry::Commit { .. } => {}
         }
+    }
+
+    /// Equal notes. Costs them, also in memory.
+    pub fn copy(&self, alloc: Global) -> Result<Notes, NoMemory>
+        ensures usages { IfOk result (λ copied. copied.usages ≡ self.now.usages) }
+        ensures displaced { IfOk result (λ copied. copied.displaced ≡ self.now.displaced) }
+    {
+        Ok(Notes {
+            usages: Vec::from_slice(alloc, self.usages.as_slice())?,
+            displaced: copy_all(alloc, self.displaced.as_slice())?,
+        })
     }
 
     /// The effects of a history with these notes, at whose end the usage is this one.

@@ -9,6 +9,7 @@
 #![tactic(auto)]
 
 mod cell;
+mod copying;
 mod deciding;
 mod effects;
 mod laws;

@@ -13,6 +13,18 @@ use std::process::Abort;
 use std::sync::Wait;
 use std::thread::{Threads, join};
 
+/// A transaction without claims.
+fn no_claims(alloc: Global) -> Txn
+    ensures { result.claims ≡ [] }
+{
+    Txn {
+        job: 1,
+        rule: Rule::Coarse,
+        mode: Mode::Incremental,
+        claims: Claims::new(alloc),
+    }
+}
+
 /// Syncs a copy, and commits a transaction without claims.
 fn attempt<R: Wait>(
     rt: &R,
@@ -29,13 +41,7 @@ fn attempt<R: Wait>(
     ensures stands { OnOk result (CopyOf copy.new pass.new.seen) }
 {
     shared.sync(rt, alloc, pass, copy)?;
-    let txn = Txn {
-        job: 1,
-        rule: Rule::Coarse,
-        mode: Mode::Incremental,
-        claims: Claims::new(alloc),
-    };
-    match shared.commit(rt, alloc, pass, copy, txn) {
+    match shared.commit(rt, alloc, pass, copy, no_claims(alloc)) {
         Ok(_) => Ok(()),
         Err(_) => Err(NoMemory),
     }
@@ -77,7 +83,7 @@ fn commit_alone<R: Wait>(rt: &R, alloc: Global, turns: u32) -> Option<Entries> {
     let pass = passes.pop()?;
     let pass = take_turns(rt, alloc, &shared, pass);
     let passes = Vec::from_array(alloc, [pass]).ok()?;
-    Some(shared.close(passes).into_history())
+    Some(shared.close(rt, passes).into_history())
 }
 
 #[test]
@@ -131,7 +137,7 @@ fn commit_together<R: Threads + Wait + Sync>(rt: &R, alloc: Global, turns: u32) 
         { take_turns(rt, alloc, &shared, second) },
     );
     let passes = Vec::from_array(alloc, [first, second]).ok()?;
-    Some(shared.close(passes).into_history())
+    Some(shared.close(rt, passes).into_history())
 }
 
 /// How many commits of a scheduler a history has.
@@ -393,4 +399,51 @@ fn commit_in_two<R: Wait>(rt: &R, alloc: Global) -> Option<Option<Answer>> {
 fn a_commit_that_is_made_again(rt: HostRuntime) {
     let answer = commit_in_two(&rt, rt.alloc()).expect(&rt, "memory");
     assert!(rt; answer == Some(Answer::Told(Verdict::Placed)));
+}
+
+/// Looks at the cell, lets the view go, and commits a transaction without claims that was planned there. Answers
+/// how many entries it had seen, if it has two turns left and there is memory.
+fn look_and_commit<R: Wait>(
+    rt: &R,
+    alloc: Global,
+    shared: &SharedCell,
+    pass: &mut Pass,
+) -> Option<Answer>
+    requires of { pass.old.of ≡ shared.now.of }
+    ensures of { pass.new.of ≡ pass.old.of }
+{
+    if pass.turns_left() < 2 {
+        return None;
+    }
+    let seen = shared.look(rt, alloc, pass).ok()?.cell().history().len() as u64;
+    let txn = no_claims(alloc);
+    match shared.commit_planned(rt, alloc, pass, seen, txn, Vec::new(alloc)) {
+        Ok(_) => Some(Answer::Seen(seen)),
+        Err(_) => None,
+    }
+}
+
+/// One scheduler looks at a cell with one entry and keeps its view while the other commits, and lets it go before
+/// the other commits again. Answers how many entries the view has at last, and how many the cell has in the end,
+/// if there is memory.
+fn commit_beside_a_view<R: Wait>(rt: &R, alloc: Global) -> Option<(usize, usize)> {
+    let (shared, mut first, mut second) = share_by_two(rt, alloc, one_machine(alloc)?, 4)?;
+    if first.turns_left() == 0 {
+        return None;
+    }
+    let view = shared.look(rt, alloc, &mut first).ok()?;
+    look_and_commit(rt, alloc, &shared, &mut second)?;
+    let seen = view.cell().history().len();
+    drop(view);
+    look_and_commit(rt, alloc, &shared, &mut second)?;
+    let passes = Vec::from_array(alloc, [first, second]).ok()?;
+    Some((seen, shared.close(rt, passes).history().len()))
+}
+
+/// The view stays as it was, and both commits are in the cell: the first went on with a copy.
+#[test]
+fn a_commit_beside_a_view(rt: HostRuntime) {
+    let (seen, kept) = commit_beside_a_view(&rt, rt.alloc()).expect(&rt, "memory");
+    assert_eq!(rt; seen, 1);
+    assert_eq!(rt; kept, 3);
 }

@@ -1,4 +1,5 @@
 pub mod Commits
+pub mod Held
 pub mod Passes
 pub mod Turns
 pub mod Planned

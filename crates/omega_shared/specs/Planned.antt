@@ -2,7 +2,7 @@
 use Rattle.std.specs.Prelude.{◌≡◌, ◌≤◌, ◌<◌, ◌^◌, List, length, IfOk}
 use Rattle.omega_model.specs.Touches.{copied_seqs}
 use Rattle.omega_model.specs.declared.entries.Entry.{Entry}
-use Rattle.omega_shared.specs.declared.guarded.Planned.{Planned}
+use Rattle.omega_shared.specs.declared.planned.Planned.{Planned}
 
 -- a transaction is planned on a front of a history: it has fewer claims than a withdrawn claim can name, and its
 -- sequence numbers, if there was memory for them, are those that the claims' machines have there

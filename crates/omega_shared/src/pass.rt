@@ -2,7 +2,7 @@
 ghost use Rattle.std.specs.Prelude.{◌≡◌};
 ghost use Rattle.omega_shared.specs.Passes.{HasSeenFirst, OwnIsSeen};
 
-use crate::guarded::Guarded;
+use crate::held::Held;
 use omega_lock::Seat;
 use std::marker::Model;
 
@@ -13,7 +13,7 @@ use std::marker::Model;
 /// was shared, how many turns it has left, the history that it has seen, and its own commits since.
 #[derive(Drop)]
 pub struct Pass {
-    pub(crate) seat: Seat<Guarded>,
+    pub(crate) seat: Seat<Held>,
 }
 
 impl Model for Pass {

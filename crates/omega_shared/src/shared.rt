@@ -8,12 +8,14 @@ ghost use Rattle.omega_model.specs.Touches.{copied_seqs};
 ghost use Rattle.omega_model.specs.Work.{is_commit_of};
 ghost use Rattle.omega_model.specs.declared.entries.Entry.{Entry};
 ghost use Rattle.omega_shared.specs.Commits.{GoesOnWithout, commits_since};
+ghost use Rattle.omega_shared.specs.Held.{held_history};
 ghost use Rattle.omega_shared.specs.Passes.{IsPassSeat, new_pass, new_passes, pass_at};
 ghost use Rattle.omega_shared.specs.Planned.{IsPlannedOn};
 ghost use Rattle.omega_shared.specs.Turns.{Commits, SpendsTurn};
 
-use crate::guarded::{Guarded, Planned};
+use crate::held::Held;
 use crate::pass::Pass;
+use crate::planned::Planned;
 use crate::view::View;
 use omega_cell::Cell;
 use omega_copy::PrivateCopy;
@@ -28,9 +30,9 @@ use std::sync::Wait;
 /// A contract sees which shared cell it is, how many passes it has, and the history when it was shared.
 #[derive(Drop)]
 pub struct SharedCell {
-    lock: Lock<Guarded>,
+    lock: Lock<Held>,
     // Room for the seats of all passes, so that closing takes no memory.
-    seats: Vec<Seat<Guarded>>,
+    seats: Vec<Seat<Held>>,
 }
 
 impl Model for SharedCell {
@@ -71,12 +73,13 @@ impl SharedCell {
         let Ok(passes) = Vec::with_capacity(alloc, callers as usize) else {
             return Err((cell, NoMemory));
         };
-        match Lock::begin(rt, alloc, Guarded { cell }, callers, turns) {
+        match Lock::begin(rt, alloc, Held::Own(cell), callers, turns) {
             Ok((lock, seats)) => {
                 let passes = passes_of(seats, passes);
                 Ok((SharedCell { lock, seats: room }, passes))
             }
-            Err((guarded, _)) => Err((guarded.cell, NoMemory)),
+            Err((Held::Own(cell), _)) => Err((cell, NoMemory)),
+            Err((Held::Lent(_), _)) => unreachable!(),
         }
     }
 
@@ -141,12 +144,7 @@ impl SharedCell {
     /// memory runs out the turn is spent, and the pass may have seen more. May wait.
     ///
     /// Costs the same however long the history is and however many machines there are.
-    pub fn look<R: Wait>(
-        &self,
-        rt: &R,
-        alloc: Global,
-        pass: &mut Pass,
-    ) -> Result<View, NoMemory>
+    pub fn look<R: Wait>(&self, rt: &R, alloc: Global, pass: &mut Pass) -> Result<View, NoMemory>
         requires of { pass.old.of ≡ self.now.of }
         requires left { 0 < pass.old.turns }
         ensures turn { SpendsTurn pass.old pass.new }
@@ -154,8 +152,7 @@ impl SharedCell {
         ensures own { pass.new.own ≡ pass.old.own }
         ensures view { IfOk result (λ view. view ≡ pass.new.seen) }
     {
-        let _news = self.news(rt, alloc, &mut pass.seat, 0);
-        Err(NoMemory)
+        self.lend(rt, alloc, &mut pass.seat)
     }
 
     /// Takes a turn, and commits a transaction that was planned after the first `seen` entries of what the
@@ -187,7 +184,8 @@ impl SharedCell {
 
     /// Takes all passes back, and hands out the cell. Its history goes on from what each pass had seen,
     /// with no commit of its number. Every entry since the cell was shared is a commit of one of the
-    /// passes, and the commits of a pass's number are its own, in order.
+    /// passes, and the commits of a pass's number are its own, in order. May wait, for as long as somebody
+    /// keeps a view.
     pub fn close<R: Wait>(self, rt: &R, passes: Vec<Pass>) -> Cell
         requires all { length passes.items ≡ self.callers }
         requires of { All (λ pass. pass.of ≡ self.of) passes.items }
@@ -200,28 +198,24 @@ impl SharedCell {
         ensures commits { All (λ entry. Any (λ pass. is_commit_of pass.number entry ≡ true) passes.items)
             (drop (length self.first) result.history) }
     {
-        let _waits = rt;
-        self.closed(passes)
+        self.closed(passes).into_cell(rt)
     }
 
-    /// Takes all passes back, and hands out the cell. Its history goes on from what each pass had seen,
-    /// with no commit of its number. Every entry since the cell was shared is a commit of one of the
-    /// passes, and the commits of a pass's number are its own, in order.
-    fn closed(self, passes: Vec<Pass>) -> Cell
+    /// Takes all passes back, and hands out what the lock held, which may be lent still.
+    fn closed(self, passes: Vec<Pass>) -> Held
         requires all { length passes.items ≡ self.callers }
         requires of { All (λ pass. pass.of ≡ self.of) passes.items }
-        ensures begins { StartsWith result.history self.first }
-        ensures seen { All (λ pass. StartsWith result.history pass.seen) passes.items }
+        ensures begins { StartsWith (held_history result) self.first }
+        ensures seen { All (λ pass. StartsWith (held_history result) pass.seen) passes.items }
         ensures own { All (λ pass. pass.own
-            ≡ commits_since (length self.first) pass.number result.history) passes.items }
-        ensures others { All (λ pass. GoesOnWithout pass.number pass.seen result.history) passes.items }
+            ≡ commits_since (length self.first) pass.number (held_history result)) passes.items }
+        ensures others { All (λ pass. GoesOnWithout pass.number pass.seen (held_history result)) passes.items }
         ensures first { All (λ pass. pass.first_length ≡ length self.first) passes.items }
         ensures commits { All (λ entry. Any (λ pass. is_commit_of pass.number entry ≡ true) passes.items)
-            (drop (length self.first) result.history) }
+            (drop (length self.first) (held_history result)) }
     {
         let SharedCell { lock, seats } = self;
-        let guarded = lock.close(seats_of(passes, seats));
-        guarded.cell
+        lock.close(seats_of(passes, seats))
     }
 
     /// Takes a turn, and puts together what brings a copy that has seen so many entries up to date.
@@ -229,7 +223,7 @@ impl SharedCell {
         &self,
         rt: &R,
         alloc: Global,
-        seat: &mut Seat<Guarded>,
+        seat: &mut Seat<Held>,
         seen: u64,
     ) -> Result<Delta, NoMemory>
         requires of { seat.old.of ≡ self.now.of }
@@ -243,10 +237,27 @@ impl SharedCell {
         ensures applied { EachMayApply seat.new.seen }
         ensures delta { IfOk result (λ delta. Carries delta seat.new.seen seen (length seat.new.seen)) }
     {
-        let guarded = self.lock.turn(rt, seat);
-        let delta = guarded.since(alloc, seen);
-        self.lock.release(seat, guarded);
+        let held = self.lock.turn(rt, seat);
+        let delta = held.cell().since(alloc, seen);
+        self.lock.release(seat, held);
         delta
+    }
+
+    /// Takes a turn, and gives out a view of the cell.
+    fn lend<R: Wait>(&self, rt: &R, alloc: Global, seat: &mut Seat<Held>) -> Result<View, NoMemory>
+        requires of { seat.old.of ≡ self.now.of }
+        requires left { 0 < seat.old.turns }
+        requires pass { IsPassSeat seat.old }
+        ensures turn { SpendsTurn (pass_at seat.old) (pass_at seat.new) }
+        ensures pass { IsPassSeat seat.new }
+        ensures seen { GoesOnWithout seat.old.number seat.old.seen seat.new.seen }
+        ensures own { seat.new.own ≡ seat.old.own }
+        ensures view { IfOk result (λ view. view ≡ seat.new.seen) }
+    {
+        let held = self.lock.turn(rt, seat);
+        let (held, view) = held.lend(alloc);
+        self.lock.release(seat, held);
+        view
     }
 
     /// Takes a turn, and commits a transaction.
@@ -254,7 +265,7 @@ impl SharedCell {
         &self,
         rt: &R,
         alloc: Global,
-        seat: &mut Seat<Guarded>,
+        seat: &mut Seat<Held>,
         planned: Planned,
     ) -> Result<Reply, (Txn, NoMemory)>
         requires of { seat.old.of ≡ self.now.of }
@@ -269,15 +280,15 @@ impl SharedCell {
         ensures own { OnErr result (seat.new.own ≡ seat.old.own) }
         ensures back { IfErr result (λ refused. refused.0 ≡ planned.txn) }
     {
-        let mut guarded = self.lock.turn(rt, seat);
-        let reply = guarded.commit(alloc, seat.number(), planned);
-        self.lock.release(seat, guarded);
+        let held = self.lock.turn(rt, seat);
+        let (held, reply) = held.commit(alloc, seat.number(), planned);
+        self.lock.release(seat, held);
         reply
     }
 }
 
 /// The passes whose seats these are. There is room for them.
-fn passes_of(seats: Vec<Seat<Guarded>>, mut passes: Vec<Pass>) -> Vec<Pass>
+fn passes_of(seats: Vec<Seat<Held>>, mut passes: Vec<Pass>) -> Vec<Pass>
     requires seats { All IsPassSeat seats.items }
     requires room { (passes.items ≡ []) × (length seats.items ≤ vec_capacity passes) }
     ensures { result.items ≡ map pass_at seats.items }
@@ -289,7 +300,7 @@ fn passes_of(seats: Vec<Seat<Guarded>>, mut passes: Vec<Pass>) -> Vec<Pass>
 }
 
 /// The seats of passes. There is room for them.
-fn seats_of(passes: Vec<Pass>, mut seats: Vec<Seat<Guarded>>) -> Vec<Seat<Guarded>>
+fn seats_of(passes: Vec<Pass>, mut seats: Vec<Seat<Held>>) -> Vec<Seat<Held>>
     requires room { (seats.items ≡ []) × (length passes.items ≤ vec_capacity seats) }
     ensures passes { map pass_at result.items ≡ passes.items }
     ensures seats { All IsPassSeat result.items }

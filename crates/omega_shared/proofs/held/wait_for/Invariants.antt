@@ -1,0 +1,7 @@
+use Rattle.std.proofs.Common.{◌≡◌}
+use Rattle.std.specs.Arc.{arc_value}
+use Rattle.omega_shared.proofs.held.wait_for.Given as goal
+
+-- the cell that was lent is still the same
+abbrev pub invariant-loop : goal.invariant-loop
+invariant-loop g l = arc_value l.lent ≡ arc_value l.fn.lent

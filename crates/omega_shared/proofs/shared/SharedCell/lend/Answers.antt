@@ -1,0 +1,23 @@
+use Rattle.std.proofs.Common.{sym, subst, ◌∙◌}
+use Rattle.omega_lock.proofs.Entries.{starts_self}
+use Rattle.omega_shared.specs.Commits.{GoesOnWithout}
+use Rattle.omega_shared.specs.Held.{held_history}
+use Rattle.omega_shared.proofs.Turning.{is_pass_seat, sees_others}
+use Rattle.omega_shared.proofs.shared.SharedCell.lend.Goals as goal
+
+pub returns-clause-pass : goal.returns-clause-pass
+returns-clause-pass g c =
+    let turn = c.turn-held.ensures in
+    let back = c.release.ensures in
+    is_pass_seat c.args.seat.now c.turn-held.new.seat c.release.new.seat (held_history c.turn-held.result) (held_history c.turn-held.result) c.requires.pass
+    record { same = turn.seat; seen = turn.seen; extends = turn.extends; own = turn.own; own_seen = turn.own_seen }
+    record { same = back.seat; free = back.free; seen = back.seen ∙ c.lend-held.ensures.history; own_seen = back.own_seen }
+    (starts_self (held_history c.turn-held.result))
+
+pub returns-clause-seen : goal.returns-clause-seen
+returns-clause-seen g c =
+    let turn = c.turn-held.ensures in
+    let back = c.release.ensures in
+    subst (GoesOnWithout c.args.seat.now.number c.args.seat.now.seen) (sym (back.seen ∙ c.lend-held.ensures.history))
+    (sees_others c.args.seat.now c.turn-held.new.seat c.release.new.seat (held_history c.turn-held.result) (held_history c.turn-held.result) c.requires.pass
+    record { same = turn.seat; seen = turn.seen; extends = turn.extends; own = turn.own; own_seen = turn.own_seen })
