@@ -1,14 +1,16 @@
 //! The schedulers of a world, with the cell on which they work.
-ghost use Rattle.std.specs.Prelude.{◌≡◌, ◌<◌, ◌^◌, ℕ, IfOk, Some, length, slice_get};
+ghost use Rattle.std.specs.Prelude.{◌≡◌, ◌<◌, ◌^◌, ℕ, IfOk, OnOk, Some, length, slice_get};
 ghost use Rattle.std.specs.Thread.{IsSync};
 ghost use Rattle.omega_model.specs.Policy.{schedulers};
 ghost use Rattle.omega_model.specs.Ranges.{IsInRange};
-ghost use Rattle.omega_rounds.specs.Closed.{AreBack};
+ghost use Rattle.omega_rounds.specs.Closed.{AreBack, Suffice};
+ghost use Rattle.omega_rounds.specs.Following.{HaveFollowed};
 ghost use Rattle.omega_rounds.specs.Workers.{IsWorker};
 ghost use Rattle.omega_rounds.specs.declared.worker.Worker.{Worker};
 
-use crate::following::follow_and_play;
+use crate::following::follow_all;
 use crate::forked::PieceIndexes;
+use crate::threads::{play_shared, turns_for};
 use crate::worker::Worker;
 use omega_cell::Cell;
 use omega_io::Gate;
@@ -54,7 +56,7 @@ impl Crew {
     /// of 2^63 entries, which no memory holds, is want of memory. Where memory runs out the crew is gone.
     /// May wait.
     pub fn play_on_threads<R: Threads + Wait + Sync, G: Gate + Sync>(
-        self,
+        mut self,
         rt: &R,
         alloc: Global,
         settings: &Settings,
@@ -69,19 +71,44 @@ impl Crew {
             AreBack settings.now self.cell.history crew.cell.history self.workers.items crew.workers.items) }
         ensures indexes { IfOk result (λ crew. crew.indexes ≡ self.indexes) }
     {
-        if self.cell.history().len() as u64 >= 1 << 63 {
-            return Err(NoMemory);
-        }
+        let turns = self.follow(rt, alloc, settings)?;
         let Crew {
             cell,
             workers,
             indexes,
         } = self;
-        let (cell, workers) = follow_and_play(rt, alloc, settings, cell, workers, gate)?;
+        let (cell, workers) = play_shared(rt, alloc, settings, cell, workers, turns, gate)?;
         Ok(Crew {
             cell,
             workers,
             indexes,
         })
+    }
+
+    /// Before the cell is shared all copies on which somebody will plan take over the history, so that what a
+    /// round begins with is brought to none of them under a turn. Answers how many turns at the cell each
+    /// scheduler may need. Where memory runs out some copies have taken over some of it.
+    fn follow<R: Threads + Sync>(
+        &mut self,
+        rt: &R,
+        alloc: Global,
+        settings: &Settings,
+    ) -> Result<u32, NoMemory>
+        requires sync { IsSync R.row }
+        requires each { (number : ℕ) (worker : Worker) → slice_get self.old.workers.items number ≡ Some worker
+            → IsWorker settings.now self.old.cell.history number worker }
+        ensures cell { self.new.cell ≡ self.old.cell }
+        ensures indexes { self.new.indexes ≡ self.old.indexes }
+        ensures short { OnOk result (length self.old.cell.history < 2 ^ 63) }
+        ensures followed { OnOk result (HaveFollowed self.old.cell.history self.old.workers.items self.new.workers.items) }
+        ensures suffice { IfOk result (Suffice settings.now self.new.workers.items) }
+    {
+        let history = self.cell.history();
+        if history.len() as u64 >= 1 << 63 {
+            return Err(NoMemory);
+        }
+        follow_all(rt, alloc, history, &mut self.workers)?;
+        let turns = turns_for(settings, self.workers.as_slice())?;
+        Ok(turns)
     }
 }

@@ -1,55 +1,21 @@
 //! Copies that take over what is new before a round's cell is shared, all at the same time.
-ghost use Rattle.std.specs.Prelude.{◌≡◌, ◌<◌, ◌^◌, ℕ, All, IfOk, OnOk, Some, length, slice_get};
+ghost use Rattle.std.specs.Prelude.{◌≡◌, All, OnOk};
 ghost use Rattle.std.specs.List.{list_any};
 ghost use Rattle.std.specs.Thread.{IsSync};
 ghost use Rattle.omega_copy.specs.Copies.{CopyOf};
 ghost use Rattle.omega_model.specs.Applying.{EachMayApply};
-ghost use Rattle.omega_model.specs.Policy.{schedulers};
-ghost use Rattle.omega_model.specs.Ranges.{IsInRange};
-ghost use Rattle.omega_rounds.specs.Closed.{AreBack};
 ghost use Rattle.omega_rounds.specs.Following.{AllStandFor, HasFollowed, HasSeenAll, HaveFollowed, is_to_sync};
-ghost use Rattle.omega_rounds.specs.Workers.{IsWorker};
-ghost use Rattle.omega_rounds.specs.declared.worker.Worker.{Worker};
 
-use crate::threads::{play_shared, turns_for};
 use crate::worker::Worker;
-use omega_cell::Cell;
-use omega_io::Gate;
-use omega_model::{Entry, NoMemory, Settings};
+use omega_model::{Entry, NoMemory};
 use std::alloc::Global;
-use std::sync::Wait;
 use std::thread::{Threads, join_mut};
-
-/// Lets the schedulers of these workers work until nothing is left at any desk, as `play_shared` does.
-/// Before the cell is shared all copies on which somebody will plan take over the history, so that what a
-/// round begins with is brought to none of them under a turn. Where memory runs out cell and workers are
-/// gone. May wait.
-pub(crate) fn follow_and_play<R: Threads + Wait + Sync, G: Gate + Sync>(
-    rt: &R,
-    alloc: Global,
-    settings: &Settings,
-    cell: Cell,
-    mut workers: Vec<Worker>,
-    gate: &G,
-) -> Result<(Cell, Vec<Worker>), NoMemory>
-    requires sync { IsSync R.row × IsSync G.row }
-    requires range { IsInRange settings.now }
-    requires short { length cell.history < 2 ^ 63 }
-    requires count { length workers.items ≡ schedulers settings.now }
-    requires each { (number : ℕ) (worker : Worker) → slice_get workers.items number ≡ Some worker
-        → IsWorker settings.now cell.history number worker }
-    ensures back { IfOk result (λ back. AreBack settings.now cell.history back.0.history workers.items back.1.items) }
-{
-    follow_all(rt, alloc, cell.history(), &mut workers)?;
-    let turns = turns_for(settings, workers.as_slice())?;
-    play_shared(rt, alloc, settings, cell, workers, turns, gate)
-}
 
 /// Lets the copies of all workers whose schedulers are to sync take over a history at the same time, each on
 /// a thread of its own. Where no thread can be made they do so one after the other. Where memory runs out
 /// each has taken over some of it, and stands for it still. Costs each of these copies what the entries
 /// change that it hasn't seen.
-fn follow_all<R: Threads + Sync>(
+pub(crate) fn follow_all<R: Threads + Sync>(
     rt: &R,
     alloc: Global,
     history: &[Entry],
