@@ -1,6 +1,7 @@
 -- Workers whose copies have taken over a history before their round was shared.
-use Rattle.std.proofs.Common.{◌≡◌, ◌<◌, ℕ, zero, suc, List, [], ◌∷◌, ◌++◌, drop, get_or, length, slice_get, Option, Some, None, refl, sym, ap, ◌∙◌, subst}
-use Rattle.std.specs.Prelude.{All, IfSome}
+use Rattle.std.proofs.Common.{◌≡◌, ◌<◌, ℕ, zero, suc, List, [], ◌∷◌, ◌++◌, drop, get_or, length, slice_get, Option, Some, None, Result, Ok, Err, refl, sym, ap, ◌∙◌, subst, arith}
+use Rattle.std.specs.Prelude.{All, IfSome, OnOk}
+use Rattle.std.proofs.Math.ListN.{set}
 use Rattle.std.proofs.lemmas.List.Elements.{length_all_zip}
 use Rattle.std.proofs.lemmas.Option.{none-some, slice_get-get_or}
 use Rattle.omega_copy.specs.Copies.{CopyState}
@@ -8,7 +9,7 @@ use Rattle.omega_desk.specs.Desks.{DeskState}
 use Rattle.omega_model.specs.declared.entries.Entry.{Entry}
 use Rattle.omega_model.specs.declared.settings.Settings.{Settings}
 use Rattle.omega_rounds.specs.Closed.{AreBack, IsBack, IsCommitOfOne}
-use Rattle.omega_rounds.specs.Following.{AllStandFor, HasFollowed, HaveFollowed}
+use Rattle.omega_rounds.specs.Following.{AllStandFor, HasFollowed, HasSeenAll, HaveFollowed}
 use Rattle.omega_rounds.specs.Players.{IsOwnDesk}
 use Rattle.omega_rounds.specs.Workers.{IsWorker, SyncedWithin}
 use Rattle.omega_rounds.specs.declared.worker.Worker.{Worker}
@@ -31,6 +32,25 @@ followed_same history worker = record {
 pub all_same : (history : List Entry) (workers : List Worker) → HaveFollowed history workers workers
 all_same history [] = tt
 all_same history (worker ∷ workers) = (followed_same history worker, all_same history workers)
+
+-- the only one of a list
+pub followed_only : (history : List Entry) (workers : List Worker) (missing new : Worker) → length workers ≡ 1
+    → HasFollowed history (get_or workers 0 missing) new → HaveFollowed history workers (set workers 0 new)
+followed_only history [] missing new one followed = absurd (omega (arith, one))
+followed_only history (worker ∷ []) missing new one followed = (followed, tt)
+followed_only history (worker ∷ other ∷ rest) missing new one followed = absurd (omega (arith, one))
+
+-- where it had to, it has seen the whole history
+pub seen_only : {T E : Type 0} (history : List Entry) (workers : List Worker) (new : Worker) (result : Result T E) → length workers ≡ 1
+    → OnOk result (HasSeenAll history new) → OnOk result (All (HasSeenAll history) (set workers 0 new))
+seen_only history workers new (Err error) one seen = tt
+seen_only history [] new (Ok value) one seen = absurd (omega (arith, one))
+seen_only history (worker ∷ other ∷ rest) new (Ok value) one seen = absurd (omega (arith, one))
+seen_only history (worker ∷ []) new (Ok value) one seen = alone
+  where
+    alone : All (HasSeenAll history) (new ∷ [])
+    alone zero missing inside = seen
+    alone (suc place) missing inside = absurd (omega (arith, inside))
 
 -- workers of two parts
 followed_both : (history : List Entry) (old new others now : List Worker) → HaveFollowed history old new → HaveFollowed history others now
