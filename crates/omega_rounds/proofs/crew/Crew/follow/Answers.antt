@@ -1,4 +1,4 @@
-use Rattle.std.proofs.Common.{◌≡◌, ◌++◌, ◌∙◌, List, drop, length, sym, subst, take}
+use Rattle.std.proofs.Common.{◌≡◌, ◌++◌, List, drop, length, sym, subst, take}
 use Rattle.omega_copy.proofs.Tells.{written_back}
 use Rattle.omega_model.specs.Applying.{EachMayApply}
 use Rattle.omega_model.specs.declared.entries.Entry.{Entry}

@@ -1,7 +1,6 @@
-use Rattle.std.proofs.Common.{◌≡◌, ◌∙◌, ◌<◌, ◌^◌, ℕ, List, length, sym, subst}
+use Rattle.std.proofs.Common.{◌∙◌, ◌<◌, ◌^◌, length, sym, subst}
 use Rattle.std.proofs.lemmas.List.Elements.{length_all_zip}
 use Rattle.omega_cell.specs.Cells.{CellState}
-use Rattle.omega_model.specs.declared.entries.Entry.{Entry}
 use Rattle.omega_rounds.specs.Closed.{AreBack}
 use Rattle.omega_rounds.specs.Following.{HasFollowed}
 use Rattle.omega_rounds.specs.Workers.{IsWorker}
