@@ -1,7 +1,8 @@
 -- Players that have played in two parts have played as a whole; those without work have played.
-use Rattle.std.proofs.Common.{◌≡◌, ℕ, zero, suc, false, List, [], ◌∷◌, ◌++◌, length, refl, ap, subst, ◌∙◌, arith, Some, length-append}
+use Rattle.std.proofs.Common.{◌≡◌, ℕ, zero, suc, false, List, [], ◌∷◌, ◌++◌, get_or, length, refl, ap, subst, ◌∙◌, arith, Some, length-append}
 use Rattle.std.specs.Prelude.{All, slice_get, unwrap_or}
 use Rattle.std.specs.List.{list_any}
+use Rattle.std.proofs.Math.ListN.{set}
 use Rattle.std.proofs.lemmas.Bool.{both_ways}
 use Rattle.std.proofs.lemmas.List.Folds.{list_any_at}
 use Rattle.std.proofs.lemmas.Option.{get_or_from_slice_get, slice_get_within}
@@ -40,7 +41,7 @@ played_whole all old others new now whole first second =
     subst (λ (players : List Player). HavePlayed players (new ++ now)) whole (played_both old new others now first second)
 
 -- a player alone
-pub played_alone : (old new : Player) → HasPlayed old new → HavePlayed (old ∷ []) (new ∷ [])
+played_alone : (old new : Player) → HasPlayed old new → HavePlayed (old ∷ []) (new ∷ [])
 played_alone old new played = record { count = refl; each = at }
   where
     at : (place : ℕ) (player : Player) → slice_get (old ∷ []) place ≡ Some player
@@ -50,9 +51,17 @@ played_alone old new played = record { count = refl; each = at }
         (new, (refl, subst (λ p. HasPlayed p new) same played))
     at (suc place) player is = absurd (cc is)
 
+-- the only one of a list
+pub played_only : (players : List Player) (missing new : Player) → length players ≡ 1 → HasPlayed (get_or players 0 missing) new
+    → HavePlayed players (set players 0 new)
+played_only [] missing new one played = absurd (omega (arith, one))
+played_only (player ∷ []) missing new one played = played_alone player new played
+played_only (player ∷ other ∷ rest) missing new one played = absurd (omega (arith, one))
+
 -- no player
-pub played_none : HavePlayed [] []
-played_none = record { count = refl; each = λ place player is. absurd (cc is) }
+pub played_empty : (players : List Player) → length players ≡ 0 → HavePlayed players players
+played_empty [] none = record { count = refl; each = λ place player is. absurd (cc is) }
+played_empty (player ∷ rest) none = absurd (omega (arith, none))
 
 -- a player without work has played
 idle_played : (shared : TableId) (player : Player) → MayPlay shared player → has_work player.worker ≡ false → HasPlayed player player

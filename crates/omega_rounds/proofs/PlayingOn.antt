@@ -1,9 +1,11 @@
 -- A player that plays on, by what its turns bring.
-use Rattle.std.proofs.Common.{◌≡◌, ◌≤◌, ◌<◌, ◌+◌, ℕ, Bool, List, [], ◌∷◌, length, length-append, Some, None, refl, sym, ap, subst, arith, ◌∙◌, Option}
+use Rattle.std.proofs.Common.{◌≡◌, ◌≢◌, ◌≤◌, ◌<◌, ◌+◌, ◌*◌, ◌-◌, ℕ, Bool, true, List, [], ◌∷◌, length, length-append, Some, None, refl, sym, ap, subst, arith, ◌∙◌, Option}
 use Rattle.std.specs.Prelude.{slice_get}
 use Rattle.atomic_table.specs.Seated.{TableId}
 use Rattle.omega_model.proofs.Growing.{by_place_push_where}
 use Rattle.omega_model.specs.Lawful.{after_last}
+use Rattle.omega_model.specs.Policy.{schedulers}
+use Rattle.omega_model.specs.Ranges.{IsInRange}
 use Rattle.omega_model.specs.Work.{after_outcomes, commits_of}
 use Rattle.omega_model.specs.declared.claims.Reply.{Reply}
 use Rattle.omega_model.specs.declared.claims.Txn.{Txn}
@@ -18,6 +20,7 @@ use Rattle.omega_shared.specs.Commits.{GoesOnWithout, commit_after}
 use Rattle.omega_shared.specs.Passes.{PassState}
 use Rattle.omega_shared.specs.Turns.{Commits, SpendsTurn}
 use Rattle.omega_laws.specs.NextCommit.{attempt}
+use Rattle.omega_rounds.specs.AttemptsLeft.{attempts_left}
 use Rattle.omega_rounds.specs.Players.{HasPlayed, IsOwnDesk, MayPlay, MayStand, OwnMayStand}
 use Rattle.omega_rounds.specs.PlayingOn.{IsSynced, PlansFirst, PlaysOn}
 use Rattle.omega_rounds.specs.Workers.{IsWorker, synced_of, to_do_of, SyncedWithin}
@@ -226,12 +229,109 @@ plays_on_both old now new first second =
           (subst (λ (s : Settings). OwnMayStand s opened_at now.pass.number now.pass.seen) (sym same) (first.commits opened_at within stand)));
     }
 
+-- while a request is left, so is an attempt
+some_left : (requests : List Request) (tries taken : ℕ) → requests ≢ [] → taken < tries → 0 < length requests * tries - taken
+some_left [] tries taken work less = absurd (work refl)
+some_left (request ∷ rest) tries taken work less = grind arith
+
+-- a player that may play and has work has turns left
+module _ (shared : TableId) (old : Player) (may : MayPlay shared old) (work : old.worker.desk.requests ≢ []) where
+  pub two_turns : 1 < old.pass.turns
+  two_turns =
+      let enough = may.turns in
+      let some = some_left old.worker.desk.requests old.worker.desk.settings.tries old.worker.desk.taken work may.worker.tries in
+      omega (arith, enough, some)
+
+  pub one_turn : 0 < old.pass.turns
+  one_turn = let two = two_turns in omega (arith, two)
+
+  -- once its scheduler has synced after all that its pass has seen, it may commit
+  pub synced_now : (now : Player) → PlaysOn old now → now.pass.turns + 1 ≡ old.pass.turns → now.worker.desk ≡ old.worker.desk
+      → synced_of now.worker ≡ Some (length now.pass.seen) → IsSynced shared now
+  synced_now now on turn desk all =
+      let same : now.worker.desk.settings ≡ old.worker.desk.settings = on.worker.settings in
+      let two = two_turns in
+      record {
+        range = subst IsInRange (sym same) may.range;
+        of = on.of ∙ may.of;
+        left = omega (arith, two, turn);
+        known = subst (λ (s : Settings). now.pass.number < schedulers s) (sym same)
+            (subst (λ (n : ℕ). n < schedulers old.worker.desk.settings) (sym on.number) may.known);
+        worker = subst (λ (s : Settings). IsWorker s now.pass.seen now.pass.number now.worker) (sym same) on.worker;
+        all = all;
+      }
+
+-- a player that has made an attempt in two turns may play on
+pub may_play_after : (shared : TableId) (old now new : Player) → MayPlay shared old → PlaysOn old new
+    → now.pass.turns + 1 ≡ old.pass.turns → now.worker.desk ≡ old.worker.desk
+    → new.pass.turns + 1 ≡ now.pass.turns → to_do_of new.worker < to_do_of now.worker → MayPlay shared new
+may_play_after shared old now new may on turn desk spent fewer =
+    let same : new.worker.desk.settings ≡ old.worker.desk.settings = on.worker.settings in
+    let enough = may.turns in
+    let less : to_do_of new.worker < to_do_of old.worker = subst (λ (d : DeskState). to_do_of new.worker < attempts_left d.settings (left_at d)) desk fewer in
+    record {
+      of = on.of ∙ may.of;
+      range = subst IsInRange (sym same) may.range;
+      known = subst (λ (s : Settings). new.pass.number < schedulers s) (sym same)
+          (subst (λ (n : ℕ). n < schedulers old.worker.desk.settings) (sym on.number) may.known);
+      worker = subst (λ (s : Settings). IsWorker s new.pass.seen new.pass.number new.worker) (sym same) on.worker;
+      turns = omega (arith, enough, less, turn, spent);
+    }
+
+-- a player before its first attempt
+pub plays_on_same : (shared : TableId) (player : Player) → MayPlay shared player → PlaysOn player player
+plays_on_same shared player may = record {
+  of = refl;
+  number = refl;
+  first_length = refl;
+  within = omega arith;
+  worker = may.worker;
+  desk = λ trace rows opened_at within is. is;
+  commits = λ opened_at within stand. stand;
+}
+
 -- a player in the middle of its round: it has played on so far, may play on, and has met no want of memory since
 pub record IsPlaying (shared : TableId) (old now : Player) : Type 0 where
   pub plays_on : PlaysOn old now
   pub may_play : MayPlay shared now
   pub failed : now.failed ≡ old.failed
   pub spent : synced_of old.worker ≡ None → synced_of now.worker ≡ None
+
+-- where it begins
+pub plays_first : (shared : TableId) (player : Player) → MayPlay shared player → IsPlaying shared player player
+plays_first shared player may = record {
+  plays_on = plays_on_same shared player may;
+  may_play = may;
+  failed = refl;
+  spent = λ none. none;
+}
+
+-- after one more attempt
+pub plays_more : (shared : TableId) (old now new : Player) → IsPlaying shared old now → PlaysOn now new → MayPlay shared new
+    → synced_of new.worker ≡ None → new.failed ≡ now.failed → IsPlaying shared old new
+plays_more shared old now new is on may spent failed = record {
+  plays_on = plays_on_both old now new is.plays_on on;
+  may_play = may;
+  failed = failed ∙ is.failed;
+  spent = λ none. spent;
+}
+
+-- where it meets want of memory in an attempt it has played so far
+pub stopped : (shared : TableId) (old now new : Player) → IsPlaying shared old now → PlaysOn now new
+    → HasPlayed old (record { worker = new.worker; pass = new.pass; failed = true })
+stopped shared old now new is on =
+    let both = plays_on_both old now new is.plays_on on in
+    record {
+      of = both.of;
+      number = both.number;
+      first_length = both.first_length;
+      within = both.within;
+      worker = both.worker;
+      desk = both.desk;
+      commits = both.commits;
+      no_work = λ ok. absurd (cc ok);
+      spent = λ ok before none. absurd (cc ok);
+    }
 
 -- at its end it has played, whether or not it had met want of memory before
 pub played_all : (shared : TableId) (old now : Player) (failed : Bool) → IsPlaying shared old now

@@ -1,20 +1,18 @@
 -- Workers that have synced at the same time, and the world that they are in.
-use Rattle.std.proofs.Common.{◌≡◌, ◌≤◌, ◌<◌, ◌+◌, ℕ, zero, suc, List, [], ◌∷◌, ◌++◌, length, map, Option, Some, None, refl, sym, ap, subst, ◌∙◌, arith, inl, inr}
-use Rattle.std.specs.Prelude.{◌⊎◌, slice_get, option_and_then, option_map}
+use Rattle.std.proofs.Common.{◌≡◌, ◌<◌, ◌+◌, ℕ, zero, suc, List, [], ◌∷◌, ◌++◌, length, map, Option, Some, None, refl, sym, ap, subst, ◌∙◌, arith, inl, inr}
+use Rattle.std.specs.Prelude.{slice_get, option_and_then, option_map}
 use Rattle.std.specs.List.{sum_by}
 use Rattle.std.proofs.lemmas.List.Sums.{sum_by-cons}
 use Rattle.std.proofs.lemmas.Option.{slice_get_cases, slice_get_within, slice_get-map}
 use Rattle.omega_board.proofs.Places.{each_get, each_place}
 use Rattle.omega_laws.proofs.LastCommits.{after_last-within}
 use Rattle.omega_laws.specs.NextCommit.{HasNoWork, WorksOn, left_of}
-use Rattle.omega_model.specs.Lawful.{opened}
 use Rattle.omega_model.specs.Policy.{schedulers}
 use Rattle.omega_model.specs.Stepping.{EachIsBetween, IsBetween, rows_end}
 use Rattle.omega_model.specs.Wanted.{WantedTask}
 use Rattle.omega_model.specs.World.{NobodySynced}
 use Rattle.omega_model.specs.declared.entries.Entry.{Entry}
 use Rattle.omega_model.specs.declared.rows.Row.{Row}
-use Rattle.omega_model.specs.declared.rows.Round.{Round}
 use Rattle.omega_model.specs.declared.rows.TraceTables.{TraceTables}
 use Rattle.omega_model.specs.declared.wishes.Request.{Request}
 use Rattle.omega_desk.specs.Desks.{DeskState, left_at}
@@ -23,13 +21,13 @@ use Rattle.omega_rounds.specs.AttemptsLeft.{attempts_left}
 use Rattle.omega_rounds.specs.Forked.{AllMaySync, AreReady, IsNotDue, MaySync}
 use Rattle.omega_rounds.specs.Halves.{Syncing}
 use Rattle.omega_rounds.specs.Keeping.{HasBegun, HasNotBegun, IsLawful, IsWorld, world_at}
-use Rattle.omega_rounds.specs.Plans.{HasPlan, IsReady}
-use Rattle.omega_rounds.specs.Playing.{IsRoundNow, SyncsTurn}
-use Rattle.omega_rounds.specs.Stages.{IsInRunOf, Stage, WorldState, rows_begun, synced_at, world_of}
-use Rattle.omega_rounds.specs.Workers.{IsDeskOf, IsWorker, synced_of, to_do_of}
+use Rattle.omega_rounds.specs.Plans.{IsReady}
+use Rattle.omega_rounds.specs.Playing.{SyncsTurn}
+use Rattle.omega_rounds.specs.Stages.{IsInRunOf, Stage, rows_begun, synced_at}
+use Rattle.omega_rounds.specs.Workers.{IsDeskOf, synced_of, to_do_of}
 use Rattle.omega_rounds.specs.declared.worker.Worker.{Worker}
 use Rattle.omega_rounds.proofs.PlansKept.{ready_at, ready_for}
-use Rattle.omega_rounds.proofs.PlayedTurns.{IsSyncing, syncing_all}
+use Rattle.omega_rounds.proofs.PlayedTurns.{syncing_all}
 use Rattle.omega_rounds.proofs.WorkerLists.{seen_at, seen_none}
 use Rattle.omega_rounds.proofs.WorldSteps.{new_idle, state_at}
 use Rattle.omega_rounds.proofs.Worlds.{rows_within}

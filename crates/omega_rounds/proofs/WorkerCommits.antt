@@ -1,5 +1,5 @@
 -- A worker whose scheduler commits.
-use Rattle.std.proofs.Common.{◌≡◌, ◌≤◌, ◌<◌, ◌+◌, ℕ, true, false, List, [], ◌∷◌, ◌++◌, length, take, Bor, Option, Some, None, refl, sym, ap, subst, ◌∙◌}
+use Rattle.std.proofs.Common.{◌≡◌, ◌≢◌, ◌≤◌, ◌<◌, ◌+◌, ℕ, true, false, List, [], ◌∷◌, ◌++◌, length, take, Bor, Option, Some, None, refl, sym, ap, subst, ◌∙◌}
 use Rattle.std.specs.Prelude.{slice_get, option_map, is_some}
 use Rattle.omega_model.specs.State.{reply_of}
 use Rattle.omega_model.specs.Work.{Standing, after_outcomes, commits_of, moved_on, outcomes_of}
@@ -33,6 +33,13 @@ pub first_unseen : (requests : List Request) (found : Option (Bor Request)) → 
     → option_map (λ (request : Bor Request). request.now) found ≡ slice_get requests 0 → requests ≡ []
 first_unseen requests None unseen is = first_none requests is
 first_unseen requests (Some request) unseen is = absurd (cc)
+
+-- and one is where it finds something
+pub first_seen : (requests : List Request) (found : Option (Bor Request)) → is_some found ≡ true
+    → option_map (λ (request : Bor Request). request.now) found ≡ slice_get requests 0 → requests ≢ []
+first_seen requests None seen is = absurd (cc)
+first_seen [] (Some request) seen is = absurd (cc)
+first_seen (first ∷ rest) (Some request) seen is = λ none. absurd (cc none)
 
 -- the first request and the others
 pub first_some : (requests : List Request) (request : Request) → Some request ≡ slice_get requests 0

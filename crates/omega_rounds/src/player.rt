@@ -30,10 +30,10 @@ impl Player {
         ensures played { HasPlayed self.old self.new }
     {
         while self.worker.desk.present().is_some() {
-            if self.attempt(rt, alloc, shared, gate).is_err() {
+            let Ok(()) = self.attempt(rt, alloc, shared, gate) else {
                 self.failed = true;
                 return;
-            }
+            };
         }
     }
 

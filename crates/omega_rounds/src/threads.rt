@@ -164,11 +164,18 @@ fn back_from(alloc: Global, players: Vec<Player>) -> Result<(Vec<Worker>, Vec<Pa
     Ok(apart(players, workers, passes))
 }
 
-/// Whether a player has met want of memory.
+/// Whether one of these players has met want of memory.
 fn any_failed(players: &[Player]) -> bool
     ensures { result ≡ list_any (λ player. player.failed) players.now }
 {
-    players.iter().any(|player| player.failed)
+    players.iter().any(has_failed)
+}
+
+/// Whether a player has met want of memory.
+fn has_failed(player: &Player) -> bool
+    ensures { result ≡ player.now.failed }
+{
+    player.failed
 }
 
 /// The workers and the passes of players. There is room for them.

@@ -61,7 +61,12 @@ pub(crate) fn play_all<R: Threads + Wait + Sync, G: Gate + Sync>(
 fn any_has_work(players: &[Player]) -> bool
     ensures { result ≡ list_any (λ player. has_work player.worker) players.now }
 {
-    players
-        .iter()
-        .any(|player| player.worker.desk.present().is_some())
+    players.iter().any(has_work)
+}
+
+/// Whether a player has work.
+fn has_work(player: &Player) -> bool
+    ensures { result ≡ has_work player.now.worker }
+{
+    player.worker.desk.present().is_some()
 }

@@ -1,7 +1,7 @@
-use Rattle.std.proofs.Common.{subst}
+use Rattle.std.proofs.Common.{◌∙◌, ap, subst}
 use Rattle.omega_model.specs.declared.rows.TraceTables.{TraceTables}
 use Rattle.omega_rounds.specs.Going.{GoesOn, IsOverAtLast, MovesOn}
-use Rattle.omega_rounds.specs.Stages.{IsInRunOf}
+use Rattle.omega_rounds.specs.Stages.{IsInRunOf, WorldState}
 use Rattle.omega_rounds.specs.declared.steps.RoundStep.{RoundStep}
 use Rattle.omega_rounds.proofs.EndedRounds.{ended_idle, fewer_rounds}
 use Rattle.omega_rounds.proofs.TickedRounds.{begins_in_time, round_at, ticked_more, ticked_over}
@@ -59,3 +59,16 @@ returns-in-Over-clause-only c trace made other times simulated =
     only_simulated c.args.world.stage.settings trace other next.history times c.loop-times.times simulated
     (ticked_over c.args.world now next c.loop-times.times c.loop-times.invariant c.next_round.ensures.start
     (subst (MovesOn now next) c.in-Over.is c.in_ok-next.ensures.stage) (subst (IsOverAtLast next.stage) c.in-Over.is c.in_ok-next.ensures.last) trace made)
+
+pub returns-in-Over-clause-source : goal.returns-in-Over-clause-source
+returns-in-Over-clause-source c =
+    ap (λ (w : WorldState). w.stage.source) (subst (MovesOn c.loop-times.world c.in_ok-next.next) c.in-Over.is c.in_ok-next.ensures.stage)
+    ∙ c.loop-times.invariant.ended.source
+
+pub returns-in-Over-clause-settings : goal.returns-in-Over-clause-settings
+returns-in-Over-clause-settings c =
+    ap (λ (w : WorldState). w.stage.settings) (subst (MovesOn c.loop-times.world c.in_ok-next.next) c.in-Over.is c.in_ok-next.ensures.stage)
+    ∙ c.loop-times.invariant.ended.settings
+
+pub returns-in-Over-clause-last : goal.returns-in-Over-clause-last
+returns-in-Over-clause-last c = subst (IsOverAtLast c.in_ok-next.next.stage) c.in-Over.is c.in_ok-next.ensures.last

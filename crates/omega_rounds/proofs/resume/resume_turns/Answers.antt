@@ -128,3 +128,32 @@ returns-in-Over-clause-kept g c =
     let all = subst (IsOverAtLast next.stage) c.in-Over.is c.in_ok-next.ensures.last in
     end_kept c.args.kept.now (g.P.Keeper.kept c.args.keeper.now) c.args.world now next (g.P.Keeper.kept c.loop-next.keeper)
     c.loop-next.invariant.resumed c.next_round.ensures.start same all
+
+pub returns-in-Over-clause-source : goal.returns-in-Over-clause-source
+returns-in-Over-clause-source g c =
+    ap (λ (w : WorldState). w.stage.source) (subst (MovesOn c.loop-next.world c.in_ok-next.next) c.in-Over.is c.in_ok-next.ensures.stage)
+    ∙ c.loop-next.invariant.resumed.played.ended.source
+
+pub returns-in-Over-clause-settings : goal.returns-in-Over-clause-settings
+returns-in-Over-clause-settings g c =
+    ap (λ (w : WorldState). w.stage.settings) (subst (MovesOn c.loop-next.world c.in_ok-next.next) c.in-Over.is c.in_ok-next.ensures.stage)
+    ∙ c.loop-next.invariant.resumed.played.ended.settings
+
+pub returns-in-Over-clause-last : goal.returns-in-Over-clause-last
+returns-in-Over-clause-last g c = subst (IsOverAtLast c.in_ok-next.next.stage) c.in-Over.is c.in_ok-next.ensures.last
+
+pub returns-in-Over-clause-lawful : goal.returns-in-Over-clause-lawful
+returns-in-Over-clause-lawful g c = λ trace made.
+    let now = c.loop-next.world in
+    let next = c.in_ok-next.next in
+    let same = subst (MovesOn now next) c.in-Over.is c.in_ok-next.ensures.stage in
+    let here = same_run c.args.world now c.loop-next.invariant.resumed.played.ended trace made in
+    let whole = subst (λ (step : RoundStep). (trace : TraceTables) → IsInRunOf now.stage trace → GoesOn trace now next step) c.in-Over.is c.in_ok-next.ensures.run trace here in
+    subst (λ (s : Settings). Lawful s trace next.history) c.loop-next.invariant.resumed.played.ended.settings
+    (subst (λ (w : WorldState). Lawful now.stage.settings trace w.history) (sym same) whole)
+
+pub returns-in-Over-clause-turns : goal.returns-in-Over-clause-turns
+returns-in-Over-clause-turns g c =
+    let now = c.loop-next.world in
+    subst (λ (w : WorldState). InTurns w.history) (sym (subst (MovesOn now c.in_ok-next.next) c.in-Over.is c.in_ok-next.ensures.stage))
+    (turns_now c.args.world now c.loop-next.invariant.resumed.played c.next_round.ensures.start)

@@ -26,3 +26,6 @@ loop-worker-preserved c =
           (All-push (λ (p : Player). p.failed ≡ false) c.loop-worker.players.items player kept.3 refl),
       c.push_reserved.ensures.capacity ∙ kept.4,
     )
+
+pub returns-clause-fresh : goal.returns-clause-fresh
+returns-clause-fresh c = c.loop-worker.invariant.3

@@ -1,4 +1,4 @@
-use Rattle.std.proofs.Common.{rules, ℕ, ◌≡◌, false}
+use Rattle.std.proofs.Common.{rules, ℕ, ◌≡◌, false, arith}
 use Rattle.std.specs.Prelude.{All}
 use Rattle.std.specs.List.{list_any}
 use denote.Param.{param}
@@ -8,7 +8,7 @@ use Rattle.omega_shared.proofs.Crossing.{shared_sync}
 use Rattle.omega_rounds.proofs.Crossing.{player_send}
 use Rattle.omega_rounds.specs.Opening.{has_work}
 use Rattle.omega_rounds.specs.Players.{MayPlay}
-use Rattle.omega_rounds.proofs.PlayersTogether.{idle_all, played_whole}
+use Rattle.omega_rounds.proofs.PlayersTogether.{idle_all, played_empty, played_only, played_whole}
 use Rattle.omega_rounds.proofs.together.+fn-play_all-join_mut+arg2+fn-play_all-join_mut+arg3+play_all.Goals as goal
 
 pub returns-then-not-any_has_work : goal.returns-then-not-any_has_work
@@ -41,3 +41,16 @@ join_mut-requires-send-F g t c κs within =
     let runtime : (i : ℕ) → IsSync (param i g.row.R) = λ i. param_sync i g.row.R (record { shared = c.requires.sync.0.shared }) in
     let gate : (i : ℕ) → IsSync (param i g.row.G) = λ i. param_sync i g.row.G (record { shared = c.requires.sync.1.shared }) in
     search (player_send, shared_sync, runtime, gate, sync, crosses, sendable) depth 20
+
+pub returns-then-players-eq0 : goal.returns-then-players-eq0
+returns-then-players-eq0 g t c = record { played = played_empty c.args.players.now c.if-players-eq0.true }
+
+pub play-requires : goal.play-requires
+play-requires g t c = record {
+  may_play = c.requires.may_play 0 c.index-players-0.result (let one = c.if-players-eq1.true in omega (arith, one));
+}
+
+pub returns-then-players-eq1 : goal.returns-then-players-eq1
+returns-then-players-eq1 g t c = record {
+  played = played_only c.args.players.now c.index-players-0.result c.play.new.self c.if-players-eq1.true c.play.ensures.played;
+}

@@ -1,9 +1,9 @@
-use Rattle.std.proofs.Common.{sym, subst}
+use Rattle.std.proofs.Common.{◌∙◌, ap, sym, subst}
 use Rattle.omega_model.specs.Lawful.{Lawful}
 use Rattle.omega_model.specs.Turns.{InTurns}
 use Rattle.omega_model.specs.declared.rows.TraceTables.{TraceTables}
 use Rattle.omega_model.specs.declared.settings.Settings.{Settings}
-use Rattle.omega_rounds.specs.Going.{GoesOn, MovesOn}
+use Rattle.omega_rounds.specs.Going.{GoesOn, IsOverAtLast, MovesOn}
 use Rattle.omega_rounds.specs.Stages.{IsInRunOf, WorldState}
 use Rattle.omega_rounds.specs.declared.steps.RoundStep.{RoundStep}
 use Rattle.omega_rounds.proofs.EndedRounds.{same_run}
@@ -40,3 +40,26 @@ returns-in-Over-clause-only g c trace made other lawful turns =
     (subst (λ (s : Settings). Lawful s trace next.history) c.loop-next.invariant.ended.settings
     (subst (λ (w : WorldState). Lawful now.stage.settings trace w.history) (sym same) whole))
     (subst (λ (w : WorldState). InTurns w.history) (sym same) (turns_now c.args.world now c.loop-next.invariant c.next_round.ensures.start))
+
+pub returns-in-Over-clause-source : goal.returns-in-Over-clause-source
+returns-in-Over-clause-source g c =
+    ap (λ (w : WorldState). w.stage.source) (subst (MovesOn c.loop-next.world c.in_ok-next.next) c.in-Over.is c.in_ok-next.ensures.stage)
+    ∙ c.loop-next.invariant.ended.source
+
+pub returns-in-Over-clause-settings : goal.returns-in-Over-clause-settings
+returns-in-Over-clause-settings g c =
+    ap (λ (w : WorldState). w.stage.settings) (subst (MovesOn c.loop-next.world c.in_ok-next.next) c.in-Over.is c.in_ok-next.ensures.stage)
+    ∙ c.loop-next.invariant.ended.settings
+
+pub returns-in-Over-clause-last : goal.returns-in-Over-clause-last
+returns-in-Over-clause-last g c = subst (IsOverAtLast c.in_ok-next.next.stage) c.in-Over.is c.in_ok-next.ensures.last
+
+pub returns-in-Over-clause-lawful : goal.returns-in-Over-clause-lawful
+returns-in-Over-clause-lawful g c = λ trace made.
+    let now = c.loop-next.world in
+    let next = c.in_ok-next.next in
+    let same = subst (MovesOn now next) c.in-Over.is c.in_ok-next.ensures.stage in
+    let here = same_run c.args.world now c.loop-next.invariant.ended trace made in
+    let whole = subst (λ (step : RoundStep). (trace : TraceTables) → IsInRunOf now.stage trace → GoesOn trace now next step) c.in-Over.is c.in_ok-next.ensures.run trace here in
+    subst (λ (s : Settings). Lawful s trace next.history) c.loop-next.invariant.ended.settings
+    (subst (λ (w : WorldState). Lawful now.stage.settings trace w.history) (sym same) whole)

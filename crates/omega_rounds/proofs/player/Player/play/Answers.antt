@@ -1,10 +1,33 @@
 use Rattle.std.proofs.Common.{sym, ◌∙◌}
-use Rattle.omega_rounds.proofs.PlayingOn.{played_all}
-use Rattle.omega_rounds.proofs.WorkerCommits.{first_unseen}
+use Rattle.omega_rounds.proofs.PlayingOn.{played_all, plays_first, plays_more, stopped}
+use Rattle.omega_rounds.proofs.WorkerCommits.{first_seen, first_unseen}
 use Rattle.omega_rounds.proofs.player.Player.play.Goals as goal
 
 pub returns : goal.returns
 returns g c = record {
   played = played_all c.args.shared.now.of c.args.self.now c.loop-alloc.self _ c.loop-alloc.invariant
       (first_unseen c.loop-alloc.self.worker.desk.requests c.present.result (sym c.is_some.ensures ∙ c.loop-alloc-test.false) c.present.ensures);
+}
+
+pub loop-alloc-init : goal.loop-alloc-init
+loop-alloc-init g c = plays_first c.args.shared.now.of c.args.self.now c.requires.may_play
+
+pub attempt-requires-clause-may_play : goal.attempt-requires-clause-may_play
+attempt-requires-clause-may_play g c = c.loop-alloc.invariant.may_play
+
+pub attempt-requires-clause-work : goal.attempt-requires-clause-work
+attempt-requires-clause-work g c =
+    first_seen c.loop-alloc.self.worker.desk.requests c.present.result (sym c.is_some.ensures ∙ c.loop-alloc-test.true) c.present.ensures
+
+pub loop-alloc-smaller : goal.loop-alloc-smaller
+loop-alloc-smaller g c = c.in-Ok.ensures.fewer
+
+pub loop-alloc-preserved : goal.loop-alloc-preserved
+loop-alloc-preserved g c =
+    plays_more c.args.shared.now.of c.args.self.now c.loop-alloc.self c.attempt.new.self c.loop-alloc.invariant c.attempt.ensures.plays_on
+    c.in-Ok.ensures.may_play c.in-Ok.ensures.spent c.attempt.ensures.failed
+
+pub returns-in_default : goal.returns-in_default
+returns-in_default g c = record {
+  played = stopped c.args.shared.now.of c.args.self.now c.loop-alloc.self c.attempt.new.self c.loop-alloc.invariant c.attempt.ensures.plays_on;
 }

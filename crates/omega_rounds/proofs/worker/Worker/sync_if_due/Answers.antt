@@ -1,4 +1,4 @@
-use Rattle.std.proofs.Common.{refl, not, ap, ◌∙◌, inl, inr}
+use Rattle.std.proofs.Common.{not, ap, ◌∙◌, inl, inr}
 use Rattle.omega_rounds.proofs.SyncedTogether.{stays}
 use Rattle.omega_rounds.proofs.WorkerCommits.{first_unseen}
 use Rattle.omega_rounds.proofs.worker.Worker.sync_if_due.Goals as goal
