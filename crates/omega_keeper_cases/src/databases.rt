@@ -1,6 +1,6 @@
 //! A keeper over a database in memory.
-use crate::steps::{show_done, taken};
-use omega_calls::{Fault, is_colon, part, text};
+use crate::steps::{is_word, show_done, taken};
+use omega_calls::{Fault, is_colon, part};
 use omega_keep::Keeper;
 use omega_model::Bytes;
 use omega_sqlkeep::SqlKeeper;
@@ -66,17 +66,9 @@ fn taken_here<K: Kept>(
     step: &[Bytes],
     answers: &mut String,
 ) -> Result<K, Fault> {
-    if is_again(step)? {
+    if is_word(step, "again")? {
         show_done(answers, true)?;
         return Ok(keeper.again(alloc));
     }
     taken(alloc, keeper, step, answers)
-}
-
-/// Whether a step is the word `again`.
-fn is_again(step: &[Bytes]) -> Result<bool, Fault> {
-    match step {
-        [word] => Ok(text(word)? == "again"),
-        _ => Ok(false),
-    }
 }

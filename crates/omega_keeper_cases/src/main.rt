@@ -5,48 +5,51 @@
 #![tactic(auto)]
 
 mod databases;
+mod files;
 mod steps;
 
 use crate::steps::take_all;
 use omega_calls::{Fault, answer_lines, number, text, words_of};
 use omega_keep::{MemoryKeeper, SteadyKeeper};
 use omega_model::Bytes;
-use std::alloc::Global;
 use std::io;
 
 fn main(rt: HostRuntime) -> io::Result<()> {
     let alloc = rt.alloc();
-    answer_lines(&rt, alloc, |line| answer(alloc, line))
+    answer_lines(&rt, alloc, |line| answer(&rt, line))
 }
 
 /// The answer of a line's call.
-fn answer(alloc: Global, line: &str) -> Result<String, Fault> {
+fn answer(rt: &HostRuntime, line: &str) -> Result<String, Fault> {
+    let alloc = rt.alloc();
     let words = words_of(alloc, line)?;
     let mut answers = String::new(alloc);
-    answer_words(alloc, words.as_slice(), &mut answers)?;
+    answer_words(rt, words.as_slice(), &mut answers)?;
     Ok(answers)
 }
 
 /// Appends the answer of a call of these words: a subject, a call of it, and what the call is given.
-fn answer_words(alloc: Global, words: &[Bytes], answers: &mut String) -> Result<(), Fault> {
+fn answer_words(rt: &HostRuntime, words: &[Bytes], answers: &mut String) -> Result<(), Fault> {
     let [subject, call, rest @ ..] = words else {
         return Err(Fault::UnknownCall);
     };
     match text(subject)? {
-        "keeper" => answer_of_keeper(alloc, text(call)?, rest, answers),
+        "keeper" => answer_of_keeper(rt, text(call)?, rest, answers),
         _ => Err(Fault::UnknownCall),
     }
 }
 
 /// Each takes steps on a new keeper, which are parted by ` : `, as are the answers. `memory CALL STEPS`: one in
 /// memory, of which this load or append fails, counted from 0. `steady STEPS`: one that never fails.
-/// `database STATEMENTS STEPS`: one over a database in memory that these statements have made.
+/// `database STATEMENTS STEPS`: one over a database in memory that these statements have made. `files STEPS`: two over
+/// files.
 fn answer_of_keeper(
-    alloc: Global,
+    rt: &HostRuntime,
     call: &str,
     words: &[Bytes],
     answers: &mut String,
 ) -> Result<(), Fault> {
+    let alloc = rt.alloc();
     match (call, words) {
         ("memory", [call, steps @ ..]) => {
             let mut keeper = MemoryKeeper::new(alloc).fail_at(number(call)?);
@@ -56,6 +59,7 @@ fn answer_of_keeper(
         ("database", [statements, steps @ ..]) => {
             databases::answer(alloc, text(statements)?, steps, answers)
         }
+        ("files", steps) => files::answer(rt, steps, answers),
         _ => Err(Fault::UnknownCall),
     }
 }

@@ -21,7 +21,7 @@ pub(crate) fn take_all<K: Keeper>(
 /// Takes a step on a keeper, and appends its answer. `enter PATH` answers `ok`; `append LINE ..` appends the lines at
 /// once, and answers `ok` or `failed`; `load` answers the lines, behind how many they are, or `failed`; and `faults`
 /// how many calls have failed.
-fn take<K: Keeper>(
+pub(crate) fn take<K: Keeper>(
     alloc: Global,
     keeper: &mut K,
     step: &[Bytes],
@@ -50,6 +50,14 @@ pub(crate) fn taken<K: Keeper + Drop>(
     let mut keeper = keeper;
     take(alloc, &mut keeper, step, answers)?;
     Ok(keeper)
+}
+
+/// Whether a step is this word.
+pub(crate) fn is_word(step: &[Bytes], wanted: &str) -> Result<bool, Fault> {
+    match step {
+        [word] => Ok(text(word)? == wanted),
+        _ => Ok(false),
+    }
 }
 
 /// Some lines as a list of their own.

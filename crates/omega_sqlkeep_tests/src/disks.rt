@@ -1,6 +1,6 @@
 //! Disks in memory that can stop, and what a database leaves on them.
 
-use sqlite::{Alter, FileStore, Files};
+use sqlite::{Alter, Connection, FileStore, Files, Options};
 use sqlite_disk::{Crash, Fuse, Memory};
 use std::alloc::Global;
 
@@ -44,5 +44,39 @@ pub trait Ends: Alter + Drop {
 impl Ends for FileStore<Disk> {
     fn into_files(self) -> Files<Disk> {
         self.close()
+    }
+}
+
+/// How a database is opened in two files. Who opens one takes this as a type parameter too.
+pub trait Opens {
+    type Store: Ends;
+
+    /// A connection to the database. Hands the files back where they can't be used, or no database can be opened in
+    /// them.
+    fn open(
+        &self,
+        alloc: Global,
+        files: Files<Disk>,
+    ) -> Result<Connection<Self::Store>, Files<Disk>>;
+}
+
+/// A database as the program has one.
+pub struct InFiles;
+
+impl Opens for InFiles {
+    type Store = FileStore<Disk>;
+
+    fn open(
+        &self,
+        alloc: Global,
+        files: Files<Disk>,
+    ) -> Result<Connection<FileStore<Disk>>, Files<Disk>> {
+        if !files.may_be_used() {
+            return Err(files);
+        }
+        match Connection::open_files(alloc, files, Options::new(7)) {
+            Ok(connection) => Ok(connection),
+            Err((_, left)) => Err(left.into_files()),
+        }
     }
 }
