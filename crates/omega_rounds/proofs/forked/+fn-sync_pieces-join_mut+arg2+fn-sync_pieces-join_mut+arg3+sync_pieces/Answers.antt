@@ -1,7 +1,8 @@
 use Rattle.std.proofs.Common.{rules, ℕ, ◌≡◌, ◌++◌, List, subst}
 use denote.Param.{param}
 use denote.Param.Send.{IsSync, param_sync, sendable}
-use Rattle.omega_rounds.proofs.Crossing.{cell_sync, lent_indexes_send, lent_worker_send}
+use Rattle.omega_rounds.proofs.Crossing.{lent_indexes_send, lent_worker_send}
+use Rattle.omega_shared.proofs.Crossing.{cell_sync}
 use Rattle.std.proofs.Crossing.{crosses, sync}
 use Rattle.omega_rounds.specs.Forked.{AllMaySync}
 use Rattle.omega_rounds.specs.declared.worker.Worker.{Worker}

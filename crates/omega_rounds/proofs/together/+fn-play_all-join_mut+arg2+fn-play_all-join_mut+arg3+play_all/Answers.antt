@@ -1,4 +1,4 @@
-use Rattle.std.proofs.Common.{rules, ℕ, ◌≡◌, false, arith}
+use Rattle.std.proofs.Common.{rules, ℕ, ◌≡◌, ◌∙◌, false, sym, arith}
 use Rattle.std.specs.Prelude.{All}
 use Rattle.std.specs.List.{list_any}
 use denote.Param.{param}
@@ -14,7 +14,8 @@ use Rattle.omega_rounds.proofs.together.+fn-play_all-join_mut+arg2+fn-play_all-j
 pub returns-then-not-any_has_work : goal.returns-then-not-any_has_work
 returns-then-not-any_has_work g t c =
     let may : All (MayPlay c.args.shared.now.of) c.split_at_mut-left.result.0.now = search rules in
-    let none : list_any (λ player. has_work player.worker) c.split_at_mut-left.result.0.now ≡ false = search rules in
+    let none : list_any (λ player. has_work player.worker) c.split_at_mut-left.result.0.now ≡ false =
+    sym c.any_has_work.ensures ∙ c.if-not-any_has_work.true in
     record {
       played = played_whole _ c.split_at_mut-left.result.0.now c.split_at_mut-left.result.1.now _ _ (search rules)
           (idle_all c.args.shared.now.of c.split_at_mut-left.result.0.now may none) c.play_all.ensures.played;
@@ -23,7 +24,8 @@ returns-then-not-any_has_work g t c =
 pub returns-then-not-any_has_work-2 : goal.returns-then-not-any_has_work-2
 returns-then-not-any_has_work-2 g t c =
     let may : All (MayPlay c.args.shared.now.of) c.split_at_mut-left.result.1.now = search rules in
-    let none : list_any (λ player. has_work player.worker) c.split_at_mut-left.result.1.now ≡ false = search rules in
+    let none : list_any (λ player. has_work player.worker) c.split_at_mut-left.result.1.now ≡ false =
+    sym c.any_has_work-2.ensures ∙ c.if-not-any_has_work-2.true in
     record {
       played = played_whole _ c.split_at_mut-left.result.0.now c.split_at_mut-left.result.1.now _ _ (search rules)
           c.play_all-then-not-any_has_work-2.ensures.played (idle_all c.args.shared.now.of c.split_at_mut-left.result.1.now may none);
