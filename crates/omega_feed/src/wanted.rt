@@ -77,7 +77,7 @@ impl Wanted {
     {
         let activities = JobActivities::new(alloc, &tables.activities)?;
         let jobs = Jobs::of(alloc, rows, settings, &activities)?;
-        let tasks = WantedTasks::of_jobs(alloc, jobs.numbers(alloc)?)?;
+        let tasks = WantedTasks::of_rows(alloc, rows, jobs.numbers(alloc)?)?;
         Ok(Wanted {
             jobs,
             constraints: TaskConstraints::new(alloc, &tables.constraints)?,
