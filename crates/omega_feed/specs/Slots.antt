@@ -35,10 +35,24 @@ entry_of job slot = if slot.key.job == job then option_map (λ spec. (slot.key, 
 abbrev pub SlotsRise : List Slot → Type 0
 SlotsRise slots = Rises (λ a b. key_lt a.key b.key) slots
 
--- the keys of the slots rise, the wanted tasks are none of the extras, and so many
-pub record AreSlots (slots : List Slot) (count : ℕ) : Type 0 where
+-- a slot's task isn't wanted
+abbrev pub IsEmpty : Slot → Type 0
+IsEmpty slot = slot.spec ≡ None
+
+-- the slots before this place are empty
+pub record AreEmptyBefore (slots : List Slot) (place : ℕ) : Type 0 where
+  pub within : place ≤ length slots
+  pub empty : Each IsEmpty (take place slots)
+
+-- an empty slot stands at this place
+abbrev pub HasEmptySlotAt : List Slot → ℕ → Type 0
+HasEmptySlotAt slots place = option_map (λ slot. slot.spec) (slice_get slots place) ≡ Some None
+
+-- the keys of the slots rise, the wanted tasks are none of the extras, so many, and none before the first place
+pub record AreSlots (slots : List Slot) (first count : ℕ) : Type 0 where
   pub rise : SlotsRise slots
   pub low : Each HasLowIndex (tasks_in slots)
+  pub passed : AreEmptyBefore slots first
   pub counted : count ≡ length (tasks_in slots)
 
 -- a task's slot stands at this place

@@ -1,5 +1,5 @@
 //! The wanted tasks of one job.
-ghost use Rattle.std.specs.Prelude.{◌≡◌, ◌↔◌, ◌++◌, ◌+◌, ℕ, [], true, All, not, map, ◌<◌, IfOk, IsTrue, MatchResult, OnOk, OnErr, Some, is_some, length, cond};
+ghost use Rattle.std.specs.Prelude.{◌≡◌, ◌↔◌, ◌++◌, ◌+◌, ℕ, [], true, All, not, map, ◌<◌, ◌≤◌, IfOk, IsTrue, MatchResult, OnOk, OnErr, Some, is_some, length, cond};
 ghost use Rattle.std.specs.List.{filter, list_any};
 ghost use Rattle.omega_model.specs.ExtraTasks.{HasLowIndex, first_extra, is_wanted, wanted_of};
 ghost use Rattle.omega_model.specs.Wanted.{with_wanted, is_named};
@@ -7,13 +7,17 @@ ghost use Rattle.omega_feed.specs.Asked.{is_task_of};
 ghost use Rattle.omega_feed.specs.Index.{wanted_task};
 ghost use Rattle.omega_feed.specs.Open.{RunsIfOf};
 ghost use Rattle.omega_feed.specs.Parts.{waiting_jobs};
-ghost use Rattle.omega_feed.specs.Slots.{GetsSlotAt, HasSlotAt, SlotsRise, entry_of, is_idle, is_idle_of, tasks_in};
+ghost use Rattle.omega_feed.specs.Slots.{AreEmptyBefore, GetsSlotAt, HasEmptySlotAt, HasSlotAt, SlotsRise, entry_of, is_idle, is_idle_of, tasks_in};
 ghost use Rattle.omega_running.specs.Order.{Each};
 
 use omega_model::{NoMemory, Spec, TaskKey};
 use omega_running::Running;
 use std::alloc::Global;
 use std::marker::Model;
+
+/// How many empty slots are passed at most when a task ends, so that this takes the same time for any
+/// number of slots.
+const MOST_PASSED: usize = 8;
 
 /// The place of a task in the list of its job.
 #[derive(Clone, Copy, Debug)]
@@ -27,10 +31,15 @@ pub struct Slot {
 /// whose indexes are below those of extras.
 ///
 /// The tasks of a job mostly have the indexes 0, 1, 2 and so on, and then a task's slot stands at the
-/// place that its index says. Else it is searched for by halves.
+/// place that its index says. Else it is searched for by halves. What goes over all tasks begins behind
+/// the slots that are known to be empty, so that a job whose tasks end in about their order costs what is
+/// left of it.
 #[derive(Drop)]
 pub struct TaskList {
     slots: Vec<Slot>,
+    /// The slots before this place are empty.
+    first: usize,
+    /// How many tasks are wanted.
     count: usize,
 }
 
@@ -44,7 +53,7 @@ impl Model for TaskList {
 
     ghost view = { λ tasks. tasks_in tasks.slots.items };
 
-    ghost invariant = { λ tasks. AreSlots tasks.slots.items tasks.count };
+    ghost invariant = { λ tasks. AreSlots tasks.slots.items tasks.first tasks.count };
 }
 
 impl TaskList {
@@ -54,6 +63,7 @@ impl TaskList {
     {
         TaskList {
             slots: Vec::new(alloc),
+            first: 0,
             count: 0,
         }
     }
@@ -68,7 +78,11 @@ impl TaskList {
         for key in keys {
             place_for(&mut slots, *key)?;
         }
-        Ok(TaskList { slots, count: 0 })
+        Ok(TaskList {
+            slots,
+            first: 0,
+            count: 0,
+        })
     }
 
     /// Puts a task in, or replaces what it asks for. A refused call leaves the tasks. Takes the same time
@@ -81,23 +95,28 @@ impl TaskList {
         ensures low { All HasLowIndex self.new }
     {
         let place = place_for(&mut self.slots, key)?;
+        self.first = self.first.min(place);
         if fill(&mut self.slots, place, key, spec) {
             self.count += 1;
         }
         Ok(())
     }
 
-    /// Takes a task out, if it is there. Costs the logarithm of the number of slots at most.
+    /// Takes a task out, if it is there. Moves nothing. Takes the same time for any number of tasks where
+    /// the slot stands at the place of the task's index, else the logarithm of the number of slots.
     pub fn remove(&mut self, key: TaskKey)
         ensures tasks { self.new ≡ filter (λ task. not (is_named key task)) self.old }
         ensures low { All HasLowIndex self.new }
     {
-        if clear(&mut self.slots, key) {
+        let ended = clear(&mut self.slots, key);
+        self.first = past_empty(&self.slots, self.first);
+        if ended {
             self.count -= 1;
         }
     }
 
-    /// Whether a task is wanted. Costs the logarithm of the number of slots at most.
+    /// Whether a task is wanted. Takes the same time for any number of tasks where the slot stands at the
+    /// place of the task's index, else the logarithm of the number of slots.
     pub fn contains(&self, key: TaskKey) -> bool
         ensures { result ≡ list_any (is_named key) self.now }
     {
@@ -115,12 +134,19 @@ impl TaskList {
         self.count != 0
     }
 
-    /// Appends the job of each task that doesn't run, in order of the tasks' keys. Costs the slots, and of
-    /// each wanted task the logarithm of the number of those that run.
+    /// The slots that are left: all but those at the front that are known to be empty.
+    fn left(&self) -> &[Slot]
+        ensures { tasks_in result.now ≡ self.now }
+    {
+        &self.slots[self.first..]
+    }
+
+    /// Appends the job of each task that doesn't run, in order of the tasks' keys. Costs the slots that are
+    /// left, and of each wanted task the logarithm of the number of those that run.
     pub fn push_waiting(&self, running: &Running, jobs: &mut Vec<u64>) -> Result<(), NoMemory>
         ensures { OnOk result (jobs.new.items ≡ jobs.old.items ++ waiting_jobs running.now.tasks self.now) }
     {
-        for slot in &self.slots {
+        for slot in self.left() {
             if slot.is_idle(running) {
                 jobs.push(slot.key.job)?;
             }
@@ -128,20 +154,20 @@ impl TaskList {
         Ok(())
     }
 
-    /// Whether each wanted task of a job runs. Costs the slots up to the first task that is wanted and
-    /// doesn't run, and of each wanted task the logarithm of the number of those that run.
+    /// Whether each wanted task of a job runs. Costs the slots that are left, up to the first task that is
+    /// wanted and doesn't run, and of each wanted task the logarithm of the number of those that run.
     pub fn all_run(&self, job: u64, running: &Running) -> bool
         ensures { IsTrue result ↔ All (RunsIfOf job running.now.tasks) self.now }
     {
-        !has_idle(&self.slots, job, running)
+        !has_idle(self.left(), job, running)
     }
 
-    /// The wanted tasks of a job, by index. Costs the slots.
+    /// The wanted tasks of a job, by index. Costs the slots that are left, and the memory of these tasks.
     pub fn of_job(&self, alloc: Global, job: u64) -> Result<Vec<(TaskKey, Spec)>, NoMemory>
         ensures { IfOk result (λ found. map wanted_task found.items ≡ wanted_of job self.now) }
     {
         let mut found = Vec::with_capacity(alloc, self.count)?;
-        for slot in &self.slots {
+        for slot in self.left() {
             if let Some(entry) = slot.entry_of(job) {
                 found.push(entry)?;
             }
@@ -198,6 +224,7 @@ fn place_for(slots: &mut Vec<Slot>, key: TaskKey) -> Result<usize, NoMemory>
     ensures rise { SlotsRise slots.new.items }
     ensures same { tasks_in slots.new.items ≡ tasks_in slots.old.items }
     ensures place { IfOk result (HasSlotAt slots.new.items key) }
+    ensures empty { (first : ℕ) → AreEmptyBefore slots.old.items first → AreEmptyBefore slots.new.items first }
 {
     match place_of(slots, key) {
         Ok(place) => Ok(place),
@@ -215,6 +242,7 @@ fn fill(slots: &mut Vec<Slot>, place: usize, key: TaskKey, spec: Spec) -> bool
     ensures rise { SlotsRise slots.new.items }
     ensures tasks { tasks_in slots.new.items ≡ with_wanted key spec (tasks_in slots.old.items) }
     ensures count { length (tasks_in slots.new.items) ≡ length (tasks_in slots.old.items) + cond result 1 0 }
+    ensures empty { (first : ℕ) → first ≤ place → AreEmptyBefore slots.old.items first → AreEmptyBefore slots.new.items first }
 {
     slots[place].spec.replace(spec).is_none()
 }
@@ -225,9 +253,36 @@ fn clear(slots: &mut Vec<Slot>, key: TaskKey) -> bool
     ensures rise { SlotsRise slots.new.items }
     ensures tasks { tasks_in slots.new.items ≡ filter (λ task. not (is_named key task)) (tasks_in slots.old.items) }
     ensures count { length (tasks_in slots.new.items) + cond result 1 0 ≡ length (tasks_in slots.old.items) }
+    ensures empty { (first : ℕ) → AreEmptyBefore slots.old.items first → AreEmptyBefore slots.new.items first }
 {
     match place_of(slots, key) {
         Ok(place) => slots[place].spec.take().is_some(),
         Err(_gap) => false,
+    }
+}
+
+/// A place before which the slots are empty, as they are before the place `first`: that place, or one
+/// behind it, at most `MOST_PASSED` further on.
+fn past_empty(slots: &[Slot], first: usize) -> usize
+    requires { AreEmptyBefore slots.now first }
+    ensures { AreEmptyBefore slots.now result }
+{
+    let mut place = first;
+    for _ in 0..MOST_PASSED {
+        if !is_empty_at(slots, place) {
+            return place;
+        }
+        place += 1;
+    }
+    place
+}
+
+/// Whether an empty slot stands at a place.
+fn is_empty_at(slots: &[Slot], place: usize) -> bool
+    ensures { IsTrue result → HasEmptySlotAt slots.now place }
+{
+    match slots.get(place) {
+        Some(slot) => slot.spec.is_none(),
+        None => false,
     }
 }

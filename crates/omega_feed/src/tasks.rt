@@ -31,8 +31,9 @@ pub enum Change {
 /// The wanted tasks in order of key, found by key and by job. They are tasks of the trace, whose
 /// indexes are below those of extras.
 ///
-/// Those of each job stand in a tree of their own, and the trees in order of job, so that a way down is
-/// as short as the job is small. A job's tree is mostly found at the place that is noted for its number.
+/// Those of each job stand in a list of slots of their own, and the lists in order of job. A job's list is
+/// mostly found at the place that is noted for its number, and a task's slot at the place of its index.
+/// The slots of all tasks of a trace are made when its run begins, so that wanting one takes no memory.
 #[derive(Drop)]
 pub struct WantedTasks {
     alloc: Global,
@@ -107,8 +108,8 @@ impl WantedTasks {
     }
 
     /// Puts a task in, or replaces what it asks for. A refused call leaves the tasks. Costs the
-    /// logarithms of the number of jobs and of the job's tasks, and of a job without a place besides the
-    /// jobs of a greater number.
+    /// logarithms of the number of jobs and of the job's slots at most; a job without a place costs besides
+    /// the jobs of a greater number, and a task without a slot the job's slots of greater indexes.
     pub fn insert(&mut self, key: TaskKey, spec: Spec) -> Result<(), NoMemory>
         requires { key.index < first_extra }
         ensures ok { OnOk result (self.new ≡ with_wanted key spec self.old) }
@@ -123,7 +124,7 @@ impl WantedTasks {
     }
 
     /// Takes a task out, if it is there. Costs the logarithms of the number of jobs and of the job's
-    /// tasks.
+    /// slots at most.
     pub fn remove(&mut self, key: TaskKey)
         ensures tasks { self.new ≡ filter (λ task. not (is_named key task)) self.old }
         ensures low { All HasLowIndex self.new }
@@ -137,7 +138,7 @@ impl WantedTasks {
         }
     }
 
-    /// Whether a task is wanted. Costs the logarithms of the number of jobs and of the job's tasks.
+    /// Whether a task is wanted. Costs the logarithms of the number of jobs and of the job's slots at most.
     pub fn contains(&self, key: TaskKey) -> bool
         ensures { result ≡ list_any (is_named key) self.now }
     {
@@ -158,7 +159,8 @@ impl WantedTasks {
         }
     }
 
-    /// What a row does to the tasks. Costs the logarithms of the number of jobs and of the job's tasks.
+    /// What a row does to the tasks. Costs the logarithms of the number of jobs and of the job's slots at
+    /// most.
     pub fn change_of(&self, row: &TaskRow) -> Change
         ensures change { wanted_after_task self.now row.now ≡ changed_by result row.now self.now }
         ensures low { row.now.key.index < first_extra }
@@ -171,16 +173,17 @@ impl WantedTasks {
         }
     }
 
-    /// The job of each task that doesn't run, in order of the tasks' keys. Costs the tasks, each times
-    /// the logarithm of the number of those that run.
+    /// The job of each task that doesn't run, in order of the tasks' keys. Costs the slots that are left of
+    /// all jobs, and of each wanted task the logarithm of the number of those that run.
     pub fn waiting_jobs(&self, alloc: Global, running: &Running) -> Result<Vec<u64>, NoMemory>
         ensures { IfOk result (λ jobs. (machines : List Machine) → jobs.items ≡ map (λ task. task.key.job) (filter (waits (record { machines = machines; tasks = running.now.tasks })) self.now)) }
     {
         waiting_in(alloc, &self.parts, running)
     }
 
-    /// Whether each wanted task of a job runs. Costs the wanted tasks of the job up to the first that
-    /// doesn't run, each times the logarithm of the number of those that run.
+    /// Whether each wanted task of a job runs. Costs the slots that are left of the job, up to the first
+    /// task that is wanted and doesn't run, and of each wanted task the logarithm of the number of those that
+    /// run.
     pub fn all_run(&self, job: u64, running: &Running) -> bool
         ensures { IsTrue result ↔ All (RunsIfOf job running.now.tasks) self.now }
     {
@@ -190,7 +193,8 @@ impl WantedTasks {
         }
     }
 
-    /// The wanted tasks of a job, by index. Costs these, and the logarithm of the number of jobs.
+    /// The wanted tasks of a job, by index. Costs the slots that are left of it, and the logarithm of the
+    /// number of jobs.
     pub fn of_job(&self, alloc: Global, job: u64) -> Result<Vec<(TaskKey, Spec)>, NoMemory>
         ensures { IfOk result (λ found. map wanted_task found.items ≡ wanted_of job self.now) }
     {
@@ -201,7 +205,7 @@ impl WantedTasks {
     }
 }
 
-/// The job of each task of these trees that doesn't run, in their order.
+/// The job of each task of these lists that doesn't run, in their order.
 fn waiting_in(alloc: Global, parts: &[TaskList], running: &Running) -> Result<Vec<u64>, NoMemory>
     ensures { IfOk result (λ jobs. jobs.items ≡ flat_map (waiting_jobs running.now.tasks) parts.now) }
 {

@@ -3,7 +3,7 @@ use Rattle.std.specs.Prelude.{is_some}
 use Rattle.omega_model.specs.declared.cells.Spec.{Spec}
 use Rattle.omega_feed.specs.Slots.{GetsSlotAt, HasSlotAt, tasks_in}
 use Rattle.omega_feed.specs.declared.task_list.Slot.{Slot}
-use Rattle.omega_feed.proofs.Slots.{none_cleared, one_less, set_cleared, set_counted, set_rise, slot_of}
+use Rattle.omega_feed.proofs.Slots.{empty_cleared, none_cleared, one_less, set_cleared, set_counted, set_rise, slot_of}
 use Rattle.omega_feed.proofs.task_list.clear.Goals as goal
 
 pub returns-in-Ok-clause-rise : goal.returns-in-Ok-clause-rise
@@ -35,3 +35,6 @@ returns-in-Err-clause-tasks c =
     let slots = c.args.slots.now.items in
     let gets : GetsSlotAt slots c.args.key c.in-Err._gap = subst (λ (ss : List Slot). GetsSlotAt ss c.args.key c.in-Err._gap) c.deref.ensures.value c.in-Err.ensures in
     none_cleared slots c.args.key c.in-Err._gap gets
+
+pub returns-in-Ok-clause-empty : goal.returns-in-Ok-clause-empty
+returns-in-Ok-clause-empty c = λ first before. empty_cleared c.args.slots.now.items c.in-Ok.place first _ c.take.ensures.after before

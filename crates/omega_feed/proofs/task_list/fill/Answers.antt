@@ -2,7 +2,7 @@ use Rattle.std.proofs.Common.{Option, ap, set, ◌∙◌, sym}
 use Rattle.std.specs.Prelude.{is_some}
 use Rattle.omega_model.specs.declared.cells.Spec.{Spec}
 use Rattle.omega_feed.specs.Slots.{tasks_in}
-use Rattle.omega_feed.proofs.Slots.{one_more, set_counted, set_filled, set_rise, slot_of}
+use Rattle.omega_feed.proofs.Slots.{empty_filled, one_more, set_counted, set_filled, set_rise, slot_of}
 use Rattle.omega_feed.proofs.task_list.fill.Goals as goal
 
 pub returns-clause-rise : goal.returns-clause-rise
@@ -22,3 +22,6 @@ returns-clause-count c =
     (set_counted c.args.slots.now.items c.args.key c.args.place c.requires.rise c.requires.place slot c.index_mut.ensures.value c.replace.new.self)
     (ap is_some c.replace.ensures.after)
     (sym (ap is_some c.replace.ensures.value) ∙ c.is_none.ensures)
+
+pub returns-clause-empty : goal.returns-clause-empty
+returns-clause-empty c = λ first le before. empty_filled c.args.slots.now.items c.args.place first _ le before

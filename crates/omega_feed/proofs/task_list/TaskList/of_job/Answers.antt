@@ -11,7 +11,6 @@ pub returns : goal.returns
 returns c =
     let job = c.args.job in
     let all = sym (append-nil c.loop-slot.found.items)
-    ∙ ap (λ slots. c.loop-slot.found.items ++ filter_map (entry_of job) slots) (sym (drop_all c.loop-slot.slot-index c.deref-slot-items.result.now c.loop-slot-test.false))
-    ∙ c.loop-slot.invariant
-    ∙ ap (filter_map (entry_of job)) c.deref-slot-items.ensures.value in
-    ap (map wanted_task) all ∙ entries_are job c.self.inside.slots.items ∙ ap (wanted_of job) c.self.view_is
+    ∙ ap (λ slots. c.loop-slot.found.items ++ filter_map (entry_of job) slots) (sym (drop_all c.loop-slot.slot-index c.left-slot-items.result.now c.loop-slot-test.false))
+    ∙ c.loop-slot.invariant in
+    ap (map wanted_task) all ∙ entries_are job c.left-slot-items.result.now ∙ ap (wanted_of job) c.left-slot-items.ensures

@@ -10,9 +10,8 @@ use Rattle.omega_feed.proofs.task_list.TaskList.push_waiting.Goals as goal
 pub returns : goal.returns
 returns c =
     let running = c.args.running.now.tasks in
-    let all = idle_are running c.self.inside.slots.items ∙ ap (waiting_jobs running) c.self.view_is in
+    let all = idle_are running c.left-slot-items.result.now ∙ ap (waiting_jobs running) c.left-slot-items.ensures in
     sym (append-nil c.loop-slot.jobs.items)
-    ∙ ap (λ (slots : List Slot). c.loop-slot.jobs.items ++ map (λ (slot : Slot). slot.key.job) (filter (is_idle running) slots)) (sym (drop_all c.loop-slot.slot-index c.deref-slot-items.result.now c.loop-slot-test.false))
+    ∙ ap (λ (slots : List Slot). c.loop-slot.jobs.items ++ map (λ (slot : Slot). slot.key.job) (filter (is_idle running) slots)) (sym (drop_all c.loop-slot.slot-index c.left-slot-items.result.now c.loop-slot-test.false))
     ∙ c.loop-slot.invariant
-    ∙ ap (λ (slots : List Slot). c.args.jobs.now.items ++ map (λ (slot : Slot). slot.key.job) (filter (is_idle running) slots)) c.deref-slot-items.ensures.value
     ∙ ap (λ jobs. c.args.jobs.now.items ++ jobs) all
