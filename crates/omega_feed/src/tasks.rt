@@ -99,7 +99,7 @@ impl WantedTasks {
     /// The tasks of a job; `None` only where it has none.
     fn find(&self, job: u64) -> Option<&TaskList>
         ensures none { IfNone result (filter (is_task_of job) self.now ≡ []) }
-        ensures part { IfSome result (λ tree. tree.now ≡ filter (is_task_of job) self.now) }
+        ensures part { IfSome result (λ tasks. tasks.now ≡ filter (is_task_of job) self.now) }
     {
         match place_of(&self.jobs, self.notes.guess(job), job) {
             Ok(place) => Some(&self.parts[place]),
