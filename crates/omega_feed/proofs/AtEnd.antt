@@ -1,40 +1,16 @@
 -- The tasks that are wanted at the end of a trace and don't run.
-use Rattle.std.proofs.Common.{◌≡◌, ℕ, ◌+◌, ◌<◌, Bool, true, false, not, ◌||◌, ◌==◌, List, [], ◌∷◌, ◌++◌, map, length, drop, get_or, refl, ap, sym, ◌∙◌, inl, inr}
+use Rattle.std.proofs.Common.{◌≡◌, ℕ, ◌+◌, ◌<◌, Bool, true, false, not, ◌||◌, ◌==◌, List, [], ◌∷◌, ◌++◌, length, drop, get_or, refl, ap, sym, ◌∙◌, inl, inr}
 use Rattle.std.specs.BTreeMap.{is_at}
 use Rattle.std.specs.BTreeSet as set
 use Rattle.std.specs.BTreeSet.{BTreeSet}
-use Rattle.std.specs.List.{filter, fold, list_any}
+use Rattle.std.specs.List.{fold, list_any}
 use Rattle.std.specs.Ordering.{nat_cmp}
 use Rattle.std.proofs.lemmas.Bool.{eq-eqb, ne_eqb, cases_eq}
 use Rattle.std.proofs.lemmas.List.{drop_more}
 use Rattle.std.proofs.lemmas.List.Folds.{list_any-append}
-use Rattle.omega_model.proofs.Lists.{by_answer}
 use Rattle.omega_model.proofs.Places.{at_place, off_place}
 use Rattle.omega_model.specs.Feed.{each_once}
-use Rattle.omega_model.specs.ReportCounts.{waits}
-use Rattle.omega_model.specs.declared.cells.Machine.{Machine}
-use Rattle.omega_model.specs.declared.cells.Spec.{Spec}
-use Rattle.omega_model.specs.declared.cells.Task.{Task}
-use Rattle.omega_model.specs.declared.cells.TaskKey.{TaskKey}
-use Rattle.omega_feed.specs.Index.{wanted_task}
 use Rattle.omega_feed.proofs.JobList.{add_once, each_added}
-use Rattle.omega_feed.proofs.TaskMap.{idle}
-
--- the job of an entry
-abbrev pub job_in : TaskKey × Spec → ℕ
-job_in entry = entry.0.job
-
--- the jobs of entries whose tasks don't run
-abbrev pub idle_jobs : List Task → List (TaskKey × Spec) → List ℕ
-idle_jobs running entries = map job_in (filter (idle running) entries)
-
-pub waiting_idle : (machines : List Machine) (running : List Task) (entries : List (TaskKey × Spec))
-    → idle_jobs running entries ≡ map (λ task. task.key.job) (filter (waits (record { machines = machines; tasks = running })) (map wanted_task entries))
-waiting_idle machines running [] = refl
-waiting_idle machines running (e ∷ es) =
-    by_answer (idle running e)
-    (λ t. rw t (ap (λ js. e.0.job ∷ js) (waiting_idle machines running es)))
-    (λ f. rw f (waiting_idle machines running es))
 
 -- a set has the numbers of a list
 abbrev pub HasThese : BTreeSet ℕ → List ℕ → Type 0

@@ -1,7 +1,7 @@
 pub mod Rising
 pub mod Cutting
 pub mod JobList
-pub mod TaskMap
+pub mod KeyOrder
 pub mod AskedAfter
 pub mod Quiet
 pub mod Settling
@@ -13,3 +13,4 @@ pub mod Active
 pub mod ExtraIndexes
 pub mod HeldExtras
 pub mod Parts
+pub mod Slots

@@ -12,7 +12,7 @@ use Rattle.omega_model.specs.Fields.{ConstraintFields}
 use Rattle.omega_model.specs.Keys.{same_key}
 use Rattle.omega_model.specs.declared.cells.TaskKey.{TaskKey}
 use Rattle.omega_feed.specs.Index.{key_cmp}
-use Rattle.omega_feed.proofs.TaskMap.{Facts, facts}
+use Rattle.omega_feed.proofs.KeyOrder.{Facts, facts}
 use Rattle.omega_model.proofs.InOrder.{key_itself}
 
 slice_at : (rows : List ConstraintFields) (place : ℕ) (row : ConstraintFields) → place < length rows → row ≡ get_or rows place row → slice_get rows place ≡ Some row

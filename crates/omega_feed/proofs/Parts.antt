@@ -19,12 +19,12 @@ use Rattle.omega_running.proofs.Lists.{all_of_each, each_append, each_back, each
 use Rattle.omega_feed.specs.Asked.{is_task_of}
 use Rattle.omega_feed.specs.Open.{RunsIfOf}
 use Rattle.omega_feed.specs.Parts.{AreParts, BelongsAt, IsTaskOf, Rise, StandsAt, joined, waiting_jobs}
-use Rattle.omega_feed.proofs.TaskMap.{by_job}
+use Rattle.omega_feed.proofs.KeyOrder.{by_job}
 
-each_at : (P : ℕ → Type 0) (ns : List ℕ) (i : ℕ) → Each P ns → i < length ns → P (get_or ns i 0)
-each_at P [] i e less = absurd (omega (arith, less))
-each_at P (n ∷ ns) zero e less = e.0
-each_at P (n ∷ ns) (suc i) e less = each_at P ns i e.1 (omega (arith, less))
+pub each_at : {X : Type 0} (P : X → Type 0) (xs : List X) (i : ℕ) (d : X) → Each P xs → i < length xs → P (get_or xs i d)
+each_at P [] i d e less = absurd (omega (arith, less))
+each_at P (x ∷ xs) zero d e less = e.0
+each_at P (x ∷ xs) (suc i) d e less = each_at P xs i d e.1 (omega (arith, less))
 
 each_insert : (P : ℕ → Type 0) (ns : List ℕ) (i n : ℕ) → Each P ns → P n → Each P (insert ns i n)
 each_insert P ns i n e h =
@@ -35,7 +35,7 @@ pub rise : (jobs : List ℕ) (parts : List (List WantedTask)) → AreParts jobs 
 rise [] parts p i j le less = absurd (omega (arith, less))
 rise (k ∷ ks) [] p i j le less = absurd p
 rise (k ∷ ks) (ts ∷ rest) p zero zero le less = omega arith
-rise (k ∷ ks) (ts ∷ rest) p zero (suc j) le less = let under = each_at (λ n. k < n) ks j p.0 (omega (arith, less)) in omega (arith, under)
+rise (k ∷ ks) (ts ∷ rest) p zero (suc j) le less = let under = each_at (λ n. k < n) ks j 0 p.0 (omega (arith, less)) in omega (arith, under)
 rise (k ∷ ks) (ts ∷ rest) p (suc i) zero le less = absurd (omega (arith, le))
 rise (k ∷ ks) (ts ∷ rest) p (suc i) (suc j) le less = rise ks rest p.2 i j (omega (arith, le)) (omega (arith, less))
 
@@ -96,7 +96,7 @@ splits (j ∷ js) (ts ∷ rest) job zero p at =
 splits (j ∷ js) (ts ∷ rest) job (suc i) p at =
     let less : i < length js = let within = at.0 in omega (arith, within) in
     let r = splits js rest job i p.2 (less, at.1) in
-    let under : j < job = subst (λ n. j < n) at.1 (each_at (λ n. j < n) js i p.0 less) in
+    let under : j < job = subst (λ n. j < n) at.1 (each_at (λ n. j < n) js i 0 p.0 less) in
     record {
       before = ts ++ r.before;
       after = r.after;

@@ -1,7 +1,7 @@
 -- Jobs of which nothing waits, and how they stay so.
-use Rattle.std.proofs.Common.{eq-eqb, ◌≡◌, ◌≤◌, ◌<◌, ◌+◌, ◌⊎◌, ℕ, Bool, true, false, cond, not, ◌||◌, ◌==◌, List, [], ◌∷◌, ◌++◌, Option, Some, None, map, length, refl, ap, sym, subst, ◌∙◌, inl, inr, arith}
+use Rattle.std.proofs.Common.{eq-eqb, ◌≡◌, ◌≤◌, ◌<◌, ◌+◌, ◌⊎◌, ℕ, Bool, true, false, cond, not, ◌||◌, ◌==◌, List, [], ◌∷◌, ◌++◌, Some, None, length, refl, ap, sym, subst, ◌∙◌, inl, inr, arith}
 use Rattle.std.proofs.lemmas.List.{append-nil}
-use Rattle.std.specs.Prelude.{is_some, option_map}
+use Rattle.std.specs.Prelude.{is_some}
 use Rattle.std.specs.BTreeSet as set
 use Rattle.std.specs.BTreeSet.{BTreeSet}
 use Rattle.std.specs.List.{All, filter, list_any}
@@ -18,11 +18,9 @@ use Rattle.omega_model.specs.declared.cells.Spec.{Spec}
 use Rattle.omega_model.specs.declared.cells.Task.{Task}
 use Rattle.omega_model.specs.declared.cells.TaskKey.{TaskKey}
 use Rattle.omega_feed.specs.Asked.{Asked, activities_in, is_task_of}
-use Rattle.omega_feed.specs.Index.{wanted_task}
 use Rattle.omega_feed.specs.Open.{HasItsExtras, IsOpen, IsQuiet, OthersAreQuiet, RunsIfOf, StayOpen}
 use Rattle.omega_model.proofs.InOrder.{key_asym, key_same, tested_before}
 use Rattle.omega_model.proofs.Lists.{by_answer}
-use Rattle.omega_feed.proofs.TaskMap.{idle}
 
 -- a filter finds no task where there was none
 any_filtered : (p q : WantedTask → Bool) (tasks : List WantedTask) → list_any p (filter q tasks) ≡ true → list_any p tasks ≡ true
@@ -235,48 +233,3 @@ quiet_again asked tasks job key spec named none q =
 pub others_again : (places : BTreeSet ℕ) (asked : Asked) (tasks : List Task) (key : TaskKey) (spec : Spec) → list_any (is_named key) asked.tasks ≡ true
     → activities_in asked.activities key.job ≡ None → OthersAreQuiet places asked tasks → OthersAreQuiet places (record asked { tasks = with_wanted key spec asked.tasks }) tasks
 others_again places asked tasks key spec named none quiet place job at closed = quiet_again asked tasks job key spec named none (quiet place job at closed)
-
--- where no entry of a job is idle, each of its tasks runs
-pub all_run_from : (job : ℕ) (tasks : List Task) (es : List (TaskKey × Spec)) → filter (idle tasks) (filter (λ e. e.0.job == job) es) ≡ []
-    → All (RunsIfOf job tasks) (map wanted_task es)
-all_run_from job tasks [] none = All-nil _
-all_run_from job tasks (e ∷ es) none =
-    by_cases (e.0.job == job) (is_some (task_at tasks e.0)) refl refl none (all_run_from job tasks es) where
-      P : WantedTask → Type 0
-      P = RunsIfOf job tasks
-
-      some : {X : Type 0} (x : X) (xs : List X) → x ∷ xs ≡ [] → ⊥
-      some x xs d = cc
-
-      by_cases : (b r : Bool) → (e.0.job == job) ≡ b → is_some (task_at tasks e.0) ≡ r
-          → filter (idle tasks) (cond b (e ∷ filter (λ e. e.0.job == job) es) (filter (λ e. e.0.job == job) es)) ≡ []
-          → (filter (idle tasks) (filter (λ e. e.0.job == job) es) ≡ [] → All P (map wanted_task es))
-          → All P (map wanted_task (e ∷ es))
-      by_cases false r own runs left later = All-cons P (wanted_task e) (map wanted_task es) (λ t. absurd (both_ways _ own t)) (later left)
-      by_cases true true own runs left later =
-          All-cons P (wanted_task e) (map wanted_task es) (λ t. runs)
-          (later (sym (ap (λ b. cond (not b) (e ∷ filter (idle tasks) (filter (λ e. e.0.job == job) es)) (filter (idle tasks) (filter (λ e. e.0.job == job) es))) runs) ∙ left))
-      by_cases true false own runs left later =
-          absurd (some e _ (sym (ap (λ b. cond (not b) (e ∷ filter (idle tasks) (filter (λ e. e.0.job == job) es)) (filter (idle tasks) (filter (λ e. e.0.job == job) es))) runs) ∙ left))
-
--- where each task of a job runs, none of its entries is idle
-pub none_idle : (job : ℕ) (tasks : List Task) (es : List (TaskKey × Spec)) → All (RunsIfOf job tasks) (map wanted_task es)
-    → filter (idle tasks) (filter (λ e. e.0.job == job) es) ≡ []
-none_idle job tasks [] all = refl
-none_idle job tasks (e ∷ es) all =
-    let runs : RunsIfOf job tasks (wanted_task e) = All-head (RunsIfOf job tasks) (wanted_task e) (map wanted_task es) all in
-    let later = none_idle job tasks es (All-tail (RunsIfOf job tasks) (wanted_task e) (map wanted_task es) all) in
-    by_answer (e.0.job == job) (λ t. rw (t, runs t) later) (λ f. rw f later)
-
--- so where one is idle, not all of them run
-pub one_idle : (job : ℕ) (tasks : List Task) (es : List (TaskKey × Spec)) (e : TaskKey × Spec) (rest : List (TaskKey × Spec))
-    → filter (idle tasks) (e ∷ rest) ≡ filter (idle tasks) (filter (λ e. e.0.job == job) es) → is_some (task_at tasks e.0) ≡ false
-    → All (RunsIfOf job tasks) (map wanted_task es) → ⊥
-one_idle job tasks es e rest found waits all = some (filter (idle tasks) rest) (rw waits at (found ∙ none_idle job tasks es all)) where
-  some : (xs : List (TaskKey × Spec)) → e ∷ xs ≡ [] → ⊥
-  some xs d = cc
-
--- a task that isn't found doesn't run
-pub none_found : {X : Type 0} (task : X → Task) (found : Option X) → is_some found ≡ false → is_some (option_map task found) ≡ false
-none_found task None none = refl
-none_found task (Some x) none = none

@@ -2,7 +2,7 @@
 use Rattle.std.specs.Prelude.{◌≡◌, ℕ, List, Option, Some, None, slice_get, option_map, option_and_then, ◌==◌, if◌then◌else◌, ◌↔◌, ◌<◌, not}
 use Rattle.std.specs.BTreeMap as tree
 use Rattle.std.specs.BTreeMap.{BTreeMap}
-use Rattle.std.specs.List.{All, filter}
+use Rattle.std.specs.List.{filter}
 use Rattle.std.specs.Ordering.{nat_cmp, ordering_then}
 use Rattle.std.specs.declared.cmp.Ordering.{Ordering}
 use Rattle.omega_model.specs.ExtraTasks.{first_extra}
@@ -26,11 +26,6 @@ wanted_task entry = record { key = entry.0; spec = entry.1 }
 -- the order of keys: by job, then by index
 abbrev pub key_cmp : TaskKey → TaskKey → Ordering
 key_cmp a b = ordering_then (nat_cmp a.job b.job) (nat_cmp a.index b.index)
-
--- the keys rise, and their indexes are below those of extras
-pub record AreKeys (specs : BTreeMap TaskKey Spec) : Type 0 where
-  pub ordered : tree.IsOrdered key_cmp specs
-  pub low : All (λ key. key.index < first_extra) (tree.keys specs)
 
 -- the wanted tasks after a row of a task that makes this change
 abbrev pub changed_by : Change → TaskFields → List WantedTask → List WantedTask

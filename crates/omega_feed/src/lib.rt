@@ -17,7 +17,7 @@ mod last;
 mod notes;
 mod open_jobs;
 mod ordered;
-mod task_tree;
+mod task_list;
 mod tasks;
 mod unplaced;
 mod wanted;

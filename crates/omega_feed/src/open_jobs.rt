@@ -52,9 +52,10 @@ impl OpenJobs {
 
     /// Closes each job that is quiet on the cell of a board, and no other: one of which no wanted task
     /// waits, and that gets no extras, since it has no activities, no wanted task, or all its extras. A
-    /// refused call leaves what is open. Costs the wanted tasks of the open jobs at most, each times the
-    /// logarithm of the number of all, since a job's first task that waits decides; of one with activities
-    /// its running tasks, too; and memory for those that stay open.
+    /// refused call leaves what is open. Costs at most a look at each task that the trace has of the open
+    /// jobs, but those of the least indexes that are known to have ended, and of each wanted one the logarithm
+    /// of the number of all, since a job's first task that waits decides; of one with activities its running
+    /// tasks, too; and memory for those that stay open.
     pub fn settle(&mut self, alloc: Global, wanted: &Wanted, board: &Board) -> Result<(), NoMemory>
         requires { OthersAreQuiet self.old wanted.now board.now.tasks }
         ensures ok { OnOk result (OthersAreQuiet self.new wanted.now board.now.tasks) }

@@ -11,8 +11,8 @@ ghost use Rattle.omega_feed.specs.Open.{RunsIfOf};
 ghost use Rattle.omega_feed.specs.Parts.{AreParts, BelongsAt, Rise, StandsAt, joined, waiting_jobs};
 
 use crate::notes::Notes;
-use crate::task_tree::TaskTree;
-use omega_model::{NoMemory, Spec, TaskKey, TaskRow};
+use crate::task_list::TaskList;
+use omega_model::{NoMemory, Row, Spec, TaskKey, TaskRow};
 use omega_running::Running;
 use std::alloc::Global;
 use std::marker::Model;
@@ -31,13 +31,14 @@ pub enum Change {
 /// The wanted tasks in order of key, found by key and by job. They are tasks of the trace, whose
 /// indexes are below those of extras.
 ///
-/// Those of each job stand in a tree of their own, and the trees in order of job, so that a way down is
-/// as short as the job is small. A job's tree is mostly found at the place that is noted for its number.
+/// Those of each job stand in a list of slots of their own, and the lists in order of job. A job's list is
+/// mostly found at the place that is noted for its number, and a task's slot at the place of its index.
+/// The slots of all tasks of a trace are made when its run begins, so that wanting one takes no memory.
 #[derive(Drop)]
 pub struct WantedTasks {
     alloc: Global,
     jobs: Vec<u64>,
-    parts: Vec<TaskTree>,
+    parts: Vec<TaskList>,
     notes: Notes,
 }
 
@@ -54,47 +55,51 @@ impl Model for WantedTasks {
 }
 
 impl WantedTasks {
-    /// No tasks.
-    pub fn new(alloc: Global) -> WantedTasks
-        ensures { result ≡ [] }
-    {
-        WantedTasks {
-            alloc,
-            jobs: Vec::new(alloc),
-            parts: Vec::new(alloc),
-            notes: Notes::none(alloc),
-        }
-    }
-
-    /// No tasks, and a place for those of each of these jobs. Costs the jobs, each times the logarithm of
-    /// their number.
-    pub fn of_jobs(alloc: Global, mut jobs: Vec<u64>) -> Result<WantedTasks, NoMemory>
+    /// No tasks, and for each of these jobs a place with a slot for each of its tasks in these rows. Costs
+    /// the rows and the jobs, each times the logarithm of their number, whatever their order; takes the
+    /// memory of the slots, and while it runs that of the rows' keys.
+    pub fn of_rows(alloc: Global, rows: &[Row], mut jobs: Vec<u64>) -> Result<WantedTasks, NoMemory>
         ensures { IfOk result (λ tasks. tasks ≡ []) }
     {
+        let keys = task_keys(alloc, rows)?;
         jobs.sort_unstable();
-        let mut tasks = WantedTasks::new(alloc);
-        tasks.notes = Notes::for_count(alloc, jobs.len())?;
+        let mut tasks = WantedTasks::for_count(alloc, jobs.len())?;
         for job in jobs {
-            tasks.make_place(job)?;
+            let own = keys_of(&keys, job);
+            tasks.make_place(job, TaskList::of_keys(alloc, own)?)?;
         }
         Ok(tasks)
     }
 
-    /// Makes a place for the tasks of a job, where there is none. Costs the logarithm of the number of
-    /// jobs, and those of a greater number.
-    fn make_place(&mut self, job: u64) -> Result<(), NoMemory>
+    /// No tasks, and room for the places of so many jobs.
+    fn for_count(alloc: Global, count: usize) -> Result<WantedTasks, NoMemory>
+        ensures { IfOk result (λ tasks. tasks ≡ []) }
+    {
+        Ok(WantedTasks {
+            alloc,
+            jobs: Vec::with_capacity(alloc, count)?,
+            parts: Vec::with_capacity(alloc, count)?,
+            notes: Notes::for_count(alloc, count)?,
+        })
+    }
+
+    /// Makes a place with these slots for the tasks of a job, where there is none. Costs the logarithm of
+    /// the number of jobs, and those of a greater number.
+    fn make_place(&mut self, job: u64, slots: TaskList) -> Result<(), NoMemory>
+        requires { slots ≡ [] }
         ensures { self.new ≡ self.old }
     {
-        let guess = self.notes.guess(job);
-        let place = place_for(self.alloc, &mut self.jobs, &mut self.parts, guess, job)?;
-        self.notes.note(job, place);
+        if let Err(place) = place_of(&self.jobs, self.notes.guess(job), job) {
+            put_place(&mut self.jobs, &mut self.parts, place, job, slots)?;
+            self.notes.note(job, place);
+        }
         Ok(())
     }
 
     /// The tasks of a job; `None` only where it has none.
-    fn find(&self, job: u64) -> Option<&TaskTree>
+    fn find(&self, job: u64) -> Option<&TaskList>
         ensures none { IfNone result (filter (is_task_of job) self.now ≡ []) }
-        ensures part { IfSome result (λ tree. tree.now ≡ filter (is_task_of job) self.now) }
+        ensures part { IfSome result (λ tasks. tasks.now ≡ filter (is_task_of job) self.now) }
     {
         match place_of(&self.jobs, self.notes.guess(job), job) {
             Ok(place) => Some(&self.parts[place]),
@@ -103,8 +108,8 @@ impl WantedTasks {
     }
 
     /// Puts a task in, or replaces what it asks for. A refused call leaves the tasks. Costs the
-    /// logarithms of the number of jobs and of the job's tasks, and of a job without a place besides the
-    /// jobs of a greater number.
+    /// logarithms of the number of jobs and of the job's slots at most; a job without a place costs besides
+    /// the jobs of a greater number, and a task without a slot the job's slots of greater indexes.
     pub fn insert(&mut self, key: TaskKey, spec: Spec) -> Result<(), NoMemory>
         requires { key.index < first_extra }
         ensures ok { OnOk result (self.new ≡ with_wanted key spec self.old) }
@@ -119,7 +124,7 @@ impl WantedTasks {
     }
 
     /// Takes a task out, if it is there. Costs the logarithms of the number of jobs and of the job's
-    /// tasks.
+    /// slots at most.
     pub fn remove(&mut self, key: TaskKey)
         ensures tasks { self.new ≡ filter (λ task. not (is_named key task)) self.old }
         ensures low { All HasLowIndex self.new }
@@ -133,7 +138,7 @@ impl WantedTasks {
         }
     }
 
-    /// Whether a task is wanted. Costs the logarithms of the number of jobs and of the job's tasks.
+    /// Whether a task is wanted. Costs the logarithms of the number of jobs and of the job's slots at most.
     pub fn contains(&self, key: TaskKey) -> bool
         ensures { result ≡ list_any (is_named key) self.now }
     {
@@ -154,7 +159,8 @@ impl WantedTasks {
         }
     }
 
-    /// What a row does to the tasks. Costs the logarithms of the number of jobs and of the job's tasks.
+    /// What a row does to the tasks. Costs the logarithms of the number of jobs and of the job's slots at
+    /// most.
     pub fn change_of(&self, row: &TaskRow) -> Change
         ensures change { wanted_after_task self.now row.now ≡ changed_by result row.now self.now }
         ensures low { row.now.key.index < first_extra }
@@ -167,16 +173,17 @@ impl WantedTasks {
         }
     }
 
-    /// The job of each task that doesn't run, in order of the tasks' keys. Costs the tasks, each times
-    /// the logarithm of the number of those that run.
+    /// The job of each task that doesn't run, in order of the tasks' keys. Costs the slots that are left of
+    /// all jobs, and of each wanted task the logarithm of the number of those that run.
     pub fn waiting_jobs(&self, alloc: Global, running: &Running) -> Result<Vec<u64>, NoMemory>
         ensures { IfOk result (λ jobs. (machines : List Machine) → jobs.items ≡ map (λ task. task.key.job) (filter (waits (record { machines = machines; tasks = running.now.tasks })) self.now)) }
     {
         waiting_in(alloc, &self.parts, running)
     }
 
-    /// Whether each wanted task of a job runs. Costs the wanted tasks of the job up to the first that
-    /// doesn't run, each times the logarithm of the number of those that run.
+    /// Whether each wanted task of a job runs. Costs the slots that are left of the job, up to the first
+    /// task that is wanted and doesn't run, and of each wanted task the logarithm of the number of those that
+    /// run.
     pub fn all_run(&self, job: u64, running: &Running) -> bool
         ensures { IsTrue result ↔ All (RunsIfOf job running.now.tasks) self.now }
     {
@@ -186,7 +193,8 @@ impl WantedTasks {
         }
     }
 
-    /// The wanted tasks of a job, by index. Costs these, and the logarithm of the number of jobs.
+    /// The wanted tasks of a job, by index. Costs the slots that are left of it, and the logarithm of the
+    /// number of jobs.
     pub fn of_job(&self, alloc: Global, job: u64) -> Result<Vec<(TaskKey, Spec)>, NoMemory>
         ensures { IfOk result (λ found. map wanted_task found.items ≡ wanted_of job self.now) }
     {
@@ -197,8 +205,8 @@ impl WantedTasks {
     }
 }
 
-/// The job of each task of these trees that doesn't run, in their order.
-fn waiting_in(alloc: Global, parts: &[TaskTree], running: &Running) -> Result<Vec<u64>, NoMemory>
+/// The job of each task of these lists that doesn't run, in their order.
+fn waiting_in(alloc: Global, parts: &[TaskList], running: &Running) -> Result<Vec<u64>, NoMemory>
     ensures { IfOk result (λ jobs. jobs.items ≡ flat_map (waiting_jobs running.now.tasks) parts.now) }
 {
     let mut jobs = Vec::new(alloc);
@@ -226,7 +234,7 @@ fn place_of(jobs: &[u64], guess: usize, job: u64) -> Result<usize, usize>
 fn place_for(
     alloc: Global,
     jobs: &mut Vec<u64>,
-    parts: &mut Vec<TaskTree>,
+    parts: &mut Vec<TaskList>,
     guess: usize,
     job: u64,
 ) -> Result<usize, NoMemory>
@@ -238,21 +246,22 @@ fn place_for(
     match place_of(jobs, guess, job) {
         Ok(place) => Ok(place),
         Err(place) => {
-            put_place(alloc, jobs, parts, place, job)?;
+            put_place(jobs, parts, place, job, TaskList::new(alloc))?;
             Ok(place)
         }
     }
 }
 
-/// Makes a place for the tasks of a job where it belongs. A refused call leaves what stands there.
-/// Costs the jobs of a greater number.
+/// Makes a place with these slots for the tasks of a job where it belongs. A refused call leaves what
+/// stands there. Costs the jobs of a greater number.
 fn put_place(
-    alloc: Global,
     jobs: &mut Vec<u64>,
-    parts: &mut Vec<TaskTree>,
+    parts: &mut Vec<TaskList>,
     place: usize,
     job: u64,
+    slots: TaskList,
 ) -> Result<(), NoMemory>
+    requires empty { slots ≡ [] }
     requires parts { AreParts jobs.old.items parts.old.items }
     requires belongs { BelongsAt jobs.old.items job place }
     ensures kept { AreParts jobs.new.items parts.new.items }
@@ -260,9 +269,29 @@ fn put_place(
     ensures place { OnOk result (StandsAt jobs.new.items job place) }
 {
     jobs.reserve(1)?;
-    parts.insert(place, TaskTree::new(alloc))?;
+    parts.insert(place, slots)?;
     match jobs.insert(place, job) {
         Ok(()) => Ok(()),
         Err(_) => unreachable!(),
     }
+}
+
+/// The names of the tasks of these rows in order, each once.
+fn task_keys(alloc: Global, rows: &[Row]) -> Result<Vec<TaskKey>, NoMemory> {
+    let mut keys = Vec::with_capacity(alloc, rows.len())?;
+    for row in rows {
+        if let Row::Task(row) = row {
+            keys.push(row.key)?;
+        }
+    }
+    keys.sort_unstable();
+    keys.dedup();
+    Ok(keys)
+}
+
+/// Those of these names, which are in order, that are of a job. Costs the logarithm of their number.
+fn keys_of(keys: &[TaskKey], job: u64) -> &[TaskKey] {
+    let (_lower, rest) = keys.split_at(keys.partition_point(|key| key.job < job));
+    let (own, _greater) = rest.split_at(rest.partition_point(|key| key.job == job));
+    own
 }

@@ -62,9 +62,9 @@ impl Model for Wanted {
 }
 
 impl Wanted {
-    /// What a trace with this feed asks for before its first row: no task is wanted. Costs a look-up
-    /// for each task row, two more for each job, two or three for each constraint, and one for each row of
-    /// disks and of activities.
+    /// What a trace with this feed asks for before its first row: no task is wanted. Costs two look-ups
+    /// for each task row, whose names are sorted, four more for each job, two or three for each constraint,
+    /// and one for each row of disks and of activities. Takes the memory of a slot for each task.
     pub fn new(
         alloc: Global,
         tables: &TraceTables,
@@ -77,7 +77,7 @@ impl Wanted {
     {
         let activities = JobActivities::new(alloc, &tables.activities)?;
         let jobs = Jobs::of(alloc, rows, settings, &activities)?;
-        let tasks = WantedTasks::of_jobs(alloc, jobs.numbers(alloc)?)?;
+        let tasks = WantedTasks::of_rows(alloc, rows, jobs.numbers(alloc)?)?;
         Ok(Wanted {
             jobs,
             constraints: TaskConstraints::new(alloc, &tables.constraints)?,
@@ -91,7 +91,8 @@ impl Wanted {
     /// Applies a row: what it submits, schedules or updates is wanted as it says, and what ends in it is not
     /// wanted any more. Its job is opened if the task is a new one or the job has activities, and no other. A
     /// refused call leaves what is wanted, and may have opened the job. Costs the logarithms of the number of
-    /// jobs and of the job's tasks.
+    /// jobs and of the tasks that the trace has of the job, and mostly neither: a job mostly stands where it
+    /// is noted, and a task where its index says.
     pub fn take(&mut self, row: &Row, open_jobs: &mut OpenJobs) -> Result<(), NoMemory>
         ensures ok { OnOk result (self.new ≡ record self.old { tasks = wanted_after self.old.tasks row.now }) }
         ensures err { OnErr result (self.new ≡ self.old) }
@@ -173,7 +174,7 @@ impl Wanted {
 
     /// Whether the end of a task may let something of its job wait: the task is wanted, or it is an extra
     /// and a task of its job is wanted. Costs the logarithms of the number of jobs
-    /// and of the job's tasks.
+    /// and of the tasks that the trace has of the job at most.
     pub fn misses(&self, key: TaskKey) -> bool
         ensures { result ≡ is_missed self.now key }
     {
@@ -189,9 +190,9 @@ impl Wanted {
     }
 
     /// Whether the job at a place is quiet on the cell of a board: none of its wanted tasks waits, and
-    /// it gets no extras. Costs the wanted tasks of the job up to the first that waits, each times the
-    /// logarithm of the number of all; of a job with activities besides its running tasks, and the memory
-    /// of both.
+    /// it gets no extras. Costs a look at each task that the trace has of the job, but those of the least
+    /// indexes that are known to have ended, up to the first that waits, and of each wanted one the logarithm
+    /// of the number of all; of a job with activities besides its running tasks, and the memory of both.
     pub(crate) fn is_quiet_at(
         &self,
         alloc: Global,
@@ -241,10 +242,10 @@ impl Wanted {
     /// task row, each with its wanted tasks that don't run, by index, and then its extras. A job for
     /// which this is nothing is left out, one that is given up is not.
     ///
-    /// Only open jobs are looked at. Costs their number, and the wanted tasks of those that are the
-    /// scheduler's, each times the logarithm of the number of all. A job with activities costs besides
-    /// its running tasks and its extras, each times the same logarithm; the number of machines costs
-    /// nothing.
+    /// Only open jobs are looked at. Costs their number, and of those that are the scheduler's a look at
+    /// each task that the trace has of them, but those of the least indexes that are known to have ended, and
+    /// of each wanted one the logarithm of the number of all. A job with activities costs besides its running
+    /// tasks and its extras, each times the same logarithm; the number of machines costs nothing.
     pub fn requests(
         &self,
         alloc: Global,
@@ -268,8 +269,9 @@ impl Wanted {
         Ok(requests)
     }
 
-    /// Those of the wanted tasks that don't run on a board, counted, and their jobs, each once. Costs
-    /// the wanted tasks, each times the logarithm of the number of those that run or wait.
+    /// Those of the wanted tasks that don't run on a board, counted, and their jobs, each once. Costs a look
+    /// at each task that the trace has, and of each wanted one the logarithm of the number of those that run
+    /// or wait.
     pub fn left(&self, alloc: Global, board: &Board) -> Result<WaitingTasks, NoMemory>
         ensures { IfOk result (AreLeft self.now.tasks (cell_of board.now)) }
     {
