@@ -18,7 +18,7 @@ use std::thread::yield_now;
 /// How often a commit asks whether nobody looks at the cell any more, and lets other threads run, before it goes
 /// on with a copy. With few tries a whole cell would be copied where a plan is about to end; with many all others
 /// would wait for one that is held up.
-const TRIES: u32 = 10_000;
+const TRIES: u32 = 100_000;
 
 /// The cell behind the lock. Its list is the history, in which each commit has its scheduler's number.
 #[derive(Drop)]
