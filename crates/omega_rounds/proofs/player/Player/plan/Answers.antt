@@ -1,4 +1,4 @@
-use Rattle.std.proofs.Common.{◌≡◌, ◌∙◌, None, Some, List, length, refl, sym, ap, subst, arith}
+use Rattle.std.proofs.Common.{◌≡◌, ◌∙◌, None, Some, List, length, refl, ap, subst, arith}
 use Rattle.omega_copy.specs.Indexes.{AreIndexesOf}
 use Rattle.omega_model.specs.declared.entries.Entry.{Entry}
 use Rattle.omega_rounds.proofs.PlayingOn.{plays_on_without}
