@@ -79,7 +79,7 @@ pub trait Sink {
         ensures { result ≡ faults self.now };
 }
 
-/// A point that a scheduler reaches: its copy was brought up to date, its plan was made, its
+/// A point that a scheduler reaches: it has seen the history to its end, its plan was made, its
 /// transaction was committed.
 #[derive(Clone, Copy, Debug, PartialEq, Eq)]
 pub enum Point {

@@ -38,7 +38,7 @@ pub enum Entry {
         key: TaskKey,
         machine: u64,
     },
-    /// `seen` is the number of entries that the scheduler's copy had seen.
+    /// `seen` is the number of entries that the scheduler had seen when it planned.
     Commit {
         scheduler: u32,
         seen: u64,
