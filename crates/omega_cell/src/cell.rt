@@ -199,8 +199,8 @@ impl Cell {
     }
 
     /// Judges the claims of a prepared transaction on this cell, keeps what its mode keeps, and
-    /// appends the commit with its reply. `seen` is the number of entries that the scheduler's copy
-    /// had taken in, and `seqs` has for each claim the sequence number of its machine in that copy.
+    /// appends the commit with its reply. `seen` is the number of entries that the scheduler had seen
+    /// when it planned, and `seqs` has for each claim the sequence number of its machine there.
     /// Answers the place of the entry, and for each claim the verdict and the tasks that it evicts.
     ///
     /// Costs the claims, whose machines are sorted, and their victims.

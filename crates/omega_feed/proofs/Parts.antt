@@ -18,7 +18,7 @@ use Rattle.omega_running.proofs.Kept.{each_filter, each_passes}
 use Rattle.omega_running.proofs.Lists.{all_of_each, each_append, each_back, each_front, each_map, filter_every, filter_left, filter_none, filter_right}
 use Rattle.omega_feed.specs.Asked.{is_task_of}
 use Rattle.omega_feed.specs.Open.{RunsIfOf}
-use Rattle.omega_feed.specs.Parts.{AreParts, BelongsAt, IsTaskOf, Rise, StandsAt, joined, waiting_jobs}
+use Rattle.omega_feed.specs.Parts.{AreParts, BelongsAt, IsPlainTaskOf, NeverFall, StandsAt, joined, waiting_jobs}
 use Rattle.omega_feed.proofs.KeyOrder.{by_job}
 
 pub each_at : {X : Type 0} (P : X → Type 0) (xs : List X) (i : ℕ) (d : X) → Each P xs → i < length xs → P (get_or xs i d)
@@ -31,7 +31,7 @@ each_insert P ns i n e h =
     let parts : Each P (take i ns ++ drop i ns) = subst (Each P) (sym (take-append-drop i ns)) e in
     each_append P (take i ns) (n ∷ drop i ns) (each_front P (take i ns) (drop i ns) parts) (h, each_back P (take i ns) (drop i ns) parts)
 
-pub rise : (jobs : List ℕ) (parts : List (List WantedTask)) → AreParts jobs parts → Rise jobs
+pub rise : (jobs : List ℕ) (parts : List (List WantedTask)) → AreParts jobs parts → NeverFall jobs
 rise [] parts p i j le less = absurd (omega (arith, less))
 rise (k ∷ ks) [] p i j le less = absurd p
 rise (k ∷ ks) (ts ∷ rest) p zero zero le less = omega arith
@@ -49,15 +49,15 @@ each_low : (jobs : List ℕ) (parts : List (List WantedTask)) → AreParts jobs 
 each_low [] [] p = tt
 each_low [] (ts ∷ rest) p = absurd p
 each_low (j ∷ js) [] p = absurd p
-each_low (j ∷ js) (ts ∷ rest) p = each_append HasLowIndex ts (joined rest) (each_map (IsTaskOf j) HasLowIndex (λ task is. is.1) ts p.1) (each_low js rest p.2)
+each_low (j ∷ js) (ts ∷ rest) p = each_append HasLowIndex ts (joined rest) (each_map (IsPlainTaskOf j) HasLowIndex (λ task is. is.1) ts p.1) (each_low js rest p.2)
 
 -- none of the tasks is an extra
 pub all_low : (jobs : List ℕ) (parts : List (List WantedTask)) → AreParts jobs parts → All HasLowIndex (joined parts)
 all_low jobs parts p = all_of_each HasLowIndex (joined parts) (each_low jobs parts p)
 
 -- the tasks of lower and of greater jobs
-lower_tasks : (j job : ℕ) (tasks : List WantedTask) → j < job → Each (IsTaskOf j) tasks → Each (λ task. task.key.job < job) tasks
-lower_tasks j job tasks under = each_map (IsTaskOf j) (λ task. task.key.job < job) (λ task is. let same = is.0 in omega (arith, same, under)) tasks
+lower_tasks : (j job : ℕ) (tasks : List WantedTask) → j < job → Each (IsPlainTaskOf j) tasks → Each (λ task. task.key.job < job) tasks
+lower_tasks j job tasks under = each_map (IsPlainTaskOf j) (λ task. task.key.job < job) (λ task is. let same = is.0 in omega (arith, same, under)) tasks
 
 greater_tasks : (job : ℕ) (jobs : List ℕ) (parts : List (List WantedTask)) → Each (λ other. job < other) jobs → AreParts jobs parts → Each (λ task. job < task.key.job) (joined parts)
 greater_tasks job [] [] e p = tt
@@ -65,7 +65,7 @@ greater_tasks job [] (ts ∷ rest) e p = absurd p
 greater_tasks job (j ∷ js) [] e p = absurd p
 greater_tasks job (j ∷ js) (ts ∷ rest) e p =
     each_append (λ task. job < task.key.job) ts (joined rest)
-    (each_map (IsTaskOf j) (λ task. job < task.key.job) (λ task is. let same = is.0 in let under = e.0 in omega (arith, same, under)) ts p.1)
+    (each_map (IsPlainTaskOf j) (λ task. job < task.key.job) (λ task is. let same = is.0 in let under = e.0 in omega (arith, same, under)) ts p.1)
     (greater_tasks job js rest e.1 p.2)
 
 -- the tasks of the job at a place among all, and what becomes of all where others come in their place
@@ -74,10 +74,10 @@ pub record Splits (jobs : List ℕ) (parts : List (List WantedTask)) (job place 
   pub after : List WantedTask
   pub lower : Each (λ task. task.key.job < job) before
   pub greater : Each (λ task. job < task.key.job) after
-  pub own : Each (IsTaskOf job) (get_or parts place [])
+  pub own : Each (IsPlainTaskOf job) (get_or parts place [])
   pub is : joined parts ≡ before ++ (get_or parts place [] ++ after)
   pub set_is : (tasks : List WantedTask) → joined (set parts place tasks) ≡ before ++ (tasks ++ after)
-  pub set_parts : (tasks : List WantedTask) → Each (IsTaskOf job) tasks → AreParts jobs (set parts place tasks)
+  pub set_parts : (tasks : List WantedTask) → Each (IsPlainTaskOf job) tasks → AreParts jobs (set parts place tasks)
 
 pub splits : (jobs : List ℕ) (parts : List (List WantedTask)) (job place : ℕ) → AreParts jobs parts → StandsAt jobs job place → Splits jobs parts job place
 splits [] parts job place p at = absurd (let less = at.0 in omega (arith, less))
@@ -88,10 +88,10 @@ splits (j ∷ js) (ts ∷ rest) job zero p at =
       after = joined rest;
       lower = tt;
       greater = greater_tasks job js rest (subst (λ n. Each (λ other. n < other) js) at.1 p.0) p.2;
-      own = subst (λ n. Each (IsTaskOf n) ts) at.1 p.1;
+      own = subst (λ n. Each (IsPlainTaskOf n) ts) at.1 p.1;
       is = refl;
       set_is = λ tasks. refl;
-      set_parts = λ tasks e. (p.0, subst (λ n. Each (IsTaskOf n) tasks) (sym at.1) e, p.2);
+      set_parts = λ tasks e. (p.0, subst (λ n. Each (IsPlainTaskOf n) tasks) (sym at.1) e, p.2);
     }
 splits (j ∷ js) (ts ∷ rest) job (suc i) p at =
     let less : i < length js = let within = at.0 in omega (arith, within) in
@@ -163,7 +163,7 @@ part_is jobs parts job place p at =
     sym (ap (filter (is_task_of job)) s.is
     ∙ filter_right (is_task_of job) s.before (part ++ s.after) (not_lower job s.before s.lower)
     ∙ filter_left (is_task_of job) part s.after (not_greater job s.after s.greater)
-    ∙ filter_every (is_task_of job) part (each_map (IsTaskOf job) (λ task. is_task_of job task ≡ true) (λ task is. eq-eqb _ _ is.0) part s.own))
+    ∙ filter_every (is_task_of job) part (each_map (IsPlainTaskOf job) (λ task. is_task_of job task ≡ true) (λ task is. eq-eqb _ _ is.0) part s.own))
 
 -- a job without a place has none
 pub no_part : (jobs : List ℕ) (parts : List (List WantedTask)) (job place : ℕ) → AreParts jobs parts → BelongsAt jobs job place → filter (is_task_of job) (joined parts) ≡ []
@@ -203,9 +203,9 @@ put_at jobs parts place key spec p at low =
     ∙ filter_right back s.before (part ++ s.after) (each_map (λ t. t.key.job < key.job) (λ t. back t ≡ false) (λ t less. (by_job t.key key less).3) s.before s.lower)
     ∙ filter-append back part s.after
     ∙ ap (λ z. filter back part ++ z) (filter_every back s.after (each_map (λ t. key.job < t.key.job) (λ t. back t ≡ true) (λ t less. (by_job key t.key less).2) s.after s.greater)) in
-    let own : Each (IsTaskOf key.job) (with_wanted key spec part) =
-    each_append (IsTaskOf key.job) (filter front part) (task ∷ filter back part)
-    (each_filter (IsTaskOf key.job) front part s.own) ((refl, low), each_filter (IsTaskOf key.job) back part s.own) in
+    let own : Each (IsPlainTaskOf key.job) (with_wanted key spec part) =
+    each_append (IsPlainTaskOf key.job) (filter front part) (task ∷ filter back part)
+    (each_filter (IsPlainTaskOf key.job) front part s.own) ((refl, low), each_filter (IsPlainTaskOf key.job) back part s.own) in
     record {
       parts_are = s.set_parts (with_wanted key spec part) own;
       is = s.set_is (with_wanted key spec part) ∙ sym ((λ i. fronts i ++ task ∷ backs i) ∙ around s.before (filter front part) (filter back part) s.after task);
@@ -224,7 +224,7 @@ taken_at jobs parts place key p at =
     ∙ (λ i. filter_every stays s.before (each_map (λ t. t.key.job < key.job) (λ t. stays t ≡ true) (λ t less. ap not (by_job t.key key less).5) s.before s.lower) i ++ filter-append stays part s.after i)
     ∙ ap (λ z. s.before ++ (filter stays part ++ z)) (filter_every stays s.after (each_map (λ t. key.job < t.key.job) (λ t. stays t ≡ true) (λ t less. ap not (by_job key t.key less).4) s.after s.greater)) in
     record {
-      parts_are = s.set_parts (filter stays part) (each_filter (IsTaskOf key.job) stays part s.own);
+      parts_are = s.set_parts (filter stays part) (each_filter (IsPlainTaskOf key.job) stays part s.own);
       is = s.set_is (filter stays part) ∙ sym all;
     }
 

@@ -27,7 +27,7 @@ pub record IsRunningExtra (tasks : List Task) (job : ℕ) (key : TaskKey) : Type
   pub runs : is_some (task_at tasks key) ≡ true
 
 -- a job has all the extras that it should have: with these, each of which runs, and the tasks that are
--- wanted of it there are as many as its activities want, so that it gets none on any cell
+-- wanted of it there are at least as many as its target, so that it gets none on any cell in which these run
 pub record HasItsExtras (asked : Asked) (tasks : List Task) (job : ℕ) : Type 0 where
   pub activities : ℕ
   pub has : activities_in asked.activities job ≡ Some activities
@@ -36,7 +36,8 @@ pub record HasItsExtras (asked : Asked) (tasks : List Task) (job : ℕ) : Type 0
   pub run : All (IsRunningExtra tasks job) extras
   pub enough : target asked.extra activities (length (wanted_of job asked.tasks)) ≤ length (wanted_of job asked.tasks) + length extras
 
--- a job gets no extras while these tasks run: it has no activities, no task of it is wanted, or it has all
+-- a job gets no extras on any cell in which these tasks run: it has no activities, no task of it is wanted, or it
+-- has all
 abbrev pub GetsNoExtras : Asked → List Task → ℕ → Type 0
 GetsNoExtras asked tasks job =
     (activities_in asked.activities job ≡ None) ⊎ ((list_any (is_task_of job) asked.tasks ≡ false) ⊎ HasItsExtras asked tasks job)

@@ -13,19 +13,19 @@ joined [] = []
 joined (tasks ∷ rest) = tasks ++ joined rest
 
 -- a task is of this job, and none of the extras
-abbrev pub IsTaskOf : ℕ → WantedTask → Type 0
-IsTaskOf job task = (task.key.job ≡ job) × HasLowIndex task
+abbrev pub IsPlainTaskOf : ℕ → WantedTask → Type 0
+IsPlainTaskOf job task = (task.key.job ≡ job) × HasLowIndex task
 
 -- the jobs rise, and at the place of each stand tasks of it alone
 abbrev pub AreParts : List ℕ → List (List WantedTask) → Type 0
 AreParts [] [] = Unit {0}
 AreParts [] (tasks ∷ rest) = ⊥
 AreParts (job ∷ jobs) [] = ⊥
-AreParts (job ∷ jobs) (tasks ∷ rest) = Each (λ other. job < other) jobs × Each (IsTaskOf job) tasks × AreParts jobs rest
+AreParts (job ∷ jobs) (tasks ∷ rest) = Each (λ other. job < other) jobs × Each (IsPlainTaskOf job) tasks × AreParts jobs rest
 
 -- no job is greater than one that stands behind it
-abbrev pub Rise : List ℕ → Type 0
-Rise jobs = (i j : ℕ) → i ≤ j → j < length jobs → get_or jobs i 0 ≤ get_or jobs j 0
+abbrev pub NeverFall : List ℕ → Type 0
+NeverFall jobs = (i j : ℕ) → i ≤ j → j < length jobs → get_or jobs i 0 ≤ get_or jobs j 0
 
 -- a job stands at this place
 abbrev pub StandsAt : List ℕ → ℕ → ℕ → Type 0

@@ -48,7 +48,8 @@ pub record AreEmptyBefore (slots : List Slot) (place : ℕ) : Type 0 where
 abbrev pub HasEmptySlotAt : List Slot → ℕ → Type 0
 HasEmptySlotAt slots place = option_map (λ slot. slot.spec) (slice_get slots place) ≡ Some None
 
--- the keys of the slots rise, the wanted tasks are none of the extras, so many, and none before the first place
+-- the keys of the slots rise; the wanted tasks are none of the extras, their number is `count`, and none stands
+-- before the place `first`
 pub record AreSlots (slots : List Slot) (first count : ℕ) : Type 0 where
   pub rise : SlotsRise slots
   pub low : Each HasLowIndex (tasks_in slots)

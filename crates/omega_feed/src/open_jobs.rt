@@ -9,8 +9,8 @@ use std::alloc::Global;
 use std::collections::BTreeSet;
 use std::marker::Model;
 
-/// The jobs of which something may have to be placed, by their places among all jobs. All others are
-/// quiet: each of their wanted tasks runs, and they get no extras.
+/// The jobs of which something may have to be placed, by their places among all jobs. When requests are made all
+/// others are quiet: each of their wanted tasks runs, and they get no extras.
 #[derive(Drop)]
 pub struct OpenJobs {
     places: BTreeSet<usize>,
@@ -53,7 +53,7 @@ impl OpenJobs {
     /// Closes each job that is quiet on the cell of a board, and no other: one of which no wanted task
     /// waits, and that gets no extras, since it has no activities, no wanted task, or all its extras. A
     /// refused call leaves what is open. Costs at most a look at each task that the trace has of the open
-    /// jobs, but those of the least indexes that are known to have ended, and of each wanted one the logarithm
+    /// jobs, but those of the least indexes that are known not to be wanted, and of each wanted one the logarithm
     /// of the number of all, since a job's first task that waits decides; of one with activities its running
     /// tasks, too; and memory for those that stay open.
     pub fn settle(&mut self, alloc: Global, wanted: &Wanted, board: &Board) -> Result<(), NoMemory>

@@ -217,7 +217,7 @@ fn place_of(slots: &[Slot], key: TaskKey) -> Result<usize, usize>
     slots.binary_search_by_key(&key, |slot| slot.key)
 }
 
-/// Where a task's slot stands among these, behind making an empty one where there was none. A refused
+/// Where a task's slot stands among these, after an empty one was made where there was none. A refused
 /// call leaves the slots. Costs as much as to look for it, and for a new slot those of greater keys.
 fn place_for(slots: &mut Vec<Slot>, key: TaskKey) -> Result<usize, NoMemory>
     requires { SlotsRise slots.old.items }

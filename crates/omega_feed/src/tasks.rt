@@ -8,7 +8,7 @@ ghost use Rattle.omega_model.specs.declared.cells.Machine.{Machine};
 ghost use Rattle.omega_feed.specs.Asked.{is_task_of};
 ghost use Rattle.omega_feed.specs.Index.{changed_by, wanted_task};
 ghost use Rattle.omega_feed.specs.Open.{RunsIfOf};
-ghost use Rattle.omega_feed.specs.Parts.{AreParts, BelongsAt, Rise, StandsAt, joined, waiting_jobs};
+ghost use Rattle.omega_feed.specs.Parts.{AreParts, BelongsAt, NeverFall, StandsAt, joined, waiting_jobs};
 
 use crate::notes::Notes;
 use crate::task_list::TaskList;
@@ -219,7 +219,7 @@ fn waiting_in(alloc: Global, parts: &[TaskList], running: &Running) -> Result<Ve
 /// Where a job stands among these, which rise, or else where it would stand. The place `guess` is
 /// looked at first. Costs the logarithm of the number of jobs, if it doesn't stand there.
 fn place_of(jobs: &[u64], guess: usize, job: u64) -> Result<usize, usize>
-    requires { Rise jobs.now }
+    requires { NeverFall jobs.now }
     ensures { MatchResult result (StandsAt jobs.now job) (BelongsAt jobs.now job) }
 {
     if guess < jobs.len() && jobs[guess] == job {
@@ -228,7 +228,7 @@ fn place_of(jobs: &[u64], guess: usize, job: u64) -> Result<usize, usize>
     jobs.binary_search(&job)
 }
 
-/// Where a job stands among these, behind a place for it with no tasks where there was none. A refused
+/// Where a job stands among these, after a place with no tasks was made for it where there was none. A refused
 /// call leaves what stands there. Costs as much as to look for it, and for a new place the jobs of a
 /// greater number.
 fn place_for(

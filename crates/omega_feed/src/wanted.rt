@@ -89,7 +89,8 @@ impl Wanted {
     }
 
     /// Applies a row: what it submits, schedules or updates is wanted as it says, and what ends in it is not
-    /// wanted any more. Its job is opened if the task is a new one or the job has activities, and no other. A
+    /// wanted any more. Its job is opened if the task wasn't wanted, or if the row changes what is wanted and the
+    /// job has activities; no other is. A
     /// refused call leaves what is wanted, and may have opened the job. Costs the logarithms of the number of
     /// jobs and of the tasks that the trace has of the job, and mostly neither: a job mostly stands where it
     /// is noted, and a task where its index says.
@@ -191,7 +192,7 @@ impl Wanted {
 
     /// Whether the job at a place is quiet on the cell of a board: none of its wanted tasks waits, and
     /// it gets no extras. Costs a look at each task that the trace has of the job, but those of the least
-    /// indexes that are known to have ended, up to the first that waits, and of each wanted one the logarithm
+    /// indexes that are known not to be wanted, up to the first that waits, and of each wanted one the logarithm
     /// of the number of all; of a job with activities besides its running tasks, and the memory of both.
     pub(crate) fn is_quiet_at(
         &self,
@@ -243,7 +244,7 @@ impl Wanted {
     /// which this is nothing is left out, one that is given up is not.
     ///
     /// Only open jobs are looked at. Costs their number, and of those that are the scheduler's a look at
-    /// each task that the trace has of them, but those of the least indexes that are known to have ended, and
+    /// each task that the trace has of them, but those of the least indexes that are known not to be wanted, and
     /// of each wanted one the logarithm of the number of all. A job with activities costs besides its running
     /// tasks and its extras, each times the same logarithm; the number of machines costs nothing.
     pub fn requests(

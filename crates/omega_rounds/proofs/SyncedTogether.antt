@@ -18,7 +18,7 @@ use Rattle.omega_model.specs.declared.wishes.Request.{Request}
 use Rattle.omega_desk.specs.Desks.{DeskState, left_at}
 use Rattle.omega_running.specs.Order.{Each}
 use Rattle.omega_rounds.specs.AttemptsLeft.{attempts_left}
-use Rattle.omega_rounds.specs.Forked.{AllMaySync, AreReady, IsNotDue, MaySync}
+use Rattle.omega_rounds.specs.Forked.{AllHaveSyncedOrStay, AreReady, IsNotDue, HasSyncedOrStays}
 use Rattle.omega_rounds.specs.Halves.{Syncing}
 use Rattle.omega_rounds.specs.Keeping.{HasBegun, HasNotBegun, IsLawful, IsWorld, world_at}
 use Rattle.omega_rounds.specs.Plans.{IsReady}
@@ -33,18 +33,18 @@ use Rattle.omega_rounds.proofs.WorldSteps.{new_idle, state_at}
 use Rattle.omega_rounds.proofs.Worlds.{rows_within}
 
 -- two pieces of which each has been let sync
-pub may_both : (history : List Entry) (olds news others nows : List Worker) → AllMaySync history olds news → AllMaySync history others nows
-    → AllMaySync history (olds ++ others) (news ++ nows)
+pub may_both : (history : List Entry) (olds news others nows : List Worker) → AllHaveSyncedOrStay history olds news → AllHaveSyncedOrStay history others nows
+    → AllHaveSyncedOrStay history (olds ++ others) (news ++ nows)
 may_both history [] [] others nows first second = second
 may_both history [] (new ∷ news) others nows first second = absurd first
 may_both history (old ∷ olds) [] others nows first second = absurd first
 may_both history (old ∷ olds) (new ∷ news) others nows first second = (first.0, may_both history olds news others nows first.1 second)
 
 -- a worker that may be let sync, and isn't
-pub stays : (history : List Entry) (worker : Worker) → IsReady worker.desk history worker → MaySync history worker worker
+pub stays : (history : List Entry) (worker : Worker) → IsReady worker.desk history worker → HasSyncedOrStays history worker worker
 stays history worker ready = record { ready = ready; does = inl (record { desk = refl; synced = refl }) }
 
-pub all_stay : (history : List Entry) (workers : List Worker) → AreReady history workers → AllMaySync history workers workers
+pub all_stay : (history : List Entry) (workers : List Worker) → AreReady history workers → AllHaveSyncedOrStay history workers workers
 all_stay history [] ready = tt
 all_stay history (worker ∷ workers) ready = (stays history worker ready.0, all_stay history workers ready.1)
 
@@ -54,29 +54,29 @@ unseen workers scheduler none = ap (option_and_then (λ (seen : Option ℕ). see
 
 module _ (history : List Entry) where
   -- the desk of a worker that has been let sync is as it was
-  same_desk : (old new : Worker) → MaySync history old new → new.desk ≡ old.desk
+  same_desk : (old new : Worker) → HasSyncedOrStays history old new → new.desk ≡ old.desk
   same_desk old new may = elim may.does [
     | inl before ↦ before.desk
     | inr syncs ↦ syncs.desk
   ]
 
-  pub may_count : (olds news : List Worker) → AllMaySync history olds news → length news ≡ length olds
+  pub may_count : (olds news : List Worker) → AllHaveSyncedOrStay history olds news → length news ≡ length olds
   may_count [] [] may = refl
   may_count [] (new ∷ news) may = absurd may
   may_count (old ∷ olds) [] may = absurd may
   may_count (old ∷ olds) (new ∷ news) may = ap (λ (n : ℕ). suc n) (may_count olds news may.1)
 
   -- at the place of each worker stood one that was let sync
-  stood : (olds news : List Worker) → AllMaySync history olds news → (place : ℕ) (new : Worker) → slice_get news place ≡ Some new
-      → (old : Worker) × ((slice_get olds place ≡ Some old) × MaySync history old new)
+  stood : (olds news : List Worker) → AllHaveSyncedOrStay history olds news → (place : ℕ) (new : Worker) → slice_get news place ≡ Some new
+      → (old : Worker) × ((slice_get olds place ≡ Some old) × HasSyncedOrStays history old new)
   stood [] [] may place new is = absurd (cc)
   stood [] (first ∷ news) may place new is = absurd may
   stood (old ∷ olds) [] may place new is = absurd may
-  stood (old ∷ olds) (first ∷ news) may zero new is = let same : first ≡ new = cc in (old, (refl, subst (MaySync history old) same may.0))
+  stood (old ∷ olds) (first ∷ news) may zero new is = let same : first ≡ new = cc in (old, (refl, subst (HasSyncedOrStays history old) same may.0))
   stood (old ∷ olds) (first ∷ news) may (suc place) new is = stood olds news may.1 place new is
 
   -- as many commits can follow as before
-  pub same_to_do : (olds news : List Worker) → AllMaySync history olds news → sum_by to_do_of news ≡ sum_by to_do_of olds
+  pub same_to_do : (olds news : List Worker) → AllHaveSyncedOrStay history olds news → sum_by to_do_of news ≡ sum_by to_do_of olds
   same_to_do [] [] may = refl
   same_to_do [] (new ∷ news) may = absurd may
   same_to_do (old ∷ olds) [] may = absurd may
@@ -96,7 +96,7 @@ module _ (stage : Stage) (tasks : List WantedTask) (history : List Entry) (olds 
       (let all : length olds ≡ schedulers stage.settings = world.count in let within : number < length olds = slice_get_within olds number worker here in omega (arith, all, within))
       (world.each_plan number worker here))
 
-  module _ (news : List Worker) (may : AllMaySync history olds news) where
+  module _ (news : List Worker) (may : AllHaveSyncedOrStay history olds news) where
     desk_after : (trace : TraceTables) → IsLawful trace stage history olds → (scheduler : ℕ) (new : Worker) → slice_get news scheduler ≡ Some new
         → IsDeskOf stage.settings trace (rows_begun stage) stage.opened_at history scheduler new.desk
     desk_after trace was scheduler new here =

@@ -67,7 +67,7 @@ pub record IsDueAt (settings : Settings) (timed : TimedRound) (world : World) (a
   pub is_set : IsSet settings timed world agenda scheduler
   pub time_is : time ≡ next_time settings timed.trace (all_rows timed) (place_of timed) timed.base world.history scheduler
 
--- the scheduler that was due has committed, and is to sync; all else stays
+-- the scheduler that was due has committed at this time, which is the history's next commit, and is to sync
 pub record HasCommitted (settings : Settings) (timed : TimedRound) (old new : World) (agenda : List (Option ℕ)) (scheduler time : ℕ) (answer : StepAnswer) : Type 0 where
   pub committed : answer ≡ Committed (length old.history)
   pub one_more : length new.history ≡ length old.history + 1

@@ -24,16 +24,16 @@ pub record IsAsBefore (old new : Worker) : Type 0 where
   pub synced : synced_of new ≡ synced_of old
 
 -- a worker has synced beside a history, or is as before, and is ready for a step there
-pub record MaySync (history : List Entry) (old new : Worker) : Type 0 where
+pub record HasSyncedOrStays (history : List Entry) (old new : Worker) : Type 0 where
   pub ready : IsReady old.desk history new
   pub does : IsAsBefore old new ⊎ SyncsWorker history old history new
 
--- so has each worker, in its place
-abbrev pub AllMaySync : List Entry → List Worker → List Worker → Type 0
-AllMaySync history [] [] = Unit {0}
-AllMaySync history [] (new ∷ news) = ⊥
-AllMaySync history (old ∷ olds) [] = ⊥
-AllMaySync history (old ∷ olds) (new ∷ news) = MaySync history old new × AllMaySync history olds news
+-- so is each worker, in its place
+abbrev pub AllHaveSyncedOrStay : List Entry → List Worker → List Worker → Type 0
+AllHaveSyncedOrStay history [] [] = Unit {0}
+AllHaveSyncedOrStay history [] (new ∷ news) = ⊥
+AllHaveSyncedOrStay history (old ∷ olds) [] = ⊥
+AllHaveSyncedOrStay history (old ∷ olds) (new ∷ news) = HasSyncedOrStays history old new × AllHaveSyncedOrStay history olds news
 
 -- a worker whose scheduler hasn't synced has no work
 abbrev pub IsNotDue : Worker → Type 0

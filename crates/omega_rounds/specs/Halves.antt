@@ -30,7 +30,8 @@ pub record AwaitTurn (settings : Settings) (trace : TraceTables) (rows : List Ro
   pub spent : (scheduler : ℕ) → scheduler < next → world.synced scheduler ≡ None
   pub far : (scheduler : ℕ) → schedulers settings ≤ scheduler → world.synced scheduler ≡ None
 
--- the schedulers below next have committed in this turn, and the others that have work have synced for it
+-- in this turn no commit of the schedulers below `next` is due any more, and the others that have work have synced
+-- for it
 pub record Committing (settings : Settings) (trace : TraceTables) (rows : List Row) (start : List Entry) (round : Round) (world : World) (turn next : ℕ) : Type 0 where
   pub taking : Taking settings trace rows start round world.history turn next
   pub await : AwaitTurn settings trace (rows ++ round.rows) (length (opened trace rows start round).history) world turn next

@@ -17,7 +17,7 @@ use Rattle.omega_rounds.specs.Workers.{IsDeskOf, IsWorker, synced_of}
 use Rattle.omega_rounds.specs.Stages.{IsInRunOf, Stage, rows_begun, synced_at}
 use Rattle.omega_rounds.specs.declared.worker.Worker.{Worker}
 
--- a world before its first round
+-- a world with the empty history, in which nobody has synced
 pub record IsNew (world : World) : Type 0 where
   pub empty : world.history ≡ []
   pub nobody : NobodySynced world

@@ -26,7 +26,7 @@ abbrev pub IsUpTo : List Entry → DeskState → Type 0
 IsUpTo history desk = desk.attempts ≡ commits_of desk.scheduler history
 
 -- a transaction is planned at a desk on a board: it is the attempt of the desk's scheduler on the first request that
--- is left there, after so many entries of each history which the board is after and up to which the desk is
+-- is left there, after as many entries as the board stands for, of each history whose attempts the desk has had
 abbrev pub IsPlannedOver : DeskState → BoardState → Txn → Type 0
 IsPlannedOver desk board txn = (history : List Entry) (seen : ℕ) → StandsFor (cell_of board) (seq_at board.table) seen history → IsUpTo history desk
     → IsFirstAttempt desk.settings history desk.scheduler seen desk txn

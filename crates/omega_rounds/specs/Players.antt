@@ -50,10 +50,10 @@ pub record MayPlay (shared : TableId) (player : Player) : Type 0 where
   pub worker : IsWorker player.worker.desk.settings player.pass.seen player.pass.number player.worker
   pub turns : 2 * to_do_of player.worker ≤ player.pass.turns
 
--- a player has played: its pass has seen no less than before, and beside what it has seen its worker is still that of
--- its scheduler, its desk is right wherever it was, and its commits may stand where they do wherever those
--- before could. Unless it met want of memory, nothing is left at its desk, and its scheduler has not synced
--- since its last commit, if it hadn't before
+-- a player has played: its pass has seen at least as many entries as before, and beside what it has seen its worker
+-- is still that of its scheduler. Its desk is right for each trace for which it was; and if all its commits since a
+-- place could stand where they did, so can all that it has there now. Unless it met want of memory, nothing is left
+-- at its desk, and its scheduler has not synced since its last commit, if it hadn't before
 pub record HasPlayed (old new : Player) : Type 0 where
   pub of : new.pass.of ≡ old.pass.of
   pub number : new.pass.number ≡ old.pass.number

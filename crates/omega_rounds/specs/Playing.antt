@@ -19,7 +19,7 @@ use Rattle.omega_rounds.specs.declared.steps.Stepped.TheVariants.{Synced, Commit
 abbrev pub IsInSomeRun : Stage → Type 0
 IsInSomeRun stage = (trace : TraceTables) × IsInRunOf stage trace
 
--- a world before its first round: its history is empty, and nobody has work
+-- a world that no round has begun in: its history is empty, and nobody has work
 pub record IsAtStart (world : WorldState) : Type 0 where
   pub empty : world.history ≡ []
   pub idle : (trace : TraceTables) → IsInRunOf world.stage trace → IsRoundOver trace world
@@ -42,7 +42,8 @@ pub record BeginsTurn (trace : TraceTables) (before : List Row) (start : List En
   pub taking : Taking world.stage.settings trace before start round world.history turn 0
   pub nobody : NobodySynced (world_of world)
 
--- in this turn the schedulers below one have committed, and the others that have work have synced for it
+-- in this turn no commit of the schedulers below `next` is due any more, and the others that have work have synced
+-- for it
 pub record CommitsInTurn (trace : TraceTables) (before : List Row) (start : List Entry) (round : Round) (world : WorldState) (turn next : ℕ) : Type 0 where
   pub now : IsRoundNow trace before start round world.stage
   pub committing : Committing world.stage.settings trace before start round (world_of world) turn next

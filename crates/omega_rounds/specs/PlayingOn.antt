@@ -11,9 +11,9 @@ use Rattle.omega_rounds.specs.WorkerSteps.{IsFirstAttempt}
 use Rattle.omega_rounds.specs.Workers.{IsWorker, synced_of}
 use Rattle.omega_rounds.specs.declared.player.Player.{Player}
 
--- a player plays on: its pass is the same one and has seen no less than before. Beside that its worker is still that of its
--- scheduler, its desk is right wherever it was, and its commits may stand where they do wherever those before
--- could
+-- a player plays on: its pass is the same one and has seen at least as many entries as before. Beside that its worker
+-- is still that of its scheduler. Its desk is right for each trace for which it was; and if all its commits since a
+-- place could stand where they did, so can all that it has there now
 pub record PlaysOn (old new : Player) : Type 0 where
   pub of : new.pass.of ≡ old.pass.of
   pub number : new.pass.number ≡ old.pass.number

@@ -17,8 +17,8 @@ use Rattle.omega_rounds.specs.Stages.{IsInRunOf, Stage, WorldState}
 use Rattle.omega_rounds.specs.declared.kept.ResumeRefusal.{ResumeRefusal}
 use Rattle.omega_rounds.specs.declared.kept.ResumeRefusal.TheVariants.{BadKept, KeepFault, NoMemory}
 
--- a history is lawful and in turns for a trace in whose run a world at this stage is: there is one, and of it
--- the kept lines must be
+-- a history of which the kept lines must be: it is lawful and in turns, for a trace in whose run a world at this
+-- stage is
 pub record IsRunOfStage (stage : Stage) (history : List Entry) : Type 0 where
   pub trace : TraceTables
   pub made : IsInRunOf stage trace
@@ -115,6 +115,7 @@ pub record EndsBefore (world : WorldState) (kept : List (List ℕ)) (place : ℕ
   pub place_is : place ≡ length world.history
   pub more : place < length kept
 
+-- lines are refused since more are kept than the history has: the first of these is named
 abbrev pub IsPastEnd : WorldState → List (List ℕ) → ResumeRefusal → Type 0
 IsPastEnd world kept (BadKept place) = EndsBefore world kept place
 IsPastEnd world kept KeepFault = ⊥

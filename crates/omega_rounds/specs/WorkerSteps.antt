@@ -25,7 +25,7 @@ pub record RestsWorker (before : List Entry) (old : Worker) (after : List Entry)
   pub history : after ≡ before
   pub worker : new ≡ old
 
--- a request is left at the desk, the scheduler has seen the history to its end, and its plan is made
+-- a request is left at the desk, and the scheduler, which hadn't synced, has seen the history to its end
 pub record SyncsWorker (before : List Entry) (old : Worker) (after : List Entry) (new : Worker) : Type 0 where
   pub work : old.desk.requests ≢ []
   pub first : synced_of old ≡ None

@@ -3,7 +3,7 @@ ghost use Rattle.std.specs.Prelude.{◌≤◌, IfOk, List, OnOk};
 ghost use Rattle.std.specs.Thread.{IsSync};
 ghost use Rattle.omega_copy.specs.Indexes.{AreIndexesOf};
 ghost use Rattle.omega_model.specs.declared.entries.Entry.{Entry};
-ghost use Rattle.omega_rounds.specs.Forked.{AllMaySync, AreAllIndexesOf, AreReady, IsNotDue};
+ghost use Rattle.omega_rounds.specs.Forked.{AllHaveSyncedOrStay, AreAllIndexesOf, AreReady, IsNotDue};
 ghost use Rattle.omega_running.specs.Order.{Each};
 
 use crate::worker::Worker;
@@ -100,7 +100,7 @@ pub(crate) fn sync_pieces<R: Threads + Sync>(
     requires ready { AreReady cell.now.history workers.old }
     requires first { AreIndexesOf cell.now.history first.old }
     requires further { Each (AreIndexesOf cell.now.history) further.old }
-    ensures workers { AllMaySync cell.now.history workers.old workers.new }
+    ensures workers { AllHaveSyncedOrStay cell.now.history workers.old workers.new }
     ensures first { AreIndexesOf cell.now.history first.new }
     ensures further { Each (AreIndexesOf cell.now.history) further.new }
     ensures synced { OnOk result (Each IsNotDue workers.new) }
@@ -122,7 +122,7 @@ pub(crate) fn sync_pieces<R: Threads + Sync>(
             requires ready { AreReady cell.now.history low.now }
             requires first { AreIndexesOf cell.now.history first.now }
             requires further { Each (AreIndexesOf cell.now.history) near.now }
-            ensures workers { AllMaySync cell.entry.now.history low.entry.now low.exit.now }
+            ensures workers { AllHaveSyncedOrStay cell.entry.now.history low.entry.now low.exit.now }
             ensures first { AreIndexesOf cell.entry.now.history first.exit.now }
             ensures further { Each (AreIndexesOf cell.entry.now.history) near.exit.now }
             ensures synced { OnOk result (Each IsNotDue low.exit.now) }
@@ -132,7 +132,7 @@ pub(crate) fn sync_pieces<R: Threads + Sync>(
             requires ready { AreReady cell.now.history high.now }
             requires first { AreIndexesOf cell.now.history other.now }
             requires further { Each (AreIndexesOf cell.now.history) far.now }
-            ensures workers { AllMaySync cell.entry.now.history high.entry.now high.exit.now }
+            ensures workers { AllHaveSyncedOrStay cell.entry.now.history high.entry.now high.exit.now }
             ensures first { AreIndexesOf cell.entry.now.history other.exit.now }
             ensures further { Each (AreIndexesOf cell.entry.now.history) far.exit.now }
             ensures synced { OnOk result (Each IsNotDue high.exit.now) }
@@ -152,7 +152,7 @@ fn sync_each(
 ) -> Result<(), NoMemory>
     requires ready { AreReady cell.now.history workers.old }
     requires indexes { AreIndexesOf cell.now.history indexes.old }
-    ensures workers { AllMaySync cell.now.history workers.old workers.new }
+    ensures workers { AllHaveSyncedOrStay cell.now.history workers.old workers.new }
     ensures indexes { AreIndexesOf cell.now.history indexes.new }
     ensures synced { OnOk result (Each IsNotDue workers.new) }
 {

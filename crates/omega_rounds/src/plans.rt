@@ -1,4 +1,4 @@
-//! What a scheduler of a world plans when it syncs.
+//! What a scheduler plans when it syncs, in turns and on threads.
 ghost use Rattle.std.specs.Prelude.{◌≡◌, ℕ, List, length, IfOk};
 ghost use Rattle.omega_board.specs.Board.{cell_of};
 ghost use Rattle.omega_copy.specs.Indexes.{AreIndexesOf, TellAll};

@@ -7,7 +7,7 @@ ghost use Rattle.omega_desk.specs.Walks.{HasDistinctWishes};
 ghost use Rattle.omega_laws.specs.VirtualTime.{first_wishes};
 ghost use Rattle.omega_model.specs.Ranges.{IsInRange};
 ghost use Rattle.omega_model.specs.Work.{fresh};
-ghost use Rattle.omega_rounds.specs.Forked.{IsNotDue, MaySync};
+ghost use Rattle.omega_rounds.specs.Forked.{IsNotDue, HasSyncedOrStays};
 ghost use Rattle.omega_rounds.specs.Plans.{IsReady};
 ghost use Rattle.omega_rounds.specs.Workers.{IsWorker};
 ghost use Rattle.omega_rounds.specs.WorkerSteps.{CommitsFirst, WorkerSteps, SyncsWorker};
@@ -114,7 +114,7 @@ impl Worker {
     ) -> Result<(), NoMemory>
         requires ready { IsReady self.old.desk cell.now.history self.old }
         requires indexes { AreIndexesOf cell.now.history indexes.old }
-        ensures may { MaySync cell.now.history self.old self.new }
+        ensures may { HasSyncedOrStays cell.now.history self.old self.new }
         ensures indexes { AreIndexesOf cell.now.history indexes.new }
         ensures synced { OnOk result (IsNotDue self.new) }
     {

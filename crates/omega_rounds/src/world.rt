@@ -100,8 +100,8 @@ impl World {
         })
     }
 
-    /// The history: lawful so far for each trace in whose run the world is, with each copy that has
-    /// synced within its bounds; legal, and with no state on the way that is overcommitted.
+    /// The history: lawful so far for each trace in whose run the world is, where each scheduler that has
+    /// synced has seen what it may; legal, and with no state on the way that is overcommitted.
     pub fn history(&self) -> &[Entry]
         ensures history { result.now ≡ self.now.history }
         ensures lawful { (trace : TraceTables) → IsInRunOf self.now.stage trace
@@ -113,8 +113,8 @@ impl World {
     }
 
     /// What is wanted of the rounds that have begun and doesn't run. Where all have begun that is what
-    /// waits at the end of each trace in whose run the world is. Costs the wanted tasks, each times the
-    /// logarithm of the number of those that run or wait.
+    /// waits at the end of each trace in whose run the world is. Costs a look at each task of the trace, and of
+    /// each wanted one the logarithm of the number of those that run or wait.
     pub fn waiting(&self) -> Result<WaitingTasks, NoMemory>
         ensures tasks { IfOk result (AreLeft (wanted (rows_begun self.now.stage)) (state self.now.history)) }
         ensures end { (trace : TraceTables) → IsInRunOf self.now.stage trace → AllHaveBegun self.now.stage

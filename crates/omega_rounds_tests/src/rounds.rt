@@ -77,11 +77,6 @@ fn begun(alloc: Global) -> Result<World, NoMemory> {
     Ok(world)
 }
 
-/// The second of two.
-fn second<T: Drop, U>(pair: (T, U)) -> U {
-    pair.1
-}
-
 /// Whether three schedulers are there, and do these steps.
 fn does_steps(world: &mut World, steps: &[(u32, Stepped)]) -> Result<bool, NoMemory> {
     for (scheduler, stepped) in steps {
@@ -94,7 +89,9 @@ fn does_steps(world: &mut World, steps: &[(u32, Stepped)]) -> Result<bool, NoMem
 
 /// How the world goes on.
 fn round_step(world: World) -> Result<RoundStep, NoMemory> {
-    Ok(second(world.next_round()?))
+    let (world, step) = world.next_round()?;
+    let _history = world.into_history();
+    Ok(step)
 }
 
 /// Whether the world does these steps in its round, and how it goes on then.
@@ -134,49 +131,6 @@ fn schedulers_in_turns(rt: HostRuntime) -> Result<(), NoMemory> {
     Ok(())
 }
 
-/// Sixty machines, and eight jobs of a thousand tasks each.
-fn many_tables(alloc: Global) -> Result<TraceTables, NoMemory> {
-    let mut tables = TraceTables::new(alloc);
-    for machine in 1..61 {
-        tables.machines.push(MachineRow {
-            machine,
-            ..machine_row(10)
-        })?;
-    }
-    for job in 1..9 {
-        for index in 0..1000 {
-            tables.tasks.push(TaskRow {
-                key: TaskKey { job, index },
-                ..task_row(job, 1)
-            })?;
-        }
-    }
-    Ok(tables)
-}
-
-/// How many entries the history of these has at the end, where each of the jobs has a scheduler of its own
-/// and is tried once. Each scheduler has so much to plan that their plans are made at the same time where
-/// there is more than one processor.
-fn entries_of_many<R: Threads + Sync>(rt: &R, alloc: Global) -> Result<usize, NoMemory>
-    requires { IsSync R.row }
-{
-    let settings = Settings {
-        batch: 8,
-        tries: 1,
-        ..Settings::default()
-    };
-    let tables = many_tables(alloc)?;
-    let world = in_turns(rt, World::new(alloc, &settings, &tables)?)?;
-    Ok(world.into_history().len())
-}
-
-/// The round, the machines, and a commit of each scheduler, of which the first has all the room.
-#[test]
-fn plans_at_the_same_time(rt: HostRuntime) -> Result<(), NoMemory> {
-    assert_eq!(rt; entries_of_many(&rt, rt.alloc())?, 69);
-    Ok(())
-}
-
 /// Whether the commits are those of scheduler 1 at these places, each with its sync and its own time.
 fn commit_at(times: &[Timed], expected: &[(u64, u128, u128)]) -> bool {
     times.len() == expected.len()
@@ -194,7 +148,8 @@ const BY_THE_CLOCK: [(u64, u128, u128); 2] = [(2, 0, 105_000), (3, 105_000, 210_
 
 /// Whether the commits by the clock are these.
 fn commits_by_the_clock(alloc: Global) -> Result<bool, NoMemory> {
-    let times = second(in_time(world(alloc, &Settings::default())?)?);
+    let (world, times) = in_time(world(alloc, &Settings::default())?)?;
+    let _history = world.into_history();
     Ok(commit_at(times.as_slice(), &BY_THE_CLOCK))
 }
 

@@ -76,22 +76,6 @@ fn take_turns<R: Wait>(rt: &R, alloc: Global, shared: &SharedCell, mut pass: Pas
     pass
 }
 
-/// The history that one caller leaves who takes all its turns, if there is memory.
-fn commit_alone<R: Wait>(rt: &R, alloc: Global, turns: u32) -> Option<Entries> {
-    let made = SharedCell::share(rt, alloc, Cell::new(alloc), 1, turns);
-    let (shared, mut passes) = made.ok()?;
-    let pass = passes.pop()?;
-    let pass = take_turns(rt, alloc, &shared, pass);
-    let passes = Vec::from_array(alloc, [pass]).ok()?;
-    Some(shared.close(rt, passes).into_history())
-}
-
-#[test]
-fn one_pass(rt: HostRuntime) {
-    let history = commit_alone(&rt, rt.alloc(), 20).expect(&rt, "memory");
-    assert_eq!(rt; history.len(), 10);
-}
-
 /// The first and the second of two.
 fn both<T: Drop>(mut items: Vec<T>) -> Option<(T, T)>
     ensures { IfSome result (λ pair. items.items ≡ pair.0 ∷ pair.1 ∷ []) }

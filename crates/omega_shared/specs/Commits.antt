@@ -16,7 +16,7 @@ committer_of _ = None
 abbrev pub commits_since : ℕ → ℕ → List Entry → List Entry
 commits_since first_length scheduler history = filter (is_commit_of scheduler) (drop first_length history)
 
--- a scheduler's commit after these entries, of which its copy had seen the first
+-- a scheduler's commit after these entries, planned when it had seen the first `seen` of them
 abbrev pub commit_after : List Entry → ℕ → ℕ → Txn → Entry
 commit_after before scheduler seen txn = Commit scheduler seen txn (reply_of before seen txn)
 

@@ -26,7 +26,7 @@ pub record PassState : Type 0 where
 abbrev pub OwnIsSeen : PassState → Type 0
 OwnIsSeen pass = pass.own ≡ commits_since pass.first_length pass.number pass.seen
 
--- a pass has seen the history with which the cell was shared
+-- a pass has seen at least as many entries as the cell had when it was shared
 abbrev pub HasSeenFirst : PassState → Type 0
 HasSeenFirst pass = pass.first_length ≤ length pass.seen
 

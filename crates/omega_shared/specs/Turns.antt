@@ -21,8 +21,8 @@ pub record Answers (before : List Entry) (seen : ℕ) (txn : Txn) (reply : Reply
   pub place : reply.place ≡ length before
   pub outcomes : reply.outcomes ≡ outcomes_of txn.claims (reply_of before seen txn)
 
--- a pass commits a transaction, planned on a copy that had seen so many entries. It has then seen what others
--- did and its commit after that, which is the last of its own
+-- a pass commits a transaction that was planned after so many entries. It has then seen what others did and
+-- its commit after that, which is the last of its own
 pub record Commits (old new : PassState) (seen : ℕ) (txn : Txn) (reply : Reply) : Type 0 where
   pub before : List Entry
   pub others : GoesOnWithout old.number old.seen before

@@ -27,7 +27,8 @@ impl Model for Pass {
 }
 
 impl Pass {
-    /// Its number, counted from 0: that of the scheduler whose commits it makes.
+    /// Its number, counted from 0: that of the scheduler whose commits it makes. What it has seen of that number
+    /// since the cell was shared are its own commits.
     pub fn number(&self) -> u32
         ensures number { result ≡ self.now.number }
         ensures own { OwnIsSeen self.now }

@@ -113,9 +113,10 @@ impl SharedCell {
     /// Takes a turn, and commits a transaction that was planned on a copy. Answers the place of the
     /// commit in the history, and for each claim the verdict and the tasks that it evicts. Where memory
     /// runs out the history is as before and the transaction is handed back; the turn is spent, and
-    /// the pass may have seen more. May wait.
+    /// the pass may have seen more. Waits for its turn, and a while for those that look at the cell.
     ///
-    /// Costs the claims, whose machines are sorted, and their victims.
+    /// Costs the claims, whose machines are sorted, and their victims; where one still looks after that while,
+    /// a copy of the cell.
     pub fn commit<R: Wait>(
         &self,
         rt: &R,
@@ -156,8 +157,8 @@ impl SharedCell {
     }
 
     /// Takes a turn, and commits a transaction that was planned after the first `seen` entries of what the
-    /// pass has seen, with the sequence number that the machine of each claim had there. Answers and refuses
-    /// as `commit` does. Waits for its turn, and a while for those that look at the cell.
+    /// pass has seen, with the sequence number that the machine of each claim had there. Answers, refuses,
+    /// waits and costs as `commit` does.
     pub fn commit_planned<R: Wait>(
         &self,
         rt: &R,

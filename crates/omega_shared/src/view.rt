@@ -7,7 +7,7 @@ use std::marker::Model;
 use std::sync::Arc;
 
 /// The cell as a turn found it. It stays so while it is looked at: a commit waits a while for those that
-/// look, and then goes on with a copy of its own.
+/// look and, if one of them still does, goes on with a copy of its own.
 ///
 /// A contract sees the history.
 #[derive(Drop)]

@@ -2,7 +2,7 @@
 use omega_model::Seq;
 use std::marker::Model;
 
-/// A commit of a history: its place there, its scheduler, when the scheduler's copy was synced, and when
+/// A commit of a history: its place there, its scheduler, when the scheduler synced for it, and when
 /// it committed, both in microseconds.
 #[derive(Clone, Copy, Debug)]
 pub struct Timed {

@@ -177,7 +177,7 @@ fn three_held_schedulers_plan_beside_each_other(rt: HostRuntime) -> Result<(), N
     Ok(())
 }
 
-/// Of a commit of a scheduler: how many entries its copy had seen, and what is answered.
+/// Of a commit of a scheduler: how many entries it had seen, and what is answered.
 fn commit_by(entry: &Entry, number: u32) -> Option<(u64, &Judgements)> {
     match entry {
         Entry::Commit {

@@ -1,4 +1,5 @@
-//! Runs that go on from the lines that a keeper in memory has.
+//! Runs that go on from the lines that a keeper in memory has, and whose loads or appends fail. All others are
+//! folders of `tests/`.
 
 ghost use Rattle.std.specs.Thread.{IsSync};
 
@@ -40,12 +41,10 @@ use cpu 300000000 500000000 mem 300000000 500000000 disk 0 1000000000000
 waiting 2 abandoned 0
 ";
 
-/// The lines of the first round, of the second, and others.
+/// The lines of the first round, and of the second.
 const ROUND: &str = "round 0";
 
 const ADD: &str = "add 1 1000000000 1000000000 1000000000000";
-
-const OTHER_ADD: &str = "add 2 1000000000 1000000000 1000000000000";
 
 const COMMIT: &str =
     "commit 1 2 10 fine incremental claim 10 0 1 300000000 300000000 0 2 0 victims 0 placed evicted 0 claim 10 1 1 300000000 300000000 0 1 0 victims 0 placed evicted 0 claim 10 2 1 300000000 300000000 0 1 0 victims 0 placed evicted 0";
@@ -56,66 +55,21 @@ const UPDATE: &str = "update 1 500000000 500000000 1000000000000";
 
 const NEXT_COMMIT: &str = "commit 1 5 10 fine incremental";
 
-/// Lists that are kept: of one round and of both, one cut in a round, one of other tables, and one that goes on.
+/// Lists that are kept: of one round and of both.
 const FIRST: [&str; 3] = [ROUND, ADD, COMMIT];
 
 const BOTH: [&str; 6] = [ROUND, ADD, COMMIT, NEXT_ROUND, UPDATE, NEXT_COMMIT];
 
-const CUT: [&str; 4] = [ROUND, ADD, COMMIT, NEXT_ROUND];
-
-const OTHER: [&str; 3] = [ROUND, OTHER_ADD, COMMIT];
-
-const LATE: [&str; 6] = [ROUND, ADD, COMMIT, NEXT_ROUND, UPDATE, UPDATE];
-
-const LONGER: [&str; 7] = [
-    ROUND,
-    ADD,
-    COMMIT,
-    NEXT_ROUND,
-    UPDATE,
-    NEXT_COMMIT,
-    "round 2",
-];
-
-/// What is kept, the load or append that fails, counted from 0, how the run ends, and what is kept then.
-type Case = (
-    &'static [&'static str],
-    u64,
-    Status,
-    &'static [&'static str],
-);
-
-/// No call of a keeper.
-const NONE: u64 = 1000;
-
-/// Lists that are gone on from.
-fn accepted() -> [Case; 3] {
-    [
-        (&[], NONE, Status::Done, &BOTH),
-        (&FIRST, NONE, Status::Done, &BOTH),
-        (&BOTH, 1, Status::Done, &BOTH),
-    ]
-}
-
-/// Lists that are refused.
-fn refused() -> [Case; 4] {
-    [
-        (&CUT, NONE, Status::BadKept(4), &CUT),
-        (&OTHER, NONE, Status::BadKept(1), &OTHER),
-        (&LATE, NONE, Status::BadKept(5), &LATE),
-        (&LONGER, NONE, Status::BadKept(6), &LONGER),
-    ]
-}
+/// What is kept, the load or append that fails, counted from 0, and what is kept then.
+type Case = (&'static [&'static str], u64, &'static [&'static str]);
 
 /// The load and each append fail in turn.
-fn failing() -> [Case; 4] {
-    [
-        (&[], 0, Status::KeepFault, &[]),
-        (&[], 1, Status::KeepFault, &[]),
-        (&[], 2, Status::KeepFault, &FIRST),
-        (&FIRST, 1, Status::KeepFault, &FIRST),
-    ]
-}
+const FAILING: [Case; 4] = [
+    (&[], 0, &[]),
+    (&[], 1, &[]),
+    (&[], 2, &FIRST),
+    (&FIRST, 1, &FIRST),
+];
 
 /// These texts as lines.
 fn lines_of(alloc: Global, texts: &[&str]) -> Result<Lines, NoMemory> {
@@ -167,7 +121,7 @@ fn expect_run<R: Threads + Wait + Sync + Abort>(
     Ok(())
 }
 
-/// Sees that a case ends so.
+/// Sees that a case ends by the fault, with so much kept.
 fn expect_case<R: Threads + Wait + Sync + Abort>(
     rt: &R,
     alloc: Global,
@@ -175,32 +129,16 @@ fn expect_case<R: Threads + Wait + Sync + Abort>(
 ) -> Result<(), NoMemory>
     requires { IsSync R.row }
 {
-    let (kept, failing, status, after) = *case;
+    let (kept, failing, after) = *case;
     let mut keeper = MemoryKeeper::holding(alloc, lines_of(alloc, kept)?).fail_at(failing);
-    expect_run(rt, alloc, &mut keeper, status)?;
+    expect_run(rt, alloc, &mut keeper, Status::KeepFault)?;
     assert!(rt; keeps(keeper.lines(), after));
     Ok(())
 }
 
 #[test]
-fn runs_that_go_on(rt: HostRuntime) -> Result<(), NoMemory> {
-    for case in &accepted() {
-        expect_case(&rt, rt.alloc(), case)?;
-    }
-    Ok(())
-}
-
-#[test]
-fn kept_lines_that_are_refused(rt: HostRuntime) -> Result<(), NoMemory> {
-    for case in &refused() {
-        expect_case(&rt, rt.alloc(), case)?;
-    }
-    Ok(())
-}
-
-#[test]
 fn each_call_of_a_keeper_fails(rt: HostRuntime) -> Result<(), NoMemory> {
-    for case in &failing() {
+    for case in &FAILING {
         expect_case(&rt, rt.alloc(), case)?;
     }
     Ok(())

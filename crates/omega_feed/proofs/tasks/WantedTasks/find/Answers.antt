@@ -1,12 +1,12 @@
 use Rattle.std.proofs.Common.{◌<◌, ◌∙◌, ℕ, List, ap, arith, length, subst, sym}
 use Rattle.std.specs.List.{filter}
 use Rattle.omega_feed.specs.Asked.{is_task_of}
-use Rattle.omega_feed.specs.Parts.{BelongsAt, Rise, StandsAt}
+use Rattle.omega_feed.specs.Parts.{BelongsAt, NeverFall, StandsAt}
 use Rattle.omega_feed.proofs.Parts.{as_many, found_at, no_part, part_is, rise}
 use Rattle.omega_feed.proofs.tasks.WantedTasks.find.Goals as goal
 
 pub place_of-requires : goal.place_of-requires
-place_of-requires c = subst Rise (sym c.deref.ensures.value) (rise c.self.inside.jobs.items c.self.inside.parts.items c.self.invariant)
+place_of-requires c = subst NeverFall (sym c.deref.ensures.value) (rise c.self.inside.jobs.items c.self.inside.parts.items c.self.invariant)
 
 pub index-requires : goal.index-requires
 index-requires c =

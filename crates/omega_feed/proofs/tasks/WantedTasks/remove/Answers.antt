@@ -1,12 +1,12 @@
 use Rattle.std.proofs.Common.{◌∙◌, ℕ, List, ap, arith, not, subst, sym}
 use Rattle.std.specs.List.{filter}
 use Rattle.omega_model.specs.Wanted.{is_named}
-use Rattle.omega_feed.specs.Parts.{BelongsAt, Rise, StandsAt, joined}
+use Rattle.omega_feed.specs.Parts.{BelongsAt, NeverFall, StandsAt, joined}
 use Rattle.omega_feed.proofs.Parts.{all_low, as_many, no_part, none_taken, rise, taken_now}
 use Rattle.omega_feed.proofs.tasks.WantedTasks.remove.Goals as goal
 
 pub place_of-requires : goal.place_of-requires
-place_of-requires c = subst Rise (sym c.deref.ensures.value) (rise c.self.inside.jobs.items c.self.inside.parts.items c.self.invariant)
+place_of-requires c = subst NeverFall (sym c.deref.ensures.value) (rise c.self.inside.jobs.items c.self.inside.parts.items c.self.invariant)
 
 pub index_mut-requires : goal.index_mut-requires
 index_mut-requires c =

@@ -4,7 +4,7 @@ use Rattle.std.specs.List.{sum_by}
 use Rattle.omega_copy.proofs.Tells.{written_back}
 use Rattle.omega_copy.specs.Indexes.{AreIndexesOf}
 use Rattle.omega_running.specs.Order.{Each}
-use Rattle.omega_rounds.specs.Forked.{AllMaySync, AreReady}
+use Rattle.omega_rounds.specs.Forked.{AllHaveSyncedOrStay, AreReady}
 use Rattle.omega_rounds.specs.Keeping.{IsWorld}
 use Rattle.omega_rounds.specs.Playing.{SyncsTurn}
 use Rattle.omega_rounds.specs.Stages.{WorldState, stage_of}
@@ -35,7 +35,7 @@ invariant_of-self-2 g c =
     written_back olds.items c.deref_mut.result.now news olds.len c.deref_mut.ensures.value c.deref_mut.ensures.len c.sync_pieces.auto.workers in
     let back_further : take further.len (c.sync_pieces.new.further ++ drop (length c.sync_pieces.new.further) further.items) ≡ c.sync_pieces.new.further =
     written_back further.items c.deref_mut-2.result.now c.sync_pieces.new.further further.len c.deref_mut-2.ensures.value c.deref_mut-2.ensures.len c.sync_pieces.auto.further in
-    let may : AllMaySync history olds.items news = subst (λ (ws : List Worker). AllMaySync history ws news) c.deref_mut.ensures.value c.sync_pieces.ensures.workers in (
+    let may : AllHaveSyncedOrStay history olds.items news = subst (λ (ws : List Worker). AllHaveSyncedOrStay history ws news) c.deref_mut.ensures.value c.sync_pieces.ensures.workers in (
       subst (λ (ws : List Worker). IsWorld stage c.self.inside.course.demand.wanted.tasks history ws) (sym back)
           (world_synced stage c.self.inside.course.demand.wanted.tasks history olds.items c.self.invariant.0 news may),
       c.self.invariant.1,
@@ -51,7 +51,7 @@ returns-clause-synced g c =
     let after : List Worker = take olds.len (news ++ drop (length news) olds.items) in
     let back : take olds.len (news ++ drop (length news) olds.items) ≡ news =
     written_back olds.items c.deref_mut.result.now news olds.len c.deref_mut.ensures.value c.deref_mut.ensures.len c.sync_pieces.auto.workers in
-    let may : AllMaySync history olds.items news = subst (λ (ws : List Worker). AllMaySync history ws news) c.deref_mut.ensures.value c.sync_pieces.ensures.workers in
+    let may : AllHaveSyncedOrStay history olds.items news = subst (λ (ws : List Worker). AllHaveSyncedOrStay history ws news) c.deref_mut.ensures.value c.sync_pieces.ensures.workers in
     on_ok c.sync_pieces.result c.sync_pieces.ensures.synced (λ due.
     subst (λ (w : WorldState). SyncsTurn w (state_at stage history after)) c.self.view_is
     (subst (λ (ws : List Worker). SyncsTurn (state_at stage history olds.items) (state_at stage history ws)) (sym back)
@@ -64,5 +64,5 @@ returns-clause-to_do g c =
     let news = c.sync_pieces.new.workers in
     let back : take olds.len (news ++ drop (length news) olds.items) ≡ news =
     written_back olds.items c.deref_mut.result.now news olds.len c.deref_mut.ensures.value c.deref_mut.ensures.len c.sync_pieces.auto.workers in
-    let may : AllMaySync history olds.items news = subst (λ (ws : List Worker). AllMaySync history ws news) c.deref_mut.ensures.value c.sync_pieces.ensures.workers in
+    let may : AllHaveSyncedOrStay history olds.items news = subst (λ (ws : List Worker). AllHaveSyncedOrStay history ws news) c.deref_mut.ensures.value c.sync_pieces.ensures.workers in
     ap (sum_by to_do_of) back ∙ same_to_do history olds.items news may ∙ ap (λ (w : WorldState). w.to_do) c.self.view_is
