@@ -148,9 +148,9 @@ def parser() -> argparse.ArgumentParser:
                        help='where traces and runs are kept; %(default)s')
     whole.add_argument('--into', metavar='FOLDER', type=Path, default=HERE.parent / 'docs' / 'figures',
                        help='where the figures go; docs/figures')
-    whole.add_argument('--machines', type=int, default=2000, help='%(default)s')
-    whole.add_argument('--hours', type=int, default=6, help='%(default)s')
-    whole.add_argument('--seeds', default='1..3', help='%(default)s')
+    whole.add_argument('--machines', type=int, default=2000, help='of the cell; %(default)s')
+    whole.add_argument('--hours', type=int, default=6, help='how long the trace is; %(default)s')
+    whole.add_argument('--seeds', default='1..3', help='one or a range, each a run; %(default)s')
     whole.add_argument('--at-once', type=int, default=processors(), help='so many runs at once; %(default)s')
     whole.add_argument('figures', metavar='FIGURE', nargs='+', choices=(*FIGURES, 'all'))
     return whole

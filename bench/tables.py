@@ -4,7 +4,7 @@
     tables.py trace FOLDER MACHINES ROWS LOAD [SEED]    a cluster's trace with so many rows of tasks
     tables.py picky FOLDER MACHINES ROWS LOAD [SEED]    the same, but that most tasks ask for one machine in a hundred
     tables.py steady FOLDER MACHINES HOURS LOAD [SEED]  a cell that is as full at the beginning as at the end
-    tables.py SHAPE FOLDER SIZE                         tables of one extreme shape; no word lists them
+    tables.py SHAPE FOLDER SIZE                         tables of one extreme shape; without words they are listed
 
 LOAD is what all tasks that would run at a time ask for of the CPU, on an average, in per cent of what the
 machines have. The figures that the trace is made by are rough ones for a cluster of a few machine types in

@@ -231,8 +231,8 @@ def main(arguments: Optional[List[str]]) -> int:
     parser = argparse.ArgumentParser(description=__doc__, formatter_class=argparse.RawDescriptionHelpFormatter)
     parser.add_argument('--write', type=Path, metavar='FILE', help='write the table of this file')
     parser.add_argument('--page', type=Path, default=ROOT / 'docs' / 'PROVING.md', metavar='PAGE', help='into this page')
-    parser.add_argument('file', type=Path, nargs='?', metavar='FILE')
-    parser.add_argument('command', nargs=argparse.REMAINDER, metavar='COMMAND')
+    parser.add_argument('file', type=Path, nargs='?', metavar='FILE', help='where the costs are written')
+    parser.add_argument('command', nargs=argparse.REMAINDER, metavar='COMMAND', help='what proves crates')
     chosen = parser.parse_args(arguments)
     if chosen.write and not chosen.file:
         return written(chosen.write, chosen.page)

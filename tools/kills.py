@@ -121,7 +121,7 @@ class Runs:
 def main(arguments: Optional[List[str]]) -> int:
     parser = argparse.ArgumentParser(description=__doc__, formatter_class=argparse.RawDescriptionHelpFormatter)
     parser.add_argument('program', type=Path, metavar='PROGRAM')
-    parser.add_argument('--moments', type=int, default=20, help='%(default)s')
+    parser.add_argument('--moments', type=int, default=20, help='how many runs are ended; %(default)s')
     chosen, words = parser.parse_known_args(arguments)
     program = chosen.program.resolve()
     if not program.is_file():
