@@ -2,7 +2,7 @@
 use omega_calls::{Fault, number, text};
 use omega_io::SteadyTables;
 use omega_model::{Bytes, Copied, Seq, Table, TraceTables};
-use omega_tables::{over_limit, parse_table, read_bytes, read_tables};
+use omega_tables::{ReadRefusal, over_limit, parse_table, read_bytes, read_tables};
 use std::alloc::Global;
 
 /// `parse TABLE TEXT ..`: the refusals of the texts, each parsed behind those before it, and then the
@@ -44,16 +44,32 @@ fn table_of(word: &Bytes) -> Result<Table, Fault> {
 /// The refusals of texts of one table, and the rows.
 fn parsed(alloc: Global, table: Table, texts: &[Bytes]) -> Result<String, Fault> {
     let mut trace = TraceTables::new(alloc);
+    let refusals = refusals_of(alloc, table, texts, &mut trace);
+    let rows = rows_of(alloc, table, &trace);
+    joined(refusals, rows)
+}
+
+/// The refusals of texts of one table, each parsed behind those before it.
+fn refusals_of(
+    alloc: Global,
+    table: Table,
+    texts: &[Bytes],
+    trace: &mut TraceTables,
+) -> Result<String, Fault> {
     let mut refusals = String::new(alloc);
     for text in texts {
-        if let Err(refusal) = parse_table(alloc, table, text.as_slice(), &mut trace) {
-            let refusal = format!(in alloc; "{refusal:?} ")?;
-            refusals.push_str(refusal.as_str())?;
+        if let Err(refusal) = parse_table(alloc, table, text.as_slice(), trace) {
+            write!(refusals, "{refusal:?} ")?;
         }
     }
-    let rows = rows_of(alloc, table, &trace)?;
-    refusals.push_str(rows.as_str())?;
     Ok(refusals)
+}
+
+/// Two texts one behind the other.
+fn joined(front: Result<String, Fault>, back: Result<String, Fault>) -> Result<String, Fault> {
+    let mut both = front?;
+    both.push_str(back?.as_str())?;
+    Ok(both)
 }
 
 /// The rows of one table.
@@ -87,34 +103,55 @@ fn tables_of(alloc: Global, texts: &[Bytes]) -> Result<SteadyTables, Fault> {
 
 /// The rows of all tables, or the refusal.
 fn read(alloc: Global, texts: &[Bytes]) -> Result<String, Fault> {
-    let mut tables = tables_of(alloc, texts)?;
-    match read_tables(alloc, &mut tables) {
+    let tables = tables_of(alloc, texts)?;
+    match trace_of(alloc, tables) {
         Ok(trace) => Ok(format!(in alloc; "{trace:?}")?),
         Err(refusal) => Ok(format!(in alloc; "{refusal:?}")?),
     }
 }
 
+/// The rows of tables, or what is refused. The tables are let go here, so that no other function owns both.
+fn trace_of(alloc: Global, mut tables: SteadyTables) -> Result<TraceTables, ReadRefusal> {
+    read_tables(alloc, &mut tables)
+}
+
 /// How many rows of machines are read, before the other tables, or the refusal.
 fn many(alloc: Global, machines: Bytes, others: &[Bytes]) -> Result<String, Fault> {
-    let mut texts = Vec::new(alloc);
-    texts.push(machines)?;
-    for other in others {
-        texts.push(other.copy(alloc)?)?;
-    }
-    let mut tables = tables_of(alloc, texts.as_slice())?;
-    match read_tables(alloc, &mut tables) {
+    let tables = tables_behind(alloc, machines, others)?;
+    match trace_of(alloc, tables) {
         Ok(trace) => Ok(format!(in alloc; "{}", trace.machines.len())?),
         Err(refusal) => Ok(format!(in alloc; "{refusal:?}")?),
     }
 }
 
+/// A table of machines, and tables of these texts behind it.
+fn tables_behind(alloc: Global, machines: Bytes, others: &[Bytes]) -> Result<SteadyTables, Fault> {
+    let texts = texts_behind(alloc, machines, others)?;
+    tables_of(alloc, texts.as_slice())
+}
+
+/// A text, and copies of others behind it.
+fn texts_behind(alloc: Global, first: Bytes, others: &[Bytes]) -> Result<Vec<Bytes>, Fault> {
+    let mut texts = Vec::new(alloc);
+    texts.push(first)?;
+    for other in others {
+        texts.push(other.copy(alloc)?)?;
+    }
+    Ok(texts)
+}
+
 /// The bytes of one of the tables, or the refusal.
 fn bytes(alloc: Global, table: Table, texts: &[Bytes]) -> Result<String, Fault> {
-    let mut tables = tables_of(alloc, texts)?;
-    match read_bytes(alloc, &mut tables, table) {
+    let tables = tables_of(alloc, texts)?;
+    match bytes_of(alloc, tables, table) {
         Ok(bytes) => Ok(format!(in alloc; "{:?}", bytes.as_slice())?),
         Err(refusal) => Ok(format!(in alloc; "{refusal:?}")?),
     }
+}
+
+/// The bytes of one of the tables, or what is refused. The tables are let go.
+fn bytes_of(alloc: Global, mut tables: SteadyTables, table: Table) -> Result<Bytes, ReadRefusal> {
+    read_bytes(alloc, &mut tables, table)
 }
 
 /// So many lines, which differ in a number from 0 on.
@@ -131,9 +168,11 @@ fn limit(alloc: Global, table: Table, lines: &[u8], attrs: &[u8]) -> Result<Stri
     let mut trace = TraceTables::new(alloc);
     let first = parse_table(alloc, table, lines, &mut trace);
     let second = parse_table(alloc, Table::MachineAttributes, attrs, &mut trace);
+    let passed = over_limit(alloc, &trace);
+    drop(trace);
     if first.is_err() || second.is_err() {
         return Ok(format!(in alloc; "{first:?} {second:?}")?);
     }
-    let passed = over_limit(alloc, &trace)?;
+    let passed = passed?;
     Ok(format!(in alloc; "{passed:?}")?)
 }
