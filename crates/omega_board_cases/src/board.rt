@@ -42,15 +42,20 @@ pub(crate) fn answer(
     words: &[Bytes],
     answers: &mut String,
 ) -> Result<(), Fault> {
-    let mut board = Board::new(alloc);
     match (call, words) {
-        ("script", _) => take_all(&mut board, alloc, words, answers),
+        ("script", _) => script(alloc, words, answers),
         ("many", [machines, tasks, amount]) => {
             let (machines, tasks) = (number(machines)?, small(tasks)?);
-            many(&mut board, alloc, machines, tasks, need(amount)?, answers)
+            many(alloc, machines, tasks, need(amount)?, answers)
         }
         _ => Err(Fault::UnknownCall),
     }
+}
+
+/// Takes steps on a new board. It is let go in one place, since each costs a proof of all its parts.
+fn script(alloc: Global, words: &[Bytes], answers: &mut String) -> Result<(), Fault> {
+    let mut board = Board::new(alloc);
+    take_all(&mut board, alloc, words, answers)
 }
 
 impl Steps for Board {
@@ -177,9 +182,18 @@ fn attempt(
     answers: &mut String,
 ) -> Result<(), Fault> {
     let claim = claim(alloc, words)?;
-    let claims = alone(alloc, &claim)?;
-    let mut undo = board.reserve(alloc, &claims)?;
+    let mut undo = room_for(board, alloc, &claim)?;
     place_and_take_back(board, alloc, &claim, &mut undo, answers)
+}
+
+/// Makes room for the list of one claim.
+fn room_for(board: &mut Board, alloc: Global, claim: &Claim) -> Result<Undo, Fault>
+    ensures undo { IfOk result (λ undo. IsUndoOf board.new undo) }
+    ensures claims { IfOk result (λ undo. 0 < undo.claims) }
+    ensures victims { IfOk result (λ undo. length claim.now.victims ≤ undo.victims) }
+{
+    let claims = alone(alloc, claim)?;
+    Ok(board.reserve(alloc, &claims)?)
 }
 
 /// The list of one claim.

@@ -5,8 +5,20 @@ use omega_calls::{Fault, GREATEST, add, commit_claim, end};
 use omega_model::{Claim, Keys, Need, Spec, TaskKey, Verdict};
 use std::alloc::Global;
 
-/// Tasks are placed on machines that came up, and end. Appends how many, and the load.
+/// Tasks are placed on the machines of a new board, which came up, and end. Appends how many, and the load.
 pub(crate) fn many(
+    alloc: Global,
+    machines: u64,
+    tasks: u32,
+    amount: Need,
+    answers: &mut String,
+) -> Result<(), Fault> {
+    let mut board = Board::new(alloc);
+    fill(&mut board, alloc, machines, tasks, amount, answers)
+}
+
+/// The same on this board.
+fn fill(
     board: &mut Board,
     alloc: Global,
     machines: u64,
@@ -16,10 +28,28 @@ pub(crate) fn many(
 ) -> Result<(), Fault> {
     bring_up(board, alloc, machines)?;
     let placed = place_by_turns(board, alloc, machines, tasks, amount)?;
+    show_and_end(
+        board,
+        alloc,
+        placed.as_slice(),
+        machines.saturating_sub(1),
+        answers,
+    )
+}
+
+/// Appends how many machines there are and how many of these tasks run, and the load; ends them, and appends
+/// what is left.
+fn show_and_end(
+    board: &mut Board,
+    alloc: Global,
+    placed: &[TaskKey],
+    last: u64,
+    answers: &mut String,
+) -> Result<(), Fault> {
     write!(answers, "{} {} ", board.machines().len(), placed.len())?;
     show_load(board.machines(), answers)?;
-    end_all(board, alloc, placed.as_slice())?;
-    show_left(board, machines.saturating_sub(1), answers)
+    end_all(board, alloc, placed)?;
+    show_left(board, last, answers)
 }
 
 /// Brings machines up, each with the greatest amount.

@@ -45,15 +45,20 @@ pub(crate) fn answer(
     words: &[Bytes],
     answers: &mut String,
 ) -> Result<(), Fault> {
-    let mut running = Running::new(alloc);
     match (call, words) {
-        ("script", _) => take_all(&mut running, alloc, words, answers),
+        ("script", _) => script(alloc, words, answers),
         ("many", [jobs, tasks, machines]) => {
             let (tasks, machines) = (small(tasks)?, number(machines)?);
-            many(&mut running, alloc, number(jobs)?, tasks, machines, answers)
+            many(alloc, number(jobs)?, tasks, machines, answers)
         }
         _ => Err(Fault::UnknownCall),
     }
+}
+
+/// Takes steps on new running tasks.
+fn script(alloc: Global, words: &[Bytes], answers: &mut String) -> Result<(), Fault> {
+    let mut running = Running::new(alloc);
+    take_all(&mut running, alloc, words, answers)
 }
 
 impl Steps for Running {
@@ -190,7 +195,6 @@ fn list(
 
 /// Tasks come and go. Appends how many, and how many a machine has meanwhile.
 fn many(
-    running: &mut Running,
     alloc: Global,
     jobs: u64,
     tasks: u32,
@@ -201,9 +205,31 @@ fn many(
         return Err(Fault::MayNot);
     }
     let crowd = crowd(alloc, jobs, tasks, machines)?;
-    write!(answers, "{} ", come(running, alloc, crowd.as_slice())?)?;
+    come_and_go(alloc, crowd.as_slice(), machines, answers)
+}
+
+/// The same with these tasks, on new running tasks.
+fn come_and_go(
+    alloc: Global,
+    crowd: &[Task],
+    machines: u64,
+    answers: &mut String,
+) -> Result<(), Fault> {
+    let mut running = Running::new(alloc);
+    show_come_and_go(&mut running, alloc, crowd, machines, answers)
+}
+
+/// The same on these running tasks.
+fn show_come_and_go(
+    running: &mut Running,
+    alloc: Global,
+    crowd: &[Task],
+    machines: u64,
+    answers: &mut String,
+) -> Result<(), Fault> {
+    write!(answers, "{} ", come(running, alloc, crowd)?)?;
     show_spread(running, alloc, machines, answers)?;
-    let gone = go(running, crowd.as_slice());
+    let gone = go(running, crowd);
     write!(answers, " {gone} {}", running.count())?;
     Ok(())
 }

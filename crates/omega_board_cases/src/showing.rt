@@ -73,19 +73,39 @@ pub(crate) fn show_judged(
 /// Appends the words of a verdict: its name, and what it says.
 fn show_verdict(answers: &mut String, verdict: Verdict) -> Result<(), Fault> {
     match verdict {
-        Verdict::Placed => answers.push_str("placed")?,
-        Verdict::NoMachine => answers.push_str("no-machine")?,
-        Verdict::AlreadyRunning(machine) => write!(answers, "running {machine}")?,
-        Verdict::Changed { now, copy } => write!(answers, "changed {now},{copy}")?,
-        Verdict::VictimRank(key) => return show_of_task(answers, "victim-rank ", key),
-        Verdict::SameJob(key) => return show_of_task(answers, "same-job ", key),
-        Verdict::Full(free) => {
-            answers.push_str("full ")?;
-            return show_need(answers, free);
-        }
-        Verdict::Withdrawn(place) => write!(answers, "withdrawn {place}")?,
+        Verdict::Placed => show_name(answers, "placed"),
+        Verdict::NoMachine => show_name(answers, "no-machine"),
+        Verdict::AlreadyRunning(machine) => show_of_number(answers, "running", machine),
+        Verdict::Changed { now, copy } => show_changed(answers, now, copy),
+        Verdict::VictimRank(key) => show_of_task(answers, "victim-rank ", key),
+        Verdict::SameJob(key) => show_of_task(answers, "same-job ", key),
+        Verdict::Full(free) => show_full(answers, free),
+        Verdict::Withdrawn(place) => show_of_number(answers, "withdrawn", u64::from(place)),
     }
+}
+
+/// Appends a verdict's name.
+fn show_name(answers: &mut String, name: &str) -> Result<(), Fault> {
+    answers.push_str(name)?;
     Ok(())
+}
+
+/// Appends the words of a verdict that names a machine or a claim.
+fn show_of_number(answers: &mut String, name: &str, number: u64) -> Result<(), Fault> {
+    write!(answers, "{name} {number}")?;
+    Ok(())
+}
+
+/// Appends the words of a verdict on a machine that has changed.
+fn show_changed(answers: &mut String, now: u64, copy: u64) -> Result<(), Fault> {
+    write!(answers, "changed {now},{copy}")?;
+    Ok(())
+}
+
+/// Appends the words of a verdict on a machine without room.
+fn show_full(answers: &mut String, free: Need) -> Result<(), Fault> {
+    answers.push_str("full ")?;
+    show_need(answers, free)
 }
 
 /// Appends the words of a verdict that names a task.

@@ -14,15 +14,23 @@ where
     requires { F.IsAlwaysCallable answer }
 {
     for line in BufReader::new(alloc, rt.reader())?.lines(alloc) {
-        let line = line?;
-        if is_heading(line.as_str()) {
-            println!(rt; "{line}")?;
-            continue;
-        }
-        match answer(line.as_str()) {
-            Ok(answer) => println!(rt; "{answer}")?,
-            Err(fault) => println!(rt; "{fault}")?,
-        }
+        answer_line(rt, line?.as_str(), &answer)?;
     }
     Ok(())
+}
+
+/// Prints the answer to a line, or why it has none.
+fn answer_line<R, F>(rt: &R, line: &str, answer: &F) -> io::Result<()>
+where
+    R: Print,
+    F: Fn(&str) -> Result<String, Fault>,
+    requires { F.IsAlwaysCallable answer.now }
+{
+    if is_heading(line) {
+        return println!(rt; "{line}");
+    }
+    match answer(line) {
+        Ok(answer) => println!(rt; "{answer}"),
+        Err(fault) => println!(rt; "{fault}"),
+    }
 }

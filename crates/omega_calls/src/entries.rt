@@ -21,19 +21,52 @@ pub fn apply(board: &mut Board, alloc: Global, call: &str, words: &[Bytes]) -> R
     ensures table { OnErr result (board.new.table ≡ board.old.table) }
     ensures tasks { OnErr result (board.new.tasks ≡ board.old.tasks) }
 {
-    match (call, words) {
-        ("add", [machine, cap]) => add(board, alloc, number(machine)?, need(cap)?),
-        ("update", [machine, cap]) => update(board, alloc, number(machine)?, need(cap)?),
-        ("remove", [machine]) => remove(board, alloc, number(machine)?),
-        ("set", [machine, name, value]) => set(board, alloc, number(machine)?, name, value),
-        ("delete", [machine, name]) => delete(board, alloc, number(machine)?, name),
-        ("end", [key]) => end(board, alloc, task(key)?),
-        ("round", [number_of]) => {
-            let number = number(number_of)?;
-            Ok(board.apply_entry(alloc, &Entry::Round { number })?)
-        }
+    match words {
+        [word] => apply_named(board, alloc, call, word),
+        [machine, words @ ..] => apply_to(board, alloc, call, machine, words),
+        [] => Err(Fault::UnknownCall),
+    }
+}
+
+/// Applies an entry of one word: that a machine is removed, that a task ends, or a round.
+fn apply_named(board: &mut Board, alloc: Global, call: &str, word: &Bytes) -> Result<Keys, Fault>
+    ensures table { OnErr result (board.new.table ≡ board.old.table) }
+    ensures tasks { OnErr result (board.new.tasks ≡ board.old.tasks) }
+{
+    match call {
+        "remove" => remove(board, alloc, number(word)?),
+        "end" => end(board, alloc, task(word)?),
+        "round" => round(board, alloc, number(word)?),
         _ => Err(Fault::UnknownCall),
     }
+}
+
+/// Applies an entry that says more of a machine.
+fn apply_to(
+    board: &mut Board,
+    alloc: Global,
+    call: &str,
+    machine: &Bytes,
+    words: &[Bytes],
+) -> Result<Keys, Fault>
+    ensures table { OnErr result (board.new.table ≡ board.old.table) }
+    ensures tasks { OnErr result (board.new.tasks ≡ board.old.tasks) }
+{
+    match (call, words) {
+        ("add", [cap]) => add(board, alloc, number(machine)?, need(cap)?),
+        ("update", [cap]) => update(board, alloc, number(machine)?, need(cap)?),
+        ("set", [name, value]) => set(board, alloc, number(machine)?, name, value),
+        ("delete", [name]) => delete(board, alloc, number(machine)?, name),
+        _ => Err(Fault::UnknownCall),
+    }
+}
+
+/// A round begins.
+fn round(board: &mut Board, alloc: Global, number: u64) -> Result<Keys, Fault>
+    ensures table { OnErr result (board.new.table ≡ board.old.table) }
+    ensures tasks { OnErr result (board.new.tasks ≡ board.old.tasks) }
+{
+    Ok(board.apply_entry(alloc, &Entry::Round { number })?)
 }
 
 /// A machine is added.

@@ -102,24 +102,49 @@ fn take(
         return Err(Fault::UnknownCall);
     };
     match (text(call)?, words) {
-        ("board", _) => {
-            part(answers)?;
-            show_step(board, alloc, words, answers)
-        }
-        ("batch", [word]) => {
-            trace.batch = small(word)?;
-            Ok(())
-        }
-        ("extra", [word]) => {
-            trace.extra = policy_of(word)?;
-            Ok(())
-        }
+        ("board", _) => show_on_board(board, alloc, words, answers),
+        ("batch", [word]) => set_batch(trace, word),
+        ("extra", [word]) => set_extra(trace, word),
         (call, _) if is_question(call) => {
-            part(answers)?;
-            show(&Scene { trace, board }, alloc, call, words, answers)
+            show_behind(&Scene { trace, board }, alloc, call, words, answers)
         }
         (call, _) => push_row(&mut trace.tables, alloc, call, words),
     }
+}
+
+/// Does a step on the board, and appends its answer behind those before it.
+fn show_on_board(
+    board: &mut Board,
+    alloc: Global,
+    words: &[Bytes],
+    answers: &mut String,
+) -> Result<(), Fault> {
+    part(answers)?;
+    show_step(board, alloc, words, answers)
+}
+
+/// So many batch schedulers.
+fn set_batch(trace: &mut Trace, word: &Bytes) -> Result<(), Fault> {
+    trace.batch = small(word)?;
+    Ok(())
+}
+
+/// This policy of extras.
+fn set_extra(trace: &mut Trace, word: &Bytes) -> Result<(), Fault> {
+    trace.extra = policy_of(word)?;
+    Ok(())
+}
+
+/// Appends the answer of a question behind those before it.
+fn show_behind(
+    scene: &Scene,
+    alloc: Global,
+    call: &str,
+    words: &[Bytes],
+    answers: &mut String,
+) -> Result<(), Fault> {
+    part(answers)?;
+    show(scene, alloc, call, words, answers)
 }
 
 /// Whether a step of this call asks something.
@@ -139,14 +164,9 @@ fn show(
     answers: &mut String,
 ) -> Result<(), Fault> {
     match (call, words) {
-        ("rounds", [window]) => show_cut(scene.trace, alloc, number(window)?, answers),
-        ("ask", [scheduler, closed @ ..]) => {
-            let (scheduler, closed) = (small(scheduler)?, closed_of(closed)?);
-            let question = Question { scheduler, closed };
-            show_asked(scene, alloc, question, answers)
-        }
+        ("rounds", [window]) => show_cut(scene.trace, alloc, window, answers),
+        ("ask", [scheduler, closed @ ..]) => show_asked(scene, alloc, scheduler, closed, answers),
         ("ask-by-round", [window, scheduler]) => {
-            let (window, scheduler) = (number(window)?, small(scheduler)?);
             show_by_round(scene, alloc, window, scheduler, answers)
         }
         ("entries", []) => show_taken(scene.trace, scene.board, alloc, answers),
@@ -157,7 +177,12 @@ fn show(
 }
 
 /// Appends the rounds of a trace.
-fn show_cut(trace: &Trace, alloc: Global, window: u64, answers: &mut String) -> Result<(), Fault> {
+fn show_cut(
+    trace: &Trace,
+    alloc: Global,
+    window: &Bytes,
+    answers: &mut String,
+) -> Result<(), Fault> {
     let cut = rounds_of(alloc, &trace.tables, window)?;
     show_rounds(answers, cut.as_slice())
 }
@@ -173,7 +198,8 @@ fn closed_of(words: &[Bytes]) -> Result<Closed, Fault> {
 }
 
 /// The rounds of a trace.
-fn rounds_of(alloc: Global, tables: &TraceTables, window: u64) -> Result<Rounds, Fault> {
+fn rounds_of(alloc: Global, tables: &TraceTables, window: &Bytes) -> Result<Rounds, Fault> {
+    let window = number(window)?;
     if window == 0 {
         return Err(Fault::MayNot);
     }
@@ -217,10 +243,13 @@ fn at_first(trace: &Trace, alloc: Global) -> Result<Wanted, Fault>
 fn show_asked(
     scene: &Scene,
     alloc: Global,
-    question: Question,
+    scheduler: &Bytes,
+    closed: &[Bytes],
     answers: &mut String,
 ) -> Result<(), Fault> {
+    let (scheduler, closed) = (small(scheduler)?, closed_of(closed)?);
     let rows = feed(alloc, &scene.trace.tables)?;
+    let question = Question { scheduler, closed };
     show_asked_after(scene, alloc, &rows, question, answers)
 }
 
@@ -316,10 +345,11 @@ fn close_but_one(
 fn show_by_round(
     scene: &Scene,
     alloc: Global,
-    window: u64,
-    scheduler: u32,
+    window: &Bytes,
+    scheduler: &Bytes,
     answers: &mut String,
 ) -> Result<(), Fault> {
+    let scheduler = small(scheduler)?;
     let cut = rounds_of(alloc, &scene.trace.tables, window)?;
     show_by_round_of(scene, alloc, &cut, scheduler, answers)
 }

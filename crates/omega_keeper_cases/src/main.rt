@@ -12,6 +12,7 @@ use crate::steps::take_all;
 use omega_calls::{Fault, answer_lines, number, text, words_of};
 use omega_keep::{MemoryKeeper, SteadyKeeper};
 use omega_model::Bytes;
+use std::alloc::Global;
 use std::io;
 
 fn main(rt: HostRuntime) -> io::Result<()> {
@@ -51,15 +52,29 @@ fn answer_of_keeper(
 ) -> Result<(), Fault> {
     let alloc = rt.alloc();
     match (call, words) {
-        ("memory", [call, steps @ ..]) => {
-            let mut keeper = MemoryKeeper::new(alloc).fail_at(number(call)?);
-            take_all(alloc, &mut keeper, steps, answers)
-        }
-        ("steady", steps) => take_all(alloc, &mut SteadyKeeper::new(alloc), steps, answers),
+        ("memory", [call, steps @ ..]) => in_memory(alloc, number(call)?, steps, answers),
+        ("steady", steps) => steady(alloc, steps, answers),
         ("database", [statements, steps @ ..]) => {
             databases::answer(alloc, text(statements)?, steps, answers)
         }
         ("files", steps) => files::answer(rt, steps, answers),
         _ => Err(Fault::UnknownCall),
     }
+}
+
+/// Takes steps on a new keeper in memory, of which this load or append fails.
+fn in_memory(
+    alloc: Global,
+    failing: u64,
+    steps: &[Bytes],
+    answers: &mut String,
+) -> Result<(), Fault> {
+    let mut keeper = MemoryKeeper::new(alloc).fail_at(failing);
+    take_all(alloc, &mut keeper, steps, answers)
+}
+
+/// Takes steps on a new keeper that never fails.
+fn steady(alloc: Global, steps: &[Bytes], answers: &mut String) -> Result<(), Fault> {
+    let mut keeper = SteadyKeeper::new(alloc);
+    take_all(alloc, &mut keeper, steps, answers)
 }
