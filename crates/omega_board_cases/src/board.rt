@@ -43,19 +43,13 @@ pub(crate) fn answer(
     answers: &mut String,
 ) -> Result<(), Fault> {
     match (call, words) {
-        ("script", _) => script(alloc, words, answers),
+        ("script", _) => take_all(Board::new(alloc), alloc, words, answers),
         ("many", [machines, tasks, amount]) => {
             let (machines, tasks) = (number(machines)?, small(tasks)?);
             many(alloc, machines, tasks, need(amount)?, answers)
         }
         _ => Err(Fault::UnknownCall),
     }
-}
-
-/// Takes steps on a new board. It is let go in one place, since each costs a proof of all its parts.
-fn script(alloc: Global, words: &[Bytes], answers: &mut String) -> Result<(), Fault> {
-    let mut board = Board::new(alloc);
-    take_all(&mut board, alloc, words, answers)
 }
 
 impl Steps for Board {

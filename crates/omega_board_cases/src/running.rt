@@ -46,19 +46,13 @@ pub(crate) fn answer(
     answers: &mut String,
 ) -> Result<(), Fault> {
     match (call, words) {
-        ("script", _) => script(alloc, words, answers),
+        ("script", _) => take_all(Running::new(alloc), alloc, words, answers),
         ("many", [jobs, tasks, machines]) => {
             let (tasks, machines) = (small(tasks)?, number(machines)?);
             many(alloc, number(jobs)?, tasks, machines, answers)
         }
         _ => Err(Fault::UnknownCall),
     }
-}
-
-/// Takes steps on new running tasks.
-fn script(alloc: Global, words: &[Bytes], answers: &mut String) -> Result<(), Fault> {
-    let mut running = Running::new(alloc);
-    take_all(&mut running, alloc, words, answers)
 }
 
 impl Steps for Running {

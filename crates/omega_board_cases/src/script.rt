@@ -9,13 +9,15 @@ pub(crate) trait Steps {
     fn take(&mut self, alloc: Global, step: &[Bytes], answers: &mut String) -> Result<(), Fault>;
 }
 
-/// Takes all steps, and appends their answers, which are parted as the steps are.
-pub(crate) fn take_all<S: Steps>(
-    value: &mut S,
+/// Takes all steps on a value, which is let go then, and appends their answers, which are parted as the steps
+/// are. It takes the value as one of a type parameter, since whoever knows the type pays for all that it lets go.
+pub(crate) fn take_all<S: Steps + Drop>(
+    value: S,
     alloc: Global,
     words: &[Bytes],
     answers: &mut String,
 ) -> Result<(), Fault> {
+    let mut value = value;
     for step in words.split(|word| is_colon(word)) {
         part(answers)?;
         value.take(alloc, step, answers)?;
