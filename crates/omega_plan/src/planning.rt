@@ -26,9 +26,10 @@ use std::alloc::Global;
 /// policy preempts; a wish without a machine gets no claim. In mode `Gang` one wish without a machine leaves
 /// no claim at all. The indexes tell of the board afterwards, also where memory runs out.
 ///
-/// Takes the memory of the claims and of what they change beside the board, but for the last one. Costs each
-/// wish a search, and wishes in a row that differ in the index alone the machines once together; and in the
-/// end, for each level, the tasks on the machines of the claims but the last one.
+/// Takes the memory of the claims and of what they change beside the board, but for the last one; what is
+/// answered takes that of its claims alone, since a history keeps it. Costs each wish a search, and wishes in
+/// a row that differ in the index alone the machines once together; and in the end, for each level, the tasks
+/// on the machines of the claims but the last one.
 pub fn plan(
     alloc: Global,
     board: &Board,
@@ -51,11 +52,13 @@ pub fn plan(
     let last = claims_but_last(alloc, &mut overlay, indexes, wishes, start, policy.preempt);
     let claims = overlay.end(indexes);
     let all = with_claim(claims, last?)?;
+    let mut planned = whole_or_none(policy.mode, wishes.len(), all);
+    planned.shrink_to_fit();
     Ok(Txn {
         job: request.job,
         rule: policy.rule,
         mode: policy.mode,
-        claims: Seq::of(whole_or_none(policy.mode, wishes.len(), all)),
+        claims: Seq::of(planned),
     })
 }
 

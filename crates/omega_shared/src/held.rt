@@ -12,13 +12,18 @@ use omega_cell::Cell;
 use omega_lock::Counted;
 use omega_model::{Entry, NoMemory, Reply, Txn};
 use std::alloc::Global;
+use std::hint::spin_loop;
 use std::sync::{Arc, Wait};
 use std::thread::yield_now;
 
-/// How often a commit asks whether nobody looks at the cell any more, and lets other threads run, before it goes
-/// on with a copy. With few tries a whole cell would be copied where a plan is about to end; with many all others
-/// would wait for one that is held up.
+/// How often a commit asks whether nobody looks at the cell any more, before it goes on with a copy. With few
+/// tries a whole cell would be copied where a plan is about to end; with many all others would wait for one that
+/// is held up.
 const TRIES: u32 = 100_000;
+
+/// After how many of these tries it lets other threads run between two. Most plans end sooner; and where other
+/// programs want the processor, a thread that lets them run may wait for milliseconds each time.
+const QUICK_TRIES: u32 = 5_000;
 
 /// The cell behind the lock. Its list is the history, in which each commit has its scheduler's number.
 #[derive(Drop)]
@@ -131,14 +136,23 @@ fn take_back(mut lent: Arc<Cell, Global>) -> Result<Cell, Arc<Cell, Global>>
     ensures cell { IfOk result (λ cell. cell ≡ arc_value lent) }
     ensures still { IfErr result (λ still. arc_value still ≡ arc_value lent) }
 {
-    for _ in 0..TRIES {
+    for tries in 0..TRIES {
         match Arc::try_unwrap(lent) {
             Ok(cell) => return Ok(cell),
             Err(still) => lent = still,
         }
-        yield_now();
+        give_way(tries);
     }
     Err(lent)
+}
+
+/// Passes a moment after so many tries, from some number on by letting other threads run.
+fn give_way(tries: u32) {
+    if tries < QUICK_TRIES {
+        spin_loop();
+    } else {
+        yield_now();
+    }
 }
 
 /// The cell that was lent, once nobody looks at it.

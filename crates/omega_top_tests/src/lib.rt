@@ -1,5 +1,6 @@
-//! Tests of the top call: whole runs whose reads and writes are cut or fail, audits of lines in memory,
-//! runs that go on from such lines, and runs on threads in which schedulers are held. All other runs are the folders of `tests/` at the top of the repository.
+//! Tests of the top call: whole runs whose reads and writes are cut or fail, audits whose loading or writing
+//! fails, runs that go on from kept lines, and runs on threads in which schedulers are held. All other runs are
+//! the folders of `tests/` at the top of the repository.
 //!
 //! They stand apart from `omega_top`, since a crate with tests is proved once more with them.
 #![tactic(auto)]
