@@ -6,9 +6,9 @@
 #     bench/bench.sh PROGRAM SECTION..                        some of the tables below
 #     bench/bench.sh PROGRAM page                             all of them, written into docs/SPEED.md
 #
-# Sections: scales parts rows machines schedulers words threads constrained shapes chosen plans kept. ROWS are rows of task_events, LOAD
-# is as in tables.py. Each line is the median of five runs with their range, or one run that took more than ten
-# seconds.
+# Sections: scales parts rows machines schedulers words threads constrained shapes chosen plans kept. ROWS are rows
+# of task_events, LOAD is as in tables.py. Each line is the median of five runs (BENCH_RUNS) with their range, or one
+# run that took more than ten seconds.
 #
 # Elapsed is the time on the clock and Processor the time of all threads. Multiple is Processor as a
 # multiple of what `reading` takes for the same tables, so that machines can be compared. On a machine
@@ -21,6 +21,8 @@ here=$(cd "$(dirname "$(readlink -f "${BASH_SOURCE[0]}")")" && pwd)
 data=${BENCH_DATA:-${TMPDIR:-/tmp}/omega-bench}
 scale=${BENCH_SCALE:-1} # divides machines, rows and sizes, for a quick try of this script
 runs=${BENCH_RUNS:-5}   # of each line
+memory=/dev/shm/omega-bench.db # a file that needs no sync
+status=0                # the script's own: 1 once a run has ended as none may
 
 # Runs a command in a folder, and prints of its elapsed and of its processor seconds the median, the least and
 # the greatest, and the greatest peak in KiB. Leaves its exit status in the file `status`.
@@ -59,17 +61,22 @@ cells() { # NUMBERS
         }'
 }
 
-# The folder of a trace of a kind that tables.py makes, made where it is missing.
-made() { # KIND MACHINES ROWS LOAD
-    local folder=$data/$1-$2-$3-$4
+# The folder of the tables of these words, made by tables.py where it is missing.
+made() { # FOLDER KIND WORDS..
+    local folder=$data/$1
     if ! [ -f "$folder/made" ]; then
-        python3 "$here/tables.py" "$1" "$folder" "$2" "$3" "$4" && touch "$folder/made"
+        python3 "$here/tables.py" "$2" "$folder" "${@:3}" && touch "$folder/made" || return 1
     fi
     echo "$folder"
 }
 
 trace() { # MACHINES ROWS LOAD
-    made trace "$@"
+    made "trace-$1-$2-$3" trace "$@"
+}
+
+# Whether the last run ended well, or in the refusal of its tables: a shape may be refused, and is read for that.
+ended_well() {
+    [ "$(<"$data/status")" = 0 ] || [ "$(<"$data/status")" = 3 ] || { status=1 && return 1; }
 }
 
 # What the report's last lines count: commits, and those with a claim that wasn't placed.
@@ -89,8 +96,7 @@ measure() { # FIRST COLUMNS, FOLDER, WORDS..
     shift 2
     base=$(timed "$folder" /dev/null "$data/reading" . | cut -d' ' -f4)
     seconds=$(timed "$folder" "$data/report" "$program" "$@")
-    # A shape may be refused, and is read for that.
-    if [ "$(<"$data/status")" != 0 ] && [ "$(<"$data/status")" != 3 ]; then
+    if ! ended_well; then
         echo "$first | status $(<"$data/status") | | | | | |"
         return
     fi
@@ -109,10 +115,11 @@ picky() { # MACHINES ROWS LOAD WORDS..
 }
 
 of_kind() { # KIND MACHINES ROWS LOAD WORDS..
-    local kind=$1 machines=$(($2 / scale + 1)) rows=$(($3 / scale)) load=$4
+    local kind=$1 machines=$(($2 / scale + 1)) rows=$(($3 / scale)) load=$4 folder
     [ "$scale" = 1 ] && machines=$2
     shift 4
-    measure "| $machines | $rows | $load | \`$*\`" "$(made "$kind" "$machines" "$rows" "$load")" "$@"
+    folder=$(made "$kind-$machines-$rows-$load" "$kind" "$machines" "$rows" "$load") || exit 1
+    measure "| $machines | $rows | $load | \`$*\`" "$folder" "$@"
 }
 
 scales() {
@@ -127,7 +134,7 @@ scales() {
 # What the parts cost, told by runs that leave parts out.
 parts() {
     local folder rows=$((1000000 / scale)) bad
-    folder=$(trace $((12500 / scale)) "$rows" 75)
+    folder=$(trace $((12500 / scale)) "$rows" 75) || exit 1
     bad=$data/refused-at-the-end-$rows
     rm -rf "$bad"
     cp -r "$folder" "$bad"
@@ -145,6 +152,7 @@ part() { # WHAT FOLDER WORDS..
     local what=$1 folder=$2 seconds
     shift 2
     seconds=$(timed "$folder" "$data/report" "$program" "$@")
+    ended_well || what="$what (status $(<"$data/status"))"
     echo "| $what | $(cells "$seconds") |"
 }
 
@@ -249,7 +257,8 @@ plans() {
 
 # A shape at a size and at twice that size.
 shape() { # NAME SIZE WORDS..
-    local name=$1 size=$(($2 / scale)) n
+    local name=$1 size=$(($2 / scale + 1)) n
+    [ "$scale" = 1 ] && size=$2
     shift 2
     for n in "$size" $((2 * size)); do
         sized "$name" "$n" "$@"
@@ -257,25 +266,23 @@ shape() { # NAME SIZE WORDS..
 }
 
 sized() { # NAME SIZE WORDS..
-    local folder=$data/shape-$1-$2 size=$2 what
+    local size=$2 folder what
     what=$(python3 "$here/tables.py" | sed -n "s/^$1: //p")
-    if ! [ -f "$folder/made" ]; then
-        python3 "$here/tables.py" "$1" "$folder" "$size" && touch "$folder/made"
-    fi
+    folder=$(made "shape-$1-$2" "$1" "$2") || exit 1
     shift 2
     measure "| $what | $size | \`$*\`" "$folder" "$@"
 }
 
 # What it costs to keep a run in a file, to go on from a whole one, and to audit it. In memory a file needs no sync.
 kept() {
-    local folder base=$data/kept.db memory=/dev/shm/omega-bench.db
-    folder=$(trace $((12500 / scale)) $((1000000 / scale)) 75)
+    local folder base=$data/kept.db
+    folder=$(trace $((12500 / scale)) $((1000000 / scale)) 75) || exit 1
     echo '| What is done | Elapsed | Processor | Memory |'
     echo '|---|---|---|---|'
     part '`replay`' "$folder" replay
     if [ -w /dev/shm ]; then
+        trap 'rm -f "$memory" "$memory-wal"' EXIT
         kept_anew "$folder" "$memory" ' in memory'
-        rm -f "$memory" "$memory-wal"
     fi
     kept_anew "$folder" "$base" ''
     part '`resume` of the whole file' "$folder" resume --kept "$base"
@@ -289,6 +296,7 @@ kept_anew() { # FOLDER FILE WHERE
     local seconds
     # shellcheck disable=SC2016
     seconds=$(timed "$1" "$data/kept-report" sh -c 'rm -f "$1" "$1-wal"; exec "$0" resume --kept "$1"' "$program" "$2")
+    ended_well || set -- "$1" "$2" "$3 (status $(<"$data/status"))"
     echo "| \`resume\` into a new file$3 | $(cells "$seconds") |"
 }
 
@@ -329,10 +337,22 @@ if ! [ -x "$program" ]; then
     echo "bench.sh: there is no program $program" >&2
     exit 2
 fi
+needed=(python3 /usr/bin/time)
+[ -x "$data/reading" ] || needed+=(rustc)
+for tool in "${needed[@]}"; do
+    if ! command -v "$tool" >/dev/null; then
+        echo "bench.sh: there is no $tool" >&2
+        exit 2
+    fi
+done
 mkdir -p "$data" || exit 1
 [ -x "$data/reading" ] || rustc -O --edition 2021 -o "$data/reading" "$here/reading.rs" || exit 1
 case $1 in
 one | picky)
+    if [ $# -lt 5 ]; then
+        print_help >&2
+        exit 2
+    fi
     header '| Machines | Rows of tasks | Load | Words'
     "$@"
     ;;
@@ -347,3 +367,4 @@ page) page ;;
     done
     ;;
 esac
+[ "$status" = 0 ]

@@ -6,9 +6,11 @@
     tables.py steady FOLDER MACHINES HOURS LOAD [SEED]  a cell that is as full at the beginning as at the end
     tables.py SHAPE FOLDER SIZE                         tables of one extreme shape; without words they are listed
 
-LOAD is what all tasks that would run at a time ask for of the CPU, on an average, in per cent of what the
-machines have. The figures that the trace is made by are rough ones for a cluster of a few machine types in
-which most jobs have one task, a few have many, and services run long.
+LOAD is in per cent of the CPU of all machines. In a steady cell it is what the tasks that run at a time ask for, on
+an average. In the other two it says how fast jobs come: the CPU time of all tasks is so much of what the machines
+have while jobs come. Many tasks live on when no more come, so what is in use at a time is less. The figures that the
+trace is made by are rough ones for a cluster of a few machine types in which most jobs have one task, a few have
+many, and services run long.
 """
 import math
 import os
@@ -616,10 +618,15 @@ SHAPES = {shape.__name__: shape for shape in (
     one_waits, restarts, short_rounds, extras, extras_alike, commas, quotes, long_text)}
 
 
+def are_numbers(words):
+    """Whether words are whole numbers, all above 0 but for a seed."""
+    return all(word.isascii() and word.isdigit() for word in words) and all(map(int, words[:3]))
+
+
 def main(words):
-    if len(words) in (5, 6) and words[0] in TRACES:
+    if len(words) in (5, 6) and words[0] in TRACES and are_numbers(words[2:]):
         TRACES[words[0]](words[1], *map(int, words[2:]))
-    elif len(words) == 3 and words[0] in SHAPES:
+    elif len(words) == 3 and words[0] in SHAPES and are_numbers(words[2:]):
         files = Files(words[1])
         SHAPES[words[0]](files, int(words[2]))
         files.close()

@@ -114,6 +114,8 @@ def parsed() -> argparse.Namespace:
     args.program = os.path.abspath(args.program)
     if not os.access(args.program, os.X_OK) or set(args.commands) - set(COMMANDS):
         parser.error('there is no such program, or no such command')
+    if args.processors < 1:
+        parser.error('--processors is at least 1')
     return args
 
 

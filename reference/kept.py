@@ -11,13 +11,16 @@ from definitions.refusals import Refusal
 
 
 def main(words: list[str]) -> int:
+    if words in (['--help'], ['-h']):
+        print(__doc__, end='')
+        return 0
     if len(words) != 2 or words[0] not in ('put', 'get'):
-        print(__doc__, file=sys.stderr)
+        print(__doc__, end='', file=sys.stderr)
         return 2
     keeper = DatabaseKeeper(words[1])
     try:
         if words[0] == 'put':
-            keeper.append(sys.stdin.buffer.read().splitlines())
+            keeper.append([line.removesuffix(b'\n') for line in sys.stdin.buffer])
         else:
             sys.stdout.buffer.write(b''.join(line + b'\n' for line in keeper.load()))
         return 0

@@ -13,7 +13,10 @@ from definitions.run import answer
 
 def main(words: list[str]) -> int:
     order = None
-    if words[:1] == ['--order'] and len(words) > 1:
+    if words[:1] == ['--order']:
+        if not ''.join(words[1:2]).isdecimal():
+            print('omega.py: a number belongs behind --order', file=sys.stderr)
+            return 2
         order, words = int(words[1]), words[2:]
     out, err, status = answer(words, order=order)
     sys.stdout.buffer.write(out)

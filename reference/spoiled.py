@@ -112,6 +112,8 @@ def parsed() -> argparse.Namespace:
     for program in filter(None, (args.program, args.cases)):
         if not os.access(program, os.X_OK):
             parser.error(f'there is no program {program}')
+    if args.processors < 1:
+        parser.error('--processors is at least 1')
     return args
 
 

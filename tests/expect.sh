@@ -9,13 +9,22 @@ set -u
 reference=$(dirname "$(readlink -f "${BASH_SOURCE[0]}")")/../reference
 [ $# -gt 0 ] || { echo "usage: tests/expect.sh FOLDER.." >&2; exit 2; }
 
+# Prints the file in which these words have lines kept.
+kept_file() {
+    local word before='' file=omega.db
+    for word in "$@"; do
+        [ "$before" != --kept ] || file=$word
+        [ "${word#--kept=}" = "$word" ] || file=${word#--kept=}
+        before=$word
+    done
+    printf %s "$file"
+}
+
 # Writes what the reference answers to the words in the folder where this is called.
 answer() {
-    local words base=omega.db at
-    mapfile -t words <words
-    for at in "${!words[@]}"; do
-        [ "${words[at]}" != --kept ] || base=${words[at + 1]}
-    done
+    local words base
+    mapfile -t words <words || return 1
+    base=$(kept_file "${words[@]}")
     [ ! -f kept-bytes ] || cp kept-bytes "$base"
     [ ! -s kept ] || python3 "$reference/kept.py" put "$base" <kept
     python3 "$reference/omega.py" "${words[@]}" >report.txt 2>fault.txt

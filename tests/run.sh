@@ -23,7 +23,7 @@ if [ "$1" = --reference ]; then
     small=true
     program=(python3 "$root/reference/omega.py")
 else
-    program=("$(readlink -f "$1")")
+    program=("$(readlink -f -- "$1")")
     if ! [ -f "${program[0]}" ] || ! [ -x "${program[0]}" ]; then
         echo "tests/run.sh: there is no program $1" >&2
         exit 2
@@ -54,13 +54,16 @@ differences() {
     cmp -s "$wanted" "$written" || diff "$wanted" "$written" | head -n 20
 }
 
-# Counts a case, and prints what is wrong with it.
-count() {
-    if [ -z "$2" ]; then
+# Counts a case, of which a function prints what is wrong. One in which that function comes to no end is wrong, too.
+count() { # NAME FUNCTION WORDS..
+    local name=$1 faults
+    shift
+    faults=$("$@") || faults+=" it can't be tried"
+    if [ -z "$faults" ]; then
         passed=$((passed + 1))
     else
         failed=$((failed + 1))
-        printf '== %s\n%s\n' "$1" "$2"
+        printf '== %s\n%s\n' "$name" "$faults"
     fi
 }
 
@@ -69,10 +72,21 @@ is_kept() {
     [ -f "$1/kept" ] || [ -f "$1/kept-bytes" ]
 }
 
+# Prints the file in which these words have lines kept.
+kept_file() {
+    local word before='' file=omega.db
+    for word in "$@"; do
+        [ "$before" != --kept ] || file=$word
+        [ "${word#--kept=}" = "$word" ] || file=${word#--kept=}
+        before=$word
+    done
+    printf %s "$file"
+}
+
 # Prints what is wrong with the answer to a folder's words. Where the folder has kept lines, or its tables are made,
 # the run is in a copy of it.
 faults_in() {
-    local words status wanted=0 where=$1 base=$scratch/copy/omega.db at
+    local words status wanted=0 where=$1 base
     mapfile -t words <"$1/words"
     if [ -f "$1/make.sh" ]; then
         where=$scratch/copy
@@ -80,9 +94,7 @@ faults_in() {
     fi
     if is_kept "$1"; then
         where=$scratch/copy
-        for at in "${!words[@]}"; do
-            [ "${words[at]}" != --kept ] || base=$where/${words[at + 1]}
-        done
+        base=$where/$(kept_file "${words[@]}")
         copy_with_kept "$1" "$base"
     fi
     answer_in "$where" "${words[@]}"
@@ -153,8 +165,8 @@ faults_of_refused() {
 try_refused() {
     local line words
     while IFS= read -r line; do
-        eval "words=(${line#*:})"
-        count "refused, ${line%%:*}" "$(faults_of_refused "${words[@]}")"
+        eval "words=(${line#*:})" || words=(replay) # which isn't refused, so that this line fails
+        count "refused, ${line%%:*}" faults_of_refused "${words[@]}"
     done <"$1"
 }
 
@@ -184,7 +196,7 @@ try_texts() {
     while IFS='|' read -r shown table text wanted line; do
         case $shown in
         '#'*) ;;
-        *) count "$shown" "$(faults_of_text "${1%/*}" "$table" "$text" "$wanted" "$line")" ;;
+        *) count "$shown" faults_of_text "${1%/*}" "$table" "$text" "$wanted" "$line" ;;
         esac
     done <"$1"
 }
@@ -199,11 +211,17 @@ try_folder() {
     if is_too_large "$1"; then
         large=$((large + 1))
     else
-        count "$(realpath --relative-to="$root" "$1")" "$(faults_in "$1")"
+        count "$(realpath --relative-to="$root" "$1")" faults_in "$1"
     fi
 }
 
 [ $# -gt 0 ] || set -- "$tests" "$root/examples"
+for folder in "$@"; do
+    if ! [ -e "$folder" ]; then
+        echo "tests/run.sh: there is no folder $folder" >&2
+        exit 2
+    fi
+done
 while IFS= read -r -d '' file; do
     case ${file##*/} in
     words) try_folder "${file%/words}" ;;
@@ -211,6 +229,6 @@ while IFS= read -r -d '' file; do
     texts) try_texts "$file" ;;
     esac
 done < <(find "$@" -type f \( -name words -o -name refused -o -name texts \) -print0 | sort -z)
-[ "$large" = 0 ] || echo "$large cases are of large tables, and were passed over"
+[ "$large" = 0 ] || echo "cases of large tables, which were passed over: $large"
 echo "$passed passed, $failed failed"
 [ "$failed" -eq 0 ] && [ "$passed" -gt 0 ]

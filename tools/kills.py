@@ -126,6 +126,8 @@ def main(arguments: Optional[List[str]]) -> int:
     program = chosen.program.resolve()
     if not program.is_file():
         raise Refusal('there is no program %s' % chosen.program)
+    if chosen.moments < 1:
+        raise Refusal('--moments is at least 1')
     failed = 0
     with tempfile.TemporaryDirectory() as scratch:
         try:

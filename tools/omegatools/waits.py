@@ -54,12 +54,22 @@ class Event(NamedTuple):
     is_service: bool
 
 
+MARK_OF_BYTE_ORDER = '\xef\xbb\xbf'     # in latin-1
+csv.field_size_limit(1 << 28)           # no table that omega takes is longer
+
+
 def fields_of(tables: Path, table: str, needed: bool) -> Iterator[List[str]]:
+    """The rows of a table. A byte order mark in front is dropped."""
     path = tables / (table + '.csv')
     if not needed and not path.exists():
         return
     with open(path, encoding='latin-1', newline='') as file:
-        yield from (row for row in csv.reader(file) if row)
+        if file.read(3) != MARK_OF_BYTE_ORDER:
+            file.seek(0)
+        try:
+            yield from (row for row in csv.reader(file) if row)
+        except csv.Error as fault:  # a byte 0, for an older Python
+            raise Refusal('%s can\'t be read: %s' % (path, fault)) from fault
 
 
 def numbers_of(tables: Path, table: str, columns: Iterable[int], needed: bool = True) -> Iterator[List[int]]:

@@ -49,12 +49,14 @@ class Words(NamedTuple):
 
 def split_words(words: Sequence[str]) -> Tuple[List[str], Dict[str, str]]:
     """The words that are no options, and the options, each without its hyphens. Options may stand before the
-    command or be joined by `=`. Values aren't looked at."""
+    command or be joined by `=`, and behind two hyphens there are none. Values aren't looked at."""
     commands: List[str] = []
     options: Dict[str, str] = {}
     rest = list(words)
     while rest:
         word = rest.pop(0)
+        if word == '--':
+            return commands + rest, options
         if not word.startswith('--'):
             commands.append(word)
             continue

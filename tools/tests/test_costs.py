@@ -10,9 +10,8 @@ from called import call
 
 import costs
 
-# A shell by the prover's name, which runs the file of its first word: a check that works for a while, of which a half
-# by another such process
-# where the crate is the low one.
+# A shell by the prover's name, which runs the file of its first word: a check that works for a while, and where the
+# crate is the low one for as long again by another such process.
 WORK = 'i=0\nwhile [ $i -lt 300000 ]; do i=$((i + 1)); done\n'
 CHECK = 'case $* in *omega_low*) ../rattle ../half ;; esac\n' + WORK
 GATE = """cd rt-edit-1-a

@@ -79,8 +79,9 @@ class Helped(unittest.TestCase):
         self.assertEqual((answer.returncode, answer.stderr), (3, 'omega: cannot read machine_events\n'))
 
     def test_other_scripts(self) -> None:
-        for script in ('bench/tables.py', 'bench/bench.sh', 'tools/slice.py', 'tools/report.py', 'tools/sweep.py',
-                       'tools/quick.sh', 'tools/refused.py', 'reference/spoiled.py'):
+        for script in ('bench/tables.py', 'bench/bench.sh', 'bench/study.py', 'tools/slice.py', 'tools/report.py',
+                       'tools/sweep.py', 'tools/quick.sh', 'tools/refused.py', 'tools/costs.py', 'tools/kills.py',
+                       'reference/tables.py', 'reference/compare.py', 'reference/spoiled.py', 'reference/kept.py'):
             answer = subprocess.run([str(ROOT / script), '--help'], capture_output=True, text=True)
             self.assertEqual((answer.returncode, answer.stderr), (0, ''), script)
             self.assertIn(Path(script).name, answer.stdout)

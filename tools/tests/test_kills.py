@@ -40,6 +40,10 @@ class Kills(unittest.TestCase):
         self.assertEqual(answer.status, 1)
         self.assertTrue(answer.out.endswith("the report isn't that of replay\n0 passed, 2 failed\n"))
 
+    def test_no_moment(self) -> None:
+        answer = call('kills.py', kills.main, self.pretended('echo report\n'), '--moments', 0)
+        self.assertEqual((answer.status, answer.out, answer.err), (1, '', 'kills.py: --moments is at least 1\n'))
+
     def test_words_that_are_refused(self) -> None:
         path = self.pretended('echo "omega: the words are refused" >&2\nexit 2\n')
         answer = call('kills.py', kills.main, path, '--moments', 1)

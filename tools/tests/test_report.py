@@ -287,6 +287,7 @@ class Shown(Reported):
         path = self.written(SIMULATED)
         for text, expected in (('simulate\n--window=600000000\n--tables\nx', 600_000_000), ('simulate', 300_000_000),
                                ('--window\n7\nsimulate', 7), ('resume\n--kept\nk\n--window\n8', 8),
+                               ('--window=9\n--\nreplay', 9), ('replay\n--\n--window=9', None),
                                ('audit\n--kept\nk', None), ('--nothing\n7\nsimulate', None), ('', None)):
             (self.folder / 'words').write_text(text)
             found = words.words_beside(path)
@@ -307,6 +308,13 @@ class Shown(Reported):
         self.assertTrue(answer.err.startswith('kind,tasks,ran,never_ran,waits,mean,p50,p90,p99,max\n'
                                               'services,2,2,0,0,150,0,300,300,300\n'))
         self.assertEqual(self.right('waits', '--quantiles', CHOICES, TEXT).out, answer.err)
+
+    # A byte order mark in front, and a field that is longer than most.
+    def test_waits_of_unusual_tables(self) -> None:
+        for table in CHOICES.glob('*.csv'):
+            (self.folder / table.name).write_bytes(b'\xef\xbb\xbf' + table.read_bytes())
+        (self.folder / 'machine_attributes.csv').write_text('0,1,name,%s,0\n' % ('v' * 200_000))
+        self.assertEqual(self.right('waits', self.folder, TEXT), self.right('waits', CHOICES, TEXT))
 
     def test_waits_with_evictions(self) -> None:
         found = {(row['job'], row['index']): row

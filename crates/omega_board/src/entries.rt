@@ -28,9 +28,9 @@ impl Board {
     /// that rises is 2^64 - 1 already, an end names a task that runs on its machine, and the placed
     /// claims of a commit can be placed one after the other, each with what the reply says it evicts.
     ///
-    /// Costs what the entry changes, and an attribute's entry the machine's attributes. Where it
-    /// displaces a task, it costs the tasks on the machine, which are sorted; a commit costs its claims
-    /// as `reserve`, `apply_placed` and `touch_placed` do.
+    /// Costs what the entry changes; an attribute's entry the logarithm of the machine's attributes, and
+    /// those behind one that is deleted. Where it displaces a task, it costs the tasks on the machine,
+    /// which are sorted; a commit costs its claims as `reserve`, `apply_placed` and `touch_placed` do.
     pub fn apply_entry(&mut self, alloc: Global, entry: &Entry) -> Result<Keys, NoMemory>
         requires { MayApply (cell_of self.old) (seq_at self.old.table) entry.now }
         ensures cell { OnOk result (cell_of self.new ≡ step (cell_of self.old) entry.now) }

@@ -19,14 +19,15 @@ use omega_running::{is_among, key_lt};
 
 impl Board {
     /// The verdict on a claim, never `Withdrawn`, and in `evicted`, which is empty before, the
-    /// victims that the claim evicts, in their order: none where it isn't placed. With `copy_seq`,
-    /// the sequence number of the claim's machine in the copy on which it was planned, it is
-    /// `Changed` where the machine has another one now, and exists and is up, and the task doesn't
-    /// run.
+    /// victims that the claim evicts, in their order: none where it isn't placed. `copy_seq` is the
+    /// sequence number of the claim's machine in the copy on which the claim was planned, or `None`
+    /// where changes don't matter. Where the machine has another one now, is up, and the task doesn't
+    /// run, the verdict is `Changed`.
     ///
     /// Costs the claim's victims, each of them looked up; one that doesn't come behind all those before
     /// it, in order of eviction, is looked for among them too. With the different-machines flag it
-    /// costs the tasks of the job on the machine besides.
+    /// costs besides the tasks of the job on the machine, each looked for among the victims, and at
+    /// worst the square of the victims that stand.
     pub fn judge(&self, claim: &Claim, copy_seq: Option<u64>, evicted: &mut Vec<TaskKey>) -> Verdict
         requires empty { evicted.old.items ≡ [] }
         requires room { length claim.now.victims ≤ vec_capacity evicted.old }

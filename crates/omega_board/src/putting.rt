@@ -64,8 +64,8 @@ impl Board {
     /// new behind the others, and all of them are put at once, since a task may move from one to
     /// another. Where memory runs out, the machines and tasks stay, and no room is lost.
     ///
-    /// Costs the parts, each task looked up once, and what differs: a task that stands on its
-    /// machine as before isn't touched.
+    /// Costs the parts and the tasks that run on their machines, which are copied to be compared, each
+    /// task looked up once; and what differs: a task that stands on its machine as before isn't touched.
     pub fn put_parts(&mut self, alloc: Global, parts: Parts) -> Result<(), NoMemory>
         requires { MayPut self.old parts }
         ensures put { OnOk result ((target : Target) → LeadTo self.old parts target → IsAt target self.new) }

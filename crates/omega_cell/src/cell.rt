@@ -137,8 +137,8 @@ impl Cell {
     /// A capacity is at most 10^12 units of each kind, there are at most 65,536 machines, and an end
     /// names a task that runs on its machine.
     ///
-    /// Costs what the entry changes, an attribute's entry the machine's attributes, and where it
-    /// displaces a task the tasks on its machine.
+    /// Costs what the entry changes; an attribute's entry the logarithm of the machine's attributes, and
+    /// those behind one that is deleted; and where it displaces a task the tasks on its machine.
     pub fn feed(&mut self, alloc: Global, entry: Entry) -> Result<(), (Entry, NoMemory)>
         requires no_commit { is_commit entry ≡ false }
         requires capacity { IfSome (capacity_in entry) (λ cap. Fits cap greatest) }

@@ -6,8 +6,8 @@ use std::marker::Model;
 
 /// A transaction, ready to be committed without memory. A contract sees the transaction.
 ///
-/// It has room for the numbers of the machines of its claims; and for the names of the tasks that these
-/// evict twice, for the entry of the history and for the answer to the scheduler.
+/// It has room for the numbers of its claims' machines, and twice for the names of the tasks that the claims
+/// may evict: once for the entry of the history, and once for the answer to the scheduler.
 #[derive(Drop)]
 pub struct Prepared {
     pub(crate) txn: Txn,

@@ -106,8 +106,8 @@ impl PrivateCopy {
 
     /// Takes in the rest of a history for which the copy stands, from the first entry on that it
     /// hasn't seen. Where memory runs out it has taken in some of them, and stands for the history
-    /// still. Costs what the entries change, an attribute's entry the machine's attributes, and for each
-    /// level the tasks on the machines that they touch.
+    /// still. Costs what the entries change, an attribute's entry the logarithm of the machine's attributes
+    /// and those behind one that is deleted, and for each level the tasks on the machines that they touch.
     pub fn follow(&mut self, alloc: Global, later: &[Entry]) -> Result<(), NoMemory>
         requires history { MayFollow self.old later.now }
         requires few { self.old.seen + length later.now < 2 ^ 64 }

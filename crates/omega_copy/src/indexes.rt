@@ -74,9 +74,9 @@ impl Indexes {
         Ok(())
     }
 
-    /// Goes on to the board after a history that they have now seen to its end, after so many entries: they
-    /// are told of these machines, the ones that the entries touch that they haven't seen. Costs these
-    /// machines, and for each level the tasks on them.
+    /// Brings the indexes up to a board that has gone on. `seen` is how many entries its history has now, and
+    /// `machines` are those that the entries touch which the indexes haven't seen. Costs these machines, and
+    /// for each level the tasks on them.
     pub fn go_on(&mut self, board: &Board, seen: u64, machines: &[u64])
         requires places { HavePlaces (length board.now.table) self.old }
         requires history { MayGoOn self.old board.now machines.now }

@@ -22,7 +22,8 @@ pub struct Level {
 }
 
 impl Level {
-    /// The index of that.
+    /// What is free on each machine, in order of the board's list, once all tasks of a lower precedence are
+    /// off it.
     pub fn freed(&self) -> &FitIndex
         ensures { result.now ≡ self.now.index }
     {

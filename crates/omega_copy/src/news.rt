@@ -21,8 +21,8 @@ pub(crate) enum News<'a> {
     Claimed(&'a Tenants, &'a Claim),
 }
 
-/// Tells an index of what evictions for its precedence could free the news of a board; it has told all
-/// before that, and has room for the machines that are new.
+/// Tells the news of a board to an index of what evictions for its precedence could free. The index has told
+/// all that came before, and has room for the machines that are new.
 pub(crate) fn tell(index: &mut FitIndex, prec: u8, board: &Board, news: &News)
     requires { MayTell board.now news.now prec index.old }
     ensures { (cell : Cell) → Due board.now news.now prec index.old cell → index.new.free ≡ freed_of prec cell }

@@ -10,7 +10,7 @@ use std::collections::BTreeMap;
 use std::marker::Model;
 
 /// The rows of activities in the order of their file, and the activities of the last row for each
-/// job. No call reads the rows; a contract sees them.
+/// job. No call reads the rows; a contract sees them. They take 16 bytes each for as long as a run lasts.
 #[derive(Drop)]
 pub struct JobActivities {
     rows: Seq<ActivityRow>,

@@ -10,7 +10,7 @@ use std::collections::BTreeMap;
 use std::marker::Model;
 
 /// The rows of disks in the order of their file, and the disk of the last row for each machine. No call
-/// reads the rows; a contract sees them.
+/// reads the rows; a contract sees them. They take 16 bytes each for as long as a run lasts.
 #[derive(Drop)]
 pub struct MachineDisks {
     rows: Seq<DiskRow>,

@@ -3,7 +3,7 @@
 use omega_model::NoMemory;
 use std::alloc::Global;
 
-/// How many notes there are at most: those of half a mebibyte, which a processor has at hand.
+/// How many notes there are at most: they take half a mebibyte, so that they mostly are in a processor's cache.
 const MOST_NOTES: usize = 131_072;
 
 /// For numbers that stand in a list the places at which they are likely to be found.

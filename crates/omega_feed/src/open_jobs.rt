@@ -52,10 +52,9 @@ impl OpenJobs {
 
     /// Closes each job that is quiet on the cell of a board, and no other: one of which no wanted task
     /// waits, and that gets no extras, since it has no activities, no wanted task, or all its extras. A
-    /// refused call leaves what is open. Costs at most a look at each task that the trace has of the open
-    /// jobs, but those of the least indexes that are known not to be wanted, and of each wanted one the logarithm
-    /// of the number of all, since a job's first task that waits decides; of one with activities its running
-    /// tasks, too; and memory for those that stay open.
+    /// refused call leaves what is open. Costs the slots that are left of each open job, up to its first task
+    /// that waits, and of each wanted task the logarithm of the number of those that run; of a job with
+    /// activities its running tasks, too; and memory for the jobs that stay open.
     pub fn settle(&mut self, alloc: Global, wanted: &Wanted, board: &Board) -> Result<(), NoMemory>
         requires { OthersAreQuiet self.old wanted.now board.now.tasks }
         ensures ok { OnOk result (OthersAreQuiet self.new wanted.now board.now.tasks) }

@@ -43,7 +43,8 @@ fn close(done: &mut Rounds, number: u64, rows: Rows) -> Result<(), NoMemory>
     done.push(Round { number, rows })
 }
 
-/// The rows of the events in order of time, then of table, then of row. Copies each row once.
+/// The rows of the events in order of time, then of table, then of row. Copies each row once and sorts the
+/// copies, which costs the rows times the logarithm of their number, and besides takes memory for the sort.
 pub fn feed(alloc: Global, tables: &TraceTables) -> Result<Vec<Row>, NoMemory>
     ensures { IfOk result (λ rows. rows.items ≡ feed tables.now) }
 {

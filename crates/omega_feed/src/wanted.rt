@@ -90,10 +90,9 @@ impl Wanted {
 
     /// Applies a row: what it submits, schedules or updates is wanted as it says, and what ends in it is not
     /// wanted any more. Its job is opened if the task wasn't wanted, or if the row changes what is wanted and the
-    /// job has activities; no other is. A
-    /// refused call leaves what is wanted, and may have opened the job. Costs the logarithms of the number of
-    /// jobs and of the tasks that the trace has of the job, and mostly neither: a job mostly stands where it
-    /// is noted, and a task where its index says.
+    /// job has activities; no other is. A refused call leaves what is wanted, and may have opened the job.
+    /// Costs the logarithms of the number of jobs and of the job's slots, and mostly neither: a job mostly
+    /// stands where it is noted, and a task where its index says.
     pub fn take(&mut self, row: &Row, open_jobs: &mut OpenJobs) -> Result<(), NoMemory>
         ensures ok { OnOk result (self.new ≡ record self.old { tasks = wanted_after self.old.tasks row.now }) }
         ensures err { OnErr result (self.new ≡ self.old) }
@@ -174,8 +173,8 @@ impl Wanted {
     }
 
     /// Whether the end of a task may let something of its job wait: the task is wanted, or it is an extra
-    /// and a task of its job is wanted. Costs the logarithms of the number of jobs
-    /// and of the tasks that the trace has of the job at most.
+    /// and a task of its job is wanted. Costs at most the logarithms of the number of jobs and of the job's
+    /// slots.
     pub fn misses(&self, key: TaskKey) -> bool
         ensures { result ≡ is_missed self.now key }
     {
@@ -191,9 +190,9 @@ impl Wanted {
     }
 
     /// Whether the job at a place is quiet on the cell of a board: none of its wanted tasks waits, and
-    /// it gets no extras. Costs a look at each task that the trace has of the job, but those of the least
-    /// indexes that are known not to be wanted, up to the first that waits, and of each wanted one the logarithm
-    /// of the number of all; of a job with activities besides its running tasks, and the memory of both.
+    /// it gets no extras. Costs the slots that are left of the job, up to its first task that waits, and of
+    /// each wanted task the logarithm of the number of those that run; of a job with activities besides its
+    /// running tasks, and the memory of both.
     pub(crate) fn is_quiet_at(
         &self,
         alloc: Global,
@@ -243,10 +242,10 @@ impl Wanted {
     /// task row, each with its wanted tasks that don't run, by index, and then its extras. A job for
     /// which this is nothing is left out, one that is given up is not.
     ///
-    /// Only open jobs are looked at. Costs their number, and of those that are the scheduler's a look at
-    /// each task that the trace has of them, but those of the least indexes that are known not to be wanted, and
-    /// of each wanted one the logarithm of the number of all. A job with activities costs besides its running
-    /// tasks and its extras, each times the same logarithm; the number of machines costs nothing.
+    /// Only open jobs are looked at. Costs their number, and of those that are the scheduler's the slots that
+    /// are left, and of each wanted task the logarithm of the number of those that run. A job with activities
+    /// costs besides its running tasks and its extras, each times the same logarithm; the number of machines
+    /// costs nothing.
     pub fn requests(
         &self,
         alloc: Global,

@@ -9,8 +9,8 @@ ghost use Rattle.omega_keep.specs.Audited.{IsPossible};
 use omega_cell::Cell;
 use omega_model::{Entry, GREATEST_QUANTITY, MOST_MACHINES, Need};
 
-/// Whether an entry that is no commit is possible on the history of a cell. Costs the logarithm of the
-/// number of running tasks.
+/// Whether an entry that is no commit is possible on the history of a cell. Costs a look-up of its machine
+/// or of its task.
 pub fn is_possible(cell: &Cell, entry: &Entry) -> bool
     requires { is_commit entry.now ≡ false }
     ensures { IsTrue result ↔ IsPossible cell.now.history entry.now }

@@ -199,7 +199,8 @@ fn keys_at(alloc: Global, text: &[u8]) -> Result<(Keys, &[u8]), Unread>
     keys_from(alloc, count, rest)
 }
 
-/// The rule that a word means.
+/// `Coarse` for its word, and `Fine` for each other one, also for one that is no word of a line: such a word
+/// doesn't come back where the entry is written again, so `read_entry` refuses it.
 #[tactic(auto, unfolding(crate::specs::Reading::rule_of))]
 fn rule_of(word: &[u8]) -> Rule
     ensures { result ≡ rule_of word.now }
@@ -211,7 +212,7 @@ fn rule_of(word: &[u8]) -> Rule
     }
 }
 
-/// The mode that a word means.
+/// `Gang` for its word, and `Incremental` for each other one, as `rule_of` does.
 #[tactic(auto, unfolding(crate::specs::Reading::mode_of))]
 fn mode_of(word: &[u8]) -> Mode
     ensures { result ≡ mode_of word.now }

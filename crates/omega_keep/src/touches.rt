@@ -50,7 +50,7 @@ impl Touches {
         }
     }
 
-    /// Notes the entry at a place.
+    /// Notes the entry at a place. Where memory runs out, what was noted of its machine may be lost.
     pub fn note(&mut self, alloc: Global, place: u64, entry: &Entry) -> Result<(), NoMemory>
         ensures { OnOk result ((id : ℕ) → places_of self.new.places id ≡ noted place (touches id entry.now) (places_of self.old.places id)) }
     {

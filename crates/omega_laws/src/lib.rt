@@ -2,8 +2,8 @@
 //!
 //! What comes next in a round where the schedulers take turns, where they go by a virtual clock, or in
 //! any order that is given by tests, and that nothing else could; that what is placed is on machines that
-//! meet its constraints; and that a gang claims all of its request or nothing. No function here does anything: its contract is the
-//! law, and who needs a law cites the lemma behind it.
+//! meet its constraints; and that a gang claims all of its request or nothing. No function here does
+//! anything: its contract is the law, and who needs a law cites the lemma behind it.
 #![tactic(auto)]
 
 mod commits;

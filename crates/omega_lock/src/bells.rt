@@ -45,8 +45,8 @@ impl Bells {
         self.table.shared.peek(bell_of(ticket))
     }
 
-    /// Sleeps until the bell of a ticket is rung, unless it was rung since this was how often. It may also
-    /// return for no reason.
+    /// Sleeps until the bell of a ticket is rung, or not at all if it has been rung more often than `rung`
+    /// says. It may also return for no reason.
     pub fn sleep<R: Wait>(&self, rt: &R, ticket: u64, rung: u64) {
         self.table
             .shared

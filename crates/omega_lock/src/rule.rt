@@ -5,17 +5,19 @@ use atomic_table::{Join, Play, Split, TableRule};
 use std::marker::PhantomData;
 use std::snapshot::Snapshot;
 
-/// The words of the table: how many numbers were given, the ticket that is drawn next, the ticket that
-/// is served, and the length of the list.
+/// The word of the table that says how many numbers were given to seats.
 pub(crate) const NUMBERS: usize = 0;
 
+/// The word with the ticket that is drawn next.
 pub(crate) const TICKETS: usize = 1;
 
+/// The word with the ticket that is served.
 pub(crate) const SERVED: usize = 2;
 
+/// The word with the length of the list.
 pub(crate) const LENGTH: usize = 3;
 
-/// Its one slot, which has the value.
+/// The table's one slot, which has the value.
 pub(crate) const VALUE: usize = 0;
 
 /// What a lock was made with: for how many callers, how many turns each has, and the value.

@@ -20,8 +20,8 @@ use std::marker::Model;
 /// The machines of a cell in order of first mention, found by number.
 ///
 /// A contract sees the list of their states. There are at most 65,536 of them, with distinct
-/// numbers and capacities of at most 1,000,000,000,000 units of each kind, and no more is in use on a machine
-/// than its capacity, nothing where it is down.
+/// numbers and capacities of at most 1,000,000,000,000 units of each kind, and no more is in use on
+/// a machine than its capacity, nothing where it is down.
 ///
 /// A call on a machine costs one or two look-ups of its number, and takes no memory, unless its own
 /// text says more. A look-up mostly finds the machine at the place that is noted for its number; where
@@ -304,7 +304,9 @@ impl MachineTable {
     }
 
     /// Unsets an attribute of a machine. Costs the logarithm of the machine's attributes, and the
-    /// attributes behind it, which move up; all of them where their index has to be made first.
+    /// attributes behind it, which move up. Where a machine with many attributes has no index yet, it
+    /// is made first, which costs all of them and takes memory; where there is none for it, the
+    /// attributes are gone through.
     pub fn delete_attr(&mut self, id: u64, name: &Bytes)
         requires { IsTrue (is_listed id (machines_of self.old)) }
         ensures changed { self.new ≡ change_state id (with_machine (attr_deleted name.now)) self.old }

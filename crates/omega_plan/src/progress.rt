@@ -6,7 +6,7 @@ ghost use Rattle.omega_plan.specs.Kinds.{Serves, kind_of};
 
 use omega_model::{Claim, Constraint, Wish};
 
-/// Where searches for one more wish of a kind begin, of which most wishes of a job are.
+/// Where searches for one more wish of a kind begin. Most wishes of a job are of one kind.
 ///
 /// Within a plan machines only get fuller, but for evictions on the machine of a claim. So a machine
 /// that had no room for a wish needn't be looked at again for the next one of its kind.

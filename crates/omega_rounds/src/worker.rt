@@ -49,7 +49,7 @@ impl Worker {
     }
 
     /// Takes a round's requests in order, but for those of jobs that are given up; the scheduler
-    /// hasn't synced.
+    /// hasn't synced then.
     pub fn begin(&mut self, requests: Requests) -> Result<(), NoMemory>
         requires no_work { self.old.desk.requests ≡ [] }
         requires distinct { All HasDistinctWishes requests }

@@ -233,7 +233,8 @@ impl World {
     }
 
     /// Whether the plans that are to be made now are worth threads. No, where there is one processor. Costs a
-    /// look at a few machines for each scheduler whose first wish has constraints.
+    /// few searches in the index of what is free for each scheduler whose first wish has constraints; each of
+    /// them looks at a few machines mostly, and at worst at all.
     pub(crate) fn is_worth_threads(&self) -> bool {
         let crew = &self.crew;
         let unseen = crew.indexes.unseen(crew.cell.history().len() as u64);

@@ -97,8 +97,8 @@ impl Running {
         fill(&mut self.pool, alloc, n)
     }
 
-    /// Makes one tree for all tasks in each order, where there are no trees yet: for tasks of which there are
-    /// few, and which many such tables have. The tasks and the room stay as they are.
+    /// Makes one tree for all tasks in each order, where there are no trees yet: for a table of few tasks,
+    /// since a program may have many of these. The tasks and the room stay as they are.
     pub fn keep_small(&mut self, alloc: Global) -> Result<(), NoMemory>
         ensures tasks { self.new.tasks ≡ self.old.tasks }
         ensures spare { self.new.spare ≡ self.old.spare }

@@ -49,8 +49,9 @@ use std::thread::Threads;
 /// first write. After a refusal of one table none behind it was read. On `generate` and `audit` the folder is
 /// entered too, but none of its tables is read; the keeper's path is entered on every command, and its list
 /// stays on all but `resume`.
-/// Settings are answered unless the words weren't read; then no folder and no path was entered, and all tables
-/// are as they were. On `run` each scheduler has a thread of its own, which passes the gate, and the call may
+///
+/// Settings are answered unless the words weren't read; then no folder and no path was entered, and all
+/// tables are as they were. On `run` each scheduler has a thread of its own, which passes the gate, and the call may
 /// wait; on `simulate` the commits stand in the order of a virtual clock; on the other commands that run a
 /// trace the schedulers take turns.
 pub fn omega<R: Threads + Wait + Sync, T: Tables, K: Sink, G: Gate + Sync, P: Keeper>(
@@ -143,6 +144,7 @@ pub fn omega<R: Threads + Wait + Sync, T: Tables, K: Sink, G: Gate + Sync, P: Ke
     if keeper.enter(parsed.kept.as_str()).is_err() {
         return refused(alloc, Status::NoMemory, Some(parsed.settings));
     }
+    // A law, on which the clause of a whole audit rests. It does nothing.
     audited_lines_are_not_refused();
     omega_with(rt, alloc, &parsed.settings, tables, out, gate, keeper)
 }

@@ -67,6 +67,7 @@ fn generated_trace(alloc: Global, settings: &Settings) -> Result<TraceTables, Re
     ensures within { IfOk result IsWithinLimits }
     ensures refusal { IfErr result (λ refusal. refusal ≡ NoMemory) }
 {
+    // A law. It does nothing.
     generated_tables_are_never_refused();
     let mut tables = tables_of_seed(alloc, settings.seed, settings.machines, settings.jobs)?;
     read_tables(alloc, &mut tables)
