@@ -55,9 +55,9 @@ impl Model for WantedTasks {
 }
 
 impl WantedTasks {
-    /// No tasks, and for each of these jobs a place with a slot for each of its tasks in these rows. Costs
-    /// the rows and the jobs, each times the logarithm of their number, whatever their order; takes the
-    /// memory of the slots, and while it runs that of the rows' keys.
+    /// No tasks, and for each of these jobs a place with a slot for each of its tasks that these rows submit or
+    /// schedule. Costs the rows, and these tasks and the jobs, each times the logarithm of their number, whatever
+    /// their order; takes the memory of the slots, and while it runs that of the tasks' keys.
     pub fn of_rows(alloc: Global, rows: &[Row], mut jobs: Vec<u64>) -> Result<WantedTasks, NoMemory>
         ensures { IfOk result (λ tasks. tasks ≡ []) }
     {
@@ -276,12 +276,15 @@ fn put_place(
     }
 }
 
-/// The names of the tasks of these rows in order, each once.
+/// The names of the tasks that these rows submit or schedule, in order, each once. Mostly a task's rows of both
+/// kinds follow one another; then its name is sorted once.
 fn task_keys(alloc: Global, rows: &[Row]) -> Result<Vec<TaskKey>, NoMemory> {
-    let mut keys = Vec::with_capacity(alloc, rows.len())?;
+    let mut keys = Vec::new(alloc);
     for row in rows {
         if let Row::Task(row) = row {
-            keys.push(row.key)?;
+            if row.code <= 1 && keys.last() != Some(&row.key) {
+                keys.push(row.key)?;
+            }
         }
     }
     keys.sort_unstable();

@@ -1,9 +1,11 @@
 //! Schedulers over one cell, round by round.
-ghost use Rattle.std.specs.Prelude.{◌≡◌, ◌<◌, ℕ, None, length, take, IfOk, IfSome, OnErr, OnOk};
+ghost use Rattle.std.specs.Prelude.{◌≡◌, ◌<◌, [], ℕ, None, length, take, IfOk, IfSome, OnErr, OnOk};
 ghost use Rattle.std.specs.Thread.{IsSync};
 ghost use Rattle.omega_cell.specs.Effects.{AreEffects};
+ghost use Rattle.omega_feed.specs.Asked.{asked_after};
 ghost use Rattle.omega_feed.specs.Left.{AreLeft, IsLeft};
 ghost use Rattle.omega_model.specs.Applying.{EachMayApply};
+ghost use Rattle.omega_model.specs.Feed.{feed as feed_of};
 ghost use Rattle.omega_model.specs.Lawful.{LawfulSoFar};
 ghost use Rattle.omega_model.specs.Legal.{Legal, Sound};
 ghost use Rattle.omega_model.specs.Policy.{schedulers};
@@ -31,7 +33,7 @@ use crate::worth::are_worth_threads;
 use omega_cell::{Cell, Effects};
 use omega_feed::{OpenJobs, WaitingTasks, Wanted, feed, rounds};
 use omega_io::Gate;
-use omega_model::{Entries, Entry, NoMemory, Round, Settings, TraceTables};
+use omega_model::{Entries, Entry, NoMemory, Round, Row, Settings, TraceTables};
 use omega_sim::greatest_time;
 use std::alloc::Global;
 use std::marker::Model;
@@ -69,16 +71,15 @@ impl Model for World {
 }
 
 impl World {
-    /// The world of a trace with the empty history, before its first round. Costs a sort of the rows by
-    /// time, and copies each row and each constraint; the tables aren't needed any more.
-    pub fn new(alloc: Global, settings: &Settings, tables: &TraceTables) -> Result<World, NoMemory>
+    /// The world of a trace with the empty history, before its first round. Takes the tables over, and gives
+    /// their memory back. Costs a sort of the rows by time, and copies each row twice and each constraint once.
+    pub fn new(alloc: Global, settings: &Settings, tables: TraceTables) -> Result<World, NoMemory>
         requires { IsInRange settings.now }
-        ensures stage { IfOk result (λ world. world.stage ≡ first_stage settings.now tables.now) }
+        ensures stage { IfOk result (λ world. world.stage ≡ first_stage settings.now tables) }
         ensures is_new { IfOk result (λ world. IsNew (world_of world)) }
         ensures to_do { IfOk result (λ world. world.to_do ≡ 0) }
     {
-        let rows = feed(alloc, tables)?;
-        let wanted = Wanted::new(alloc, tables, &rows, settings)?;
+        let (rows, wanted) = rows_and_wanted(alloc, settings, tables)?;
         let open_jobs = OpenJobs::new(alloc);
         let demand = Demand { wanted, open_jobs };
         let rounds = rounds(alloc, rows, settings.window)?;
@@ -338,6 +339,22 @@ impl World {
     {
         self.course.settings.schedulers()
     }
+}
+
+/// The rows of a trace in order of time, and what it asks for before the first of them. The memory of the tables
+/// is given back.
+fn rows_and_wanted(
+    alloc: Global,
+    settings: &Settings,
+    tables: TraceTables,
+) -> Result<(Vec<Row>, Wanted), NoMemory>
+    requires { IsInRange settings.now }
+    ensures rows { IfOk result (λ made. made.0.items ≡ feed_of tables) }
+    ensures wanted { IfOk result (λ made. made.1 ≡ asked_after settings.now tables []) }
+{
+    let rows = feed(alloc, &tables)?;
+    let wanted = Wanted::new(alloc, &tables, &rows, settings)?;
+    Ok((rows, wanted))
 }
 
 /// A worker for each scheduler.

@@ -59,7 +59,7 @@ fn world(alloc: Global, settings: &Settings) -> Result<World, NoMemory>
     ensures { IfOk result (λ world. world.stage.begun ≡ 0) }
 {
     let tables = tables(alloc)?;
-    World::new(alloc, settings, &tables)
+    World::new(alloc, settings, tables)
 }
 
 /// Lets a scheduler do a step, if there is one of this number.

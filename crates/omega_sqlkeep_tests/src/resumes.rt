@@ -84,7 +84,7 @@ fn new_world(alloc: Global) -> Result<World, NoMemory>
 {
     let mut tables = TraceTables::new(alloc);
     fill(&mut tables)?;
-    World::new(alloc, &Settings::default(), &tables)
+    World::new(alloc, &Settings::default(), tables)
 }
 
 /// What a run that goes on has come to.

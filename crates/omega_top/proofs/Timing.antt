@@ -1,11 +1,12 @@
 -- What a simulated run needs of its trace, and the lines and the text of its report.
-use Rattle.std.proofs.Common.{◌≡◌, ◌∙◌, ◌≤◌, ◌<◌, ◌^◌, ℕ, List, [], ◌∷◌, ◌++◌, Option, Some, None, Bool, true, false, arith, map, ap, refl, sym}
+use Rattle.std.proofs.Common.{◌≡◌, ◌∙◌, ◌≤◌, ◌<◌, ◌^◌, ℕ, List, [], ◌∷◌, ◌++◌, Option, Some, None, Bool, true, false, arith, map, ap, refl, subst, sym}
 use Rattle.std.specs.Prelude.{All, unwrap_or, ◌==◌}
 use Rattle.std.specs.List.{filter, flat_map, last_or, list_all, range_with_len}
 use Rattle.std.proofs.lemmas.List.Concat.{flat_map-append}
 use Rattle.std.proofs.lemmas.List.Elements.{All-head, All-tail, All-same}
 use Rattle.std.proofs.lemmas.List.Folds.{list_all-append}
 use Rattle.omega_feed.proofs.Cutting.{rounds_have}
+use Rattle.omega_laws.specs.Simulated.{SimulatedWith}
 use Rattle.omega_laws.specs.VirtualTime.{Timed}
 use Rattle.omega_model.proofs.PlainWords.{report_plain}
 use Rattle.omega_model.specs.Feed.{feed, rounds, time_of}
@@ -20,10 +21,14 @@ use Rattle.omega_model.specs.ReportLines.{printed_lines}
 use Rattle.omega_model.specs.declared.entries.Entry.{Entry}
 use Rattle.omega_model.specs.declared.rows.Round.{Round}
 use Rattle.omega_model.specs.declared.rows.TraceTables.{TraceTables}
+use Rattle.omega_model.specs.declared.settings.Command.{Command}
+use Rattle.omega_model.specs.declared.settings.Command.TheVariants.{Audit, Generate, Replay, Resume, Run, Simulate}
 use Rattle.omega_model.specs.declared.settings.Settings.{Settings}
+use Rattle.omega_rounds.specs.Stages.{Stage, first_stage}
 use Rattle.omega_sim.specs.InBounds.{IsInBounds}
 use Rattle.omega_sim.specs.TimeLines.{lines_of_one, lines_of_time}
-use Rattle.omega_top.specs.Reports.{simulated_lines}
+use Rattle.omega_top.proofs.NewWorlds.{rounds_still}
+use Rattle.omega_top.specs.Reports.{AreRoundsOf, AreTimesBy, simulated_lines}
 
 one_few : (job : ℕ) (before : Option ℕ) (row : ActivityFields) (rows : List ActivityFields) (own : Bool) → (row.job == job) ≡ own
     → unwrap_or (last_or (Some row.activities) (map (λ row. row.activities) (filter (λ row. row.job == job) rows))) 0 ≤ most_activities
@@ -76,3 +81,30 @@ pub text_with_lines : (settings : Settings) (trace : TraceTables) (history : Lis
 text_with_lines settings trace history times text lines is of_time =
     is ∙ ap (λ (more : List ℕ). text_of (printed_lines settings trace history) ++ more) of_time
     ∙ sym (flat_map-append line_text (printed_lines settings trace history) (lines_of_time settings trace history times))
+
+-- whose commits have times is a simulated run, with these times
+pub simulated_by : (command : Command) (settings : Settings) (trace : TraceTables) (history : List Entry) (times : List Timed)
+    → AreTimesBy command settings trace history (Some times) → SimulatedWith settings trace history times
+simulated_by Simulate settings trace history times is = is
+simulated_by Replay settings trace history times is = absurd (cc)
+simulated_by Run settings trace history times is = absurd (cc)
+simulated_by Generate settings trace history times is = absurd (cc)
+simulated_by Resume settings trace history times is = absurd (cc)
+simulated_by Audit settings trace history times is = absurd (cc)
+
+-- the rounds of a run are those of its trace, from its new world on
+pub rounds_of_trace : (settings : Settings) (trace : TraceTables) (stage later : Stage)
+    → IsWithinLimits trace → All (λ row. row.activities ≤ most_activities) trace.activities → stage ≡ first_stage settings trace
+    → later.source ≡ stage.source → AreRoundsOf settings trace later.source.rounds
+rounds_of_trace settings trace stage later within few new source = record {
+  within = within;
+  few = few;
+  rounds = rounds_still settings trace stage later new source;
+}
+
+-- and its times those of its commits
+pub times_of_trace : (settings : Settings) (trace : TraceTables) (stage : Stage) (history : List Entry) (times : Option (List Timed))
+    → stage ≡ first_stage settings trace → AreTimesBy settings.command stage.settings trace history times
+    → AreTimesBy settings.command settings trace history times
+times_of_trace settings trace stage history times new timed =
+    subst (λ (at : Stage). AreTimesBy settings.command at.settings trace history times) new timed

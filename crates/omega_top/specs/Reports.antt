@@ -1,11 +1,15 @@
 -- The report of a run: of a simulated one with how long its schedulers decided and its jobs waited.
-use Rattle.std.specs.Prelude.{◌≡◌, ℕ, List, ◌++◌, Option, Some, None}
+use Rattle.std.specs.Prelude.{◌≡◌, ◌≤◌, ℕ, List, ◌++◌, All, Option, Some, None}
 use Rattle.omega_laws.specs.Simulated.{SimulatedWith}
 use Rattle.omega_laws.specs.VirtualTime.{Timed}
+use Rattle.omega_model.specs.Feed.{rounds}
+use Rattle.omega_model.specs.Fields.{most_activities}
+use Rattle.omega_model.specs.Limits.{IsWithinLimits}
 use Rattle.omega_model.specs.Report.{Line}
 use Rattle.omega_model.specs.ReportForms.{printed_report, text_of}
 use Rattle.omega_model.specs.ReportLines.{printed_lines}
 use Rattle.omega_model.specs.declared.entries.Entry.{Entry}
+use Rattle.omega_model.specs.declared.rows.Round.{Round}
 use Rattle.omega_model.specs.declared.rows.TraceTables.{TraceTables}
 use Rattle.omega_model.specs.declared.settings.Command.{Command}
 use Rattle.omega_model.specs.declared.settings.Command.TheVariants.{Audit, Generate, Replay, Resume, Run, Simulate}
@@ -24,6 +28,12 @@ pub record IsSimulatedReport (settings : Settings) (trace : TraceTables) (histor
   pub timed : SimulatedWith settings trace history times
   pub bytes : report ≡ in_wide_format settings.format (simulated_lines settings trace history times)
 
+-- these rounds are those of a trace that was read, which keeps its limits
+pub record AreRoundsOf (settings : Settings) (trace : TraceTables) (some : List Round) : Type 0 where
+  pub within : IsWithinLimits trace
+  pub few : All (λ row. row.activities ≤ most_activities) trace.activities
+  pub rounds : some ≡ rounds trace settings.window
+
 -- these are the times of the commits of a run of a command: only a simulated one has them
 abbrev pub AreTimesBy : Command → Settings → TraceTables → List Entry → Option (List Timed) → Type 0
 AreTimesBy Simulate settings trace history (Some times) = SimulatedWith settings trace history times
@@ -33,6 +43,12 @@ AreTimesBy Run settings trace history times = times ≡ None
 AreTimesBy Generate settings trace history times = times ≡ None
 AreTimesBy Resume settings trace history times = times ≡ None
 AreTimesBy Audit settings trace history times = times ≡ None
+
+-- these are the rounds, the history and the times of a run of some trace that was read
+pub record IsOfSomeTrace (settings : Settings) (some : List Round) (history : List Entry) (times : Option (List Timed)) : Type 0 where
+  pub trace : TraceTables
+  pub rounds : AreRoundsOf settings trace some
+  pub timed : AreTimesBy settings.command settings trace history times
 
 -- these bytes are the lines of time of a simulated history
 pub record AreLinesOfTime (settings : Settings) (trace : TraceTables) (history : List Entry) (lines : List ℕ) : Type 0 where

@@ -1,10 +1,9 @@
 //! The run of a trace.
-ghost use Rattle.std.specs.Prelude.{◌≡◌, ◌≢◌, ◌≤◌, All, List, true, IfOk};
+ghost use Rattle.std.specs.Prelude.{◌≡◌, ◌≢◌, ◌≤◌, All, List, Some, true, IfOk};
 ghost use Rattle.std.specs.Thread.{IsSync};
 ghost use Rattle.omega_cell.specs.Effects.{AreEffects};
 ghost use Rattle.omega_feed.specs.Left.{IsLeft};
 ghost use Rattle.omega_laws.specs.Simulated.{SimulatedWith};
-ghost use Rattle.omega_model.specs.Feed.{rounds};
 ghost use Rattle.omega_model.specs.Fields.{most_activities};
 ghost use Rattle.omega_model.specs.Lawful.{Lawful};
 ghost use Rattle.omega_model.specs.Limits.{IsWithinLimits};
@@ -17,7 +16,7 @@ ghost use Rattle.omega_model.specs.declared.settings.Command.TheVariants.{Run};
 ghost use Rattle.omega_rounds.specs.Stages.{AllHaveBegun, IsInRunOf};
 ghost use Rattle.omega_top.specs.Answers.{IsTheOnly};
 ghost use Rattle.omega_top.specs.Commands.{IsOrdered, OrderedBy, takes_turns};
-ghost use Rattle.omega_top.specs.Reports.{AreLinesOfTime, AreTimesBy, IsTimedBy};
+ghost use Rattle.omega_top.specs.Reports.{AreLinesOfTime, AreRoundsOf, AreTimesBy, IsOfSomeTrace, IsTimedBy};
 ghost use Rattle.omega_top.specs.SoundHistory.{IsSoundHistory};
 
 use omega_cell::Effects;
@@ -58,24 +57,26 @@ pub struct RunInput {
 pub fn replayed<R: Threads + Wait + Sync, G: Gate + Sync>(
     rt: &R,
     alloc: Global,
-    input: &RunInput,
+    input: RunInput,
     gate: &G,
 ) -> Result<WholeRun, NoMemory>
-    requires range { IsInRange input.now.settings }
-    requires within { IsWithinLimits input.now.trace }
+    requires range { IsInRange input.settings }
+    requires within { IsWithinLimits input.trace }
     requires sync { IsSync R.row × IsSync G.row }
-    ensures lawful { IfOk result (λ run. Lawful input.now.settings input.now.trace run.history) }
-    ensures ordered { IfOk result (λ run. IsOrdered input.now.settings input.now.trace run.history) }
-    ensures timed { IfOk result (λ run. IsTimedBy input.now.settings.command input.now.settings input.now.trace run.history run.time) }
-    ensures turns { takes_turns input.now.settings.command ≡ true → IfOk result (λ run. InTurns run.history) }
-    ensures only { input.now.settings.command ≢ Run → IfOk result (λ run. IsTheOnly input.now.settings input.now.trace run.history) }
+    ensures lawful { IfOk result (λ run. Lawful input.settings input.trace run.history) }
+    ensures ordered { IfOk result (λ run. IsOrdered input.settings input.trace run.history) }
+    ensures timed { IfOk result (λ run. IsTimedBy input.settings.command input.settings input.trace run.history run.time) }
+    ensures turns { takes_turns input.settings.command ≡ true → IfOk result (λ run. InTurns run.history) }
+    ensures only { input.settings.command ≢ Run → IfOk result (λ run. IsTheOnly input.settings input.trace run.history) }
     ensures effects { IfOk result (λ run. AreEffects run.history run.effects) }
     ensures sound { IfOk result (λ run. IsSoundHistory run.history) }
-    ensures left { IfOk result (λ run. IsLeft input.now.trace (state run.history) run.left) }
+    ensures left { IfOk result (λ run. IsLeft input.trace (state run.history) run.left) }
 {
-    let world = World::new(alloc, &input.settings, &input.trace)?;
-    let (world, times) = run_to_end(rt, input.settings.command, world, gate)?;
-    let time = lines_of_time(alloc, input, &world, times)?;
+    let RunInput { settings, trace } = input;
+    activities_are_few(trace.activities.as_slice());
+    let world = World::new(alloc, &settings, trace)?;
+    let (world, times) = run_to_end(rt, settings.command, world, gate)?;
+    let time = lines_of_time(alloc, &settings, &world, times)?;
     Ok(whole_run(world, time)?)
 }
 
@@ -133,23 +134,23 @@ fn run_to_end<R: Threads + Wait + Sync, G: Gate + Sync>(
 }
 
 /// The lines that say how long the schedulers of a run decided and how long its jobs waited, if its commits
-/// have these times.
+/// have these times. The world is that of a trace that was read.
 fn lines_of_time(
     alloc: Global,
-    input: &RunInput,
+    settings: &Settings,
     world: &World,
     times: Option<Times>,
 ) -> Result<Option<Bytes>, NoMemory>
-    requires range { IsInRange input.now.settings }
-    requires within { IsWithinLimits input.now.trace }
-    requires rounds { world.now.stage.source.rounds ≡ rounds input.now.trace input.now.settings.window }
-    requires times { AreTimesBy input.now.settings.command input.now.settings input.now.trace world.now.history times }
-    ensures { IfOk result (λ lines. IsTimedBy input.now.settings.command input.now.settings input.now.trace world.now.history lines) }
+    requires range { IsInRange settings.now }
+    requires run { IsOfSomeTrace settings.now world.now.stage.source.rounds world.now.history times }
+    ensures { (trace : TraceTables) → AreRoundsOf settings.now trace world.now.stage.source.rounds
+        → AreTimesBy settings.now.command settings.now trace world.now.history times
+        → IfOk result (λ lines. IsTimedBy settings.now.command settings.now trace world.now.history lines) }
 {
     match times {
         None => Ok(None),
         Some(times) => {
-            let lines = lines_of_simulated(alloc, input, world, times.as_slice())?;
+            let lines = lines_of_simulated(alloc, settings, world, times.as_slice())?;
             Ok(Some(lines))
         }
     }
@@ -158,19 +159,18 @@ fn lines_of_time(
 /// The lines that say how long the schedulers of a simulated run decided and how long its jobs waited.
 fn lines_of_simulated(
     alloc: Global,
-    input: &RunInput,
+    settings: &Settings,
     world: &World,
     times: &[Timed],
 ) -> Result<Bytes, NoMemory>
-    requires range { IsInRange input.now.settings }
-    requires within { IsWithinLimits input.now.trace }
-    requires rounds { world.now.stage.source.rounds ≡ rounds input.now.trace input.now.settings.window }
-    requires times { SimulatedWith input.now.settings input.now.trace world.now.history times.now }
-    ensures { IfOk result (AreLinesOfTime input.now.settings input.now.trace world.now.history) }
+    requires range { IsInRange settings.now }
+    requires run { IsOfSomeTrace settings.now world.now.stage.source.rounds world.now.history (Some times.now) }
+    ensures { (trace : TraceTables) → AreRoundsOf settings.now trace world.now.stage.source.rounds
+        → SimulatedWith settings.now trace world.now.history times.now
+        → IfOk result (AreLinesOfTime settings.now trace world.now.history) }
 {
-    activities_are_few(input.trace.activities.as_slice());
     let arrivals = Arrivals::of(alloc, world.rounds())?;
-    time_lines(alloc, &input.settings, &arrivals, world.history(), times)
+    time_lines(alloc, settings, &arrivals, world.history(), times)
 }
 
 /// No job has more activities than a row can say: the type of a row keeps it.

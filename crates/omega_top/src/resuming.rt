@@ -34,25 +34,25 @@ use std::thread::Threads;
 pub fn run_of<R: Threads + Wait + Sync, G: Gate + Sync, P: Keeper>(
     rt: &R,
     alloc: Global,
-    input: &RunInput,
+    input: RunInput,
     gate: &G,
     keeper: &mut P,
 ) -> Result<WholeRun, Status>
-    requires range { IsInRange input.now.settings }
-    requires within { IsWithinLimits input.now.trace }
+    requires range { IsInRange input.settings }
+    requires within { IsWithinLimits input.trace }
     requires sync { IsSync R.row × IsSync G.row }
-    ensures lawful { IfOk result (λ run. Lawful input.now.settings input.now.trace run.history) }
-    ensures ordered { IfOk result (λ run. IsOrdered input.now.settings input.now.trace run.history) }
-    ensures timed { IfOk result (λ run. IsTimedBy input.now.settings.command input.now.settings input.now.trace run.history run.time) }
-    ensures turns { takes_turns input.now.settings.command ≡ true → IfOk result (λ run. InTurns run.history) }
-    ensures only { input.now.settings.command ≢ Run → IfOk result (λ run. IsTheOnly input.now.settings input.now.trace run.history) }
+    ensures lawful { IfOk result (λ run. Lawful input.settings input.trace run.history) }
+    ensures ordered { IfOk result (λ run. IsOrdered input.settings input.trace run.history) }
+    ensures timed { IfOk result (λ run. IsTimedBy input.settings.command input.settings input.trace run.history run.time) }
+    ensures turns { takes_turns input.settings.command ≡ true → IfOk result (λ run. InTurns run.history) }
+    ensures only { input.settings.command ≢ Run → IfOk result (λ run. IsTheOnly input.settings input.trace run.history) }
     ensures effects { IfOk result (λ run. AreEffects run.history run.effects) }
     ensures sound { IfOk result (λ run. IsSoundHistory run.history) }
-    ensures left { IfOk result (λ run. IsLeft input.now.trace (state run.history) run.left) }
-    ensures stops { IfErr result (StopsBy input.now.settings.command) }
-    ensures kept { input.now.settings.command ≡ Resume → IfOk result (λ run. KeepsWhole (P.kept keeper.old) (P.kept keeper.new) run.history) }
-    ensures refused { input.now.settings.command ≡ Resume → IfErr result (StopsFrom input.now.settings input.now.trace (P.kept keeper.old) (P.kept keeper.new)) }
-    ensures stays { input.now.settings.command ≢ Resume → StaysAtKeeper (P.kept keeper.old) (P.kept keeper.new) (P.faults keeper.old) (P.faults keeper.new) }
+    ensures left { IfOk result (λ run. IsLeft input.trace (state run.history) run.left) }
+    ensures stops { IfErr result (StopsBy input.settings.command) }
+    ensures kept { input.settings.command ≡ Resume → IfOk result (λ run. KeepsWhole (P.kept keeper.old) (P.kept keeper.new) run.history) }
+    ensures refused { input.settings.command ≡ Resume → IfErr result (StopsFrom input.settings input.trace (P.kept keeper.old) (P.kept keeper.new)) }
+    ensures stays { input.settings.command ≢ Resume → StaysAtKeeper (P.kept keeper.old) (P.kept keeper.new) (P.faults keeper.old) (P.faults keeper.new) }
     ensures cause { IfErr result (λ status. status ≡ KeepFault → Rose (P.faults keeper.old) (P.faults keeper.new)) }
     ensures path { P.entered keeper.new ≡ P.entered keeper.old }
     ensures later { P.faults keeper.old ≤ P.faults keeper.new }
@@ -70,27 +70,28 @@ pub fn run_of<R: Threads + Wait + Sync, G: Gate + Sync, P: Keeper>(
 fn resumed<R: Threads + Sync, P: Keeper>(
     rt: &R,
     alloc: Global,
-    input: &RunInput,
+    input: RunInput,
     keeper: &mut P,
 ) -> Result<WholeRun, Status>
     requires sync { IsSync R.row }
-    requires range { IsInRange input.now.settings }
-    requires command { input.now.settings.command ≡ Resume }
-    ensures lawful { IfOk result (λ run. Lawful input.now.settings input.now.trace run.history) }
-    ensures timed { IfOk result (λ run. IsTimedBy input.now.settings.command input.now.settings input.now.trace run.history run.time) }
+    requires range { IsInRange input.settings }
+    requires command { input.settings.command ≡ Resume }
+    ensures lawful { IfOk result (λ run. Lawful input.settings input.trace run.history) }
+    ensures timed { IfOk result (λ run. IsTimedBy input.settings.command input.settings input.trace run.history run.time) }
     ensures turns { IfOk result (λ run. InTurns run.history) }
-    ensures only { IfOk result (λ run. IsTheOnly input.now.settings input.now.trace run.history) }
+    ensures only { IfOk result (λ run. IsTheOnly input.settings input.trace run.history) }
     ensures effects { IfOk result (λ run. AreEffects run.history run.effects) }
     ensures sound { IfOk result (λ run. IsSoundHistory run.history) }
-    ensures left { IfOk result (λ run. IsLeft input.now.trace (state run.history) run.left) }
+    ensures left { IfOk result (λ run. IsLeft input.trace (state run.history) run.left) }
     ensures kept { IfOk result (λ run. KeepsWhole (P.kept keeper.old) (P.kept keeper.new) run.history) }
-    ensures refused { IfErr result (StopsFrom input.now.settings input.now.trace (P.kept keeper.old) (P.kept keeper.new)) }
+    ensures refused { IfErr result (StopsFrom input.settings input.trace (P.kept keeper.old) (P.kept keeper.new)) }
     ensures cause { IfErr result (λ status. status ≡ KeepFault → Rose (P.faults keeper.old) (P.faults keeper.new)) }
     ensures path { P.entered keeper.new ≡ P.entered keeper.old }
     ensures later { P.faults keeper.old ≤ P.faults keeper.new }
 {
+    let RunInput { settings, trace } = input;
     let kept = load(keeper)?;
-    let Ok(world) = World::new(alloc, &input.settings, &input.trace) else {
+    let Ok(world) = World::new(alloc, &settings, trace) else {
         return Err(Status::NoMemory);
     };
     let world = resume_turns(rt, world, &kept, keeper)?;

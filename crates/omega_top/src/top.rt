@@ -213,7 +213,7 @@ pub fn omega_with<R: Threads + Wait + Sync, T: Tables, K: Sink, G: Gate + Sync, 
                     settings: *settings,
                     trace,
                 };
-                replay_and_write(rt, alloc, &input, out, gate, keeper)
+                replay_and_write(rt, alloc, input, out, gate, keeper)
             }
             Err(refusal) => refused(alloc, Status::from(refusal), Some(*settings)),
         },
@@ -237,43 +237,44 @@ fn refused(alloc: Global, status: Status, settings: Option<Settings>) -> Done
 fn replay_and_write<R: Threads + Wait + Sync, K: Sink, G: Gate + Sync, P: Keeper>(
     rt: &R,
     alloc: Global,
-    input: &RunInput,
+    input: RunInput,
     out: &mut K,
     gate: &G,
     keeper: &mut P,
 ) -> Done
-    requires range { IsInRange input.now.settings }
-    requires within { IsWithinLimits input.now.trace }
+    requires range { IsInRange input.settings }
+    requires within { IsWithinLimits input.trace }
     requires sync { IsSync R.row × IsSync G.row }
-    ensures settings { result.settings ≡ Some input.now.settings }
-    ensures ends { EndsBy input.now.settings.command result.status }
-    ensures resume { input.now.settings.command ≡ Resume
-        → IsResume input.now.settings input.now.trace (P.kept keeper.old) (P.kept keeper.new) result.history result.status }
-    ensures keeper { input.now.settings.command ≢ Resume
+    ensures settings { result.settings ≡ Some input.settings }
+    ensures ends { EndsBy input.settings.command result.status }
+    ensures resume { input.settings.command ≡ Resume
+        → IsResume input.settings input.trace (P.kept keeper.old) (P.kept keeper.new) result.history result.status }
+    ensures keeper { input.settings.command ≢ Resume
         → StaysAtKeeper (P.kept keeper.old) (P.kept keeper.new) (P.faults keeper.old) (P.faults keeper.new) }
     ensures keep_fault { result.status ≡ KeepFault → RoseOfKeeper (P.faults keeper.old) (P.faults keeper.new) }
     ensures kept_path { P.entered keeper.new ≡ P.entered keeper.old }
     ensures kept_later { P.faults keeper.old ≤ P.faults keeper.new }
     ensures cause { result.status ≡ WriteFault → Rose (K.faults out.old) (K.faults out.new) }
-    ensures lawful { IsWholeRun input.now.settings input.now.trace result.history result.status }
-    ensures only { input.now.settings.command ≢ Run → IsOnlyRun input.now.settings input.now.trace result.history result.status }
-    ensures ordered { IsOrderedRun input.now.settings input.now.trace result.history result.status }
-    ensures turns { takes_turns input.now.settings.command ≡ true → InTurns result.history }
+    ensures lawful { IsWholeRun input.settings input.trace result.history result.status }
+    ensures only { input.settings.command ≢ Run → IsOnlyRun input.settings input.trace result.history result.status }
+    ensures ordered { IsOrderedRun input.settings input.trace result.history result.status }
+    ensures turns { takes_turns input.settings.command ≡ true → InTurns result.history }
     ensures sound { IsSoundHistory result.history }
     ensures history { HasHistory result.history result.status }
-    ensures written { IsWritten input.now.settings input.now.trace result.history result.status (K.written out.old) (K.written out.new) }
+    ensures written { IsWritten input.settings input.trace result.history result.status (K.written out.old) (K.written out.new) }
 {
+    let settings = input.settings;
     let whole = match run_of(rt, alloc, input, gate, keeper) {
         Ok(whole) => whole,
-        Err(status) => return refused(alloc, status, Some(input.settings)),
+        Err(status) => return refused(alloc, status, Some(settings)),
     };
-    let Ok(bytes) = report_of_run(alloc, &input.settings, &whole) else {
-        return refused(alloc, Status::NoMemory, Some(input.settings));
+    let Ok(bytes) = report_of_run(alloc, &settings, &whole) else {
+        return refused(alloc, Status::NoMemory, Some(settings));
     };
     let status = write(out, bytes.as_slice());
     Done {
         status,
-        settings: Some(input.settings),
+        settings: Some(settings),
         history: whole.history,
     }
 }

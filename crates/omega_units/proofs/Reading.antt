@@ -57,9 +57,9 @@ room_last number place count most all room =
     let one : 10 ^ (count - place) ≡ 1 = ap (λ n. 10 ^ n) none in
     omega (arith, rw one at room)
 
--- a text of 32 bytes has room
-pub room_first : (count : ℕ) → count ≤ 32 → (0 + 1) * 10 ^ count ≤ 10 ^ 32
-room_first count short = let power : 10 ^ count ≤ 10 ^ 32 = pow-le-pow_right (omega arith) short in omega (arith, power)
+-- a text of no more digits than so many has room
+pub room_first : (count most : ℕ) → count ≤ most → (0 + 1) * 10 ^ count ≤ 10 ^ most
+room_first count most short = let power : 10 ^ count ≤ 10 ^ most = pow-le-pow_right (omega arith) short in omega (arith, power)
 
 -- a text behind another goes on with the number of the other
 pub number_after_append : (start : ℕ) (xs ys : List ℕ) → number_after start (xs ++ ys) ≡ option_and_then (λ n. number_after n ys) (number_after start xs)
@@ -78,12 +78,12 @@ bound_grows None low high le bound = tt
 bound_grows (Some n) low high le bound = omega arith
 
 -- behind the digits of one text there is room for those of another
-pub room_behind : (number front back : ℕ) → number + 1 ≤ (0 + 1) * 10 ^ front → front + back ≤ 32 → (number + 1) * 10 ^ back ≤ 10 ^ 32
-room_behind number front back bound short =
+pub room_behind : (number front back most : ℕ) → number + 1 ≤ (0 + 1) * 10 ^ front → front + back ≤ most → (number + 1) * 10 ^ back ≤ 10 ^ most
+room_behind number front back most bound short =
     let more : (number + 1) * 10 ^ back ≤ ((0 + 1) * 10 ^ front) * 10 ^ back = mul-le-mul_right (10 ^ back) bound in
     let sum : 10 ^ (front + back) ≡ 10 ^ front * 10 ^ back = pow-add 10 front back in
-    let most : 10 ^ (front + back) ≤ 10 ^ 32 = pow-le-pow_right (omega arith) short in
-    omega (arith, more, sum, most)
+    let fits : 10 ^ (front + back) ≤ 10 ^ most = pow-le-pow_right (omega arith) short in
+    omega (arith, more, sum, fits)
 
 -- two texts of digits one behind the other
 pub number_joined : (front back : List ℕ) → length front + length back ≢ 0 → number (front ++ back) ≡ option_and_then (λ n. number_after n back) (number_after 0 front)

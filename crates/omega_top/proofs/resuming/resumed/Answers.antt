@@ -13,7 +13,7 @@ returns-in_err-world-clause-refused g c =
     let p = err_from_is_err_and c.from_residual-in_err-world.result c.from_residual-in_err-world.ensures.1 in
     let refusal = c.in_err-world.field-0.0 in
     let now = g.P.Keeper.kept c.resume_turns.new.keeper in
-    rw (p.1, p.2) (stops_from c.args.input.now.settings c.args.input.now.trace c.in-Ok.world.stage c.in-Ok.ensures.stage (g.P.Keeper.kept c.args.keeper.now) now c.in_ok-kept.kept
+    rw (p.1, p.2) (stops_from c.args.input.settings c.args.input.trace c.in-Ok.world.stage c.in-Ok.ensures.stage (g.P.Keeper.kept c.args.keeper.now) now c.in_ok-kept.kept
     c.in_ok-kept.ensures.lines refusal c.in_err-world.ensures.refused
     (subst (λ (list : Option (List (List ℕ))). LeavesKept c.in-Ok.world.stage c.in_ok-kept.kept list now refusal) c.load.ensures.list c.in_err-world.ensures.rounds))
 
@@ -26,8 +26,8 @@ returns-in-Ok-whole_run-clause-kept g c =
 
 pub returns-clause-refused : goal.returns-clause-refused
 returns-clause-refused g c =
-    let settings = c.args.input.now.settings in
-    let trace = c.args.input.now.trace in
+    let settings = c.args.input.settings in
+    let trace = c.args.input.trace in
     let now = g.P.Keeper.kept c.resume_turns.new.keeper in
     let history = c.in_ok-world.world.history in
     let new = c.in-Ok.ensures.stage in

@@ -12,8 +12,8 @@ pub returns-clause-written : goal.returns-clause-written
 returns-clause-written g c =
     let before = g.K.Sink.written c.args.out.now in
     let now = g.K.Sink.written c.write-status.new.out in
-    let settings = c.args.input.now.settings in
-    let trace = c.args.input.now.trace in
+    let settings = c.args.input.settings in
+    let trace = c.args.input.trace in
     let run = c.in-Ok.whole in
     let said = c.in-Ok-report_of_run.ensures trace c.in-Ok.ensures.lawful c.in-Ok.ensures.left c.in-Ok.ensures.timed in
     written_if settings trace run.history c.write-status.result before now c.in-Ok-report_of_run.bytes said
@@ -21,8 +21,8 @@ returns-clause-written g c =
 
 pub returns-in_default-clause-resume : goal.returns-in_default-clause-resume
 returns-in_default-clause-resume g c =
-    let settings = c.args.input.now.settings in
-    let trace = c.args.input.now.trace in
+    let settings = c.args.input.settings in
+    let trace = c.args.input.trace in
     let before = g.P.Keeper.kept c.args.keeper.now in
     let now = g.P.Keeper.kept c.run_of.new.keeper in
     let run = c.in-Ok.whole in

@@ -4,10 +4,10 @@ use Rattle.omega_units.proofs.Reading.{room_first, room_behind, bound_grows, num
 use Rattle.omega_units.proofs.digits.read_joined.Goals as goal
 
 pub read_digits-requires : goal.read_digits-requires
-read_digits-requires c = room_first (length c.args.front.now) (omega arith)
+read_digits-requires c = room_first (length c.args.front.now) 32 (omega arith)
 
 pub read_digits-requires-2 : goal.read_digits-requires-2
-read_digits-requires-2 c = room_behind c.in_ok-value.value (length c.args.front.now) (length c.args.back.now) c.in_ok-value.ensures.bound c.requires
+read_digits-requires-2 c = room_behind c.in_ok-value.value (length c.args.front.now) (length c.args.back.now) 32 c.in_ok-value.ensures.bound c.requires
 
 pub returns-in_err-value-clause-value : goal.returns-in_err-value-clause-value
 returns-in_err-value-clause-value c =
@@ -21,4 +21,4 @@ returns-clause-value c =
 
 pub returns-clause-bound : goal.returns-clause-bound
 returns-clause-bound c =
-    bound_grows _ _ _ (room_behind c.in_ok-value.value (length c.args.front.now) (length c.args.back.now) c.in_ok-value.ensures.bound c.requires) c.read_digits-2.ensures.bound
+    bound_grows _ _ _ (room_behind c.in_ok-value.value (length c.args.front.now) (length c.args.back.now) 32 c.in_ok-value.ensures.bound c.requires) c.read_digits-2.ensures.bound

@@ -8,15 +8,15 @@ use Rattle.omega_rounds.proofs.world.World.new.Goals as goal
 
 pub invariant_of-result : goal.invariant_of-result
 invariant_of-result c = (
-  world_new c.args.settings.now c.args.tables.now c.in_ok-rounds.rounds c.in_ok-wanted.wanted c.new-2.result.history c.in_ok-workers.workers.items c.requires
-      (c.in_ok-rounds.ensures c.args.tables.now c.in_ok-rows.ensures) c.in_ok-wanted.ensures c.new-2.ensures c.in_ok-workers.ensures,
-  all_quiet c.new-open_jobs.result c.in_ok-wanted.wanted (state (take 0 c.new-2.result.history)).tasks (ap (λ (asked : Asked). asked.tasks) c.in_ok-wanted.ensures),
-  c.new-3.ensures c.new-2.result.history,
+  world_new c.args.settings.now c.args.tables c.in_ok-rounds.rounds c.in_ok-rows.wanted c.new.result.history c.in_ok-workers.workers.items c.requires
+      (c.in_ok-rounds.ensures c.args.tables c.in_ok-rows.ensures.rows) c.in_ok-rows.ensures.wanted c.new.ensures c.in_ok-workers.ensures,
+  all_quiet c.new-open_jobs.result c.in_ok-rows.wanted (state (take 0 c.new.result.history)).tasks (ap (λ (asked : Asked). asked.tasks) c.in_ok-rows.ensures.wanted),
+  c.new-2.ensures c.new.result.history,
 )
 
 pub returns-clause-is_new : goal.returns-clause-is_new
 returns-clause-is_new c =
-    is_new c.args.settings.now (schedulers c.args.settings.now) c.new-2.result.history c.in_ok-workers.workers.items c.new-2.ensures c.in_ok-workers.ensures
+    is_new c.args.settings.now (schedulers c.args.settings.now) c.new.result.history c.in_ok-workers.workers.items c.new.ensures c.in_ok-workers.ensures
 
 pub returns-clause-to_do : goal.returns-clause-to_do
 returns-clause-to_do c = nothing_to_do c.args.settings.now (schedulers c.args.settings.now) c.in_ok-workers.workers.items c.in_ok-workers.ensures

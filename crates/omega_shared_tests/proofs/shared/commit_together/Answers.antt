@@ -3,7 +3,7 @@ use denote.Param.{param}
 use denote.Param.Send.{IsSync, param_sync, sendable}
 use Rattle.std.proofs.Crossing.{crosses, sync}
 use Rattle.omega_shared.proofs.Crossing.{pass_send, shared_sync}
-use Rattle.omega_rounds_tests.proofs.shared.commit_together.Goals as goal
+use Rattle.omega_shared_tests.proofs.shared.commit_together.Goals as goal
 
 pub join-first-requires-send-F : goal.join-first-requires-send-F
 join-first-requires-send-F g c κs within =
