@@ -36,7 +36,7 @@ fn main(rt: HostRuntime) -> ExitCode {
         },
         Err(status) => status,
     };
-    // What is kept stays kept where this fails: then a part of it is in the log beside the file.
+    // Where this fails nothing that is kept is lost: a part of it stays in the log beside the file.
     let _ = keeper.close();
     let line = fault_line(&status);
     if !line.as_bytes().is_empty() {
@@ -46,7 +46,7 @@ fn main(rt: HostRuntime) -> ExitCode {
     ExitCode::from(exit_status(&status))
 }
 
-/// The program's name and its words. Words that can't be had as text are words that are refused.
+/// The program's name and its words. Words that can't be had as text are answered as `Usage`.
 fn arguments(rt: &HostRuntime) -> Result<Vec<String>, Status> {
     let arguments = match env::args(rt) {
         Ok(arguments) => arguments,

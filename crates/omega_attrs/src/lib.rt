@@ -12,8 +12,8 @@ use omega_units::read_u64;
 /// Whether a constraint holds of the attributes of a machine.
 ///
 /// An attribute that is unset is equal to the empty value alone. `Less` and `Greater` compare whole
-/// numbers, and never hold where the attribute or the value isn't one. Of several attributes of one
-/// name the first counts. One pass over the attributes.
+/// numbers below 2^64, and never hold where the attribute is unset, or it or the value isn't such a
+/// number. Of several attributes of one name the first counts. One pass over the attributes.
 pub fn holds(constraint: &Constraint, attrs: &Attrs) -> bool
     ensures { result ≡ holds constraint.now attrs.now }
 {

@@ -36,7 +36,7 @@ fn read_piece<T: Tables>(tables: &mut T, table: Table) -> (Result<usize, Failed>
 /// A table, and what a read of it in a piece of four bytes is to answer, with the piece after it.
 type Wanted = (Table, Result<usize, Failed>, [u8; 4]);
 
-/// The place of the first of these reads that answers something else.
+/// The place of the first of these reads that isn't answered as it is to be.
 fn first_wrong<T: Tables>(tables: &mut T, reads: &[Wanted]) -> Option<usize> {
     for (place, (table, answer, piece)) in reads.iter().enumerate() {
         if read_piece(tables, *table) != (*answer, *piece) {
@@ -49,7 +49,7 @@ fn first_wrong<T: Tables>(tables: &mut T, reads: &[Wanted]) -> Option<usize> {
 /// A folder that is entered, if any, and the reads then.
 type Visit = (Option<&'static str>, &'static [Wanted]);
 
-/// The places of the first visit with a read that answers something else, and of that read in it.
+/// The place of the first visit with a read that isn't answered as it is to be, and that of the read in it.
 fn first_wrong_visit<T: Tables>(
     tables: &mut T,
     visits: &[Visit],

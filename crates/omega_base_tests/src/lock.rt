@@ -48,8 +48,8 @@ fn take_turns<R: Wait>(rt: &R, lock: &Lock<Tally>, mut seat: Seat<Tally>, most: 
     seat
 }
 
-/// What callers leave that each take all turns in a thread of their own, but for the first so many, which end
-/// after a few. Where memory runs out there is nothing, and the lock is dropped.
+/// What is left where each caller takes all its turns on a thread of its own, but for the first `first` callers,
+/// which end after `few` turns. `None` where memory runs out; then the lock is dropped.
 fn count_turns<R: Threads + Wait + Sync>(
     rt: &R,
     alloc: Global,

@@ -1,4 +1,4 @@
-//! Agendas and lines of time of which nothing happens.
+//! An agenda with two equal times, and the lines of time of a run without a round.
 use omega_model::Settings;
 use omega_sim::{Agenda, Arrivals, time_lines};
 use std::test::Fail;

@@ -1,5 +1,5 @@
--- What is answered to a claim by one who knows the machine's sequence number now, and in the scheduler's
--- copy if it is to be the same.
+-- What is answered to a claim, where the machine's sequence number now is given, and the one in the scheduler's
+-- copy if the two have to be the same.
 use Rattle.std.specs.Prelude.{◌≡◌, ℕ, Bool, true, false, List, [], Option, Some, None, ◌==◌, not}
 use Rattle.omega_model.specs.Cell.{Cell, goes_before, task_at}
 use Rattle.omega_model.specs.Judge.{judged_given, refusal_if}

@@ -42,7 +42,7 @@ ChangedAlone changed (old ∷ before) [] = ⊥
 ChangedAlone changed (old ∷ before) (row ∷ after) =
     ((row.id ≡ old.id) × (changed row.id ≡ false → row ≡ old)) × ChangedAlone changed before after
 
--- a cell for which a board can stand: it is sound, its tasks are in order of name, there is room for its
+-- a cell for which a board can stand: it is sound, its tasks are in order of key, there is room for its
 -- machines, and their capacities are in range
 pub record CanStand (cell : Cell) : Type 0 where
   pub sound : Sound cell

@@ -24,9 +24,10 @@ impl Board {
     /// more entry. Answers the names of the tasks that a change of their machine stops, in the order
     /// in which they stop. Where memory runs out, the machines and tasks stay, and no room is lost.
     ///
-    /// A capacity is at most 10^12 units of each kind, there are at most 65,536 machines, no number
-    /// that rises is 2^64 - 1 already, an end names a task that runs on its machine, and the placed
-    /// claims of a commit can be placed one after the other, each with what the reply says it evicts.
+    /// A capacity is at most 10^12 units of each kind, there are at most 65,536 machines, no sequence
+    /// number that rises is 2^64 - 1 already, an end names a task that runs on its machine, and the
+    /// placed claims of a commit can be placed one after the other, each with what the reply says it
+    /// evicts.
     ///
     /// Costs what the entry changes; an attribute's entry the logarithm of the machine's attributes, and
     /// those behind one that is deleted. Where it displaces a task, it costs the tasks on the machine,

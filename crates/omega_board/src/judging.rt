@@ -18,11 +18,11 @@ use omega_model::{Claim, Need, Task, TaskKey, Verdict};
 use omega_running::{is_among, key_lt};
 
 impl Board {
-    /// The verdict on a claim, never `Withdrawn`, and in `evicted`, which is empty before, the
-    /// victims that the claim evicts, in their order: none where it isn't placed. `copy_seq` is the
-    /// sequence number of the claim's machine in the copy on which the claim was planned, or `None`
-    /// where changes don't matter. Where the machine has another one now, is up, and the task doesn't
-    /// run, the verdict is `Changed`.
+    /// The verdict on a claim, never `Withdrawn`, and in `evicted` the victims that the claim evicts, in
+    /// their order: none where it isn't placed. `evicted` is empty before, and has room for all victims.
+    /// `copy_seq` is the sequence number that the claim's machine had in the copy on which the claim was
+    /// planned, or `None` where changes don't matter. Where the machine has another one now, is up, and
+    /// the task doesn't run, the verdict is `Changed`.
     ///
     /// Costs the claim's victims, each of them looked up; one that doesn't come behind all those before
     /// it, in order of eviction, is looked for among them too. With the different-machines flag it
@@ -175,8 +175,8 @@ impl Board {
     }
 
     /// Refused where the claim must be alone of its job and another task of the job stays on its
-    /// machine. The claim's list serves for its victims that stand: of the tasks there these are the
-    /// same.
+    /// machine. The claim's whole list serves for its victims that stand, since the others on it don't
+    /// run there.
     fn same_job(&self, claim: &Claim) -> Option<Verdict>
         ensures { result ≡ same_job (cell_of self.now) claim.now }
     {

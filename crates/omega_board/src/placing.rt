@@ -50,10 +50,9 @@ impl Board {
         Ok(undo)
     }
 
-    /// Places a claim that is judged `Placed` without a number of a copy, and to evict these tasks:
-    /// they stop and its task runs. Sequence numbers stay. The undo has room for the claim and all
-    /// its victims, which is used up, and it still takes the board back to its reserve. Costs the
-    /// tasks that stop.
+    /// Places a claim to which `judge` without a `copy_seq` answers `Placed` and these evicted tasks:
+    /// they stop and its task runs. Sequence numbers stay. The undo has room for the claim and all its
+    /// victims; this uses that room up, and `undo` takes back this claim too. Costs the tasks that stop.
     pub fn apply_placed(&mut self, claim: &Claim, evicted: &[TaskKey], undo: &mut Undo)
         requires placed { judge_fine (cell_of self.old) claim.now ≡ record { verdict = Placed; evicted = evicted.now } }
         requires undo { IsUndoOf self.old undo.old }

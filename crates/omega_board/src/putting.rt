@@ -48,7 +48,7 @@ impl Board {
         Ok(board)
     }
 
-    /// The parts of all machines, which lead from the bare board to this one.
+    /// The parts of all machines, which lead from the empty board to this one.
     fn parts(&self, alloc: Global) -> Result<Parts, NoMemory>
         ensures { IfOk result (λ parts. LeadTo bare parts (whole self.now)) }
     {

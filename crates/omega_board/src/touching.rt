@@ -12,7 +12,7 @@ use omega_model::{Claim, Claims, Judgement, Judgements};
 
 impl Board {
     /// Counts a commit on each machine on which it placed a claim, once. These machines are in the
-    /// list, and none of their numbers is 2^64 - 1. `room` is empty, and has room for the number of a
+    /// list, and none of their sequence numbers is 2^64 - 1. `room` is empty, and has room for the number of a
     /// machine for each claim. Costs the claims, which are sorted by machine.
     pub fn touch_placed(&mut self, claims: &Claims, reply: &Judgements, room: Vec<u64>)
         requires listed { (id : ℕ) → IsTrue (list_any (places_on id) (zip claims.now reply.now)) → IsTrue (is_listed id (machines_of self.old.table)) }

@@ -92,7 +92,7 @@ impl Undo {
         self.claims -= 1;
     }
 
-    /// Gives up room for so many victims.
+    /// Takes off the room for so many victims, which isn't needed.
     pub(crate) fn give_up(&mut self, victims: usize)
         requires { victims ≤ self.old.victims }
         ensures log { self.new.log ≡ self.old.log }

@@ -23,7 +23,7 @@ use std::alloc::Global;
 /// verdict and the tasks that are evicted, `judge CLAIM NUMBER` does so where the machine has this
 /// sequence number in the copy. `place CLAIM` answers the same, and applies a commit of the claim where
 /// it is placed. `try CLAIM` and `trial CLAIM` place it and take it back, and answer besides what `at`
-/// does meanwhile; the one makes room for the claim, the other for one claim and then for victims.
+/// does meanwhile; `try` makes room for the claim at once, `trial` for any one claim and then for its victims.
 /// `copy` has a copy of the board take its place.
 ///
 /// `at MACHINE` answers how many entries touched the machine, how many tasks run on all machines and

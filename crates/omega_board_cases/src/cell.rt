@@ -16,7 +16,8 @@ use omega_calls::{Fault, GREATEST, claim, is_colon, need, number, part, task, te
 use omega_cell::Cell;
 use omega_copy::PrivateCopy;
 use omega_model::{
-    Bytes, Claims, Copied, Delta, Entry, Need, NoMemory, Outcome, Reply, Rule, TaskKey, Txn,
+    Bytes, Claims, Copied, Delta, Entry, MOST_MACHINES, Need, NoMemory, Outcome, Reply, Rule,
+    TaskKey, Txn,
 };
 use std::alloc::Global;
 
@@ -209,7 +210,7 @@ fn feed(cell: &mut Cell, alloc: Global, entry: Entry) -> Result<(), Fault>
 fn has_room(cell: &Cell) -> bool
     ensures { IsTrue result → length (state cell.now.history).machines < most_machines }
 {
-    cell.board().machines().len() < 65_536
+    cell.board().machines().len() < MOST_MACHINES
 }
 
 /// Takes the copy up to the history, and appends how many entries it has seen.

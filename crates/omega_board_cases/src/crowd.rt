@@ -5,7 +5,7 @@ use omega_calls::{Fault, GREATEST, add, commit_claim, end};
 use omega_model::{Claim, Keys, Need, Spec, TaskKey, Verdict};
 use std::alloc::Global;
 
-/// Tasks are placed on the machines of a new board, which came up, and end. Appends how many, and the load.
+/// Brings the machines of a new board up, places tasks on them and ends these. Appends how many, and the load.
 pub(crate) fn many(
     alloc: Global,
     machines: u64,

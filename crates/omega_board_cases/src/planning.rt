@@ -267,7 +267,7 @@ fn show_trial_on(
     Ok(())
 }
 
-/// Whether two lists have the same names in the same order.
+/// Whether two lists have the same keys in the same order.
 fn are_same(some: &[TaskKey], others: &[TaskKey]) -> bool
     ensures { IsTrue result ↔ (some.now ≡ others.now) }
 {

@@ -32,7 +32,7 @@ const SPEC: Spec = Spec {
 /// `count` answers how many there are; `on_machine MACHINE` the names of a machine's tasks in order of
 /// eviction, `tasks_on MACHINE` the tasks in order of name; `of_job JOB` the names of a job's tasks,
 /// `tasks_of_job JOB` the tasks; `left_on MACHINE PRECEDENCE AMOUNT` what a machine's tasks of at least
-/// this precedence leave of an amount; `has TASK` whether a task is there, the same in all; and
+/// this precedence leave of an amount; `has TASK` whether just this task is there, equal in all parts; and
 /// `other_of_job JOB MACHINE NAMES` the first of a job's tasks on a machine that isn't among these.
 /// Names are parted by commas, tasks by blanks, and `-` stands for none.
 ///
@@ -145,7 +145,7 @@ fn ask(
     }
 }
 
-/// Appends whether a task is there, the same in all.
+/// Appends whether just this task is there, equal in all parts.
 fn show_has(running: &Running, task: &Task, answers: &mut String) -> Result<(), Fault> {
     write!(answers, "{}", running.has(task))?;
     Ok(())

@@ -10,7 +10,7 @@ pub(crate) trait Steps {
 }
 
 /// Takes all steps on a value, which is let go then, and appends their answers, which are parted as the steps
-/// are. It takes the value as one of a type parameter, since whoever knows the type pays for all that it lets go.
+/// are. The value's type is a parameter, since a function that knows the type pays in proof for all that it drops.
 pub(crate) fn take_all<S: Steps + Drop>(
     value: S,
     alloc: Global,

@@ -1,7 +1,7 @@
 -- Why a call has no answer.
 use Rattle.std.specs.Prelude.{Bool, true, false}
 use Rattle.omega_calls.specs.declared.fault.Fault.{Fault}
-use Rattle.omega_calls.specs.declared.fault.Fault.TheVariants.{BadLine, UnknownCall, MayNot, NoMemory}
+use Rattle.omega_calls.specs.declared.fault.Fault.TheVariants.{BadLine, UnknownCall, NoMemory}
 
 -- a line is refused for its quotes and escapes, or for want of memory
 abbrev pub is_of_lines : Fault → Bool

@@ -10,13 +10,15 @@ use crate::fault::Fault;
 use crate::values::{GREATEST, need, number, task};
 use omega_board::Board;
 use omega_model::{
-    Bytes, Claim, Copied, Entry, Judgement, Keys, Mode, Need, Rule, Seq, TaskKey, Txn, Verdict,
+    Bytes, Claim, Copied, Entry, Judgement, Keys, MOST_MACHINES, Mode, Need, Rule, Seq, TaskKey,
+    Txn, Verdict,
 };
 use std::alloc::Global;
 
-/// Applies an entry, which is no commit: `add MACHINE AMOUNT`, `update MACHINE AMOUNT`, `remove MACHINE`, `set
-/// MACHINE NAME VALUE`, `delete MACHINE NAME`, `end TASK` or `round NUMBER`. Answers the tasks that it stops. Where
-/// it is refused the board stays.
+/// Applies an entry, which is no commit: `add MACHINE AMOUNT`, `update MACHINE AMOUNT`, `remove MACHINE`,
+/// `set MACHINE NAME VALUE`, `delete MACHINE NAME`, `end TASK` or `round NUMBER`. Answers the tasks that it
+/// displaces. `UnknownCall` for other words, and `MayNot` where the board can't take the entry. After any refusal
+/// machines and tasks of the board are as before.
 pub fn apply(board: &mut Board, alloc: Global, call: &str, words: &[Bytes]) -> Result<Keys, Fault>
     ensures table { OnErr result (board.new.table ≡ board.old.table) }
     ensures tasks { OnErr result (board.new.tasks ≡ board.old.tasks) }
@@ -69,13 +71,14 @@ fn round(board: &mut Board, alloc: Global, number: u64) -> Result<Keys, Fault>
     Ok(board.apply_entry(alloc, &Entry::Round { number })?)
 }
 
-/// A machine is added.
+/// Adds a machine. `MayNot` where there are 65,536 machines already, the capacity is above `GREATEST`, or
+/// the machine's sequence number is 2^64 - 1.
 pub fn add(board: &mut Board, alloc: Global, machine: u64, cap: Need) -> Result<Keys, Fault>
     ensures cell { OnOk result (cell_of board.new ≡ step (cell_of board.old) (Entry.MachineAdd machine cap)) }
     ensures table { OnErr result (board.new.table ≡ board.old.table) }
     ensures tasks { OnErr result (board.new.tasks ≡ board.old.tasks) }
 {
-    let room = board.machines().len() < 65536 && cap.fits(GREATEST);
+    let room = board.machines().len() < MOST_MACHINES && cap.fits(GREATEST);
     if room && board.machines().seq(machine) < u64::MAX {
         Ok(board.apply_entry(alloc, &Entry::MachineAdd { machine, cap })?)
     } else {
@@ -88,7 +91,7 @@ fn update(board: &mut Board, alloc: Global, machine: u64, cap: Need) -> Result<K
     ensures table { OnErr result (board.new.table ≡ board.old.table) }
     ensures tasks { OnErr result (board.new.tasks ≡ board.old.tasks) }
 {
-    let room = board.machines().len() < 65536 && cap.fits(GREATEST);
+    let room = board.machines().len() < MOST_MACHINES && cap.fits(GREATEST);
     if room && board.machines().seq(machine) < u64::MAX {
         Ok(board.apply_entry(alloc, &Entry::MachineUpdate { machine, cap })?)
     } else {
@@ -101,7 +104,7 @@ fn remove(board: &mut Board, alloc: Global, machine: u64) -> Result<Keys, Fault>
     ensures table { OnErr result (board.new.table ≡ board.old.table) }
     ensures tasks { OnErr result (board.new.tasks ≡ board.old.tasks) }
 {
-    let room = board.machines().len() < 65536;
+    let room = board.machines().len() < MOST_MACHINES;
     if room && board.machines().seq(machine) < u64::MAX {
         Ok(board.apply_entry(alloc, &Entry::MachineRemove { machine })?)
     } else {
@@ -121,7 +124,7 @@ fn set(
     ensures tasks { OnErr result (board.new.tasks ≡ board.old.tasks) }
 {
     let (name, value) = (name.copy(alloc)?, value.copy(alloc)?);
-    let room = board.machines().len() < 65536;
+    let room = board.machines().len() < MOST_MACHINES;
     if room && board.machines().seq(machine) < u64::MAX {
         let entry = Entry::AttrSet {
             machine,
@@ -140,7 +143,7 @@ fn delete(board: &mut Board, alloc: Global, machine: u64, name: &Bytes) -> Resul
     ensures tasks { OnErr result (board.new.tasks ≡ board.old.tasks) }
 {
     let name = name.copy(alloc)?;
-    let room = board.machines().len() < 65536;
+    let room = board.machines().len() < MOST_MACHINES;
     if room && board.machines().seq(machine) < u64::MAX {
         Ok(board.apply_entry(alloc, &Entry::AttrDelete { machine, name })?)
     } else {
@@ -148,7 +151,7 @@ fn delete(board: &mut Board, alloc: Global, machine: u64, name: &Bytes) -> Resul
     }
 }
 
-/// A running task ends.
+/// Ends a task. `MayNot` where it doesn't run, or its machine's sequence number is 2^64 - 1.
 pub fn end(board: &mut Board, alloc: Global, key: TaskKey) -> Result<Keys, Fault>
     ensures table { OnErr result (board.new.table ≡ board.old.table) }
     ensures tasks { OnErr result (board.new.tasks ≡ board.old.tasks) }
@@ -164,7 +167,8 @@ pub fn end(board: &mut Board, alloc: Global, key: TaskKey) -> Result<Keys, Fault
     }
 }
 
-/// Judges a claim, and applies a commit of it where it is placed. Answers the judgement.
+/// Judges a claim by rule `Fine`, and applies a commit of it alone where it is placed. Answers the
+/// judgement. `MayNot` where it would be placed, but its machine's sequence number is 2^64 - 1.
 pub fn commit_claim(board: &mut Board, alloc: Global, claim: Claim) -> Result<Judgement, Fault>
     ensures table { OnErr result (board.new.table ≡ board.old.table) }
     ensures tasks { OnErr result (board.new.tasks ≡ board.old.tasks) }

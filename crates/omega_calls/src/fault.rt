@@ -10,9 +10,9 @@ use std::fmt;
 pub enum Fault {
     /// A quote isn't closed, or a backslash stands before no escape.
     BadLine,
-    /// There is no such call, or it is given other words.
+    /// There is no such call, or its words are other than it takes.
     UnknownCall,
-    /// A condition of the call doesn't hold, so it isn't made.
+    /// What the call requires doesn't hold, so the call isn't made.
     MayNot,
     NoMemory,
 }

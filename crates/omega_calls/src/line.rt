@@ -36,9 +36,10 @@ pub fn is_heading(text: &str) -> bool
     matches!(text.as_bytes(), [] | [b'#', ..])
 }
 
-/// The words of a line. Blanks part them, except between two quotes (`"`), which can also make a
-/// word without a byte. `\n`, `\r`, `\"`, `\\` and `\x` with two hexadecimal digits stand for a byte
-/// each. `BadLine` where a quote isn't closed or another escape stands.
+/// The words of a line. Spaces part them, except between two quotes (`"`), which can also make a
+/// word without a byte. `\n`, `\r`, `\"`, `\\` and `\x` with two hexadecimal digits, of which letters
+/// are small, stand for a byte each, inside quotes and outside. `BadLine` where a quote isn't closed, or
+/// where another escape stands or one isn't complete.
 pub fn words_of(alloc: Global, text: &str) -> Result<Vec<Bytes>, Fault>
     ensures { IfErr result (λ fault. is_of_lines fault ≡ true) }
 {
@@ -134,7 +135,7 @@ fn escaped(byte: u8) -> Result<u8, Fault>
     }
 }
 
-/// The value of a hexadecimal digit.
+/// The value of a hexadecimal digit; of letters only small ones are digits.
 fn hex_digit(byte: u8) -> Result<u8, Fault>
     ensures { IfErr result (λ fault. is_of_lines fault ≡ true) }
 {

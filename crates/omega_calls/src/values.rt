@@ -1,4 +1,4 @@
-//! What words say: texts, numbers, amounts.
+//! What words say: texts, numbers, amounts. A word that says no such thing is refused as `UnknownCall`.
 ghost use Rattle.std.specs.Prelude.{◌≡◌, ◌∷◌, ◌↔◌, true, [], Some, IfOk, IfErr, IsTrue, codes, if◌then◌else◌};
 ghost use Rattle.std.specs.List.{after_first, before_first};
 ghost use Rattle.omega_model.specs.Numbers.{whole};
@@ -13,14 +13,14 @@ use omega_units::read_u64;
 use std::alloc::Global;
 use std::str;
 
-/// The greatest amount that a table may say.
+/// The greatest amount that a table may say: 1000 of each component, in units of 10^-9.
 pub const GREATEST: Need = Need {
     cpu: GREATEST_QUANTITY,
     mem: GREATEST_QUANTITY,
     disk: GREATEST_QUANTITY,
 };
 
-/// A text.
+/// A text in UTF-8.
 pub fn text(word: &Bytes) -> Result<&str, Fault>
     ensures value { IfOk result (λ text. text.now ≡ word.now) }
     ensures refusals { IfErr result (λ fault. is_of_words fault ≡ true) }
@@ -80,7 +80,7 @@ fn byte_of(text: &str) -> Result<u8, Fault>
     }
 }
 
-/// A place in a list.
+/// A place in a list, from 0.
 pub fn place(word: &Bytes) -> Result<usize, Fault>
     ensures value { IfOk result (λ number. whole word.now ≡ Some number) }
     ensures refusals { IfErr result (λ fault. is_of_words fault ≡ true) }
@@ -91,7 +91,7 @@ pub fn place(word: &Bytes) -> Result<usize, Fault>
     }
 }
 
-/// An amount, as `CPU,MEMORY,DISK` in whole units.
+/// An amount, as `CPU,MEMORY,DISK`, each in whole units of 10^-9.
 pub fn need(word: &Bytes) -> Result<Need, Fault>
     ensures value { IfOk result (λ need. IsNeed word.now need) }
     ensures refusals { IfErr result (λ fault. is_of_words fault ≡ true) }
@@ -200,7 +200,8 @@ fn marked(text: &str) -> Result<(&str, bool), Fault>
     }
 }
 
-/// A claim of five words: the task's name, the machine, the amount, the precedence and the victims.
+/// A claim of five words: the task's name, the machine, the two words of `spec`, and the victims as
+/// `tasks` takes them.
 pub fn claim(alloc: Global, words: &[Bytes]) -> Result<Claim, Fault>
     ensures value { IfOk result (λ claim. IsClaim words.now claim) }
     ensures refusals { IfErr result (λ fault. is_of_words fault ≡ true) }
@@ -216,7 +217,7 @@ pub fn claim(alloc: Global, words: &[Bytes]) -> Result<Claim, Fault>
     })
 }
 
-/// A constraint of three words.
+/// A constraint of three words: an attribute's name, one of `=`, `!=`, `<` and `>`, and a value.
 pub fn constraint_of(
     alloc: Global,
     name: &Bytes,
@@ -247,7 +248,7 @@ fn op_of(word: &Bytes) -> Result<Op, Fault>
     }
 }
 
-/// The policy of a word.
+/// Which extra tasks a word allows: `max`, `relative`, or the percentage of `Extra::Cap`.
 pub fn policy_of(word: &Bytes) -> Result<Extra, Fault>
     ensures refusals { IfErr result (λ fault. is_of_words fault ≡ true) }
 {

@@ -12,12 +12,12 @@ struct Both {
 }
 
 /// `built AMOUNT .. : STEP : ..` and `pushed AMOUNT .. : STEP : ..`: what the steps answer over an index
-/// that is built at once or grows by a position after the other.
+/// that is built at once or grows by one position after the other.
 ///
-/// An amount is `-` where nothing has room. The step `first START NEED LEFT` answers the first
-/// position with room whose number leaves another rest than `LEFT` by 4, round from a start, or `-`;
-/// `push AMOUNT` and `put POSITION AMOUNT` change what is free, and answer nothing. Where an index
-/// and a list answer differently, both answers stand, with `!` between them.
+/// An amount is `-` where nothing has room. The step `first START NEED LEFT` answers the first position with
+/// room, from `START` on and round the end, whose number modulo 4 isn't `LEFT`, or `-`; `push AMOUNT` and
+/// `put POSITION AMOUNT` change what is free, and answer nothing. Where the index and a plain list answer
+/// differently, both answers stand, with `!` between them.
 pub(crate) fn answer(alloc: Global, call: &str, words: &[Bytes]) -> Result<String, Fault> {
     let mut steps = words.split(|word| is_colon(word));
     let amounts = steps.next().unwrap_or(&[]);

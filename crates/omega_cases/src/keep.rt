@@ -5,8 +5,8 @@ use omega_model::{Bytes, Copied, Need};
 use std::alloc::Global;
 
 /// `read LINE`: the entry of a line, or `none`. `write LINE`: the line of that entry. `audit LINE ..`:
-/// how many entries the cell has whose history these are, and how much is in use there, or the place of
-/// the first line that is refused.
+/// how many entries the history of these lines has, and how much is in use after them, or the place of the
+/// first line that is refused.
 pub(crate) fn answer(alloc: Global, call: &str, words: &[Bytes]) -> Result<String, Fault> {
     match (call, words) {
         ("read", [line]) => read(alloc, line),

@@ -5,7 +5,7 @@ use omega_model::{Bytes, Need};
 use std::alloc::Global;
 
 /// `extras POLICY ACTIVITIES ASKED RUNNING [NEED USED CAPACITY]`: how many extra tasks a job gets.
-/// The policy is `max`, `relative` or a percentage, for a cap; without amounts all are nothing.
+/// The policy is `max`, `relative` or a percentage, for a cap; amounts that are left out are nothing.
 pub(crate) fn answer(alloc: Global, call: &str, words: &[Bytes]) -> Result<String, Fault> {
     let extras = match (call, words) {
         ("extras", [policy, activities, asked, running]) => {

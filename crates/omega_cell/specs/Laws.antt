@@ -43,7 +43,7 @@ pub record HasToGo (cell : Cell) (claim : Claim) (gone : List TaskKey) (key : Ta
 abbrev pub EachHasToGo : Cell → Claim → List TaskKey → Type 0
 EachHasToGo cell claim evicted = (turn : ℕ) (key : TaskKey) → slice_get evicted turn ≡ Some key → HasToGo cell claim (take turn evicted) key
 
--- so does each task that claims evict, on the cell that the claims before left
+-- each task that claims evict has to go, on the cell that the claims before left
 abbrev pub EvictInOrder : Cell → List (Claim × Judgement) → Type 0
 EvictInOrder cell decided = (place : ℕ) (claim : Claim) (judgement : Judgement) → slice_get decided place ≡ Some (claim, judgement)
     → EachHasToGo (fold after_claim cell (take place decided)) claim judgement.evicted
@@ -53,6 +53,6 @@ abbrev pub EvictsWhatHasToGo : List Entry → Entry → Type 0
 EvictsWhatHasToGo before (Commit scheduler seen txn reply) = EvictInOrder (state before) (zip txn.claims reply)
 EvictsWhatHasToGo before _ = Unit {0}
 
--- evictions go down in precedence, and are no more than have to be
+-- commits evict only tasks of lower precedence than the claim's, and only those that have to go
 abbrev pub EvictionsGoDown : List Entry → Type 0
 EvictionsGoDown history = (place : ℕ) (entry : Entry) → slice_get history place ≡ Some entry → EvictsWhatHasToGo (take place history) entry

@@ -164,8 +164,8 @@ impl Cell {
     }
 
     /// Makes room for all that the commit of a transaction needs. The history and the board stay, and
-    /// no room is lost. Where memory runs out the transaction is handed back. Costs the claims and
-    /// their victims.
+    /// no room is lost. Where memory runs out the transaction is handed back. It has fewer than 2^32
+    /// claims. Costs the claims and their victims.
     pub fn reserve(&mut self, alloc: Global, txn: Txn) -> Result<Prepared, (Txn, NoMemory)>
         requires { length txn.claims < 2 ^ 32 }
         ensures history { self.new.history ≡ self.old.history }
@@ -200,8 +200,9 @@ impl Cell {
 
     /// Judges the claims of a prepared transaction on this cell, keeps what its mode keeps, and
     /// appends the commit with its reply. `seen` is the number of entries that the scheduler had seen
-    /// when it planned, and `seqs` has for each claim the sequence number of its machine there.
-    /// Answers the place of the entry, and for each claim the verdict and the tasks that it evicts.
+    /// when it planned, and `seqs` has for each claim the sequence number of its machine there. The cell
+    /// still has the room that `reserve` made. Answers the place of the entry, and for each claim the
+    /// verdict and the tasks that it evicts.
     ///
     /// Costs the claims, whose machines are sorted, and their victims.
     pub fn commit(&mut self, scheduler: u32, seen: u64, seqs: &[u64], prepared: Prepared) -> Reply

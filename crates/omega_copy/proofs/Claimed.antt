@@ -1,24 +1,16 @@
 -- Claims beside a board, and what indexes are told of them.
-use Rattle.std.proofs.Common.{◌≡◌, ℕ, zero, suc, ◌+◌, ◌<◌, ◌≤◌, Bool, true, false, cond, ◌||◌, ◌&&◌, not, nat_eq, nat_lt, nat_le, List, [], ◌∷◌, ◌++◌, Option, Some, None, length, get_or, slice_get, map, set, position, refl, sym, ap, ap₂, ◌∙◌, subst, arith, if◌then◌else◌, ◌==◌}
-use Rattle.std.specs.List.{IsDistinct, filter, fold, position_or_len}
+use Rattle.std.proofs.Common.{◌≡◌, ℕ, zero, suc, ◌+◌, ◌≤◌, Bool, true, false, cond, ◌||◌, ◌&&◌, nat_eq, nat_lt, nat_le, List, [], ◌∷◌, Option, Some, None, get_or, slice_get, map, set, position, refl, sym, ap, ap₂, ◌∙◌, subst, arith, if◌then◌else◌, ◌==◌}
+use Rattle.std.specs.List.{IsDistinct, position_or_len}
 use Rattle.std.specs.Prelude.{option_map}
-use Rattle.std.proofs.lemmas.Bool.{both_ways, eq-eqb, eqb-true, leb-true, le-leb, ltb-true, ltb-false, or_parts}
-use Rattle.std.proofs.lemmas.List.{length-map}
-use Rattle.std.proofs.lemmas.List.Folds.{list_any-append}
-use Rattle.std.proofs.lemmas.List.Sums.{fold-append}
+use Rattle.std.proofs.lemmas.Bool.{eq-eqb, eqb-true, leb-true, le-leb, ltb-true, ltb-false, or_parts}
 use Rattle.std.proofs.lemmas.Option.{cond_some, none-some, same_Some}
-use Rattle.omega_model.specs.Cell.{Cell, is_on, task_at, total, with_task, without}
-use Rattle.omega_model.specs.Judge.{judge_fine, runs_on}
-use Rattle.omega_model.specs.Legal.{Sound}
+use Rattle.omega_model.specs.Cell.{is_on, task_at, total, with_task, without}
 use Rattle.omega_model.specs.Need.{minus, nothing, plus}
-use Rattle.omega_model.specs.Reply.{after_claim, task_of, tasks_after_claim, tasks_placed}
+use Rattle.omega_model.specs.Reply.{task_of}
 use Rattle.omega_model.specs.declared.cells.Machine.{Machine}
 use Rattle.omega_model.specs.declared.cells.Need.{Need}
-use Rattle.omega_model.specs.declared.cells.Spec.{Spec}
 use Rattle.omega_model.specs.declared.cells.Task.{Task}
 use Rattle.omega_model.specs.declared.claims.Claim.{Claim}
-use Rattle.omega_model.specs.declared.claims.Judgement.{Judgement}
-use Rattle.omega_model.specs.declared.claims.Verdict.TheVariants.{Placed}
 use Rattle.omega_model.proofs.Amounts.{need_is, share}
 use Rattle.omega_model.proofs.Lists.{by_answer, filter_and}
 use Rattle.omega_running.specs.Staying.{staying_on, stays_against}

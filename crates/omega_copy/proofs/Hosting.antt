@@ -1,8 +1,7 @@
 -- What runs on a machine beside a board: of a job, and together.
-use Rattle.std.proofs.Common.{◌≡◌, ℕ, ◌+◌, Bool, true, false, cond, ◌||◌, List, [], ◌∷◌, ◌++◌, Some, None, is_some, refl, sym, ap, ap₂, ◌∙◌, subst, arith, if◌then◌else◌}
+use Rattle.std.proofs.Common.{◌≡◌, ℕ, ◌+◌, Bool, true, false, cond, ◌||◌, List, [], ◌∷◌, ◌++◌, is_some, refl, sym, ap, ap₂, ◌∙◌, subst, arith, if◌then◌else◌}
 use Rattle.std.specs.List.{filter, list_any, sum_by}
 use Rattle.std.specs.List.Sorted.{IsPermutation}
-use Rattle.std.proofs.Math.Bool.{or-false}
 use Rattle.std.proofs.lemmas.Bool.{and_parts, both_ways}
 use Rattle.std.proofs.lemmas.List.{append-nil}
 use Rattle.std.proofs.lemmas.List.Elements.{filter-append}
@@ -21,7 +20,7 @@ use Rattle.omega_running.specs.Staying.{staying_on, stays_against}
 use Rattle.omega_running.proofs.Staying.{left_by_both}
 use Rattle.omega_copy.specs.Tenants.{AreBeside, is_whole}
 use Rattle.omega_copy.specs.declared.tenants.Tenants.{Tenants}
-use Rattle.omega_copy.proofs.Besides.{found_on, left_there}
+use Rattle.omega_copy.proofs.Besides.{found_on}
 
 -- whether another of a job stays on a machine
 pub some_other : (tasks : List Task) (job id : ℕ) (gone : List TaskKey) → is_some (other_of_job tasks job id gone) ≡ list_any (stays_of_job job id gone) tasks

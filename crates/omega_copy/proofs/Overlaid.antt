@@ -1,16 +1,16 @@
 -- An overlay with one more claim, and without claims.
-use Rattle.std.proofs.Common.{◌≡◌, ℕ, ◌+◌, ◌<◌, ◌≤◌, Bool, true, false, ◌&&◌, not, nat_eq, IsTrue, List, [], ◌∷◌, ◌++◌, ◌⊎◌, Option, Some, None, length, refl, sym, ap, ap₂, ◌∙◌, subst, arith, if◌then◌else◌, ◌==◌}
+use Rattle.std.proofs.Common.{◌≡◌, ℕ, Bool, true, not, IsTrue, List, [], ◌∷◌, ◌++◌, ◌⊎◌, Option, Some, None, length, refl, sym, ap, ap₂, ◌∙◌, subst, arith, if◌then◌else◌, ◌==◌}
 use Rattle.std.specs.BTreeMap.{is_at}
 use Rattle.std.specs.Ordering.{nat_cmp}
-use Rattle.std.specs.List.{All, IsDistinct, filter, fold, list_any}
-use Rattle.std.proofs.lemmas.Bool.{both_ways, and_parts, eq-eqb, eqb-true, or_parts}
+use Rattle.std.specs.List.{filter, fold, list_any}
+use Rattle.std.proofs.lemmas.Bool.{eq-eqb, eqb-true, or_parts}
 use Rattle.std.proofs.lemmas.List.{length-map}
 use Rattle.std.proofs.lemmas.Option.{none-some}
 use Rattle.std.proofs.lemmas.List.Elements.{All-from_recursion, recursion_from_All}
 use Rattle.std.proofs.lemmas.List.Folds.{list_any-append}
 use Rattle.std.proofs.lemmas.List.Sums.{fold-append}
 use Rattle.omega_model.specs.Cell.{Cell, is_on, machine_at, rest_on, task_at, total, use_on, with_task, without}
-use Rattle.omega_model.specs.Judge.{capacity_of, free_without, is_up, judge_fine, no_machine, runs_on}
+use Rattle.omega_model.specs.Judge.{capacity_of, free_without, is_up, judge_fine, runs_on}
 use Rattle.omega_model.specs.Keys.{is_among}
 use Rattle.omega_model.specs.Legal.{Sound}
 use Rattle.omega_model.specs.Need.{Fits, fits, minus, nothing, plus}
@@ -27,7 +27,7 @@ use Rattle.omega_model.proofs.Listed.{only_machine}
 use Rattle.omega_model.proofs.Lists.{by_answer, each_both, filter_turned}
 use Rattle.omega_machines.specs.Table.{machines_of}
 use Rattle.omega_running.specs.declared.orders.Order.TheVariants.{ByKey}
-use Rattle.omega_running.specs.Order.{Each, IsInOrder}
+use Rattle.omega_running.specs.Order.{IsInOrder}
 use Rattle.omega_running.proofs.Kept.{each_filter}
 use Rattle.omega_running.proofs.Lists.{all_of_each, each_of_all}
 use Rattle.omega_board.specs.Board.{BoardState, cell_of}

@@ -12,8 +12,8 @@ use Rattle.omega_copy.specs.Overlays.{OverlayState, cell_after, tasks_claimed, t
 use Rattle.omega_copy.specs.Tenants.{AreBeside}
 use Rattle.omega_copy.specs.declared.tenants.Tenants.{Tenants}
 
--- what an overlay keeps: its tenants are beside the tasks that run on its board what the claims make of them, no
--- machine is overcommitted, and machines that aren't among these have the tasks of the board
+-- what an overlay keeps: with its tenants beside the board's tasks, just those run that run after the claims; no
+-- machine is overcommitted; and machines that aren't among these have the tasks of the board
 pub record IsOverlay (tenants : Tenants) (running : List Task) (machines : List ℕ) (overlay : OverlayState) : Type 0 where
   pub run : running ≡ overlay.board.tasks
   pub beside : AreBeside tenants running (tasks_claimed overlay)
@@ -21,8 +21,8 @@ pub record IsOverlay (tenants : Tenants) (running : List Task) (machines : List 
   pub elsewhere : (id : ℕ) → is_among machines id ≡ false
       → filter (is_on id) (tasks_claimed overlay) ≡ filter (is_on id) overlay.board.tasks
 
--- a claim was placed where these tasks ran: its task didn't, only its machine has other tasks now, and now these
--- tenants are beside the board what the claim makes of the tasks
+-- a claim was placed where these tasks ran: its task didn't run, only its machine has other tasks now, and with
+-- these tenants beside the board's tasks just those run that run after the claim
 pub record IsPlacedBeside (board : BoardState) (tenants : Tenants) (claim : Claim) (tasks : List Task) : Type 0 where
   pub ordered : KeysRise tasks
   pub absent : task_at tasks claim.key ≡ None

@@ -36,9 +36,9 @@ places_missing count indexes = count - length indexes.index.free
 abbrev pub HavePlaces : ℕ → Indexes → Type 0
 HavePlaces count indexes = HaveRoom (places_missing count indexes) indexes
 
--- indexes may go on to a board, told of these machines: they are those of a history that the board is
--- after, each of whose entries could be applied to the state before it, and the entries that they haven't
--- seen touch these machines
+-- indexes may go on to a board by being told of these machines: they are those of a history after which this
+-- is the board, and each of whose entries could be applied to the state before it, and these are the machines
+-- that the entries touch which the indexes haven't seen
 pub record MayGoOn (indexes : Indexes) (board : BoardState) (machines : List ℕ) : Type 0 where
   pub history : List Entry
   pub are : AreIndexesOf history indexes

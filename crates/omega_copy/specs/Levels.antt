@@ -18,19 +18,20 @@ Tells cell level = level.index.free ≡ freed_of level.prec cell
 abbrev pub IsLevelAt : List Level → ℕ → ℕ → Type 0
 IsLevelAt levels prec place = IsSomeAnd (slice_get levels place) (λ level. level.prec ≡ prec)
 
--- an index has room for a place for each further machine, and with those tells all but these
+-- an index has room for the places of the machines that it lacks, and with these places it tells of each
+-- machine but perhaps of those whose numbers pass the test `stale`
 pub record NearPlaced (stale : ℕ → Bool) (board : BoardState) (prec : ℕ) (index : Positions) : Type 0 where
   pub room : length (machines_of board.table) ≤ length index.free + index.spare
   pub told : TellsBut stale prec board.tasks (placed (machines_of board.table) index.free) (machines_of board.table)
 
--- the same, but for what an entry touches
+-- the same, where those are the machines that an entry touches
 abbrev pub NearEntry : BoardState → Entry → ℕ → Positions → Type 0
 NearEntry board entry = NearPlaced (is_touched_by entry) board
 
--- the same, but for these machines
+-- the same, where those are these machines
 abbrev pub NearParts : BoardState → List ℕ → ℕ → Positions → Type 0
 NearParts board machines = NearPlaced (is_among machines) board
 
--- an index tells all but these machines
+-- an index tells of each machine but perhaps of these
 abbrev pub Near : BoardState → List ℕ → ℕ → Positions → Type 0
 Near board machines prec index = TellsBut (is_among machines) prec board.tasks index.free (machines_of board.table)

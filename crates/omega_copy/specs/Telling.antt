@@ -29,7 +29,8 @@ freed_of prec cell = map (freed_on prec cell.tasks) cell.machines
 abbrev pub taken_by : ℕ → Spec → Need → Need
 taken_by prec spec amount = if nat_lt spec.prec prec then amount else minus amount spec.need
 
--- an index tells what evictions for this precedence could free on each machine, but perhaps not on those of these numbers
+-- an index tells what evictions for this precedence could free on each machine, but perhaps not on those
+-- whose numbers pass the test `stale`
 abbrev pub TellsBut : (ℕ → Bool) → ℕ → List Task → List (Option Need) → List Machine → Type 0
 TellsBut stale prec tasks [] [] = Unit {0}
 TellsBut stale prec tasks [] (machine ∷ machines) = ⊥
@@ -45,7 +46,7 @@ is_this_or machine stale id = machine == id || stale id
 abbrev pub is_found : Option ℕ → ℕ → Bool
 is_found found id = option_map_or (λ machine. machine == id) found false
 
--- an index tells that on the machine of this number, if it is listed
+-- an index tells what evictions could free on the machine of this number, if it is listed
 abbrev pub TellsOf : ℕ → ℕ → List Task → List (Option Need) → List Machine → Type 0
 TellsOf machine = TellsBut (λ id. not (machine == id))
 

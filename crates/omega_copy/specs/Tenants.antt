@@ -26,7 +26,8 @@ abbrev pub either : Option Task → Option Task → Option Task
 either None other = other
 either (Some task) other = Some task
 
--- with these tenants beside a board's tasks, these run: each name's task is the tenants' or the board's, and never both
+-- with these tenants beside a board's tasks, these run: each name's task is the tenants' or the board's, and
+-- never both
 pub record AreBeside (tenants : Tenants) (board tasks : List Task) : Type 0 where
   pub ordered : KeysRise tasks
   pub own_ordered : KeysRise tenants.own.tasks

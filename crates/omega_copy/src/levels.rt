@@ -14,7 +14,7 @@ use omega_model::NoMemory;
 use std::alloc::Global;
 
 /// What is free on each machine of a board once all tasks of a lower precedence than this one are off it,
-/// in order of the board's list; nothing where the machine isn't up.
+/// in order of the board's list; `None` where the machine isn't up.
 #[derive(Drop)]
 pub struct Level {
     pub(crate) prec: u8,

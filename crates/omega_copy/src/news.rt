@@ -15,7 +15,7 @@ use omega_model::{Claim, Entry};
 pub(crate) enum News<'a> {
     /// An entry was applied to it.
     Entered(&'a Entry),
-    /// These machines are others than before.
+    /// These machines changed.
     Changed(&'a [u64]),
     /// A claim was placed beside it, with these tenants after that.
     Claimed(&'a Tenants, &'a Claim),

@@ -104,8 +104,8 @@ impl<'a> Overlay<'a> {
         self.tenants.freed_at(self.board, prec, position)
     }
 
-    /// Places a claim, which goes in with all of its victims, behind those before it. The indexes are
-    /// told. Where memory runs out, all is as before.
+    /// Places a claim on the cell after those before it, on which it would be placed and evict all of its
+    /// victims. The indexes are told. Where memory runs out, all is as before.
     ///
     /// A claim without victims costs a look-up for each index, whatever runs on its machine; one with
     /// victims costs the tasks on its machine.

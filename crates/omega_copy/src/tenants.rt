@@ -86,7 +86,7 @@ impl Tenants {
         Ok(found)
     }
 
-    /// What is left of an amount when each task on a machine of at least this precedence has taken its
+    /// What is left of an amount when each task of at least this precedence on a machine has taken its
     /// need; a component stops at 0. Takes the time of what the machine has.
     pub fn left_on(&self, board: &Running, machine: u64, prec: u8, amount: Need) -> Need
         ensures { (tasks : List Task) → AreBeside self.now board.now.tasks tasks → result ≡ minus amount (staying_on prec tasks machine) }

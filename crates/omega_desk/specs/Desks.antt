@@ -42,9 +42,9 @@ abbrev pub AnswersFirst : List Request → List Outcome → Type 0
 AnswersFirst [] outcomes = ⊥
 AnswersFirst (request ∷ rest) outcomes = are_wished outcomes request.wishes ≡ true
 
--- what every desk keeps: no request wishes for a task twice, there is room for the count of each
--- request's job, no count is above the number of attempts, nor is the number of attempts that the
--- present request had, and where none is present nothing waits
+-- what every desk keeps: no request wishes for a task twice; there is room for the count of each
+-- request's job; neither a count nor the number of attempts on the present request is above the number
+-- of all attempts; and where no request is present none waits, and no attempt on it is counted
 pub record IsDesk (present : Option Request) (waiting : List Request) (attempts taken : ℕ) (counts : List (ℕ × ℕ)) : Type 0 where
   pub distinct : All HasDistinctWishes (option_to_list present ++ waiting)
   pub counted : All (λ (request : Request). IsCounted counts request.job) (option_to_list present ++ waiting)

@@ -129,9 +129,9 @@ impl Desk {
         words.next_word() as usize % machines
     }
 
-    /// Counts an attempt on the present request and moves on by what was answered to its commit. Its
-    /// outcomes are for wishes of the request, in the order of the wishes. Costs the request, and the
-    /// logarithm of the jobs that the desk has seen.
+    /// Counts an attempt on the present request and moves on by the reply to its commit, whose outcomes
+    /// are for wishes of the request, in the order of the wishes. Costs the request, and the logarithm
+    /// of the jobs that the desk has seen.
     pub fn take(&mut self, reply: &Reply)
         requires answers { AnswersFirst self.old.requests reply.now.outcomes }
         requires few { self.old.attempts + 1 < 2 ^ 64 }
@@ -177,7 +177,7 @@ fn reserve(failures: &mut Failures, requests: &[Request]) -> Result<(), NoMemory
     Ok(())
 }
 
-/// One more commit for a job, with these outcomes. Answers the job's count after it.
+/// Counts one more commit for a job, with these outcomes. Answers the job's count after it.
 fn note(failures: &mut Failures, job: u64, outcomes: &[Outcome]) -> u64
     requires room { IsCounted failures.old job }
     requires few { count_of failures.old job + 1 < 2 ^ 64 }

@@ -1,4 +1,4 @@
-//! How many commits in a row for each job placed nothing.
+//! How many commits in a row placed nothing of each job.
 ghost use Rattle.std.specs.Prelude.{◌≡◌, ◌<◌, ◌+◌, ◌^◌, [], OnOk};
 ghost use Rattle.omega_desk.specs.Counts.{count_of, IsCounted, KeepsCounts, KeepsRoom, Notes};
 
@@ -7,8 +7,9 @@ use std::alloc::Global;
 use std::collections::BTreeMap;
 use std::marker::Model;
 
-/// A count for each job, 0 for one that isn't known. A look-up costs the logarithm of the jobs. A
-/// contract sees the jobs that there is room for, each with its count.
+/// For each job, how many commits in a row up to its last one placed nothing; 0 for a job that isn't
+/// known. A look-up costs the logarithm of the jobs. A contract sees the jobs that there is room for,
+/// each with its count.
 #[derive(Debug, Drop)]
 pub struct Failures {
     counts: BTreeMap<u64, u64>,
@@ -52,7 +53,8 @@ impl Failures {
         Ok(())
     }
 
-    /// One more commit for a job, which placed something or nothing. Answers the job's count after it.
+    /// Counts one more commit for a job: where it placed something the count is 0 again, else one
+    /// more. Answers the job's count after it.
     pub fn note(&mut self, job: u64, placed: bool) -> u64
         requires room { IsCounted self.old job }
         requires few { count_of self.old job + 1 < 2 ^ 64 }

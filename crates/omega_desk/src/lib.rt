@@ -1,8 +1,8 @@
 //! A scheduler's desk: what is left of its work, and where its present attempt begins.
 //!
 //! A desk takes a round's requests in order. It hands out the first one with the wishes that aren't
-//! placed yet, and takes what came of an attempt on it, until nothing is left. How many commits in a row for
-//! each job placed nothing is counted by a type of its own, which the report uses too.
+//! placed yet, and takes what came of an attempt on it, until nothing is left. How many commits in a row
+//! placed nothing of a job is counted by `Failures`, which the report uses too.
 #![tactic(auto)]
 
 mod desk;

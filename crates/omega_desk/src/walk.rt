@@ -67,8 +67,9 @@ fn same_key(one: &TaskKey, other: &TaskKey) -> bool
     one.job == other.job && one.index == other.index
 }
 
-/// Whether outcomes end the request of which this is left, with so many attempts on it and so many
-/// failed commits in a row for its job.
+/// Whether a request ends with these outcomes: nothing of it is left in `rest`, nothing was claimed, it
+/// has had all `tries` with `taken` attempts, or its job is given up with `failing` commits in a row
+/// that placed nothing.
 pub(crate) fn ends_request(
     settings: &Settings,
     taken: u64,

@@ -1,4 +1,4 @@
--- How what is asked for is kept so that it is found.
+-- How jobs and wanted tasks are found.
 use Rattle.std.specs.Prelude.{◌≡◌, ℕ, List, Option, Some, None, slice_get, option_map, option_and_then, ◌==◌, if◌then◌else◌, ◌↔◌, ◌<◌, not}
 use Rattle.std.specs.BTreeMap as tree
 use Rattle.std.specs.BTreeMap.{BTreeMap}
@@ -49,7 +49,7 @@ routed_request asked cell scheduler = option_and_then (λ job. if job.scheduler 
 abbrev pub place_request : Asked → Cell → ℕ → ℕ → Option Request
 place_request asked cell scheduler place = routed_request asked cell scheduler (slice_get asked.jobs place)
 
--- the task of a row, if it is a task row, is none of the extras
+-- the task of a task row is no extra task
 abbrev pub HasLowTask : Row → Type 0
 HasLowTask (Task row) = row.key.index < first_extra
 HasLowTask _ = Unit {0}

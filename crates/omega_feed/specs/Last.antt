@@ -1,4 +1,4 @@
--- How what the last row says of a machine or a job is found.
+-- How the amount of the last row for a machine or a job is found.
 use Rattle.std.specs.Prelude.{◌≡◌, ◌≤◌, ℕ, List, None, IfSome, ◌==◌, map}
 use Rattle.std.specs.BTreeMap as tree
 use Rattle.std.specs.BTreeMap.{BTreeMap}

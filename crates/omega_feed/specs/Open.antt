@@ -26,8 +26,8 @@ pub record IsRunningExtra (tasks : List Task) (job : ℕ) (key : TaskKey) : Type
   pub extra : first_extra ≤ key.index
   pub runs : is_some (task_at tasks key) ≡ true
 
--- a job has all the extras that it should have: with these, each of which runs, and the tasks that are
--- wanted of it there are at least as many as its target, so that it gets none on any cell in which these run
+-- a job has all the extras that it should have: these run, and together with its wanted tasks they are at
+-- least as many as its target, so that it gets no more on any cell in which they run
 pub record HasItsExtras (asked : Asked) (tasks : List Task) (job : ℕ) : Type 0 where
   pub activities : ℕ
   pub has : activities_in asked.activities job ≡ Some activities
@@ -79,7 +79,7 @@ abbrev pub OpensAtMost : BTreeSet ℕ → BTreeSet ℕ → Asked → ℕ → Typ
 OpensAtMost before after asked job = (place : ℕ) → set.contains nat_cmp after place ≡ true
     → (set.contains nat_cmp before place ≡ true) ⊎ (job_at asked.jobs place ≡ Some job)
 
--- a row opens at most the place of its task's job, and none where it is of no task
+-- a task row opens at most the place of its task's job, and any other row opens none
 abbrev pub RowOpens : BTreeSet ℕ → BTreeSet ℕ → Asked → Row → Type 0
 RowOpens before after asked (TaskEvent row) = OpensAtMost before after asked row.key.job
 RowOpens before after asked (Machine row) = StayOpen after before

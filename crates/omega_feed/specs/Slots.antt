@@ -23,7 +23,7 @@ tasks_in slots = filter_map task_in slots
 abbrev pub is_idle : List Task → Slot → Bool
 is_idle running slot = is_some slot.spec && not (is_some (task_at running slot.key))
 
--- whether it is besides of this job
+-- whether a slot's task is of this job, is wanted and doesn't run
 abbrev pub is_idle_of : ℕ → List Task → Slot → Bool
 is_idle_of job running slot = slot.key.job == job && is_idle running slot
 

@@ -19,8 +19,9 @@ use omega_model::{
 use omega_running::Running;
 use std::alloc::Global;
 
-/// The entries of a row that leaves these tasks wanted, where those tasks run. Costs the logarithm of
-/// their numbers, and the running tasks of a job that the row leaves without a wanted task.
+/// The entries of a row, where the tasks `left` are wanted after it and the tasks `running` run before it.
+/// Costs the logarithm of their numbers, and the running tasks of a job that the row leaves without a
+/// wanted task.
 pub fn entries_of(
     alloc: Global,
     row: &Row,

@@ -59,9 +59,9 @@ fn extras_among(alloc: Global, tasks: &[Task]) -> Result<Tasks, NoMemory>
     Ok(found)
 }
 
-/// How many extras a job gets on the cell of a board, with these activities, so many tasks wanted and
-/// so many extras running, each of which needs so much. Takes the same time for any number of
-/// machines.
+/// How many more extras a job with these activities gets on the cell of a board, where `wanted` of its
+/// tasks are wanted and `running` extras run. Each extra needs `need`. Takes the same time for any number
+/// of machines.
 pub fn extra_count(
     policy: Extra,
     activities: u32,
@@ -86,8 +86,8 @@ pub fn extra_count(
     )
 }
 
-/// Whether a job with these activities has all the tasks that it should have, with so many wanted and
-/// so many extras running.
+/// Whether a job with these activities has all the tasks that it should have, where `wanted` of its tasks
+/// are wanted and `held` extras run.
 pub fn has_all(policy: Extra, activities: u32, wanted: usize, held: usize) -> bool
     ensures { result ≡ nat_le (target policy activities wanted) (wanted + held) }
 {

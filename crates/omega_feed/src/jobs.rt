@@ -19,7 +19,9 @@ use std::marker::Model;
 /// A job and the scheduler that works on it.
 #[derive(Clone, Copy, Debug, PartialEq, Eq)]
 pub struct RoutedJob {
+    /// The job's number.
     pub job: u64,
+    /// The scheduler's number, from 0: 0 for services, the last one for MapReduce jobs.
     pub scheduler: u32,
 }
 

@@ -21,7 +21,7 @@ pub trait Named {
     fn name(&self) -> u64
         ensures { result ≡ name self.now };
 
-    /// Its amount, which is at most that of all.
+    /// Its amount, in the unit of its table and at most `most`.
     fn amount(&self) -> u64
         ensures amount { result ≡ amount self.now }
         ensures range { result ≤ most };

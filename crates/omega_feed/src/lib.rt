@@ -23,7 +23,6 @@ mod unplaced;
 mod wanted;
 
 pub use extras::FIRST_EXTRA;
-pub use jobs::RoutedJob;
 pub use open_jobs::OpenJobs;
 pub use ordered::{feed, rounds, time_of};
 pub use unplaced::{WaitingTasks, each_once};

@@ -8,9 +8,9 @@ const MOST_NOTES: usize = 131_072;
 
 /// For numbers that stand in a list the places at which they are likely to be found.
 ///
-/// A place that is noted is looked at and not believed, so that nothing but time depends on what is
-/// noted. Numbers may share a note, by chance or because somebody chose them so; then all but one of
-/// them are to be searched for.
+/// Whoever gets a noted place checks it before use, so that nothing but time depends on what is noted.
+/// Numbers may share a note, by chance or because somebody chose them so; then all but one of them have
+/// to be searched for.
 #[derive(Drop)]
 pub(crate) struct Notes {
     places: Vec<u32>,
@@ -31,7 +31,7 @@ impl Notes {
         Ok(Notes { places })
     }
 
-    /// The place at which a number is likely to stand.
+    /// The place at which a number is likely to stand; `usize::MAX` where there are no notes.
     pub fn guess(&self, number: u64) -> usize {
         match self.places.get(self.note_of(number)) {
             Some(place) => *place as usize,

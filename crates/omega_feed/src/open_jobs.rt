@@ -9,8 +9,8 @@ use std::alloc::Global;
 use std::collections::BTreeSet;
 use std::marker::Model;
 
-/// The jobs of which something may have to be placed, by their places among all jobs. When requests are made all
-/// others are quiet: each of their wanted tasks runs, and they get no extras.
+/// The jobs of which something may have to be placed, by their places among all jobs, from 0. Whenever requests
+/// are made, all other jobs are quiet: each of their wanted tasks runs, and they get no extras.
 #[derive(Drop)]
 pub struct OpenJobs {
     places: BTreeSet<usize>,

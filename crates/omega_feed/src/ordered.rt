@@ -11,8 +11,9 @@ use omega_model::{
 use std::alloc::Global;
 use std::mem;
 
-/// The rounds of a trace with this feed: the rows are cut where the time divided by the window changes.
-/// A window without a row is no round. The window is in microseconds. Costs the rows.
+/// The rounds of a trace with this feed. A row belongs to the round whose number is the row's time divided
+/// by the window, rounded down; a window without a row is no round. The window is in microseconds. Costs
+/// the rows.
 pub fn rounds(alloc: Global, events: Vec<Row>, window: u64) -> Result<Rounds, NoMemory>
     requires { 0 < window }
     ensures { (trace : TraceTables) → events.items ≡ feed trace

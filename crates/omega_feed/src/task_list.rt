@@ -68,9 +68,8 @@ impl TaskList {
         }
     }
 
-    /// No tasks, and a slot for each task of these names, which need not be in order. Costs the names, each
-    /// times the logarithm of their number, and, where they aren't in order, besides those that stand
-    /// before a name that is lower.
+    /// No tasks, and a slot for each of these keys, which need not be in order. Costs the keys, each times
+    /// the logarithm of their number; a key that isn't in order costs besides the greater keys before it.
     pub fn of_keys(alloc: Global, keys: &[TaskKey]) -> Result<TaskList, NoMemory>
         ensures { IfOk result (λ tasks. tasks ≡ []) }
     {

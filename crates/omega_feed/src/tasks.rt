@@ -22,9 +22,9 @@ use std::marker::Model;
 pub enum Change {
     /// The row's task is wanted as the row says.
     Want,
-    /// The row's task isn't wanted any more.
+    /// The row's task is no longer wanted.
     End,
-    /// Nothing.
+    /// The wanted tasks stay as they are.
     Keep,
 }
 
@@ -276,8 +276,8 @@ fn put_place(
     }
 }
 
-/// The names of the tasks that these rows submit or schedule, in order, each once. Mostly a task's rows of both
-/// kinds follow one another; then its name is sorted once.
+/// The keys of the tasks that these rows submit or schedule, in order, each once. Mostly a task's rows of both
+/// kinds follow one another; then its key is sorted once.
 fn task_keys(alloc: Global, rows: &[Row]) -> Result<Vec<TaskKey>, NoMemory> {
     let mut keys = Vec::new(alloc);
     for row in rows {
@@ -292,7 +292,7 @@ fn task_keys(alloc: Global, rows: &[Row]) -> Result<Vec<TaskKey>, NoMemory> {
     Ok(keys)
 }
 
-/// Those of these names, which are in order, that are of a job. Costs the logarithm of their number.
+/// The keys of a job's tasks among these, which are in order. Costs the logarithm of their number.
 fn keys_of(keys: &[TaskKey], job: u64) -> &[TaskKey] {
     let (_lower, rest) = keys.split_at(keys.partition_point(|key| key.job < job));
     let (own, _greater) = rest.split_at(rest.partition_point(|key| key.job == job));

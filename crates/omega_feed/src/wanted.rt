@@ -63,7 +63,7 @@ impl Model for Wanted {
 
 impl Wanted {
     /// What a trace with this feed asks for before its first row: no task is wanted. Costs two look-ups
-    /// for each task row, whose names are sorted, four more for each job, two or three for each constraint,
+    /// for each task row, whose keys are sorted, four more for each job, two or three for each constraint,
     /// and one for each row of disks and of activities. Takes the memory of a slot for each task.
     pub fn new(
         alloc: Global,
@@ -88,9 +88,10 @@ impl Wanted {
         })
     }
 
-    /// Applies a row: what it submits, schedules or updates is wanted as it says, and what ends in it is not
-    /// wanted any more. Its job is opened if the task wasn't wanted, or if the row changes what is wanted and the
-    /// job has activities; no other is. A refused call leaves what is wanted, and may have opened the job.
+    /// Applies a row: a task that it submits or schedules is wanted as it says, so is a wanted task that it
+    /// updates, and a task that it ends is no longer wanted. The row opens its job if its task becomes wanted;
+    /// of a job with activities, whenever it wants or ends a task. No other job is opened. A refused call leaves
+    /// what is wanted, and may have opened the job.
     /// Costs the logarithms of the number of jobs and of the job's slots, and mostly neither: a job mostly
     /// stands where it is noted, and a task where its index says.
     pub fn take(&mut self, row: &Row, open_jobs: &mut OpenJobs) -> Result<(), NoMemory>
@@ -125,8 +126,8 @@ impl Wanted {
         }
     }
 
-    /// A task isn't wanted any more. Its job is opened where it has activities, since it may get other
-    /// extras then.
+    /// A task is no longer wanted. Its job is opened where it has activities, since it may then get other
+    /// extras.
     fn end(&mut self, key: TaskKey, open_jobs: &mut OpenJobs) -> Result<(), NoMemory>
         ensures ok { OnOk result (self.new ≡ record self.old { tasks = filter (λ task. not (is_named key task)) self.old.tasks }) }
         ensures err { OnErr result (self.new ≡ self.old) }
@@ -152,8 +153,8 @@ impl Wanted {
         open_jobs.reopen(self, job)
     }
 
-    /// A task is wanted, or wanted otherwise. Its job is opened where the task wasn't wanted before or the
-    /// job has activities; else the task waits as before or runs.
+    /// A task is wanted, or a wanted task asks for something else. Its job is opened where the task wasn't
+    /// wanted before or the job has activities; else the task waits as before or runs.
     fn want(&mut self, key: TaskKey, spec: Spec, open_jobs: &mut OpenJobs) -> Result<(), NoMemory>
         requires { key.index < first_extra }
         ensures ok { OnOk result (self.new ≡ record self.old { tasks = with_wanted key spec self.old.tasks }) }
@@ -239,8 +240,8 @@ impl Wanted {
     }
 
     /// What a scheduler is asked to place on the cell of a board: its jobs in order of their first
-    /// task row, each with its wanted tasks that don't run, by index, and then its extras. A job for
-    /// which this is nothing is left out, one that is given up is not.
+    /// task row, each with its wanted tasks that don't run, by index, and then its extras. A job of which
+    /// nothing is to be placed is left out; a job that is given up is not.
     ///
     /// Only open jobs are looked at. Costs their number, and of those that are the scheduler's the slots that
     /// are left, and of each wanted task the logarithm of the number of those that run. A job with activities
@@ -269,9 +270,8 @@ impl Wanted {
         Ok(requests)
     }
 
-    /// Those of the wanted tasks that don't run on a board, counted, and their jobs, each once. Costs a look
-    /// at each task that the trace has, and of each wanted one the logarithm of the number of those that run
-    /// or wait.
+    /// How many wanted tasks don't run on a board, and their jobs, each once. Costs a look at each task of
+    /// the trace, and for each wanted one the logarithm of the number of those that run or wait.
     pub fn left(&self, alloc: Global, board: &Board) -> Result<WaitingTasks, NoMemory>
         ensures { IfOk result (AreLeft self.now.tasks (cell_of board.now)) }
     {
@@ -282,7 +282,7 @@ impl Wanted {
         })
     }
 
-    /// The request of a job, if there is one, it is this scheduler's and it wishes for anything.
+    /// The request of a job, if the job is this scheduler's and something of it is to be placed.
     fn request_of(
         &self,
         alloc: Global,

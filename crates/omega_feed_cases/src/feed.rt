@@ -35,7 +35,7 @@ struct Question {
     closed: Closed,
 }
 
-/// Which jobs are closed before a scheduler is asked: none, the quiet ones, or these but one.
+/// Which jobs are closed before a scheduler is asked: none, the quiet ones, or all quiet ones but this one.
 #[derive(Clone, Copy)]
 enum Closed {
     Nothing,

@@ -7,7 +7,7 @@ use omega_model::{
 };
 use std::alloc::Global;
 
-/// The time below which rows are.
+/// The times of all rows are below this one, in microseconds.
 const END_OF_TIME: u64 = 9_223_372_036_854_775_808;
 
 /// Puts a row behind those of its table: `machine TIME MACHINE CODE AMOUNT`, where there is no disk in

@@ -24,7 +24,7 @@ IsFirstWithRoom free need answers start found =
 unfoldable pub IsNextWithRoom : List (Option Need) → Need → ℕ → ℕ → Option ℕ → Type 0
 IsNextWithRoom free need from to found = FirstBetween (WithRoom free need (λ position answer. answer ≡ true)) from to found
 
--- the greater of two amounts, component by component; nothing is less than any amount
+-- the greater of two amounts, component by component; `None` counts as less than any amount
 abbrev pub greater : Option Need → Option Need → Option Need
 greater None other = other
 greater (Some one) None = Some one

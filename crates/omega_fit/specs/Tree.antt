@@ -40,8 +40,8 @@ Tidy (suc k) slots =
 unfoldable pub Tree : List Slot → Type 0
 Tree slots = Tidy (length slots) slots
 
--- the first position of from up to to with room, where the call says of base and the position that it
--- passes
+-- the first position of `from` up to `to` with room that passes; what is answered to a position is that
+-- for the sum of `base` and it
 unfoldable pub FirstWithin : (ℕ → Bool → Type 0) → Need → List Slot → ℕ → ℕ → ℕ → Option ℕ → Type 0
 FirstWithin answers need slots base from to found =
     FirstBetween (WithRoom (frees slots) need (λ position. answers (base + position))) from to found

@@ -98,7 +98,7 @@ impl FitIndex {
     }
 
     /// The first position of `from..to` whose amount holds `need`; `None` exactly where there is none.
-    /// Looks where `first` looks.
+    /// Costs what `first` costs.
     pub fn next(&self, from: usize, to: usize, need: Need) -> Option<usize>
         requires to { to ≤ length self.now.free }
         ensures next { IsNextWithRoom self.now.free need from to result }
@@ -110,8 +110,8 @@ impl FitIndex {
     /// The first position whose amount holds `need` and that passes the test, from `start` up to the
     /// length and then from 0 up to `start`; `None` exactly where there is none. Asks the test only
     /// where there is room, at each position once at most and at none behind the answer. Looks at
-    /// the root alone where in one component all amounts are less than `need`. Else it goes down
-    /// where the greatest of each component is enough, which is linear at worst.
+    /// the root alone where in one component all amounts are less than `need`. Else it goes down into
+    /// those parts alone in which the greatest of each component is enough; linear at worst.
     pub fn first<F: Fn(usize) -> bool>(&self, start: usize, need: Need, test: F) -> Option<usize>
         requires callable { F.IsAlwaysCallable test }
         requires start { start ≤ length self.now.free }

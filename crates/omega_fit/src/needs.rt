@@ -14,7 +14,7 @@ pub(crate) fn holds(need: Need, free: Option<Need>) -> bool
     }
 }
 
-/// The greater of two amounts, component by component; nothing is less than any amount.
+/// The greater of two amounts, component by component; `None` counts as less than any amount.
 pub(crate) fn greater(one: Option<Need>, other: Option<Need>) -> Option<Need>
     ensures { result ≡ greater one other }
 {

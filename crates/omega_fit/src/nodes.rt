@@ -11,7 +11,8 @@ ghost use Rattle.omega_fit.specs.Tree.{frees, middle, root, Tree};
 use crate::needs::greater;
 use omega_model::Need;
 
-/// A position: what is free there, and the greatest of the tree below it.
+/// A position: what is free there, and the greatest amount, component by component, of the tree whose
+/// root it is.
 #[derive(Clone, Copy, Debug, PartialEq, Eq)]
 pub(crate) struct Slot {
     pub free: Option<Need>,

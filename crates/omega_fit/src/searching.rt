@@ -36,8 +36,9 @@ pub(crate) fn search_between(slots: &[Slot], from: usize, to: usize, need: Need)
     search_in(slots, 0, from, to, need, &|_position: usize| true)
 }
 
-/// The first position of `from..to` with room that passes the test, which is asked for the position
-/// and `base`. A tree whose greatest has no room is passed over, and so is a part outside `from..to`.
+/// The first position of `from..to` with room that passes the test, which is asked for the sum of
+/// `base` and the position. A tree whose greatest has no room is passed over, and so is a part outside
+/// `from..to`.
 #[tactic(auto, using(crate::proofs::Searches::pruned, crate::proofs::Searches::nothing_asked, crate::proofs::Searches::in_left, crate::proofs::Searches::in_middle, crate::proofs::Searches::in_right, crate::proofs::Searches::in_none))]
 fn search_in<F: Fn(usize) -> bool>(
     slots: &[Slot],

@@ -18,7 +18,8 @@ const SUBMIT: u32 = 0;
 /// The code of the event that ends a task as it should.
 const FINISH: u32 = 4;
 
-/// When a job of number 0 would come, in microseconds: a trace begins at 600 seconds.
+/// When a job of number 0 would come, in microseconds: a trace begins at 600 seconds. Jobs count
+/// from 1.
 const BEGINNING: u64 = 600_000_000;
 
 /// From a job to the next one, in microseconds.
@@ -34,11 +35,11 @@ struct Job {
     tasks: u32,
     class: u32,
     priority: u32,
-    /// Thousandths of the greatest CPU.
+    /// The CPU of a task, in thousandths of that of the greatest machine.
     cpu: u32,
-    /// Thousandths of the greatest memory.
+    /// The memory of a task, in thousandths of that of the greatest machine.
     mem: u32,
-    /// How many times five minutes the tasks live.
+    /// How long the tasks live, in steps of five minutes.
     life: u32,
 }
 
@@ -154,7 +155,7 @@ fn push_task(
     Ok(())
 }
 
-/// So many thousandths.
+/// Appends so many thousandths as a decimal: 7 is `0.007`.
 fn push_thousandths(out: &mut String, amount: u32) -> Result<(), NoMemory>
     requires { amount < 100 }
     ensures { OnOk result (string_bytes out.new ≡ string_bytes out.old ++ thousandths amount) }

@@ -23,11 +23,12 @@ use std::alloc::Global;
 /// Tables of so many machines and so many jobs, made of the next words of a generator: one for each
 /// machine, then six for each job.
 ///
-/// Machines stand from time 0 on, each with CPU and memory of 0.5, 0.75 or 1. A job has one to eight
-/// tasks that are all alike; jobs come every 10 seconds, and live 5 to 100 minutes. The other four
-/// tables are empty, and no folder is entered. Any numbers are allowed. Costs what it writes, at most
-/// 30 bytes for a machine and 1,000 for a job, all of it in memory. Where memory runs out, some of
-/// the words may have been drawn.
+/// Machines are up from time 0 on, each with CPU and memory both 0.5, 0.75 or 1. A job has one to
+/// eight tasks that are all alike, with CPU and memory of 0.001 to 0.05 and a priority of 0 to 11.
+/// Jobs come every 10 seconds, the first at second 610, and live 5 to 100 minutes. The other four
+/// tables are empty, and no folder is entered. Any two counts are allowed. Costs what it writes, at
+/// most 30 bytes for a machine and 1,000 for a job, all of it in memory. Where memory runs out, some
+/// of the words may have been drawn.
 pub fn tables_of<R: Rng>(
     alloc: Global,
     words: &mut R,

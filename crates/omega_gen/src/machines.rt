@@ -26,7 +26,7 @@ pub(crate) fn machine_events<R: Rng>(
     Ok(Seq::of(out.into_bytes()))
 }
 
-/// The row of the machine at a place, with the capacity of a word.
+/// The row of the machine at a place, from 0, with the capacity that the word gives it.
 fn push_machine(out: &mut String, word: u32, place: u32) -> Result<(), NoMemory>
     ensures { OnOk result (string_bytes out.new ≡ string_bytes out.old ++ machine_text (λ _. word) place) }
 {

@@ -2,7 +2,7 @@
 ghost use Rattle.std.specs.Prelude.{◌≡◌, ◌≤◌, ◌↔◌, IsTrue, Some, None};
 ghost use Rattle.omega_io.specs.Edge.{Rose};
 
-/// How many calls were made, and the place of the one that fails.
+/// How many calls were made, and which of them fails, counted from 0.
 #[derive(Clone, Copy)]
 pub struct Calls {
     pub made: u64,

@@ -79,8 +79,8 @@ pub trait Sink {
         ensures { result ≡ faults self.now };
 }
 
-/// A point that a scheduler reaches: it has seen the history to its end, its plan was made, its
-/// transaction was committed.
+/// A point that a scheduler comes to: it has seen the history to its end (`Synced`), its plan is made
+/// (`Planned`), or its transaction is committed (`Committed`).
 #[derive(Clone, Copy, Debug, PartialEq, Eq)]
 pub enum Point {
     Synced,
@@ -88,9 +88,10 @@ pub enum Point {
     Committed,
 }
 
-/// What a scheduler passes at each point. It changes nothing of which a contract speaks.
+/// What a scheduler passes at each point of its work. It changes nothing of which a contract speaks.
 pub trait Gate {
-    /// Lets a scheduler pass at a point. May hold the caller for a bounded number of looks.
+    /// The scheduler of this number, from 0, has come to a point. The call may hold it there, but
+    /// returns after a bounded number of looks at what it waits for.
     fn at(&self, scheduler: u32, point: Point);
 }
 

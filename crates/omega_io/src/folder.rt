@@ -12,7 +12,7 @@ use std::io;
 use std::io::{ErrorKind, Read};
 use std::path::{Path, PathBuf};
 
-/// How far a table's file was opened.
+/// Whether a table's file was opened. `Missing` is an empty table.
 #[derive(Drop)]
 enum Access {
     Unopened,

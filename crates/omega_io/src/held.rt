@@ -9,7 +9,8 @@ use std::marker::Model;
 use std::sync::atomic::{AtomicBool, Ordering};
 use std::thread;
 
-/// A scheduler is held at a point until another has come to a point, which is noted in `ended`.
+/// `scheduler` is held at `point` until `until_scheduler` has come to `until_point`. From then on
+/// `ended` is set, and the hold stops nobody.
 #[derive(Drop)]
 pub struct Hold {
     scheduler: u32,
@@ -48,7 +49,8 @@ impl Hold {
         self.until_scheduler == scheduler && self.until_point == point
     }
 
-    /// Looks at most so many times whether it has ended, and answers whether it has.
+    /// Looks at most so many times whether the hold has ended, and yields the thread after each look
+    /// in vain. `false` where no look found it ended.
     fn wait(&self, looks: u64) -> bool {
         for _ in 0..looks {
             if self.ended.load(Ordering::SeqCst) {
@@ -61,7 +63,8 @@ impl Hold {
 }
 
 /// A gate with an order: each hold of it stops a scheduler at a point until another scheduler has
-/// come to a point. A hold ends too once its caller has looked a bounded number of times.
+/// come to a point. A caller goes on, too, once it has looked a bounded number of times; the hold
+/// hasn't ended then, and stops the next caller again.
 ///
 /// A contract knows the order, and how often a caller looks at most in one hold. It knows nothing
 /// of who has come where.
@@ -104,7 +107,8 @@ impl HeldGate {
         })
     }
 
-    /// Whether a hold has ended by its bound.
+    /// Whether some caller has gone on because it had looked as often as it may, without an end of
+    /// its hold.
     pub fn ran_out(&self) -> bool {
         self.ran_out.load(Ordering::SeqCst)
     }

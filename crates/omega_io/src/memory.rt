@@ -95,8 +95,8 @@ impl MemoryTables {
         tables
     }
 
-    /// The same tables, of which one read fails, counted from 0 over all tables. Of several the
-    /// last one counts.
+    /// The same tables, of which the read number `call` fails, counted from 0 over all tables. A
+    /// second `fail_at` takes the place of the first.
     pub fn fail_at(self, call: u64) -> MemoryTables
         ensures failing { result.calls.failing ≡ Some call }
         ensures rests { (t : Table) → ⟦<MemoryTables as Tables>⟧.rest result t ≡ ⟦<MemoryTables as Tables>⟧.rest self t }
@@ -177,7 +177,8 @@ impl MemorySink {
         sink
     }
 
-    /// The same sink, of which one write fails, counted from 0. Of several the last one counts.
+    /// The same sink, of which the write number `call` fails, counted from 0. A second `fail_at`
+    /// takes the place of the first.
     pub fn fail_at(self, call: u64) -> MemorySink
         ensures failing { result.calls.failing ≡ Some call }
         ensures written { ⟦<MemorySink as Sink>⟧.written result ≡ ⟦<MemorySink as Sink>⟧.written self }

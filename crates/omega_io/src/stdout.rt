@@ -7,8 +7,9 @@ use crate::edges::{Failed, Sink};
 use std::io;
 use std::io::Write;
 
-/// Standard output. It tells no content, and flushes after each write. A write that takes no
-/// byte is a fault. The count of faults stops at 2^64 - 1.
+/// Standard output. It tells no content, and flushes after each write. A write that takes no byte is
+/// a fault, and so is a flush that fails, after which some bytes may be out all the same. The count of
+/// faults stops at 2^64 - 1.
 #[derive(Drop)]
 pub struct StdoutSink<'a> {
     rt: &'a HostRuntime,

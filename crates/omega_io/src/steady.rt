@@ -9,7 +9,7 @@ use crate::unread::Unread;
 use omega_model::{Bytes, NoMemory, Table, Text};
 use std::alloc::Global;
 
-/// Six tables in memory, none of whose reads fails: their counts are the constant 0. A contract
+/// Six tables in memory, none of whose reads fails: their counts of faults are always 0. A contract
 /// knows their rests and the folder entered last. A read takes no memory.
 #[derive(Drop)]
 pub struct SteadyTables {

@@ -26,11 +26,12 @@ abbrev pub ◌>>=◌ : {A B : Type 0} → Option A → (A → Option B) → Opti
 (Some x) >>= f = f x
 None >>= f = None
 
--- what a function returned, seen by view, is what reading gives, unless memory ran out
+-- nothing was read, since reading gives nothing or memory ran out
 abbrev pub Fails : {Y : Type 0} → Unread → Option Y → Type 0
 Fails unread.OutOfMemory read = Unit {0}
 Fails unread.NoLine read = read ≡ None
 
+-- what a function returned, seen by `view`, is what reading gives, unless memory ran out
 abbrev pub Gives : {X Y : Type 0} → (X → Y) → Result X Unread → Option Y → Type 0
 Gives view (Ok x) read = read ≡ Some (view x)
 Gives view (Err e) read = Fails e read

@@ -7,7 +7,7 @@ pub type Lines = Seq<Bytes>;
 /// Why a keeper's call is refused.
 #[derive(Clone, Copy, Debug, Drop, PartialEq, Eq)]
 pub enum KeepRefusal {
-    /// The keeper failed.
+    /// The keeper failed, and counts that as a fault.
     Failed,
     /// Memory ran out.
     NoMemory,
@@ -64,7 +64,7 @@ pub trait Keeper {
         ensures cause { IfErr result (FailsFor (faults self.old) (faults self.new)) }
         ensures later { faults self.old ≤ faults self.new };
 
-    /// How many calls have failed.
+    /// How many calls have answered `Failed`, up to 2^64 - 1.
     fn faults(&self) -> u64
         ensures { result ≡ faults self.now };
 }

@@ -12,8 +12,8 @@ use std::alloc::Global;
 /// The entry whose line this is, a commit's reply as long as its claims; `None` exactly where it is
 /// the line of no such entry.
 ///
-/// What the words may say is read, written again and compared, so that no other spelling passes. Costs
-/// the length of the line; a count that stands in it takes no memory.
+/// The entry that the words say is written again and compared with the line, so that no other spelling
+/// passes. Costs the length of the line: no memory is taken by a count that stands in it.
 pub fn read_entry(alloc: Global, line: &[u8]) -> Result<Option<Entry>, NoMemory>
     ensures found { IfOk result (λ read. IfSome read (IsLineOf line.now)) }
     ensures only { IfOk result (λ read. (entry : Entry) → IsInRange entry → IsAnswered entry → line.now ≡ entry_text entry → read ≡ Some entry) }

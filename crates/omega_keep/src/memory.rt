@@ -28,7 +28,7 @@ impl Calls {
         }
     }
 
-    /// Counts a call, which fails where its turn has come. A count stops at 2^64 - 1.
+    /// Counts a call, and fails where it is the one that is to fail. A count stops at 2^64 - 1.
     fn next(&mut self) -> Result<(), KeepRefusal>
         ensures fails { IsErr result ↔ (self.old.failing ≡ Some self.old.made) }
         ensures failing { self.new.failing ≡ self.old.failing }
@@ -74,8 +74,8 @@ impl MemoryKeeper {
         }
     }
 
-    /// The same keeper, of which one load or append fails, both counted together from 0. Of several
-    /// the last one counts.
+    /// The same keeper, of which the load or append number `call` fails, both counted together from 0.
+    /// A second `fail_at` takes the place of the first.
     pub fn fail_at(self, call: u64) -> MemoryKeeper
         ensures failing { result.calls.failing ≡ Some call }
         ensures list { ⟦<MemoryKeeper as Keeper>⟧.kept result ≡ ⟦<MemoryKeeper as Keeper>⟧.kept self }

@@ -1,5 +1,6 @@
 //! Entries read from lines, word by word. More is taken than lines of entries: keywords inside a
-//! commit aren't looked at, and numbers may have leading zeros. What is written again is compared.
+//! commit aren't looked at, and numbers may have leading zeros. `read_entry` writes what was read
+//! again, and compares.
 ghost use Rattle.std.specs.Prelude.{◌≡◌, IfOk, length};
 ghost use Rattle.omega_keep.specs.KeptLines.{IsAnswered};
 ghost use Rattle.omega_keep.specs.Reading.{Gives, number_at, short_at, need_at, key_at, bytes_of, bytes_at, round_at, add_at, update_at, remove_at, set_at, unset_at, end_at, tiny_at, keys_from, keys_at, rule_of, mode_of, running_at, changed_at, rank_at, same_at, full_at, withdrawn_at, verdict_named, verdict_at, claim_at, judgement_at, claims_from, claims_at, commit_at, entry_named, entry_at};
@@ -26,7 +27,7 @@ fn number_at(text: &[u8]) -> Result<(u64, &[u8]), Unread>
     }
 }
 
-/// The same of a smaller number.
+/// The number below 2^32 that begins a text, and what stands behind it.
 #[tactic(auto, unfolding(crate::specs::Reading::short_at))]
 fn short_at(text: &[u8]) -> Result<(u32, &[u8]), Unread>
     ensures { Gives (λ x. (x.0, x.1.now)) result (short_at text.now) }
@@ -38,7 +39,7 @@ fn short_at(text: &[u8]) -> Result<(u32, &[u8]), Unread>
     Ok((number as u32, rest))
 }
 
-/// The amount that begins a text.
+/// The amount that begins a text, and what stands behind it.
 #[tactic(auto, unfolding(crate::specs::Reading::need_at))]
 fn need_at(text: &[u8]) -> Result<(Need, &[u8]), Unread>
     ensures { Gives (λ x. (x.0, x.1.now)) result (need_at text.now) }
@@ -142,7 +143,7 @@ fn set_at(alloc: Global, text: &[u8]) -> Result<Entry, Unread>
     })
 }
 
-/// That of an attribute that is taken away.
+/// That of an attribute that is deleted.
 #[tactic(auto, unfolding(crate::specs::Reading::unset_at))]
 fn unset_at(alloc: Global, text: &[u8]) -> Result<Entry, Unread>
     ensures value { Gives (λ x. x) result (unset_at text.now) }
@@ -164,7 +165,7 @@ fn end_at(text: &[u8]) -> Result<Entry, Unread>
     Ok(Entry::End { key, machine })
 }
 
-/// The same of a number that one byte holds.
+/// The number below 2^8 that begins a text, and what stands behind it.
 #[tactic(auto, unfolding(crate::specs::Reading::tiny_at))]
 fn tiny_at(text: &[u8]) -> Result<(u8, &[u8]), Unread>
     ensures { Gives (λ x. (x.0, x.1.now)) result (tiny_at text.now) }
@@ -176,7 +177,8 @@ fn tiny_at(text: &[u8]) -> Result<(u8, &[u8]), Unread>
     Ok((number as u8, rest))
 }
 
-/// So many names of tasks. No memory is taken for more of them than there are.
+/// So many names of tasks that begin a text, and what stands behind them. No memory is taken for more
+/// of them than there are.
 fn keys_from(alloc: Global, count: u64, text: &[u8]) -> Result<(Keys, &[u8]), Unread>
     ensures { Gives (λ x. (x.0, x.1.now)) result (keys_from count text.now) }
 {
@@ -190,7 +192,7 @@ fn keys_from(alloc: Global, count: u64, text: &[u8]) -> Result<(Keys, &[u8]), Un
     Ok((keys, rest))
 }
 
-/// The number of some tasks, and their names.
+/// The names of tasks that begin a text, behind their number, and what stands behind them.
 #[tactic(auto, unfolding(crate::specs::Reading::keys_at))]
 fn keys_at(alloc: Global, text: &[u8]) -> Result<(Keys, &[u8]), Unread>
     ensures { Gives (λ x. (x.0, x.1.now)) result (keys_at text.now) }

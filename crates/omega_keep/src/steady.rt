@@ -6,8 +6,8 @@ use crate::listed::Listed;
 use omega_model::{NoMemory, Seq};
 use std::alloc::Global;
 
-/// A keeper in memory, none of whose calls fails: its count is the constant 0. A contract knows its
-/// list and the path entered last.
+/// A keeper in memory that never answers `Failed`: its count of faults is always 0. Where memory runs
+/// out it answers `NoMemory`. A contract knows its list and the path entered last.
 #[derive(Drop)]
 pub struct SteadyKeeper {
     listed: Listed,

@@ -15,7 +15,8 @@ use omega_cell::Cell;
 use omega_model::{Entry, Judgement, Judgements, TaskKey, Txn, Verdict};
 use std::alloc::Global;
 
-/// Takes an entry where it is possible. After a refusal the cell may have one entry more.
+/// Takes an entry where it is possible. After a refusal the cell may have one entry more: a commit with
+/// the reply that was due.
 pub fn take_entry(
     alloc: Global,
     cell: &mut Cell,
@@ -73,7 +74,7 @@ struct KeptCommit {
     reply: Judgements,
 }
 
-/// Commits a transaction again, and compares what is answered to it.
+/// Commits a transaction again, and refuses it where its reply isn't the kept one.
 fn commit(alloc: Global, cell: &mut Cell, touches: &Touches, kept: KeptCommit) -> Result<(), Stop>
     requires { AreTouches touches.now.places cell.old.history }
     ensures goes { OnOk result (GoesOn cell.old.history (Entry.Commit kept.scheduler kept.seen kept.txn kept.reply) cell.new.history) }

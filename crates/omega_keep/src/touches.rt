@@ -12,8 +12,8 @@ use std::collections::BTreeMap;
 
 /// For each machine the places of the entries that touch it, in order.
 ///
-/// So what a machine's sequence number was at any place costs a logarithm, whatever that place is, and
-/// nobody goes through the history for it.
+/// So a machine's sequence number at any place of the history is found in logarithmic time, without
+/// going through the history.
 #[derive(Drop)]
 pub struct Touches {
     pub places: BTreeMap<u64, Seq<u64>>,
@@ -29,7 +29,8 @@ impl Touches {
         }
     }
 
-    /// The sequence numbers of the claims' machines after so many entries.
+    /// The sequence number of each claim's machine after the first `seen` entries, in the order of the
+    /// claims.
     pub fn seqs(&self, alloc: Global, seen: u64, claims: &[Claim]) -> Result<Vec<u64>, NoMemory>
         ensures { IfOk result (λ seqs. (history : List Entry) → AreTouches self.now.places history → seen ≤ length history → seqs.items ≡ copied_seqs history seen claims.now) }
     {
@@ -50,7 +51,8 @@ impl Touches {
         }
     }
 
-    /// Notes the entry at a place. Where memory runs out, what was noted of its machine may be lost.
+    /// Notes the entry at a place, from 0. Where memory runs out, what was noted of its machines may be
+    /// lost.
     pub fn note(&mut self, alloc: Global, place: u64, entry: &Entry) -> Result<(), NoMemory>
         ensures { OnOk result ((id : ℕ) → places_of self.new.places id ≡ noted place (touches id entry.now) (places_of self.old.places id)) }
     {

@@ -21,7 +21,7 @@ fn push_number(out: &mut Vec<u8>, number: u64) -> Result<(), NoMemory>
     Ok(())
 }
 
-/// The same for a smaller number.
+/// The same for a number of 32 bits.
 fn push_short(out: &mut Vec<u8>, number: u32) -> Result<(), NoMemory>
     ensures { OnOk result (out.new.items ≡ out.old.items ++ 32 ∷ decimal number) }
 {
@@ -115,7 +115,8 @@ fn push_keys(out: &mut Vec<u8>, keys: &[TaskKey]) -> Result<(), NoMemory>
     push_each(out, keys)
 }
 
-/// Appends why a gang's claim is withdrawn.
+/// Appends the verdict on a claim that is withdrawn, with the place of the claim for which its gang is
+/// refused.
 fn push_withdrawn(out: &mut Vec<u8>, place: u32) -> Result<(), NoMemory>
     ensures text { OnOk result (out.new.items ≡ out.old.items ++ more_text (Name (codes "withdrawn") ∷ Number place ∷ [])) }
     ensures range { OnOk result (place < 2 ^ 32) }
@@ -296,9 +297,9 @@ fn push_entry(out: &mut Vec<u8>, entry: &Entry) -> Result<(), NoMemory>
     }
 }
 
-/// The line of an entry, without a line feed. A commit's reply is as long as its claims. What the
-/// caller holds is in range, so that the line is read as this entry. Costs the length of the line, in
-/// one buffer.
+/// The line of an entry, without a line feed. A commit has to have as many judgements in its reply as
+/// claims. Every entry that a caller can hold is in range, so `read_entry` reads it back from the line.
+/// Costs the length of the line, in one buffer.
 pub fn entry_line(alloc: Global, entry: &Entry) -> Result<Bytes, NoMemory>
     requires { IsAnswered entry.now }
     ensures line { IfOk result (λ line. line ≡ entry_text entry.now) }

@@ -7,8 +7,8 @@ use omega_sqlkeep::SqlKeeper;
 use sqlite::{Alter, Connection};
 use std::alloc::Global;
 
-/// A keeper over a connection. Functions take it as a value of a type parameter, since to lend one whose type is known
-/// costs the one who lends it minutes of proof.
+/// A keeper over a connection. Functions take it as a value of a type parameter, since lending one whose type is
+/// known costs the caller minutes of proof.
 trait Kept: Keeper + Drop {
     /// A new keeper over the same connection.
     fn again(self, alloc: Global) -> Self;

@@ -42,8 +42,8 @@ fn answer_words(rt: &HostRuntime, words: &[Bytes], answers: &mut String) -> Resu
 
 /// Each takes steps on a new keeper, which are parted by ` : `, as are the answers. `memory CALL STEPS`: one in
 /// memory, of which this load or append fails, counted from 0. `steady STEPS`: one that never fails.
-/// `database STATEMENTS STEPS`: one over a database in memory that these statements have made. `files STEPS`: two over
-/// files.
+/// `database STATEMENTS STEPS`: one over a database in memory that these statements have made.
+/// `files STEPS`: two over files.
 fn answer_of_keeper(
     rt: &HostRuntime,
     call: &str,

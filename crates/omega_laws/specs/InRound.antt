@@ -10,11 +10,11 @@ use Rattle.omega_model.specs.declared.rows.TraceTables.{TraceTables}
 use Rattle.omega_model.specs.declared.settings.Settings.{Settings}
 use Rattle.omega_laws.specs.NextCommit.{NobodyHasWork}
 
--- the rows of the rounds before it
+-- the rows of the rounds before the one that is under way
 abbrev pub rows_before : (settings : Settings) (trace : TraceTables) (history : List Entry) → Underway settings trace history → List Row
 rows_before settings trace history underway = rows_of (take underway.done (rounds trace settings.window))
 
--- these and its own
+-- these rows and those of the round that is under way
 abbrev pub rows_now : (settings : Settings) (trace : TraceTables) (history : List Entry) → Underway settings trace history → List Row
 rows_now settings trace history underway = rows_before settings trace history underway ++ underway.round.rows
 

@@ -17,11 +17,11 @@ abbrev pub KeepsFrom : (List Entry → Entry → Type 0) → ℕ → List Entry 
 KeepsFrom Keeps from history =
     (place : ℕ) (entry : Entry) → slice_get history place ≡ Some entry → from ≤ place → Keeps (take place history) entry
 
--- a rule that is said of an entry and those before it puts the commits of a round in one order. It goes
--- with a word for which of two schedulers goes before the other, one for a scheduler that is passed, and how
--- much the next commit of a scheduler has seen. Of two schedulers just one goes before the other; one that
--- has work and goes before another is passed once that other has committed; it stays so; and a scheduler
--- that is passed can't commit.
+-- a rule `Keeps`, which is said of an entry and those before it, puts the commits of a round in one order.
+-- `GoesBefore` says which of two schedulers goes before the other, `IsPassed` that a scheduler has missed its
+-- place, and `sees` how many entries the next commit of a scheduler has seen. Of two schedulers just one goes
+-- before the other; one that has work and goes before another is passed once that other has committed; it
+-- stays so; and no commit of a scheduler that is passed keeps to the rule
 pub record Orders (settings : Settings) (trace : TraceTables) (rows : List Row) (opened_at : ℕ)
     (Keeps : List Entry → Entry → Type 0) (GoesBefore : List Entry → ℕ → ℕ → Type 0) (IsPassed : List Entry → ℕ → Type 0)
     (sees : List Entry → ℕ → ℕ) : Type 0 where
@@ -57,7 +57,7 @@ RuleBefore rule before one other = IsTrue (rule.goes_before before one other)
 abbrev pub IsPassedBy : Rule → List Entry → ℕ → Type 0
 IsPassedBy rule before scheduler = IsTrue (rule.is_passed before scheduler)
 
--- it puts the commits of a round in one order
+-- a rule that is given by tests puts the commits of a round in one order
 abbrev pub RuleOrders : Settings → TraceTables → List Row → ℕ → Rule → Type 0
 RuleOrders settings trace rows opened_at rule =
     Orders settings trace rows opened_at (RuleKeeps rule) (RuleBefore rule) (IsPassedBy rule) rule.sees

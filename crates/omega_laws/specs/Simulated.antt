@@ -50,7 +50,7 @@ abbrev pub HasTimes : Settings → TraceTables → List Entry → List Timed →
 HasTimes settings trace history times =
     TimedRounds settings trace (λ rows opened_at base before entry. Unit {0}) [] [] 0 (rounds trace settings.window) history times
 
--- besides, in each round the commits stand in order of time
+-- a history is lawful, these are the times of its commits, and in each round they stand in order of time
 abbrev pub SimulatedWith : Settings → TraceTables → List Entry → List Timed → Type 0
 SimulatedWith settings trace history times =
     TimedRounds settings trace (KeepsTime settings trace) [] [] 0 (rounds trace settings.window) history times

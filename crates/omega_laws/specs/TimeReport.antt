@@ -14,12 +14,13 @@ use Rattle.omega_laws.specs.Simulated.{greatest_time, until_after}
 abbrev pub timed_of : ℕ → List Timed → List Timed
 timed_of scheduler times = filter (λ timed. timed.scheduler == scheduler) times
 
--- how long a scheduler decided
+-- how long a scheduler decided, in microseconds
 abbrev pub busy : ℕ → List Timed → ℕ
 busy scheduler times = fold (λ total timed. total + (timed.time - timed.sync)) 0 (timed_of scheduler times)
 
--- from the first round's base to the last round's, or to the last commit, if that is later; a round that
--- begins later than its rows begins with an earlier commit, so the rows' times and the last commit's say it all
+-- how long it is from the first round's base to the last round's, or to the last commit, if that is later. A
+-- round that begins later than its last row begins at the time of an earlier commit, so the times of the rows
+-- and of the last commit are enough
 abbrev pub span : List Round → List Timed → ℕ
 span [] times = 0
 span (first ∷ rest) times =

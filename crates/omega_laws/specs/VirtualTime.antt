@@ -28,7 +28,8 @@ first_wishes (Some (request ∷ rest)) = length request.wishes
 abbrev pub next_wishes : Settings → TraceTables → List Row → ℕ → List Entry → ℕ → ℕ
 next_wishes settings trace rows opened_at before scheduler = first_wishes (left_of settings trace rows opened_at before scheduler)
 
--- a commit of a round: its place, its scheduler, when the scheduler synced, and its time
+-- a commit of a round: its place, its scheduler, when the scheduler synced, and its time, both in microseconds
+-- of the trace
 pub record Timed : Type 0 where
   pub place : ℕ
   pub scheduler : ℕ

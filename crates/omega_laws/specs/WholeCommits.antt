@@ -72,7 +72,7 @@ abbrev pub CommitsWhole : Settings → TraceTables → List Entry → Entry → 
 CommitsWhole settings trace before (Commit scheduler seen txn reply) = IsWholeAttempt settings trace before scheduler seen txn
 CommitsWhole settings trace before _ = Unit {0}
 
--- so is each commit of a history
+-- each commit of a history is such an attempt
 abbrev pub CommitsAreWhole : Settings → TraceTables → List Entry → Type 0
 CommitsAreWhole settings trace history =
     (place : ℕ) (entry : Entry) → slice_get history place ≡ Some entry → CommitsWhole settings trace (take place history) entry

@@ -5,6 +5,7 @@ use Rattle.omega_lock.specs.Lists.{same}
 use Rattle.omega_lock.specs.Seats.{SeatState}
 use Rattle.omega_lock.specs.Views.{lists}
 
+-- an item is in a list
 abbrev pub In : {A : Type 0} → A → List A → Type 0
 In x [] = ⊥
 In x (y ∷ ys) = (x ≡ y) ⊎ In x ys

@@ -1,11 +1,11 @@
--- Lists of entries that grow at their ends, and whose an entry is.
+-- Lists of entries that grow at their ends, and which entries are those of a seat.
 use Rattle.std.specs.Prelude.{◌≡◌, ℕ, zero, suc, ◌+◌, ◌<◌, Bool, false, List, [], ◌∷◌, ◌++◌, drop, filter, Option, Some, None, if◌then◌else◌, ◌==◌}
 
 -- a list goes on from another
 abbrev pub StartsWith : {E : Type 0} → List E → List E → Type 0
 StartsWith {E} whole beginning = (more : List E) × (whole ≡ beginning ++ more)
 
--- it goes on from each of these
+-- a list goes on from each of these
 abbrev pub StartsWithEach : {E : Type 0} → List E → List (List E) → Type 0
 StartsWithEach whole [] = Unit {0}
 StartsWithEach whole (x ∷ xs) = StartsWith whole x × StartsWithEach whole xs

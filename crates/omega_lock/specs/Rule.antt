@@ -34,7 +34,7 @@ module _ {E : Type 0} (number : E → Option ℕ) where
   pub record Fits (first_length served : ℕ) (log : List E) (v : View E) : Type 0 where
     -- the list goes on from what the seat has seen
     pub seen : StartsWith log v.seen
-    -- without a number it has neither turns nor a ticket
+    -- without a number the seat has neither turns nor a ticket
     pub idle : v.has_number ≡ false → (v.turns ≡ 0) × (v.has_ticket ≡ false)
     -- with a number it knows how long the first list was
     pub based : v.has_number ≡ true → v.first_length ≡ first_length

@@ -34,7 +34,7 @@ lock_state entries of terms = record {
   first = entries terms.first.value;
 }
 
--- what every lock keeps; by the last two no word ever reaches its end
+-- what every lock keeps; by the last two no word ever overflows
 pub record IsLock {T E : Type 0} (entries : T → List E) (of : TableId) (terms : Terms T) : Type 0 where
   pub four_words : of.words ≡ 4
   pub one_slot : of.slots ≡ 1

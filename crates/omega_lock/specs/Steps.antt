@@ -45,6 +45,7 @@ HasPublished {T} {E} entries number old new =
     → (new ≡ (record old.0 { told = true; held = entries y; seen = entries y; own = old.0.own ++ e ∷ [] }, old.1))
     × (old.0.own ++ e ∷ [] ≡ entries_since number old.0.first_length old.0.number (entries y))
 
+-- the seat publishes the entry that the value in its slot has more
 abbrev pub Publishes : {T E : Type 0} → (T → List E) → (E → Option ℕ) → Step (Option T)
     → Me (Option T) (View E) → ℕ → Me (Option T) (View E) → Type 0
 Publishes entries number step old found new = HasPublished entries number old new

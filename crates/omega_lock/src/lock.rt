@@ -40,8 +40,9 @@ impl<T: Counted> Model for Lock<T> {
 }
 
 impl<T: Counted> Lock<T> {
-    /// Makes a lock around a value, and a seat for each caller, which has so many turns. The seat at
-    /// place `i` has the number `i`. Where memory runs out the value is handed back. May wait.
+    /// Makes a lock around a value, and a seat for each of 1 to 32 callers, which has so many turns. The
+    /// seat at place `i` has the number `i`. The value's list is shorter than 2^63 entries. Where memory runs
+    /// out the value is handed back. May wait.
     ///
     /// That the seats are `new_seats` says how many there are and which stands at a place too; both
     /// have clauses of their own for callers that know nothing of that definition.
@@ -101,7 +102,7 @@ impl<T: Counted> Lock<T> {
     }
 
     /// Waits until it is the seat's turn, and hands out the value. The seat has then seen the value's
-    /// whole list, and has one turn less. May wait.
+    /// whole list, and has one turn less. Before, it doesn't hold the turn, and has one left. May wait.
     pub fn turn<R: Wait>(&self, rt: &R, seat: &mut Seat<T>) -> T
         requires of { seat.old.of ≡ self.now.of }
         requires free { seat.old.holds ≡ false }

@@ -5,8 +5,7 @@ use Rattle.std.specs.BTreeMap.{BTreeMap}
 use Rattle.std.specs.Map.{lookup}
 use Rattle.std.specs.Option.{option_map}
 use Rattle.std.proofs.lemmas.Bool.{cases_eq, cases_order}
-use Rattle.std.proofs.lemmas.List.{length-map}
-use Rattle.std.proofs.lemmas.Option.{none-some, slice_get-map, slice_get_within}
+use Rattle.std.proofs.lemmas.Option.{none-some, slice_get-map}
 use Rattle.omega_machines.specs.Names.{IsIndexOf, AreIndexed, AreChangedAt, AreOutside, names_of, names_in}
 use Rattle.omega_machines.specs.Table.{MachineState}
 use Rattle.omega_machines.specs.declared.names.NameIndex.{NameIndex}

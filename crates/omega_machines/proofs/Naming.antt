@@ -6,7 +6,7 @@ use Rattle.std.specs.Cmp.{eq_by_cmp_equiv, nat_cmp_total}
 use Rattle.std.specs.Cmp.Lexicographic.{slice_cmp, bytes_decides, nat_list_cmp_total, nat_list_eq_equiv}
 use Rattle.std.specs.List.{AllByRecursion, IsDistinct, filter, list_any, position_or_len, zip}
 use Rattle.std.specs.List.Sorted.{IsStrictlySortedBy, IsBinarySearchResult}
-use Rattle.std.specs.Map.{lookup, remove_entry, keys_of, IsKeyTest, AreApart, KeepsOthers}
+use Rattle.std.specs.Map.{lookup, remove_entry, IsKeyTest, AreApart, KeepsOthers}
 use Rattle.std.specs.Option.{option_or}
 use Rattle.std.specs.Ordering.{is_eq, eq_by_cmp}
 use Rattle.std.specs.Prelude.{Vec}
@@ -15,7 +15,7 @@ use Rattle.std.proofs.lemmas.Bool.{cases_order, lt-ltb, le-ltb, ltb-true, ltb-fa
 use Rattle.std.proofs.lemmas.List.Edits.{length-remove}
 use Rattle.std.proofs.lemmas.List.Sorted.{searched}
 use Rattle.std.proofs.lemmas.Map.{lookup-remove_entry}
-use Rattle.std.proofs.lemmas.Map.Keys.{IsDistinct-push, IsDistinct-cons, IsDistinct-head, IsDistinct-tail, below_from_sorted, sorted_head, sorted_tail}
+use Rattle.std.proofs.lemmas.Map.Keys.{IsDistinct-push, IsDistinct-cons, IsDistinct-head, IsDistinct-tail, below_from_sorted}
 use Rattle.std.proofs.lemmas.Map.Made.{is_some-lookup, keys_of-zip}
 use Rattle.std.proofs.lemmas.Map.Text.{is_eq-slice_cmp}
 use Rattle.std.proofs.lemmas.Option.{cond_some, none-some, same_Some, slice_get_within, get_or_from_slice_get}

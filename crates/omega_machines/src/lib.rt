@@ -2,8 +2,8 @@
 //!
 //! The states stand in a list in order of first mention, and contracts speak of that list alone. A
 //! look-up by number looks at the place that is noted for the number, one of 65,536 notes, and where
-//! another machine stands there it goes through a balanced tree from numbers to places. So it is as
-//! quick as a hash table mostly, and no numbers that somebody chooses make it slow. What is in use on
+//! another machine stands there it goes through a balanced tree from numbers to places. So it is mostly
+//! as quick as a hash table, and for no choice of numbers slower than the tree. What is in use on
 //! all machines that are up, and their capacity, are kept as running sums.
 #![tactic(auto)]
 
@@ -16,7 +16,8 @@ mod table;
 use omega_model::{Machine, Need};
 pub use table::MachineTable;
 
-/// A machine, what is free on it, and its sequence number: how many entries have touched it.
+/// A machine, what is free on it (all its capacity while it is down), and its sequence number: how many
+/// entries have touched it.
 #[derive(Debug, Drop)]
 pub struct MachineState {
     pub machine: Machine,

@@ -25,8 +25,8 @@ use std::marker::Model;
 ///
 /// A call on a machine costs one or two look-ups of its number, and takes no memory, unless its own
 /// text says more. A look-up mostly finds the machine at the place that is noted for its number; where
-/// it isn't there, which numbers somebody chose may bring about, it costs the logarithm of the number
-/// of machines besides.
+/// another number shares the note and has taken it, it costs the logarithm of the number of machines
+/// besides.
 #[derive(Drop)]
 pub struct MachineTable {
     states: Vec<MachineState>,
@@ -57,15 +57,15 @@ fn set_cap(state: &mut MachineState, cap: Need)
     state.machine.cap = cap;
 }
 
-/// How many places are noted.
+/// How many notes there are, each of one place.
 const NOTES: usize = 65_536;
 
-/// Which note is that of a number. Others may share it.
+/// Which note is that of a number. Other numbers may share it.
 fn note_of(id: u64) -> usize {
     (id.wrapping_mul(0x9E37_79B9_7F4A_7C15) >> 48) as usize
 }
 
-/// The place that is noted for a number, where its machine stands there.
+/// The place that is noted for a number; `None` where its machine doesn't stand there.
 fn noted(states: &[MachineState], notes: &[u16], id: u64) -> Option<usize>
     ensures { IfSome result (λ place. slice_get (numbers_of (machines_of states.now)) place ≡ Some id) }
 {
@@ -78,7 +78,7 @@ fn noted(states: &[MachineState], notes: &[u16], id: u64) -> Option<usize>
     }
 }
 
-/// The place of a number's machine, where it is noted or by the map.
+/// The place of a number's machine, by the note or else by the map; `None` where it isn't in the table.
 fn find(
     states: &[MachineState],
     places: &BTreeMap<u64, usize>,
@@ -94,7 +94,8 @@ fn find(
     places.get(&id).copied()
 }
 
-/// Notes the place of a number, in the place of another number's if they share the note.
+/// Notes the place of a number; another number that shares the note loses it. The first call takes the
+/// memory of all notes.
 fn note(notes: &mut Vec<u16>, id: u64, place: usize) -> Result<(), NoMemory> {
     if notes.is_empty() {
         notes.resize(NOTES, 0)?;
@@ -349,7 +350,7 @@ impl MachineTable {
     }
 
     /// What is free on a machine: its capacity less what is in use. `None` exactly where it isn't
-    /// up.
+    /// there or isn't up.
     pub fn free(&self, id: u64) -> Option<Need>
         ensures free { result ≡ free_at self.now id }
         ensures table { IsTable self.now }

@@ -1,4 +1,4 @@
-//! How many extra tasks a MapReduce job gets.
+//! How many more extra tasks a MapReduce job gets.
 #![tactic(auto)]
 
 ghost use Rattle.std.specs.Prelude.{◌≡◌, ◌≤◌};
@@ -8,14 +8,15 @@ ghost use Rattle.omega_mapreduce.specs.Component.{KeepsWithin, FineUpTo};
 
 use omega_model::{Extra, Need};
 
-/// The number of extra tasks of a MapReduce job with so many activities, of which `asked` tasks are
-/// wanted and `running` extra ones run.
+/// How many more extra tasks a MapReduce job gets, which has so many activities and `asked` wanted
+/// tasks, beside `running` extra ones that run already.
 ///
-/// They are what is missing to the target, which is `activities`, or under `Extra::Relative` at most
-/// four times `asked`. Under `Extra::Cap` they are the most of these with which the use of each
-/// component stays within the percentage of its capacity; 0 where it is beyond that already. `need`
-/// is what each asks for, `used` is what is in use in the whole cell, and `capacity` its capacity.
-/// Any amounts and any percentage are allowed. Three divisions at most.
+/// It is what `asked` and `running` lack of the target, which is `activities`, or under
+/// `Extra::Relative` at most four times `asked`. Under `Extra::Cap` it is the most of that with which
+/// the use of each component stays within the percentage of its capacity; 0 where some component is
+/// beyond that already. `need` is that of each extra task, `used` is what is in use in the whole cell,
+/// and `capacity` is that of the cell, all in the same units. Any amounts and any percentage are
+/// allowed. Three divisions at most.
 pub fn extras(
     choice: Extra,
     activities: u32,
@@ -33,8 +34,8 @@ pub fn extras(
     allowed(choice, missing, need, used, capacity)
 }
 
-/// How many tasks a job with so many activities should have in all, of which `asked` tasks are wanted:
-/// as many as its activities, or under `Extra::Relative` at most four times those that are wanted.
+/// How many tasks a job should have in all, wanted and extra ones: as many as its activities, or under
+/// `Extra::Relative` at most four times its `asked` wanted ones.
 pub fn target(choice: Extra, activities: u32, asked: u32) -> u32
     ensures { result ≡ target choice activities asked }
 {

@@ -46,7 +46,7 @@ abbrev pub EndsRunning : List Task → Entry → Type 0
 EndsRunning tasks (End key machine) = IsSomeAnd (task_at tasks key) (λ task. task.machine ≡ machine)
 EndsRunning tasks _ = Unit {0}
 
--- where a claim is answered to be placed, it would be placed on this cell, and evict what the answer says
+-- a claim that is placed by its answer would be placed on this cell, and would evict what the answer says
 abbrev pub MayPlace : Cell → Claim × Judgement → Type 0
 MayPlace cell (claim, judgement) = IsTrue (admits judgement) → judge_fine cell claim ≡ judgement
 

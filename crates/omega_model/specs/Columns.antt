@@ -56,7 +56,7 @@ with_fields number fields row = if length fields == number then row else Err (0,
 abbrev pub number_in : ℕ → ℕ → List (List ℕ) → Result ℕ BadColumn
 number_in greatest number fields = in_column number (bounded greatest (column fields number))
 
--- a whole number in a column that may be empty
+-- a whole number in a column of a record, up to the greatest; an empty column is 0
 abbrev pub number_or_blank_in : ℕ → ℕ → List (List ℕ) → Result ℕ BadColumn
 number_or_blank_in greatest number fields = in_column number (blank_or_bounded greatest (column fields number))
 
@@ -98,7 +98,7 @@ key_in number fields =
     and_then (number_in 2147483647 (number + 1) fields) (λ place.
     Ok record { job = work; index = place }))
 
--- what a task asks for: priority to 255, CPU, memory, disk, and whether its job wants different machines
+-- what a task asks for: priority up to 255, CPU, memory, disk, and whether its job wants different machines
 abbrev pub spec_of : List (List ℕ) → Result Spec BadColumn
 spec_of fields =
     and_then (number_or_blank_in 255 9 fields) (λ priority.
@@ -106,7 +106,7 @@ spec_of fields =
     and_then (number_or_blank_in 1 13 fields) (λ flag.
     Ok record { need = amounts; prec = priority; differ = flag == 1 })))
 
--- the row of `machine_events`: time, machine, event to 2, platform that isn't read, CPU, memory
+-- the row of `machine_events`: time, machine, code up to 2, platform that isn't read, CPU, memory
 abbrev pub machine_row : List (List ℕ) → Result MachineFields BadColumn
 machine_row fields =
     with_fields 6 fields (
@@ -125,8 +125,8 @@ attr_row fields =
     and_then (number_in 1 5 fields) (λ flag.
     Ok record { time = moment; machine = id; name = column fields 3; value = column fields 4; deleted = flag == 1 }))))
 
--- the row of `task_events`: time, one that isn't read, job, index, machine that isn't read, event to 8,
--- user that isn't read, class to 3, and what the task asks for
+-- the row of `task_events`: time, a column that isn't read, job, index, machine that isn't read, code up to
+-- 8, user that isn't read, class up to 3, and what the task asks for
 abbrev pub task_row : List (List ℕ) → Result TaskFields BadColumn
 task_row fields =
     with_fields 13 fields (
@@ -142,7 +142,7 @@ abbrev pub operator : ℕ → Op
 operator number =
     if number == 0 then Equal else (if number == 1 then NotEqual else (if number == 2 then Less else Greater))
 
--- the row of `task_constraints`: time that isn't kept, job, index, operator to 3, name, value
+-- the row of `task_constraints`: time that isn't kept, job, index, operator up to 3, name, value
 abbrev pub constraint_row : List (List ℕ) → Result ConstraintFields BadColumn
 constraint_row fields =
     with_fields 6 fields (
@@ -151,7 +151,7 @@ constraint_row fields =
     and_then (number_in 3 4 fields) (λ code.
     Ok record { key = task; constraint = record { op = operator code; name = column fields 5; value = column fields 6 } }))))
 
--- the row of `mapreduce_jobs`: job, and activities to the most that a job may have
+-- the row of `mapreduce_jobs`: job, and activities up to the most that a job may have
 abbrev pub activity_row : List (List ℕ) → Result ActivityFields BadColumn
 activity_row fields =
     with_fields 2 fields (

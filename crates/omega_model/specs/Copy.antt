@@ -10,7 +10,7 @@ use Rattle.omega_model.specs.declared.delta.Part.{Part}
 use Rattle.omega_model.specs.declared.entries.Entry.{Entry}
 
 -- a copy that has seen so many entries stands for a history: its machines, tasks and sequence numbers
--- are those after the first of them
+-- are those after as many first entries of the history
 pub record StandsFor (cell : Cell) (seqs : ℕ → ℕ) (seen : ℕ) (history : List Entry) : Type 0 where
   pub within : seen ≤ length history
   pub machines : cell.machines ≡ (state (take seen history)).machines

@@ -5,7 +5,7 @@ use Rattle.omega_model.specs.declared.cells.Need.{Need}
 use Rattle.omega_model.specs.declared.settings.Extra.{Extra}
 use Rattle.omega_model.specs.declared.settings.Extra.TheVariants.{Max, Cap, Relative}
 
--- how many tasks a job should have, with these activities and so many tasks wanted
+-- how many tasks a job should have, extra ones among them, with these activities and so many tasks wanted
 abbrev pub target : Extra → ℕ → ℕ → ℕ
 target Max activities asked = activities
 target (Cap percent) activities asked = activities

@@ -34,7 +34,8 @@ abbrev pub opened : TraceTables → List Row → List Entry → Round → Applie
 opened trace rows history round =
     fold (with_row trace) (record { rows = rows; history = history ++ RoundEntry round.number ∷ [] }) round.rows
 
--- the place after the last commit of this scheduler, or 0, with these entries read up to place
+-- how many entries of a history are read, and the place after the last commit of a scheduler among them, or
+-- 0 where it has none
 pub record LastCommit : Type 0 where
   pub place : ℕ
   pub after : ℕ
@@ -69,8 +70,8 @@ abbrev pub IsCommitOfRound : Settings → ℕ → List Entry → Entry → Type 
 IsCommitOfRound settings opened_at before (Commit scheduler seen txn reply) = MayCommit settings opened_at before scheduler seen txn reply
 IsCommitOfRound settings opened_at before _ = ⊥
 
--- a history holds, after these rows and this history, a round's rows and then commits of it, and every
--- scheduler's commits are attempts on its requests
+-- a history goes on from the history `start`, which came of these rows: with the entries of a round's rows,
+-- and then with commits alone, of which every scheduler's are attempts on its requests
 pub record RoundSoFar (settings : Settings) (trace : TraceTables) (rows : List Row) (start : List Entry) (round : Round) (history : List Entry) : Type 0 where
   pub begins : take (length (opened trace rows start round).history) history ≡ (opened trace rows start round).history
   pub commits : (place : ℕ) (entry : Entry) → slice_get history place ≡ Some entry → length (opened trace rows start round).history ≤ place
@@ -78,7 +79,7 @@ pub record RoundSoFar (settings : Settings) (trace : TraceTables) (rows : List R
   pub work : (scheduler : ℕ) → scheduler < schedulers settings
       → (left : List Request) × HasLeft settings trace (rows ++ round.rows) (length (opened trace rows start round).history) scheduler history left
 
--- besides, no scheduler has anything left
+-- besides, the round is whole: no scheduler has anything left
 pub record RoundOf (settings : Settings) (trace : TraceTables) (rows : List Row) (start : List Entry) (round : Round) (history : List Entry) : Type 0 where
   pub begun : RoundSoFar settings trace rows start round history
   pub finished : (scheduler : ℕ) → scheduler < schedulers settings

@@ -1,4 +1,4 @@
--- Histories whose replies are right, and cells that no machine overcommits.
+-- Histories whose replies are right, and cells of which no machine is overcommitted.
 use Rattle.std.specs.Prelude.{◌≡◌, ℕ, ◌≤◌, List, Some, All, length, take, slice_get, IsTrue, nat_eq}
 use Rattle.std.specs.List.{IsDistinct}
 use Rattle.omega_model.specs.Need.{Fits}

@@ -18,6 +18,6 @@ minus a b = record { cpu = a.cpu - b.cpu; mem = a.mem - b.mem; disk = a.disk - b
 abbrev pub Fits : Need → Need → Type 0
 Fits a b = (a.cpu ≤ b.cpu) × ((a.mem ≤ b.mem) × (a.disk ≤ b.disk))
 
--- the test for it
+-- whether each component is at most that of the other amount
 abbrev pub fits : Need → Need → Bool
 fits a b = nat_le a.cpu b.cpu && (nat_le a.mem b.mem && nat_le a.disk b.disk)

@@ -5,8 +5,8 @@ use Rattle.std.specs.Option.{option_and_then}
 use Rattle.std.specs.Str.{bytes_eq}
 use Rattle.omega_model.specs.Numbers.{whole}
 
--- the values of an option: the path of a folder or a file, which may be any text; a whole number from the first bound up to
--- the second; or one of these names
+-- the values of an option: the path of a folder or a file, which may be any text; a whole number from the
+-- first bound up to the second; or one of these names
 pub data Values : Type 0 where
   a_path : Values
   a_number : ℕ → ℕ → Values
@@ -22,6 +22,7 @@ pub record WordTable : Type 0 where
   pub commands : List (List ℕ)
   pub choices : List Choice
 
+-- the option of this name, with these values
 abbrev pub choice : List ℕ → Values → Choice
 choice name values = record { name = name; values = values }
 

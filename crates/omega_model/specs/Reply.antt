@@ -15,7 +15,7 @@ use Rattle.omega_model.specs.declared.claims.Txn.{Txn}
 use Rattle.omega_model.specs.declared.claims.Verdict.TheVariants.{Withdrawn}
 use Rattle.omega_model.specs.declared.entries.Entry.{Entry}
 
--- whether a judgement admits its claim
+-- whether a judgement says that its claim is placed
 abbrev pub admits : Judgement → Bool
 admits judgement = is_placed judgement.verdict
 

@@ -60,7 +60,8 @@ abbrev pub works_on : Settings → TraceTables → List Entry → ℕ → ℕ �
 works_on settings trace history scheduler job =
     scheduler_of settings trace job == scheduler && not (given_up settings history job)
 
--- the requests of a scheduler in the round whose rows end these rows and this history
+-- the requests of a scheduler in a round: these are all rows up to the end of the round's, and this is the
+-- history after them
 abbrev pub requests : Settings → TraceTables → List Row → List Entry → ℕ → List Request
 requests settings trace rows history scheduler =
     filter_map (λ job. request_of job (wishes_of settings trace (state history) (wanted rows) job))

@@ -2,7 +2,8 @@
 use Rattle.std.specs.Prelude.{ℕ, ◌+◌, ◌-◌, List, [], ◌∷◌, Result, Ok, Err, get_or}
 use Rattle.csv.specs.Reading.{default_config, records, strip_bom}
 
--- the records of a table: comma, double quote, no header row, a byte order mark dropped
+-- the records of a table: fields are parted by commas and may stand between double quotes, there is no header
+-- row, and a byte order mark is dropped
 abbrev pub records_of : List ℕ → List (List (List ℕ))
 records_of bytes = records default_config (strip_bom bytes)
 

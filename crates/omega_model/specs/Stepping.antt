@@ -11,8 +11,8 @@ use Rattle.omega_model.specs.declared.rows.TraceTables.{TraceTables}
 use Rattle.omega_model.specs.declared.settings.Settings.{Settings}
 use Rattle.omega_model.specs.declared.wishes.Request.{Request}
 
--- a step of a scheduler in a round whose rows end these rows and, in the history, at place opened_at:
--- it goes by the requests that are left of those that the scheduler has in this round
+-- a step of a scheduler in a round: these are all rows up to the end of the round's, whose entries end at
+-- place opened_at of the history. It goes by the requests that the scheduler has left in this round
 pub record Step (settings : Settings) (trace : TraceTables) (rows : List Row) (opened_at : ℕ) (old : World) (scheduler : ℕ) (new : World) (answer : StepAnswer) : Type 0 where
   pub left : List Request
   pub is_left : HasLeft settings trace rows opened_at scheduler old.history left
@@ -30,7 +30,7 @@ pub record IsBetween (opened_at : ℕ) (history : List Entry) (scheduler seen : 
   pub own : after_last scheduler history ≤ seen
   pub there : seen ≤ length history
 
--- so has each scheduler of a world that has synced
+-- that holds of each scheduler of a world that has synced
 abbrev pub EachIsBetween : ℕ → World → Type 0
 EachIsBetween opened_at world =
     (scheduler seen : ℕ) → world.synced scheduler ≡ Some seen → IsBetween opened_at world.history scheduler seen

@@ -8,7 +8,7 @@ use Rattle.omega_model.specs.declared.claims.Verdict.TheVariants.{Placed}
 use Rattle.omega_model.specs.declared.entries.Entry.{Entry}
 use Rattle.omega_model.specs.declared.entries.Entry.TheVariants.{Round, MachineAdd, MachineUpdate, MachineRemove, AttrSet, AttrDelete, End, Commit}
 
--- whether a verdict admits its claim
+-- whether a verdict says that its claim is placed
 abbrev pub is_placed : Verdict → Bool
 is_placed Placed = true
 is_placed _ = false
@@ -49,7 +49,7 @@ is_number machine id = machine == id
 abbrev pub is_touched_by : Entry → ℕ → Bool
 is_touched_by entry id = touches id entry
 
--- whether one of some entries does
+-- whether one of some entries touches it
 abbrev pub is_touched : List Entry → ℕ → Bool
 is_touched entries id = list_any (touches id) entries
 

@@ -33,7 +33,7 @@ updates code = nat_le 7 code
 abbrev pub is_named : TaskKey → WantedTask → Bool
 is_named key task = same_key task.key key
 
--- the wanted tasks in order of key, with this one new or in the place of an older wish
+-- the wanted tasks in order of key, with this one new or in the place of the one of its name
 abbrev pub with_wanted : TaskKey → Spec → List WantedTask → List WantedTask
 with_wanted key spec wanted =
     filter (λ other. key_lt other.key key) wanted ++ record { key = key; spec = spec } ∷ filter (λ other. key_lt key other.key) wanted

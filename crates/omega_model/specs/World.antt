@@ -33,7 +33,7 @@ pub record IsIdle (old new : World) (left : List Request) : Type 0 where
   pub same_history : new.history ≡ old.history
   pub same_synced : (scheduler : ℕ) → new.synced scheduler ≡ old.synced scheduler
 
--- a scheduler with work that hasn't synced takes over the whole history
+-- a scheduler with work that hasn't synced sees the whole history
 pub record Syncs (old : World) (scheduler : ℕ) (new : World) (left : List Request) : Type 0 where
   pub has_work : left ≢ []
   pub first : old.synced scheduler ≡ None

@@ -54,7 +54,8 @@ impl Need {
     }
 }
 
-/// The name of a task: its job, and its index within the job.
+/// The name of a task: its job, and its index within the job. Tasks of the trace have an index below
+/// 2^31, extra tasks one from 2^31 on.
 #[derive(Clone, Copy, Debug, PartialEq, Eq, PartialOrd, Ord, Hash)]
 pub struct TaskKey {
     pub job: u64,
@@ -65,7 +66,7 @@ pub struct TaskKey {
 #[derive(Clone, Copy, Debug, PartialEq, Eq)]
 pub struct Spec {
     pub need: Need,
-    /// The precedence: a greater one may evict a lower one.
+    /// The precedence: a claim may evict tasks of a lower one. That of an extra task is 0.
     pub prec: u8,
     /// The different-machines flag: the task is placed only where no other task of its job stays; one
     /// that comes later without the flag may join it.
@@ -79,7 +80,7 @@ pub struct Attr {
     pub value: Bytes,
 }
 
-/// A machine of a cell.
+/// A machine of a cell. While it is down it keeps its capacity and its attributes.
 #[derive(Debug, Drop)]
 pub struct Machine {
     pub id: u64,

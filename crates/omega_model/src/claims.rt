@@ -12,14 +12,17 @@ pub struct Claim {
     pub key: TaskKey,
     pub machine: u64,
     pub spec: Spec,
-    /// The tasks that may be evicted, the first first.
+    /// The tasks that may be evicted: from the first on, as many as have to go. Those that don't run on
+    /// the machine are passed over.
     pub victims: Keys,
 }
 
-/// Which conflicts are detected: real ones alone, or any change of the machine since the copy.
+/// Whether a claim is refused because its machine changed after the scheduler saw it.
 #[derive(Clone, Copy, Debug, PartialEq, Eq)]
 pub enum Rule {
+    /// It isn't: the claim is judged by the machine as it is now.
     Fine,
+    /// It is, even where the machine has room for the task.
     Coarse,
 }
 
@@ -30,7 +33,7 @@ pub enum Mode {
     Gang,
 }
 
-/// How a scheduler plans and commits.
+/// How a scheduler plans and commits: by which rule and mode, and whether it may evict tasks.
 #[derive(Clone, Copy, Debug, PartialEq, Eq)]
 pub struct Policy {
     pub rule: Rule,
@@ -47,7 +50,8 @@ pub struct Txn {
     pub claims: Claims,
 }
 
-/// What is answered to one claim.
+/// What is answered to one claim. Where several refusals apply, it is the first of them in the order of the
+/// variants.
 #[derive(Clone, Copy, Debug, PartialEq, Eq)]
 pub enum Verdict {
     Placed,
@@ -55,11 +59,12 @@ pub enum Verdict {
     NoMachine,
     /// The task runs already, on this machine.
     AlreadyRunning(u64),
-    /// The machine changed since the copy: its sequence number now, and in the copy.
+    /// By the coarse rule alone: the machine changed after the scheduler saw it. `now` is its sequence
+    /// number now, `copy` the one that it had in what the scheduler had seen.
     Changed { now: u64, copy: u64 },
-    /// The first victim on the machine whose precedence isn't lower.
+    /// The first victim on the machine whose precedence isn't lower than the claim's.
     VictimRank(TaskKey),
-    /// A task of the same job that stays on the machine.
+    /// The claim has the different-machines flag, and this task of the same job stays on the machine.
     SameJob(TaskKey),
     /// What is free on the machine once the claim's victims that run there are off it, in units of
     /// 10^-9; it is too little.
@@ -94,7 +99,8 @@ pub struct Outcome {
     pub evicted: Keys,
 }
 
-/// The answer to a commit. `place` is that of its entry in the history, from 0.
+/// The answer to a commit. `place` is that of its entry in the history, from 0, and `outcomes` has one for
+/// each claim, in order.
 #[derive(Debug, Drop)]
 pub struct Reply {
     pub place: u64,

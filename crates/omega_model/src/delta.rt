@@ -48,14 +48,14 @@ impl Delta {
         Delta { from, to, parts }
     }
 
-    /// How many entries a copy has seen that this delta can bring up to date.
+    /// The place from which it leads: it serves a copy that has seen so many entries.
     pub fn from(&self) -> u64
         ensures { result ≡ self.now.from }
     {
         self.from
     }
 
-    /// How many entries a copy has seen that this delta brought up to date.
+    /// The place to which it leads: a copy that it brought up to date has seen so many entries.
     pub fn to(&self) -> u64
         ensures { result ≡ self.now.to }
     {

@@ -8,20 +8,26 @@ use crate::claims::{Judgements, Txn};
 use crate::list::{Bytes, Copied, NoMemory, Seq};
 use std::alloc::Global;
 
-/// One step of the cell.
+/// One step of the cell. An entry of a machine or of an attribute first puts the machine at the end of the
+/// list where it isn't there: down, without capacity and attributes.
 #[derive(Debug, Drop)]
 pub enum Entry {
+    /// A round begins; `number` is the round's.
     Round {
         number: u64,
     },
+    /// The machine comes up with this capacity, or has it from now on where it is up. Tasks stop until the
+    /// others fit.
     MachineAdd {
         machine: u64,
         cap: Need,
     },
+    /// The machine has this capacity, and stays up or down. Tasks stop until the others fit.
     MachineUpdate {
         machine: u64,
         cap: Need,
     },
+    /// The machine goes down, and all its tasks stop.
     MachineRemove {
         machine: u64,
     },
@@ -34,11 +40,13 @@ pub enum Entry {
         machine: u64,
         name: Bytes,
     },
+    /// The task ends, which runs on this machine.
     End {
         key: TaskKey,
         machine: u64,
     },
-    /// `seen` is the number of entries that the scheduler had seen when it planned.
+    /// A transaction and what was answered to it: `reply` has a judgement for each claim, in order. `seen` is
+    /// the number of entries that the scheduler had seen when it planned.
     Commit {
         scheduler: u32,
         seen: u64,

@@ -16,9 +16,9 @@ pub fn states_of_legal_histories()
     ensures { (history : List Entry) → Legal history → (n : ℕ) → Sound (state (take n history)) }
 {}
 
-/// Entries that are no commits of a scheduler change nothing of what is left of its requests: where
-/// they follow a history that holds the round's rows, just the same is left with them as without.
-/// Does nothing: the contract is the law.
+/// Only a scheduler's own commits change what is left of its requests in a round: where entries without
+/// a commit of its number follow a history that holds the round's rows, just the same is left with
+/// them as without. Does nothing: the contract is the law.
 pub fn work_that_is_left()
     ensures grows { (settings : Settings) (trace : TraceTables) (rows : List Row) (opened_at scheduler : ℕ)
         (history later : List Entry) (left : List Request)

@@ -6,17 +6,17 @@ use crate::settings::Settings;
 /// Why a row is refused.
 #[derive(Clone, Copy, Debug, PartialEq, Eq)]
 pub enum Cause {
-    /// The row has this number of fields.
+    /// The row has this number of fields, which isn't that of its table.
     Fields(u64),
-    /// The column isn't a whole number.
+    /// The column isn't a whole number below 2^64, of at most 32 digits.
     Number,
-    /// The column is a whole number above the greatest value.
+    /// The column is a whole number above the greatest that it may be.
     Range,
-    /// The column isn't a quantity.
+    /// The column isn't a quantity, or is one above 1000 or of more than 32 bytes.
     Quantity,
 }
 
-/// What there is too much of.
+/// Of what there is too much: of the rows of all tables together, or of different machines.
 #[derive(Clone, Copy, Debug, PartialEq, Eq)]
 pub enum Kind {
     Rows,
@@ -34,14 +34,15 @@ pub enum Status {
     ReadFault(Table),
     /// This table has more bytes than a table may have.
     TooLong(Table),
-    /// Rows count from 1, columns from 1; column 0 stands for the number of fields.
+    /// This is the first bad row, and its first bad column. Rows count from 1, columns from 1; column 0
+    /// stands for the number of fields.
     BadRow {
         table: Table,
         row: u64,
         column: u32,
         cause: Cause,
     },
-    /// This many there are, which is above the limit.
+    /// There are this many, more than the limit: `MOST_ROWS` or `MOST_MACHINES`.
     TooMany(Kind, u64),
     /// The kept line of this number, counted from 0, isn't that of the run, or isn't the line of an
     /// entry that could come there.
@@ -60,6 +61,6 @@ pub struct Done {
     pub status: Status,
     /// The settings of the words. `None` where the words weren't read: they were refused, or memory ran out.
     pub settings: Option<Settings>,
-    /// The history whose report was made, or nothing where none was.
+    /// The history whose report was made, or the empty one where none was.
     pub history: Entries,
 }

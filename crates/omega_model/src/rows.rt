@@ -43,7 +43,7 @@ impl Model for MachineRow {
     ghost inverse = { λ v. record { time = v.time; machine = v.machine; code = v.code; cap = v.cap } };
 }
 
-/// A row of `machine_attributes`. The time is below 2^63.
+/// A row of `machine_attributes`. The time is in microseconds, below 2^63.
 #[derive(Debug, Drop)]
 pub struct AttrRow {
     pub time: u64,
@@ -64,8 +64,10 @@ impl Model for AttrRow {
     ghost invariant = { λ r. r.time < 2 ^ 63 };
 }
 
-/// A row of `task_events`. The time is below 2^63, the index below 2^31, the code at most 8,
-/// the class at most 3. Each component of the need is at most 10^12.
+/// A row of `task_events`. The time is in microseconds, below 2^63, the index below 2^31. The code is 0 or 1
+/// where the task is wanted from now on, 3 to 6 where it ends, 7 or 8 where what it asks for changes, and 2
+/// where it was evicted in the trace, which changes nothing. The class is at most 3; 2 and 3 are services.
+/// Each component of the need is at most 10^12 units.
 #[derive(Clone, Copy, Debug)]
 pub struct TaskRow {
     pub time: u64,
@@ -180,7 +182,7 @@ pub enum Row {
     Task(TaskRow),
 }
 
-/// The rows of one window of time, in order. `number` is the time divided by the window.
+/// The rows of one window of time, in order. `number` is their time divided by the window, rounded down.
 #[derive(Debug, Drop)]
 pub struct Round {
     pub number: u64,

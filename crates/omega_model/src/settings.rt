@@ -29,11 +29,15 @@ pub enum Preempt {
     All,
 }
 
-/// How many extra tasks a MapReduce job gets. `Cap` holds a percentage.
+/// How far a MapReduce job is filled up with extra tasks: at most until its wanted and its extra tasks together
+/// are as many as its activities.
 #[derive(Clone, Copy, Debug, PartialEq, Eq)]
 pub enum Extra {
+    /// As far as that.
     Max,
+    /// As far as the cell's use of each kind stays within this percentage of its capacity.
     Cap(u32),
+    /// Until they are together four times as many as its wanted tasks.
     Relative,
 }
 
@@ -49,6 +53,7 @@ pub enum Format {
 #[derive(Clone, Copy, Debug, PartialEq, Eq)]
 pub struct Settings {
     pub command: Command,
+    /// The seed of the schedulers' starts, and of the tables that `generate` makes.
     pub seed: u64,
     /// How many batch schedulers there are: from 1 to 30.
     pub batch: u32,
@@ -70,11 +75,11 @@ pub struct Settings {
     pub jobs: u32,
     /// How long a scheduler decides on an attempt, in microseconds: at most 1,000,000,000.
     pub t_job: u64,
-    /// How much longer for each task that is still to be placed: at most 1,000,000,000.
+    /// How much longer for each task that is still to be placed, in microseconds: at most 1,000,000,000.
     pub t_task: u64,
-    /// The same of the scheduler of services.
+    /// What `t_job` is for the others, for the scheduler of services.
     pub service_t_job: u64,
-    /// The same of the scheduler of services.
+    /// What `t_task` is for the others, for the scheduler of services.
     pub service_t_task: u64,
 }
 
@@ -116,7 +121,8 @@ impl Settings {
         self.batch + 2
     }
 
-    /// How the scheduler of this number plans and commits.
+    /// How the scheduler of this number plans and commits: 0 is that of services, the last one that of
+    /// MapReduce, which is incremental always.
     pub fn policy(&self, scheduler: u32) -> Policy
         requires batch { self.now.batch ≤ 30 }
         requires scheduler { scheduler < schedulers self.now }

@@ -3,12 +3,16 @@ use crate::cells::{Spec, TaskKey};
 use crate::list::{Bytes, Copied, NoMemory, Seq};
 use std::alloc::Global;
 
-/// How a constraint compares an attribute with its value.
+/// How a constraint compares an attribute with its value. An attribute that isn't set counts as empty.
 #[derive(Clone, Copy, Debug, PartialEq, Eq)]
 pub enum Op {
+    /// The same bytes.
     Equal,
+    /// Other bytes.
     NotEqual,
+    /// Both are whole numbers, and the attribute is less.
     Less,
+    /// Both are whole numbers, and the attribute is greater.
     Greater,
 }
 

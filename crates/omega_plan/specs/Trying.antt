@@ -14,7 +14,7 @@ use Rattle.omega_fit.specs.Wrapped.{IsFirst, positions_from}
 abbrev pub takes : Cell → Wish → Machine → Bool
 takes cell wish machine = suits wish machine.attrs && goes_in cell wish [] machine.id
 
--- whether a machine suits a wish that doesn't have to be alone of its job there, or would be
+-- whether a machine suits a wish and, where the wish wants different machines, has no task of its job
 abbrev pub suits_alone : Cell → Wish → Machine → Bool
 suits_alone cell wish machine = suits wish machine.attrs && not (has_rival cell (claim_of wish [] machine.id) [])
 

@@ -33,10 +33,10 @@ pub(crate) struct Candidate {
 }
 
 /// The first position, round from the plan's start, whose machine suits the wish and where evictions
-/// make room, with the victims. Begins where the progress says. Looks at the index's root alone where
-/// evictions could nowhere free enough of one component; else at the machines where they could free
-/// enough, of which each that suits is asked for its victims, and at worst at all positions. Costs that
-/// look, and the first time for a precedence the making of its index (all machines and their tasks).
+/// make room, with the victims. Begins where the progress says. Looks at the root of the level alone
+/// where evictions could nowhere free enough of one component. Else it looks for victims on the machines
+/// where evictions could free enough and which suit, one after the other, and at worst at all positions.
+/// Costs that, and the first time for a precedence the making of its level from all machines and tasks.
 pub(crate) fn first_to_yield(
     alloc: Global,
     overlay: &Overlay,
@@ -133,9 +133,11 @@ fn victims_at(
     victims_on(alloc, overlay, wish, machine)
 }
 
-/// The fewest tasks on a machine that must go for a fine claim of the wish to be placed there: a
-/// beginning of its tasks of other jobs with lower precedence, in order of precedence, job and
-/// index. Empty where none must go; `Ok(None)` exactly where no beginning makes room.
+/// The fewest tasks on a machine that must go for a claim of the wish by rule `Fine` to be placed there:
+/// the first few of its tasks of other jobs with lower precedence, in order of precedence, job and
+/// index. Empty where none must go; `Ok(None)` exactly where the claim isn't placed even when all of
+/// them go: for want of room, for a machine that isn't up, for a task that runs already, or for another
+/// of its job there where it wants different machines. Constraints aren't looked at.
 ///
 /// Costs the machine's tasks; where all that may go make room, these are sorted.
 pub fn victims(

@@ -20,16 +20,17 @@ use omega_copy::{Indexes, Overlay};
 use omega_model::{Claim, Mode, NoMemory, Policy, Request, Seq, Txn, Wish};
 use std::alloc::Global;
 
-/// The plan of a request on a board of which these indexes tell. Its machines are tried from `start` round,
-/// a position of at most their number. Each wish gets the first machine that suits its constraints and takes
-/// it, on the cell after the claims before it: without victims where that goes, else with them where the
-/// policy preempts; a wish without a machine gets no claim. In mode `Gang` one wish without a machine leaves
-/// no claim at all. The indexes tell of the board afterwards, also where memory runs out.
+/// The plan of a request on a board of which these indexes tell. The machines are tried in the order of their
+/// list from position `start` on, which is at most their number, and then from the front. Each wish gets the
+/// first machine that suits its constraints and takes it, on the cell after the claims before it: without
+/// victims where that goes, else with them where the policy preempts; a wish without a machine gets no claim.
+/// In mode `Gang` one wish without a machine leaves no claim at all. The indexes tell of the board afterwards,
+/// also where memory runs out.
 ///
-/// Takes the memory of the claims and of what they change beside the board, but for the last one; what is
-/// answered takes that of its claims alone, since a history keeps it. Costs each wish a search, and wishes in
-/// a row that differ in the index alone the machines once together; and in the end, for each level, the tasks
-/// on the machines of the claims but the last one.
+/// Takes memory for the claims, and for what all of them but the last change beside the board; the answer
+/// holds that of its claims alone, since a history keeps it. Each wish costs a search; wishes in a row that
+/// differ in the task's index alone cost one pass over the machines together. In the end each level costs the
+/// tasks on the machines of all claims but the last.
 pub fn plan(
     alloc: Global,
     board: &Board,
@@ -62,9 +63,9 @@ pub fn plan(
     })
 }
 
-/// The claims for the wishes in order, each on the cell after the claims before it: all but that for the last
-/// wish are placed beside the board, where there are none before, and that one is answered. The indexes tell
-/// of the cell after the claims there, also where memory runs out.
+/// The claims for the wishes in order, each on the cell after the claims before it. All but that for the last
+/// wish are placed beside the board, beside which none stands before; that for the last wish is answered. The
+/// indexes tell of the cell after the claims beside the board, also where memory runs out.
 fn claims_but_last(
     alloc: Global,
     overlay: &mut Overlay,
@@ -163,8 +164,8 @@ fn claim_for_wish(
     }
 }
 
-/// The claim for a wish that no machine takes as it is: for one of the least precedence no task gives
-/// way. The indexes tell the same afterwards.
+/// The claim with victims for a wish that no machine takes as it is, if it preempts. A wish of precedence
+/// 0 gets none, since no task gives way to it. The indexes tell the same afterwards.
 fn claim_by_evicting(
     alloc: Global,
     overlay: &Overlay,

@@ -59,8 +59,8 @@ fn first_from(
     })
 }
 
-/// Whether the machine at a position suits the wish, and has no other task of its job where the wish must
-/// be alone. Looks in the running tasks only then.
+/// Whether the machine at a position suits the wish and, where the wish wants different machines, has no task
+/// of its job. Looks in the running tasks only then.
 fn suits_alone(alloc: Global, overlay: &Overlay, wish: &Wish, position: usize) -> bool
     ensures { SuitsAlone (cell_after overlay.now) wish.now position result }
 {
@@ -73,7 +73,7 @@ fn suits_alone(alloc: Global, overlay: &Overlay, wish: &Wish, position: usize) -
     }
 }
 
-/// Whether the wish must be alone of its job on a machine, and isn't.
+/// Whether the wish wants different machines, and a task of its job is on this one.
 pub(crate) fn has_rival(alloc: Global, overlay: &Overlay, wish: &Wish, id: u64) -> bool
     ensures { result ≡ has_rival (cell_after overlay.now) (claim_of wish.now [] id) [] }
 {

@@ -5,7 +5,7 @@ use Rattle.omega_model.specs.declared.cells.Need.{Need}
 use Rattle.omega_model.specs.declared.cells.TaskKey.{TaskKey}
 use Rattle.omega_model.specs.declared.claims.Claim.{Claim}
 
--- the line of a task with this name that stops since its machine became too small for it or went
+-- the line of a task with this name that is displaced: it stops since its machine shrank or went
 abbrev pub stop_line : ℕ → TaskKey → Line
 stop_line machine key = Name (codes "displace") ∷ task_words key machine
 

@@ -27,7 +27,7 @@ abbrev pub open_json : List Line → List ℕ
 open_json [] = []
 open_json (line ∷ lines) = 91 ∷ line_json line ++ more_items lines
 
--- what ends a JSON array, where it may have no items
+-- what ends a JSON array; where it has no items, it is opened first
 abbrev pub end_of_array : Bool → List ℕ
 end_of_array is_empty = (if is_empty then 91 ∷ 93 ∷ [] else 93 ∷ []) ++ 10 ∷ []
 

@@ -29,7 +29,7 @@ after_byte writing byte =
     else if byte == 10 then record { json = with_word writing ++ 93 ∷ []; word = []; position = NewLine }
     else record { json = writing.json; word = writing.word ++ byte ∷ []; position = writing.position }
 
--- what ends the array of lines, of which nothing may have been read
+-- what ends the array of lines; where no word was read, it is opened first
 abbrev pub ending : Position → List ℕ
 ending Beginning = 91 ∷ 93 ∷ 10 ∷ []
 ending NewLine = 93 ∷ 10 ∷ []

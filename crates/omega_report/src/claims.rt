@@ -110,7 +110,7 @@ impl Page {
         }
     }
 
-    /// The line of a claim that is refused for a task.
+    /// The line of a claim that is refused for a reason which names a task.
     fn refused_for(
         &mut self,
         claim: &Claim,
@@ -133,7 +133,7 @@ impl Page {
         ])
     }
 
-    /// The line of a claim that is refused with a number.
+    /// The line of a claim that is refused for a reason with one number.
     fn refused_with(
         &mut self,
         claim: &Claim,

@@ -8,7 +8,8 @@ ghost use Rattle.omega_report.specs.Walking.{if_printed};
 use crate::page::Page;
 use omega_model::{Entry, NoMemory, TaskKey};
 
-/// Appends the lines of an entry that displaces the tasks of these names, if they are printed.
+/// Appends the lines of an entry, if `prints`. `stopped` names the tasks that it displaces, in order of
+/// eviction.
 pub fn push_entry(
     page: &mut Page,
     prints: bool,

@@ -117,7 +117,7 @@ fn lead(position: Position) -> &'static [u8]
     }
 }
 
-/// What ends the array of lines.
+/// What ends the array of lines; where no word was read, it is opened first.
 fn ending(position: Position) -> &'static [u8]
     ensures { result.now ≡ ending position }
 {

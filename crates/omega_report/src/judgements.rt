@@ -24,8 +24,8 @@ impl Counts {
         evicted: 0,
     };
 
-    /// The counts of one commit, whoever made it. Costs its claims. So many evictions that a count
-    /// can't hold them don't fit into memory either.
+    /// The counts of one commit, whoever made it. Costs its claims. `NoMemory` where it evicts more
+    /// than 2^64 - 1 tasks, which fit into no memory.
     pub fn of_commit(txn: &Txn, reply: &[Judgement]) -> Result<Counts, NoMemory>
         ensures { IfOk result (λ counts. (scheduler seen : ℕ) → counts_in counts ≡ counts_over (Entry.Commit scheduler seen txn.now reply.now ∷ [])) }
     {
@@ -41,8 +41,8 @@ impl Counts {
         })
     }
 
-    /// The sum of two counts. A sum past what a count can hold, for which there is no memory to be
-    /// counted in, is answered as want of memory.
+    /// The sum of two counts. `NoMemory` where a sum is above 2^64 - 1: so much fits into no memory, and
+    /// so can't have been counted.
     pub fn plus(&self, other: &Counts) -> Result<Counts, NoMemory>
         ensures { IfOk result (λ counts. counts_in counts ≡ sum_of_counts (counts_in self.now) (counts_in other.now)) }
     {

@@ -39,8 +39,8 @@ impl Page {
         self.append(&[Name("round"), Number(number)])
     }
 
-    /// Appends a line for each task with one of these names, which stop since their machine became
-    /// too small or went.
+    /// Appends a line for each of these tasks, which are displaced: they stop since their machine
+    /// shrank or went.
     pub fn displaced(&mut self, machine: u64, keys: &[TaskKey]) -> Result<(), NoMemory>
         ensures format { self.new.format ≡ self.old.format }
         ensures lines { OnOk result (self.new.lines ≡ self.old.lines ++ map (stop_line machine) keys.now) }
@@ -56,7 +56,7 @@ impl Page {
         self.task("end", key, machine)
     }
 
-    /// Appends the line of a name, a task and the machine that the line speaks of.
+    /// Appends a line of this name, with a task and a machine.
     pub fn task(&mut self, name: &'static str, key: TaskKey, machine: u64) -> Result<(), NoMemory>
         requires { IsTrue (is_plain (Name name.now)) }
         ensures format { self.new.format ≡ self.old.format }

@@ -52,7 +52,8 @@ impl Page {
         }
     }
 
-    /// Appends the line of these words. Where memory runs out the page stays as it was.
+    /// Appends the line of these words, of which there is at least one. Where memory runs out the page
+    /// stays as it was.
     pub fn append(&mut self, words: &[Word]) -> Result<(), NoMemory>
         requires { IsTrue (is_plain_line (map word_of words.now)) }
         ensures format { self.new.format ≡ self.old.format }
@@ -110,7 +111,7 @@ fn close(bytes: &mut Vec<u8>) -> Result<(), NoMemory>
     Ok(())
 }
 
-/// What ends the array of the lines, where it may have none.
+/// What ends the array of the lines; where there is none, the array is opened first.
 fn end_of_array(is_empty: bool) -> &'static [u8]
     ensures { result.now ≡ end_of_array is_empty }
 {

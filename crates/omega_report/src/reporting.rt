@@ -123,7 +123,7 @@ fn push_counts(page: &mut Page, counts: &[Counts]) -> Result<(), NoMemory>
     Ok(())
 }
 
-/// How many of these jobs are given up after so many commits that failed.
+/// How many of these jobs are given up: `give_up` or more commits in a row placed nothing of them.
 fn count_given_up(jobs: &[u64], give_up: u32, failures: &Failures) -> u64
     ensures { result ≡ count_by (λ job. nat_le give_up (count_of failures.now job)) jobs.now }
 {

@@ -34,14 +34,15 @@ impl Tally {
         Ok(Tally { counts })
     }
 
-    /// The counts in order.
+    /// The counts, in the order of the schedulers' numbers.
     pub fn counts(&self) -> &[Counts]
         ensures { map counts_in result.now ≡ self.now }
     {
         self.counts.as_slice()
     }
 
-    /// Counts the next entry, which stands with its scheduler if it is a commit. Costs its claims.
+    /// Counts the next entry: a commit for its scheduler, and nothing of any other entry. Costs its
+    /// claims.
     pub fn note(&mut self, entry: &Entry) -> Result<(), NoMemory>
         ensures { OnOk result ((schedulers : ℕ) (history : List Entry) → self.old ≡ tallies schedulers history → self.new ≡ tallies schedulers (history ++ entry.now ∷ [])) }
     {

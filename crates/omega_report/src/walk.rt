@@ -61,8 +61,8 @@ pub fn walked(
 }
 
 impl Walk {
-    /// Takes in the next entry, which displaces the tasks of these names, and whose lines go on the page
-    /// if they are printed.
+    /// Takes in the next entry, whose lines go on the page if `prints`. `stopped` names the tasks that it
+    /// displaces, in order of eviction.
     fn take_in(&mut self, entry: &Entry, stopped: &[TaskKey], prints: bool) -> Result<(), NoMemory>
         ensures format { OnOk result (self.new.page.format ≡ self.old.page.format) }
         ensures lines { OnOk result ((cell : Cell) → stopped.now ≡ keys_of (displaced cell.tasks entry.now) → self.new.page.lines ≡ self.old.page.lines ++ if_printed prints (lines_on cell entry.now)) }
@@ -90,8 +90,8 @@ impl Walk {
     }
 }
 
-/// Notes the next entry, which counts for its job if it is a commit. So many commits that a count can't
-/// hold them don't fit into memory either.
+/// Notes the next entry, which counts for its job if it is a commit. `NoMemory` also where a count is
+/// 2^64 - 1 already: so many commits fit into no memory.
 fn note_entry(failures: &mut Failures, entry: &Entry) -> Result<(), NoMemory>
     ensures { OnOk result ((job : ℕ) → count_of failures.new job ≡ failed_after job (count_of failures.old job) entry.now) }
 {
@@ -103,7 +103,7 @@ fn note_entry(failures: &mut Failures, entry: &Entry) -> Result<(), NoMemory>
     }
 }
 
-/// One more commit for a job, which placed something or nothing.
+/// Counts one more commit for a job, which placed something or nothing.
 fn note_commit(failures: &mut Failures, job: u64, placed: bool) -> Result<(), NoMemory>
     ensures { OnOk result (Notes failures.old failures.new job placed) }
 {

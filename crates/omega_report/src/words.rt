@@ -12,7 +12,7 @@ pub enum Word {
     Number(u64),
 }
 
-/// The words of a task and the machine that a line speaks of.
+/// The three words of a task and a machine: the job, the task's index, and the machine.
 pub fn task_words(key: TaskKey, machine: u64) -> [Word; 3]
     ensures { map word_of result ≡ task_words key machine }
 {

@@ -32,7 +32,7 @@ all_rows timed = timed.rows ++ timed.round.rows
 abbrev pub place_of : TimedRound → ℕ
 place_of timed = rows_place timed.trace timed.rows timed.start timed.round
 
--- a scheduler has not synced, and would now take over the whole history, as it is to
+-- a scheduler has not synced, and is to sync now: by the clock it sees the whole history at this time
 pub record MaySync (settings : Settings) (timed : TimedRound) (world : World) (now scheduler : ℕ) : Type 0 where
   pub synced : world.synced scheduler ≡ None
   pub sees : sees_in_time (place_of timed) world.history scheduler ≡ length world.history

@@ -1,4 +1,4 @@
--- What schedulers leave that worked in a round on threads, once their shared cell is closed.
+-- What the schedulers of a round on threads leave, once their shared cell is closed.
 use Rattle.std.specs.Prelude.{◌≡◌, ◌≤◌, ◌<◌, ◌*◌, ℕ, true, List, [], Some, None, All, drop, length, slice_get}
 use Rattle.omega_lock.specs.Lists.{StartsWith}
 use Rattle.omega_model.specs.Work.{is_commit_of}

@@ -51,8 +51,8 @@ pub record IsLawful (trace : TraceTables) (stage : Stage) (history : List Entry)
       → IsDeskOf stage.settings trace (rows_begun stage) stage.opened_at history scheduler worker.desk
 
 -- what every world keeps: the settings are in their ranges; the wanted tasks are those after the rows of
--- the rounds that have begun; there is a worker for each scheduler, with its plan where it has synced; the world is in the run of some trace, and
--- all is lawful for each one in whose run it is
+-- the rounds that have begun; there is a worker for each scheduler, with its plan where it has synced; the
+-- world is in the run of some trace, and all is lawful for each one in whose run it is
 pub record IsWorld (stage : Stage) (tasks : List WantedTask) (history : List Entry) (workers : List Worker) : Type 0 where
   pub range : IsInRange stage.settings
   pub within : stage.begun ≤ length stage.source.rounds

@@ -19,7 +19,7 @@ use Rattle.omega_rounds.specs.declared.steps.Stepped.TheVariants.{Synced, Commit
 abbrev pub IsInSomeRun : Stage → Type 0
 IsInSomeRun stage = (trace : TraceTables) × IsInRunOf stage trace
 
--- a world that no round has begun in: its history is empty, and nobody has work
+-- a world in which no round has begun: its history is empty, and nobody has work
 pub record IsAtStart (world : WorldState) : Type 0 where
   pub empty : world.history ≡ []
   pub idle : (trace : TraceTables) → IsInRunOf world.stage trace → IsRoundOver trace world

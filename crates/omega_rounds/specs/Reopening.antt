@@ -11,7 +11,7 @@ use Rattle.omega_model.specs.declared.cells.TaskKey.{TaskKey}
 use Rattle.omega_model.specs.declared.entries.Entry.{Entry}
 use Rattle.omega_model.specs.declared.entries.Entry.TheVariants.{Round, MachineAdd, MachineUpdate, MachineRemove, AttrSet, AttrDelete, End, Commit}
 
--- the names of the tasks that an entry may stop: all on the machine that it is about, the task that ends,
+-- the keys of the tasks that an entry may stop: all on the machine that it is about, the task that ends,
 -- and those that a commit evicted
 abbrev pub may_stop : List Task → Entry → List TaskKey
 may_stop tasks (Round number) = []

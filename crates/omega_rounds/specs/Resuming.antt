@@ -74,8 +74,8 @@ LeavesKept stage kept before now NoMemory = AppendsRounds stage kept before now
 abbrev pub Agree : List (List ℕ) → List Entry → Type 0
 Agree kept history = in_common kept history ≡ min (length kept) (length history)
 
--- why a round, which stands in a history from a place on, isn't taken: not all of its lines are kept ones, and
--- some are to be; or a keeper of which none is to be failed
+-- why a round, which stands in a history from a place on, isn't taken: lines are kept from there on, but not all
+-- of the round's; or none is kept there, and the keeper failed; or memory ran out
 abbrev pub RefusesRound : List (List ℕ) → ℕ → List Entry → ResumeRefusal → Type 0
 RefusesRound kept from history (BadKept place) =
     (from < length kept) × ((place ≡ in_common kept history) × (place < length history))
@@ -93,7 +93,8 @@ pub record BeginsAgreed (kept : List (List ℕ)) (from : ℕ) (world : WorldStat
   pub length_is : from ≡ length start
   pub agree : Agree kept start
 
--- a round is refused that was played to its end, or a keeper failed behind the kept lines
+-- why a round stops: it was played to its end and is refused; or the keeper failed behind the kept lines; or
+-- memory ran out
 abbrev pub StopsRound : WorldState → List (List ℕ) → ℕ → ResumeRefusal → Type 0
 StopsRound world kept from (BadKept place) =
     (after : WorldState) × ((after.stage ≡ world.stage) × (PlaysRound world after × RefusesRound kept from after.history (BadKept place)))
@@ -121,8 +122,8 @@ IsPastEnd world kept (BadKept place) = EndsBefore world kept place
 IsPastEnd world kept KeepFault = ⊥
 IsPastEnd world kept NoMemory = ⊥
 
--- of the lines of some entries, which stand in a history from a place on, and those that are kept from there
--- on, so many are the same, and not all of the entries have theirs
+-- why the lines of some entries, which stand in a history from a place on, aren't all kept from there on: at
+-- this place stands the first that isn't; or memory ran out
 abbrev pub StopsAt : List (List ℕ) → ℕ → List Entry → ResumeRefusal → Type 0
 StopsAt kept from entries (BadKept place) = (place ≡ from + in_common kept entries) × (in_common kept entries < length entries)
 StopsAt kept from entries KeepFault = ⊥

@@ -20,14 +20,15 @@ abbrev pub source_of : Settings → TraceTables → Source
 source_of settings trace = record { rounds = rounds trace settings.window; asked = asked_after settings trace [] }
 
 -- where a world stands in its run: the settings, what it has of its trace, how many rounds have begun, and
--- the place in the history after the rows of the last of them
+-- how many entries the history had after the rows of the last of them
 pub record Stage : Type 0 where
   pub settings : Settings
   pub source : Source
   pub begun : ℕ
   pub opened_at : ℕ
 
--- the stage of these settings, rounds and requests, with so many rounds begun
+-- the stage with these settings and rounds, and what is asked without the wanted tasks, once so many rounds have
+-- begun and the rows of the last of them end here
 abbrev pub stage_of : Settings → List Round → Asked → ℕ → ℕ → Stage
 stage_of settings all asked begun opened_at = record {
   settings = settings;

@@ -20,8 +20,8 @@ use omega_sim::{Agenda, Timed, Times};
 /// wishes that are left of it. The one whose time comes first commits, of several at the same time the one
 /// with the least number, and syncs at once if it has work left. Where nobody has work the next round begins:
 /// at the greatest time of its rows, or when the last commit was made, if that is later. Answers the commits
-/// with their times. Where memory runs out the world is gone; so it is where a time has more than 128 bits,
-/// for which no memory has room for enough commits.
+/// with their times. Where memory runs out the world is gone. A time of more than 128 bits is answered as want
+/// of memory too; no memory has room for as many commits as that takes.
 ///
 /// The history and the times are the only ones that are simulated for the settings and the trace. Costs, beside
 /// the steps, for each commit a look at each scheduler.

@@ -8,12 +8,13 @@ use omega_model::{Rounds, Settings};
 /// It writes its `Drop` out, so that whoever lets it go cites one function.
 pub(crate) struct Course {
     pub settings: Settings,
-    /// All rounds of the trace, and how many of them have begun.
+    /// All rounds of the trace.
     pub rounds: Rounds,
+    /// How many of them have begun.
     pub begun: usize,
-    /// The place in the history after the rows of the last round that has begun.
+    /// How many entries the history had after the rows of the last round that has begun.
     pub opened_at: usize,
-    /// The jobs that aren't open in it were quiet at `opened_at`.
+    /// What the trace asks for so far. The jobs that aren't open in it were quiet at `opened_at`.
     pub demand: Demand,
 }
 

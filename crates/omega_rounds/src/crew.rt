@@ -51,8 +51,8 @@ impl Crew {
     }
 
     /// Lets the schedulers work until nothing is left at any desk, each on a thread of its own. A history
-    /// of 2^63 entries, which no memory holds, is want of memory. Where memory runs out the crew is gone.
-    /// May wait.
+    /// of 2^63 entries, which no memory holds, is answered as want of memory. Where memory runs out the crew
+    /// is gone. May wait.
     pub fn play_on_threads<R: Threads + Wait + Sync, G: Gate + Sync>(
         self,
         rt: &R,

@@ -23,7 +23,7 @@ const MOST_PIECES: usize = 8;
 pub(crate) struct PieceIndexes {
     pub first: Indexes,
     pub further: Vec<Indexes>,
-    /// In how many pieces plans are made, once that was asked for.
+    /// In how many pieces plans are made; `None` before `prepare` has asked.
     pub pieces: Option<usize>,
 }
 
@@ -86,8 +86,8 @@ fn pieces_on<R: Threads>(rt: &R) -> usize
 
 /// Lets all of these workers sync that have work and haven't, in as many pieces as there are indexes, each
 /// piece on a thread of its own where one can be made. All plan on the board of the one cell, which stays as
-/// it is. Waits for nobody but the pieces that it has begun, which wait for nobody, and returns where they
-/// do. Where memory runs out in one piece it has run out for the call, and the others have synced or not.
+/// it is. Waits only for the pieces that it has begun; they wait for nobody, and the call returns if they do.
+/// Want of memory in one piece is want of memory of the call; any of the workers may have synced then.
 pub(crate) fn sync_pieces<R: Threads + Sync>(
     rt: &R,
     alloc: Global,

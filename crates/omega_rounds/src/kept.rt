@@ -14,8 +14,8 @@ use std::alloc::Global;
 /// Why a run doesn't go on from kept lines.
 #[derive(Clone, Copy, Debug, Drop, PartialEq, Eq)]
 pub enum ResumeRefusal {
-    /// The line at this place, from 0, is the first that isn't the run's line there. Or each is, and so
-    /// many lines end in the middle of a round.
+    /// The place, from 0, of the first kept line that isn't the run's line there. Or, where each is, the number
+    /// of kept lines, since they end in the middle of a round.
     BadKept(u64),
     /// The keeper failed.
     KeepFault,
@@ -46,7 +46,7 @@ impl From<ResumeRefusal> for Status {
     }
 }
 
-/// Takes a round, which stands in a history from a place on, behind a history with which the kept lines
+/// Takes a round, which stands in a history from the place `from` on; with what is before it the kept lines
 /// agree. Where lines are kept from that place on, those of the round are compared with them, and each must
 /// be there; else they are appended to the keeper's list, in one call. Costs the lines of the round.
 pub(crate) fn take_round<P: Keeper>(

@@ -37,8 +37,8 @@ impl Drop for Demand {
     }
 }
 
-/// Opens a round: appends its entry and those of its rows to the cell, and hands each scheduler, which has
-/// no work, what it is asked to place then. Only the jobs of which something may have to be placed are open
+/// Opens a round: appends its entry and those of its rows to the cell, and hands each scheduler what it is
+/// asked to place then; none may have work before. Only jobs of which something may have to be placed are open
 /// afterwards. Costs the rows, what their entries change, the wanted tasks of the open jobs, and for each
 /// scheduler a look at the open jobs.
 pub(crate) fn open_round(

@@ -13,8 +13,8 @@ use omega_plan::plan;
 use std::alloc::Global;
 
 /// The transaction of an attempt on the first request that is left at a desk, planned on a board of which
-/// these indexes tell. One of 2^32 claims or more is want of memory. They tell of the board afterwards, in
-/// both cases. Costs the plan.
+/// these indexes tell. A transaction of 2^32 claims or more is answered as want of memory. The indexes tell of
+/// the board afterwards in any case. Costs the plan.
 pub(crate) fn planned(
     alloc: Global,
     desk: &Desk,

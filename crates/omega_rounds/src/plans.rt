@@ -15,8 +15,8 @@ use omega_desk::Desk;
 use omega_model::{NoMemory, Txn};
 use std::alloc::Global;
 
-/// A transaction that was planned, and for each of its claims how many of the entries on which it was
-/// planned touched the claim's machine.
+/// A transaction that was planned, and for each of its claims the sequence number that the claim's machine
+/// had in what it was planned on.
 #[derive(Drop)]
 pub(crate) struct Planned {
     pub txn: Txn,
@@ -24,8 +24,8 @@ pub(crate) struct Planned {
 }
 
 /// The attempt on the first request that is left at a desk, planned on the cell's board with these indexes,
-/// which go on to it. A transaction of 2^32 claims or more is want of memory. Costs the plan, and the entries
-/// that the indexes haven't seen.
+/// which are brought up to it. A transaction of 2^32 claims or more is answered as want of memory. Costs the
+/// plan, and the entries that the indexes haven't seen.
 pub(crate) fn plan_first(
     alloc: Global,
     desk: &Desk,

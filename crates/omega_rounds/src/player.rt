@@ -62,8 +62,8 @@ impl Player {
     }
 
     /// A turn in which the scheduler looks at the cell, and its plan of an attempt on the first request that is
-    /// left, on what it saw there. The gate is asked between the two. One of 2^32 claims or more is want of
-    /// memory. Where memory runs out the scheduler hasn't synced.
+    /// left, on what it saw there. The gate is asked between the two. A transaction of 2^32 claims or more is
+    /// answered as want of memory. Where memory runs out the scheduler hasn't synced.
     fn plan<R: Wait, G: Gate>(
         &mut self,
         rt: &R,

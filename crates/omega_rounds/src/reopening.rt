@@ -81,10 +81,10 @@ fn reopen_jobs(open_jobs: &mut OpenJobs, wanted: &Wanted, keys: &[TaskKey]) -> R
     Ok(())
 }
 
-/// Opens the jobs of the tasks that an entry may stop when it is fed to the cell of a board, where they may
-/// be missed: of all tasks on a machine that changes, and of one that ends. Most that end are wanted no
-/// more, so that their jobs aren't looked at again. Costs what the machine has, and the logarithm of the
-/// number of jobs and of wanted tasks for each.
+/// Opens the jobs of the tasks that an entry may stop when it is fed to the cell of a board: of all tasks on a
+/// machine that is added, updated or removed, and of a task that ends, if something of its job may wait then.
+/// Most tasks that end are no longer wanted, so that their jobs aren't looked at again. Costs the machine's
+/// tasks, each the logarithm of the number of jobs and of wanted tasks.
 pub(crate) fn reopen_stopped(
     alloc: Global,
     open_jobs: &mut OpenJobs,

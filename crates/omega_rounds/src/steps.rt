@@ -6,7 +6,7 @@ ghost use Rattle.std.specs.Prelude.{◌≡◌};
 pub enum RoundStep {
     /// The round of this number begins, and its rows are applied.
     Begun(u64),
-    /// This scheduler has work, and no scheduler with a lesser number has.
+    /// This scheduler has work, and none with a lower number has.
     Unfinished(u32),
     /// Nobody has work, and there is no further round.
     Over,

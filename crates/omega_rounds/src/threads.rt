@@ -86,8 +86,8 @@ pub(crate) fn play_shared<R: Threads + Wait + Sync, G: Gate + Sync>(
     Ok((shared.close(rt, passes), workers))
 }
 
-/// Two turns for each attempt that a scheduler can make: as many as for all tries of as many requests as
-/// the desk with most has. More than a number of turns can be is want of memory.
+/// How many turns at the cell each scheduler gets: two for each attempt, where all have as many requests as
+/// the desk with the most, and make all tries for each. 2^32 turns or more are answered as want of memory.
 pub(crate) fn turns_for(settings: &Settings, workers: &[Worker]) -> Result<u32, NoMemory>
     ensures { IfOk result (Suffice settings.now workers.now) }
 {

@@ -19,7 +19,7 @@ use std::thread::Threads;
 ///
 /// Where there is more than one processor, and the plans of a turn seem worth it, they are made on threads,
 /// which are joined before anybody commits: the call waits for these alone, they wait for nobody, and it
-/// returns where they do. Where no thread can be made they are made one after the other. The answer is the
+/// returns if they do. Where no thread can be made the plans are made one after the other. The answer is the
 /// same.
 ///
 /// The history is the only one that is lawful and in turns for the settings and the trace.

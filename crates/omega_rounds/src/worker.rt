@@ -28,7 +28,7 @@ pub(crate) struct Worker {
     pub indexes: Indexes,
     /// How many entries the scheduler has seen, if it has synced since its last commit.
     pub synced: Option<u64>,
-    /// Its plan after these, where it takes steps of a world.
+    /// Its plan after these entries, where it takes steps of a world.
     pub planned: Option<Planned>,
 }
 

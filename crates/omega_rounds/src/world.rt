@@ -113,9 +113,10 @@ impl World {
         self.crew.cell.history()
     }
 
-    /// What is wanted of the rounds that have begun and doesn't run. Where all have begun that is what
-    /// waits at the end of each trace in whose run the world is. Costs a look at each task of the trace, and of
-    /// each wanted one the logarithm of the number of those that run or wait.
+    /// How many of the tasks that are wanted after the rows of the rounds that have begun don't run, and their
+    /// jobs. Where all rounds have begun that is what waits at the end of each trace in whose run the world is.
+    /// Costs a look at each task of the trace, and for each wanted one the logarithm of the number of those that
+    /// run or wait.
     pub fn waiting(&self) -> Result<WaitingTasks, NoMemory>
         ensures tasks { IfOk result (AreLeft (wanted (rows_begun self.now.stage)) (state self.now.history)) }
         ensures end { (trace : TraceTables) → IsInRunOf self.now.stage trace → AllHaveBegun self.now.stage
@@ -233,9 +234,9 @@ impl World {
         Ok(stepped)
     }
 
-    /// Whether the plans that are to be made now are worth threads. No, where there is one processor. Costs a
-    /// few searches in the index of what is free for each scheduler whose first wish has constraints; each of
-    /// them looks at a few machines mostly, and at worst at all.
+    /// Whether the plans that are to be made now are worth threads; never once it is known that there is one
+    /// processor. Costs, for each scheduler whose first wish has constraints, a few searches in the index of what
+    /// is free; each of them looks at a few machines mostly, and at worst at all.
     pub(crate) fn is_worth_threads(&self) -> bool {
         let crew = &self.crew;
         let unseen = crew.indexes.unseen(crew.cell.history().len() as u64);
@@ -244,9 +245,9 @@ impl World {
             && are_worth_threads(workers, &crew.indexes.first, crew.cell.board(), unseen)
     }
 
-    /// Lets all schedulers that have work and haven't synced do so, at the same time in some pieces, each on a
-    /// thread of its own where one can be made. Returns where these do, which wait for nobody. Where memory
-    /// runs out some have synced.
+    /// Lets all schedulers that have work and haven't synced do so. They are cut into pieces that work at the
+    /// same time, each on a thread of its own where one can be made. These wait for nobody, and the call returns
+    /// if they do. Where memory runs out some schedulers may have synced.
     pub(crate) fn sync_together<R: Threads + Sync>(&mut self, rt: &R) -> Result<(), NoMemory>
         requires sync { IsSync R.row }
         ensures stage { self.new.stage ≡ self.old.stage }
@@ -265,8 +266,8 @@ impl World {
     }
 
     /// Plays the round that is under way to its end, with a thread for each scheduler. A history of
-    /// 2^63 entries, which no memory holds, is want of memory. Where memory runs out the world is gone.
-    /// May wait. Costs the attempts, and the threads unless nobody has work.
+    /// 2^63 entries, which no memory holds, is answered as want of memory. Where memory runs out the world is
+    /// gone. May wait. Costs the attempts, and the threads unless nobody has work.
     pub(crate) fn play_on_threads<R: Threads + Wait + Sync, G: Gate + Sync>(
         self,
         rt: &R,

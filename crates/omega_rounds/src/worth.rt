@@ -5,8 +5,8 @@
 //! the search goes on for long, and the wish counts as `LONG` looks; one in a hundred machines suits the wish
 //! then, or none.
 //!
-//! Threads cost what it takes to begin and to join them, and that the indexes of each further piece are told
-//! what the entries changed that they haven't seen.
+//! Threads cost the time to begin and to join them, and to tell the indexes of each further piece what the
+//! entries changed that they haven't seen.
 
 use crate::planned::start_on;
 use crate::worker::Worker;
@@ -22,14 +22,14 @@ const LOOKS: usize = 12;
 /// How many looks a long search is counted as.
 const LONG: u64 = 300;
 
-/// What threads cost, in looks, several times over: about a millisecond.
+/// Several times what threads cost, in looks: about a millisecond.
 const THREADS: u64 = 4_000;
 
 /// What an entry costs that the indexes of the further pieces haven't seen, in looks.
 const UNSEEN: u64 = 4;
 
-/// Whether the plans of these workers that are to be made take so long that threads serve: all of them but the
-/// longest, beside what threads cost where the indexes of the further pieces haven't seen so many entries.
+/// Whether it is quicker to make the next plans of these workers on threads: whether all of them but the longest
+/// take at least as long as threads cost, where the indexes of the further pieces haven't seen `unseen` entries.
 pub(crate) fn are_worth_threads(
     workers: &[Worker],
     indexes: &Indexes,

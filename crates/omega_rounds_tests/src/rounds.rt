@@ -159,7 +159,8 @@ fn schedulers_by_the_clock(rt: HostRuntime) -> Result<(), NoMemory> {
     Ok(())
 }
 
-/// How many entries it has where each scheduler, two of them for batch jobs, has its own thread.
+/// How many entries the history has at the end, where each scheduler has a thread of its own; two of them are
+/// for batch jobs.
 fn entries_on_threads<R: Threads + Wait + Sync>(rt: &R, alloc: Global) -> Result<usize, NoMemory>
     requires { IsSync R.row }
 {

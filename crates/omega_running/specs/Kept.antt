@@ -17,7 +17,8 @@ pub record RunningTasks : Type 0 where
   pub tasks : List Task
   pub spare : ℕ
 
--- the two forests have the same tasks on each machine, trees for each task that there is or may come, and all tasks can come back to the pool
+-- the two forests have the same tasks on each machine, trees once there is a task or room for one, and the
+-- pool has room for the nodes of all tasks
 pub record AreKept (by_key by_machine : SpreadTasks) (count spare capacity : ℕ) : Type 0 where
   pub key_order : by_key.order ≡ ByKey
   pub machine_order : by_machine.order ≡ ByMachine

@@ -1,4 +1,4 @@
--- What tasks keep from a wish that may evict others.
+-- What stays in use on a machine where a wish may evict all tasks of a lower precedence.
 use Rattle.std.specs.Prelude.{ℕ, Bool, List, nat_le}
 use Rattle.std.specs.List.{filter}
 use Rattle.omega_model.specs.Cell.{is_on, total}

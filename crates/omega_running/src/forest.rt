@@ -17,8 +17,8 @@ use omega_model::{Keys, Need, NoMemory, Task, TaskKey};
 use std::alloc::Global;
 use std::marker::Model;
 
-/// How many trees a board's forests have: as many as there may be machines, so that few share one, and few
-/// jobs. A tree takes 16 bytes beside its nodes, so the two forests of a board take 2 MiB.
+/// How many trees each of a board's two forests has: as many as there may be machines, so that few machines,
+/// or jobs, share one. A tree takes 16 bytes beside its nodes, so the two forests of a board take 2 MiB.
 pub(crate) const TREES: usize = 65_536;
 
 /// Tasks in one of the two orders. The tasks of a job, or those of a machine, stand in one tree,
@@ -144,7 +144,7 @@ impl Forest {
         }
     }
 
-    /// What is left of an amount when each task on the machine of at least this precedence has taken
+    /// What is left of an amount when each task of at least this precedence on the machine has taken
     /// its need; a component stops at 0. Costs the tasks on the machine, and one way down of one tree.
     pub fn left_on(&self, machine: u64, prec: u8, amount: Need) -> Need
         requires { self.now.order ≡ ByMachine }

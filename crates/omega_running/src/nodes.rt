@@ -13,8 +13,8 @@ use omega_model::{Keys, Need, NoMemory, Spec, Task, TaskKey};
 use std::alloc::Global;
 use std::mem;
 
-/// A tree of tasks, from left to right in an order. Where a change makes one side of a node higher
-/// than the other by two, the node is turned, so that a way down stays logarithmic. The number of nodes
+/// An AVL tree of tasks, from left to right in an order. Where a change makes one side of a node higher
+/// than the other by two, the node is rotated, so that a way down stays logarithmic. The number of nodes
 /// on the longest way down stands beside the node on top, so that to compare two sides nobody looks
 /// into them.
 #[cycle(tree)]
@@ -177,7 +177,7 @@ impl Tree {
         node.right.collect(order, number, found)
     }
 
-    /// What is left of an amount when each task on the machine of at least this precedence has taken
+    /// What is left of an amount when each task of at least this precedence on the machine has taken
     /// its need; a component stops at 0. Costs the tasks on the machine, and one way down.
     pub fn left_on(&self, machine: u64, prec: u8, amount: Need) -> Need
         requires { IsInOrder ByMachine (tasks_of self.now) }
@@ -242,8 +242,8 @@ fn fork(node: Box<Node>) -> Tree
     Tree::Fork(height.saturating_add(1), node)
 }
 
-/// The tree of a node that had this height when one side had the first of two others. That side has the
-/// second one now; where they are the same, nothing changes above.
+/// The tree of a node that had this height, and of which one side changed: that side's height was `before`
+/// and is `after`. Where these are the same, the node's height stays.
 fn settled(height: u8, node: Box<Node>, before: u8, after: u8) -> Tree
     ensures { tasks_of result ≡ tasks_at node.value }
 {

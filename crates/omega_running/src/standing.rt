@@ -1,4 +1,4 @@
-//! Whether a task is among others, the same in all.
+//! Whether a task is among others, with the same machine and spec.
 ghost use Rattle.std.specs.Prelude.{◌≡◌, ◌<◌, ◌∷◌, ◌++◌, length, option_map};
 ghost use Rattle.omega_model.specs.Cell.{task_at};
 ghost use Rattle.omega_running.specs.Kept.{KeysRise};
@@ -7,8 +7,8 @@ ghost use Rattle.omega_running.specs.Standing.{same_task, stands_in};
 use crate::orders::key_lt;
 use omega_model::{Task, TaskKey};
 
-/// Whether a task is among tasks in order of key, the same in all. Takes time logarithmic in their
-/// number.
+/// Whether a task is among tasks in order of key, with the same machine and spec. Takes time logarithmic
+/// in their number.
 pub fn stands_in(tasks: &[Task], task: &Task) -> bool
     requires { KeysRise tasks.now }
     ensures { result ≡ stands_in tasks.now task.now }
@@ -49,7 +49,7 @@ fn parted(tasks: &[Task]) -> (&[Task], &Task, &[Task])
     (before, task, behind)
 }
 
-/// Whether two tasks are the same in all.
+/// Whether two tasks have the same key, machine and spec.
 pub(crate) fn same_task(a: &Task, b: &Task) -> bool
     ensures { result ≡ same_task a.now b.now }
 {

@@ -98,7 +98,7 @@ impl Running {
     }
 
     /// Makes one tree for all tasks in each order, where there are no trees yet: for a table of few tasks,
-    /// since a program may have many of these. The tasks and the room stay as they are.
+    /// of which a program may have many. The tasks and the room stay as they are.
     pub fn keep_small(&mut self, alloc: Global) -> Result<(), NoMemory>
         ensures tasks { self.new.tasks ≡ self.old.tasks }
         ensures spare { self.new.spare ≡ self.old.spare }
@@ -171,7 +171,7 @@ impl Running {
         Ok(Seq::of(found))
     }
 
-    /// What is left of an amount when each task on a machine of at least this precedence has taken its
+    /// What is left of an amount when each task of at least this precedence on a machine has taken its
     /// need; a component stops at 0. Takes the time of what the machine has, and logarithmic in the
     /// number of tasks.
     pub fn left_on(&self, machine: u64, prec: u8, amount: Need) -> Need
@@ -180,7 +180,7 @@ impl Running {
         self.by_machine.left_on(machine, prec, amount)
     }
 
-    /// Whether a task runs, the same in all. Takes time logarithmic in the number of tasks.
+    /// Whether a task runs on the same machine with the same spec. Takes time logarithmic in the number of tasks.
     pub fn has(&self, task: &Task) -> bool
         ensures { result ≡ stands_in self.now.tasks task.now }
     {

@@ -3,10 +3,12 @@
 //! The cell lies behind a lock whose turns go by tickets. Each scheduler has a pass. With it a
 //! scheduler syncs, which takes its private copy up to the history, or looks at the cell itself, in a
 //! view that all who look share; and it commits a transaction that it has planned on its copy or its
-//! view. The program's schedulers look; private copies are for other callers. Each takes one turn. Under the turn a sync only puts together what is new, and the copy takes
-//! it in after the turn; a look only gives out the view; a commit waits a while for those that look and,
-//! if one of them still does, goes on with a copy of the cell; then it makes room, is judged and appended.
-//! Nothing is planned under a turn.
+//! view. The program's schedulers look; private copies are for other callers.
+//!
+//! Each sync, look and commit takes one turn. Under the turn a sync only puts together what is new, and
+//! the copy takes it in after the turn; a look only gives out the view; a commit waits a while for those
+//! that look and, if one of them still does, goes on with a copy of the cell; then it makes room, is
+//! judged and appended. Nothing is planned under a turn.
 //!
 //! Whatever the order of turns, what a pass has seen goes on from all that it had seen, its own commits
 //! stand in it, each once and in order, and each of them has the reply that is due on exactly the

@@ -25,7 +25,7 @@ use std::alloc::Global;
 use std::marker::Model;
 use std::sync::Wait;
 
-/// A cell that is shared.
+/// A cell that is shared. A call that takes a turn is handed a pass of this cell that has a turn left.
 ///
 /// A contract sees which shared cell it is, how many passes it has, and the history when it was shared.
 #[derive(Drop)]
@@ -47,8 +47,9 @@ impl Model for SharedCell {
 }
 
 impl SharedCell {
-    /// Shares a cell, and makes a pass for each caller, which has so many turns. The pass at place `i`
-    /// has the number `i`. Where memory runs out the cell is handed back. May wait.
+    /// Shares a cell, and makes a pass for each of 1 to 32 callers, which has so many turns. The pass at
+    /// place `i` has the number `i`. The history is shorter than 2^63 entries. Where memory runs
+    /// out the cell is handed back. May wait.
     pub fn share<R: Wait>(
         rt: &R,
         alloc: Global,
@@ -110,10 +111,11 @@ impl SharedCell {
         copy.catch_up(alloc, delta)
     }
 
-    /// Takes a turn, and commits a transaction that was planned on a copy. Answers the place of the
-    /// commit in the history, and for each claim the verdict and the tasks that it evicts. Where memory
-    /// runs out the history is as before and the transaction is handed back; the turn is spent, and
-    /// the pass may have seen more. Waits for its turn, and a while for those that look at the cell.
+    /// Takes a turn, and commits a transaction of fewer than 2^32 claims that was planned on a copy.
+    /// Answers the place of the commit in the history, and for each claim the verdict and the tasks that
+    /// it evicts. Where memory runs out the history is as before and the transaction is handed back; the
+    /// turn is spent, and the pass may have seen more. Waits for its turn, and a while for those that
+    /// look at the cell.
     ///
     /// Costs the claims, whose machines are sorted, and their victims; where one still looks after that while,
     /// a copy of the cell.

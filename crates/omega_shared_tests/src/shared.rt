@@ -286,7 +286,7 @@ struct Pair {
 
 impl Pair {
     /// Schedulers with so many turns each, whose copies have seen nothing, and a cell with machine 1,
-    /// if there is memory. In a box, since a check costs by all parts of what a function lets go.
+    /// if there is memory. Boxed, since proving a function costs by all parts of what it drops.
     fn new<R: Wait>(rt: &R, alloc: Global, turns: u32) -> Option<Box<Pair>> {
         let cell = one_machine(alloc)?;
         let (shared, first, second) = share_by_two(rt, alloc, cell, turns)?;

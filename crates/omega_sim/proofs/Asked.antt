@@ -1,17 +1,16 @@
 -- What is asked of a scheduler in a round is no more than a trace has.
-use Rattle.std.proofs.Common.{◌≡◌, ℕ, suc, ◌+◌, ◌*◌, ◌<◌, ◌≤◌, Bool, true, false, List, [], ◌∷◌, ◌++◌, map, length, take, drop, Option, Some, None, refl, sym, ap, ◌∙◌, arith, inl, inr, length-append, length-take}
+use Rattle.std.proofs.Common.{◌≡◌, ℕ, ◌+◌, ◌≤◌, true, List, [], ◌∷◌, map, length, take, Option, Some, None, refl, arith, inl, inr, length-append, length-take}
 use Rattle.std.proofs.lemmas.List.{length-map}
-use Rattle.std.specs.Prelude.{◌==◌, not, All, min, unwrap_or}
-use Rattle.std.specs.List.{cons_option, filter, filter_map, last_or, list_any, range_with_len, AllByRecursion as Each}
+use Rattle.std.specs.Prelude.{◌==◌, not, unwrap_or}
+use Rattle.std.specs.List.{cons_option, filter, filter_map, list_any, range_with_len, AllByRecursion as Each}
 use Rattle.std.proofs.lemmas.Bool.{eq-eqb, or_right}
 use Rattle.std.proofs.lemmas.Bool.{cases_lt}
-use Rattle.std.proofs.lemmas.List.Elements.{All-head, All-tail}
 use Rattle.omega_feed.proofs.ExtraIndexes.{extras_room}
-use Rattle.omega_model.proofs.Lists.{by_answer, each_filter, each_map, each_of}
+use Rattle.omega_model.proofs.Lists.{each_filter, each_map}
 use Rattle.omega_model.specs.Cell.{Cell}
-use Rattle.omega_model.specs.ExtraTasks.{activities_of, extra_count, extra_wish, free_indexes, running_extras, wanted_of, wishes_after, wishes_for_extras, first_extra, used_in, capacity_in_all}
+use Rattle.omega_model.specs.ExtraTasks.{activities_of, extra_count, extra_wish, running_extras, wanted_of, wishes_after, wishes_for_extras, first_extra, used_in, capacity_in_all}
 use Rattle.omega_model.specs.Feed.{feed}
-use Rattle.omega_model.specs.Fields.{ActivityFields, most_activities}
+use Rattle.omega_model.specs.Fields.{most_activities}
 use Rattle.omega_model.specs.Requests.{is_waiting, jobs_in_order, request_of, requests, wishes_of, works_on}
 use Rattle.omega_model.specs.State.{state}
 use Rattle.omega_model.specs.Wanted.{WantedTask, wanted}

@@ -1,5 +1,5 @@
 -- Syncs are early.
-use Rattle.std.proofs.Common.{◌≡◌, ℕ, ◌^◌, ◌<◌, Bool, List, [], ◌∷◌, Option, Some, None, sym, ap, subst, ◌∙◌, arith}
+use Rattle.std.proofs.Common.{◌^◌, ◌<◌, Bool, List, [], ◌∷◌, arith}
 use Rattle.std.specs.Prelude.{All, unwrap_or, option_map}
 use Rattle.std.specs.List.{find}
 use Rattle.std.proofs.lemmas.List.Elements.{All-head, All-tail}
@@ -7,7 +7,7 @@ use Rattle.omega_laws.specs.TimeReport.{is_job, job_at}
 use Rattle.omega_laws.specs.VirtualTime.{Timed}
 use Rattle.omega_model.proofs.Lists.{by_answer}
 use Rattle.omega_model.specs.declared.entries.Entry.{Entry}
-use Rattle.omega_sim.specs.Summing.{AreEarly, AreFirstSyncs, IsTimely, first_sync}
+use Rattle.omega_sim.specs.Summing.{AreEarly, AreFirstSyncs, IsTimely}
 use Rattle.omega_sim.specs.declared.firsts.FirstTimes.{FirstTimes}
 
 found_early : (test : Timed → Bool) (times : List Timed) → All IsTimely times

@@ -1,7 +1,7 @@
 -- All sums over a lawful history and its times fit.
-use Rattle.std.proofs.Common.{◌≡◌, ℕ, ◌+◌, ◌<◌, ◌≤◌, List, [], ◌∷◌, length, take, Option, Some, None, refl, sym, ap, subst, ◌∙◌, arith}
+use Rattle.std.proofs.Common.{◌≡◌, ℕ, ◌+◌, ◌≤◌, List, [], length, take, Option, Some, None, refl, sym, subst, arith}
 use Rattle.std.specs.Prelude.{option_and_then, slice_get}
-use Rattle.std.specs.List.{filter_map, AllByRecursion as Each}
+use Rattle.std.specs.List.{filter_map}
 use Rattle.omega_laws.proofs.EachLeft.{first_left, standing_holds}
 use Rattle.omega_laws.proofs.Suited.{OfValue, each_mapped}
 use Rattle.omega_laws.proofs.TimeOrder.{timed_are_rounds}
@@ -18,7 +18,6 @@ use Rattle.omega_model.specs.Ranges.{IsInRange}
 use Rattle.omega_model.specs.Requests.{jobs_in_order}
 use Rattle.omega_model.specs.Stepping.{rows_end}
 use Rattle.omega_model.specs.Work.{standing_of}
-use Rattle.omega_model.specs.declared.claims.Judgement.{Judgement}
 use Rattle.omega_model.specs.declared.claims.Txn.{Txn}
 use Rattle.omega_model.specs.declared.entries.Entry.{Entry}
 use Rattle.omega_model.specs.declared.entries.Entry.TheVariants.{Round, MachineAdd, MachineUpdate, MachineRemove, AttrSet, AttrDelete, End, Commit}

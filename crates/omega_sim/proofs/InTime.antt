@@ -1,5 +1,5 @@
 -- The times of a lawful history are such that no sum over them runs over.
-use Rattle.std.proofs.Common.{◌≡◌, ℕ, suc, ◌+◌, ◌*◌, ◌-◌, ◌^◌, ◌<◌, ◌≤◌, Bool, true, false, List, [], ◌∷◌, ◌++◌, length, map, take, drop, Option, Some, None, refl, sym, ap, subst, ◌∙◌, arith, length-append, max}
+use Rattle.std.proofs.Common.{◌≡◌, ℕ, ◌+◌, ◌*◌, ◌^◌, ◌<◌, ◌≤◌, List, [], ◌∷◌, ◌++◌, length, map, drop, refl, sym, ap, subst, ◌∙◌, arith, length-append, max}
 use Rattle.std.specs.Prelude.{All}
 use Rattle.std.specs.List.{filter, fold, AllByRecursion as Each}
 use Rattle.std.proofs.Math.ListN.{drop_of_length-le}
@@ -8,16 +8,14 @@ use Rattle.std.proofs.Math.Seq.{take-length}
 use Rattle.std.proofs.lemmas.List.{take-append-drop}
 use Rattle.std.proofs.lemmas.List.Elements.{All-cons, All-head, All-tail}
 use Rattle.omega_feed.proofs.Cutting.{rounds_have}
-use Rattle.omega_laws.specs.Orders.{OrderedRound}
 use Rattle.omega_laws.specs.Simulated.{HasTimes, TimedRounds, base_of, greatest_time, round_times, rows_place, until_after}
-use Rattle.omega_laws.specs.VirtualTime.{Clock, Timed, clock_of, tick}
+use Rattle.omega_laws.specs.VirtualTime.{Timed, clock_of, tick}
 use Rattle.omega_model.proofs.Lists.{each_append, each_filter, each_map}
 use Rattle.omega_model.specs.Feed.{each_once, feed, is_of_round, round_at, round_number, rounds, time_of}
-use Rattle.omega_model.specs.Lawful.{RoundOf, RoundSoFar, opened, rows_of}
-use Rattle.omega_model.specs.Policy.{schedulers}
+use Rattle.omega_model.specs.Lawful.{RoundOf, opened, rows_of}
 use Rattle.omega_model.specs.Ranges.{IsInRange}
 use Rattle.omega_model.specs.Requests.{failed, jobs_in_order, requests}
-use Rattle.omega_model.specs.Work.{Standing, fresh, standing_of}
+use Rattle.omega_model.specs.Work.{fresh}
 use Rattle.omega_model.specs.declared.entries.Entry.{Entry}
 use Rattle.omega_model.specs.declared.rows.Row.{Row}
 use Rattle.omega_model.specs.declared.rows.Round.{Round}
@@ -27,7 +25,7 @@ use Rattle.omega_sim.specs.InBounds.{IsInBounds}
 use Rattle.omega_sim.specs.Summing.{IsTimely}
 use Rattle.omega_sim.proofs.Asked.{IsAsked, requests_asked, requests_few}
 use Rattle.omega_sim.proofs.Shorter.{feed_few, jobs_few, rounds_few}
-use Rattle.omega_sim.proofs.Ticks.{HasTime, IsInTime, IsWithin, all_due, longest, most_wishes, ticks}
+use Rattle.omega_sim.proofs.Ticks.{IsInTime, IsWithin, all_due, most_wishes, ticks}
 
 -- how many attempts a scheduler has in a round at most, and how long they take
 abbrev most_attempts : ℕ

@@ -1,25 +1,22 @@
 -- The lines of the schedulers, one after the other.
 use Rattle.std.proofs.Common.{◌≡◌, ℕ, ◌+◌, ◌-◌, ◌<◌, List, [], ◌∷◌, ◌++◌, length, map, refl, sym, ap, ap₂, ◌∙◌, append_assoc, arith}
-use Rattle.std.specs.Prelude.{option_map, unwrap_or}
-use Rattle.std.specs.List.{find, flat_map, fold, range_with_len}
+use Rattle.std.specs.Prelude.{unwrap_or}
+use Rattle.std.specs.List.{flat_map, fold, range_with_len}
 use Rattle.std.proofs.lemmas.Grind.{flat_map-append}
 use Rattle.std.proofs.lemmas.List.{append-nil}
 use Rattle.std.proofs.lemmas.List.FromFn.{map-range_with_len_more}
 use Rattle.omega_feed.proofs.Cutting.{rounds_have}
 use Rattle.omega_laws.specs.Simulated.{until_after}
-use Rattle.omega_laws.specs.TimeReport.{busy, committed_jobs, span, wait, waited}
+use Rattle.omega_laws.specs.TimeReport.{busy, committed_jobs, span, waited}
 use Rattle.omega_laws.specs.VirtualTime.{Timed}
-use Rattle.omega_model.specs.Feed.{feed, rounds}
-use Rattle.omega_model.specs.Lawful.{rows_of}
+use Rattle.omega_model.specs.Feed.{rounds}
 use Rattle.omega_model.specs.Report.{Line, line_text}
 use Rattle.omega_model.specs.ReportForms.{text_of}
 use Rattle.omega_model.specs.declared.entries.Entry.{Entry}
 use Rattle.omega_model.specs.declared.rows.Round.{Round}
-use Rattle.omega_model.specs.declared.rows.Row.{Row}
 use Rattle.omega_model.specs.declared.rows.TraceTables.{TraceTables}
 use Rattle.omega_model.specs.declared.settings.Settings.{Settings}
 use Rattle.omega_sim.specs.Arriving.{AreArrivalsOf, bases, first_time, span_from}
-use Rattle.omega_sim.specs.Firsts.{time_at}
 use Rattle.omega_sim.specs.Summing.{AreFirstSyncs, waited_between, waited_in_all}
 use Rattle.omega_sim.specs.TimeLines.{busy_line, lines_of_one, wait_line}
 use Rattle.omega_sim.specs.declared.arrivals.Arrivals.{Arrivals}

@@ -1,6 +1,6 @@
 -- Numbers of a list, each once, are no more than another list has in which all of them stand.
 use Rattle.std.proofs.Common.{◌≡◌, ℕ, suc, ◌≤◌, Bool, true, false, not, ◌==◌, nat_eq, List, [], ◌∷◌, length, refl, sym, ap, ◌∙◌, arith, if◌then◌else◌}
-use Rattle.std.specs.List.{filter, list_any, IsDistinct, AllByRecursion as Each}
+use Rattle.std.specs.List.{filter, IsDistinct, AllByRecursion as Each}
 use Rattle.std.proofs.lemmas.Bool.{both_ways, eqb-true, eq-eqb, ne_eqb}
 use Rattle.std.proofs.lemmas.Map.Keys.{IsDistinct-cons, IsDistinct-head, IsDistinct-tail}
 use Rattle.omega_model.specs.Feed.{each_once}

@@ -1,16 +1,15 @@
 -- How long lists are that are made of a trace.
-use Rattle.std.proofs.Common.{◌≡◌, ℕ, zero, suc, ◌+◌, ◌<◌, ◌≤◌, Bool, true, false, ◌&&◌, List, [], ◌∷◌, ◌++◌, map, length, take, Option, Some, None, refl, sym, ap, ◌∙◌, arith, length-append}
+use Rattle.std.proofs.Common.{◌≡◌, ℕ, ◌+◌, ◌≤◌, Bool, true, false, ◌&&◌, List, [], ◌∷◌, ◌++◌, map, length, Option, Some, None, refl, arith, length-append}
 use Rattle.std.proofs.lemmas.List.{length-map}
-use Rattle.std.specs.Prelude.{◌==◌, not, nat_lt, All, min}
-use Rattle.std.specs.List.{cons_option, filter, filter_map, fold, list_any, AllByRecursion as Each}
-use Rattle.std.proofs.lemmas.List.Elements.{All-head, All-tail}
+use Rattle.std.specs.Prelude.{◌==◌, not, nat_lt}
+use Rattle.std.specs.List.{cons_option, filter, filter_map, fold, list_any}
 use Rattle.std.proofs.lemmas.List.Sums.{count_by-le-length, length-filter}
 use Rattle.omega_model.proofs.InOrder.{key_asym}
 use Rattle.omega_model.proofs.Lists.{by_answer}
-use Rattle.omega_model.specs.Feed.{by_time, each_once, event_rows, feed, is_of_round, put_by_time, round_at, round_number, rounds, time_of}
+use Rattle.omega_model.specs.Feed.{by_time, each_once, event_rows, feed, put_by_time, round_at, round_number, rounds, time_of}
 use Rattle.omega_model.specs.Fields.{TaskFields}
 use Rattle.omega_model.specs.Keys.{key_lt}
-use Rattle.omega_model.specs.Limits.{IsWithinLimits, most_rows, row_count}
+use Rattle.omega_model.specs.Limits.{IsWithinLimits}
 use Rattle.omega_model.specs.Requests.{job_of_row, jobs_in_order}
 use Rattle.omega_model.specs.Wanted.{WantedTask, ends, is_named, submits, updates, wanted, wanted_after, wanted_after_task, with_wanted}
 use Rattle.omega_model.specs.declared.cells.Spec.{Spec}

@@ -1,16 +1,8 @@
 -- What a scheduler has left in a round: its requests stay such as they were, and each attempt leaves one fewer.
-use Rattle.std.proofs.Common.{◌≡◌, ℕ, suc, ◌+◌, ◌*◌, ◌-◌, ◌<◌, ◌≤◌, Bool, true, false, List, [], ◌∷◌, ◌++◌, length, take, drop, Option, Some, None, refl, sym, ap, subst, ◌∙◌, arith}
-use Rattle.std.specs.Prelude.{◌==◌, not, if◌then◌else◌}
-use Rattle.std.specs.List.{filter, fold, AllByRecursion as Each}
-use Rattle.omega_laws.proofs.Suited.{OfValue}
-use Rattle.omega_model.proofs.Lists.{by_answer}
-use Rattle.omega_model.specs.Requests.{failed, requests}
-use Rattle.omega_model.specs.Work.{Standing, after_entry, after_outcomes, ends_request, failing_after, failing_with, fresh, moved_on, outcomes_of, places_wish, rest_of, standing_of}
+use Rattle.std.proofs.Common.{◌≡◌, ℕ, suc, ◌+◌, ◌*◌, ◌-◌, ◌<◌, ◌≤◌, Bool, true, false, List, ◌∷◌, length, refl, sym, ap, subst, ◌∙◌, arith}
+use Rattle.std.specs.Prelude.{not}
+use Rattle.omega_model.specs.Work.{Standing, ends_request, failing_after, failing_with, fresh, moved_on, places_wish, rest_of}
 use Rattle.omega_model.specs.declared.claims.Outcome.{Outcome}
-use Rattle.omega_model.specs.declared.entries.Entry.{Entry}
-use Rattle.omega_model.specs.declared.entries.Entry.TheVariants.{Round, MachineAdd, MachineUpdate, MachineRemove, AttrSet, AttrDelete, End, Commit}
-use Rattle.omega_model.specs.declared.rows.Row.{Row}
-use Rattle.omega_model.specs.declared.rows.TraceTables.{TraceTables}
 use Rattle.omega_model.specs.declared.settings.Settings.{Settings}
 use Rattle.omega_model.specs.declared.wishes.Request.{Request}
 use Rattle.omega_sim.proofs.Asked.{IsAsked}

@@ -1,13 +1,11 @@
 -- The clock of a round stays within what its attempts may take.
-use Rattle.std.proofs.Common.{◌≡◌, ℕ, ◌+◌, ◌*◌, ◌-◌, ◌<◌, ◌≤◌, Bool, true, false, List, [], ◌∷◌, ◌++◌, length, take, drop, Option, Some, None, refl, sym, ap, subst, ◌∙◌, arith, length-append}
-use Rattle.std.specs.Prelude.{◌==◌, if◌then◌else◌, option_map, slice_get}
+use Rattle.std.proofs.Common.{◌≡◌, ℕ, ◌+◌, ◌*◌, ◌-◌, ◌<◌, ◌≤◌, true, false, List, [], ◌∷◌, ◌++◌, length, take, Option, Some, refl, sym, ap, subst, ◌∙◌, arith}
+use Rattle.std.specs.Prelude.{◌==◌, option_map, slice_get}
 use Rattle.std.specs.List.{fold, AllByRecursion as Each}
 use Rattle.std.proofs.Math.Nat.{mul-le-mul_left}
-use Rattle.std.proofs.Math.Seq.{take-append_seam}
 use Rattle.std.proofs.lemmas.Bool.{eqb-true, eq-eqb, ne_eqb, eqb-false}
 use Rattle.omega_laws.proofs.EachLeft.{first_left, standing_holds}
 use Rattle.omega_laws.proofs.Places.{at_seam_from, front_push, longer}
-use Rattle.omega_laws.specs.NextCommit.{left_of}
 use Rattle.omega_laws.specs.VirtualTime.{Clock, Timed, decision, due_time, first_wishes, next_wishes, tick}
 use Rattle.omega_model.proofs.Lists.{by_answer, each_append}
 use Rattle.omega_model.proofs.Standing.{after_entry-other, standing_push}

@@ -12,7 +12,7 @@ IsFirstBelow agenda count (Some (scheduler, time)) =
     (scheduler < count) × ((slice_get agenda scheduler ≡ Some (Some time))
     × ((other : ℕ) → other < count → (later : ℕ) → slice_get agenda other ≡ Some (Some later) → IsNoLater scheduler time other later))
 
--- of all schedulers of an agenda
+-- of all schedulers of an agenda this one commits first, at this time; or none has a time
 abbrev pub IsFirst : List (Option ℕ) → Option (ℕ × ℕ) → Type 0
 IsFirst agenda first = IsFirstBelow agenda (length agenda) first
 

@@ -32,7 +32,7 @@ pub record AreArrivals (some : List Round) (arrivals : Arrivals) : Type 0 where
   pub came : Arrive (rows_of some) arrivals.first_times
   pub based : arrivals.bases ≡ bases some
 
--- it is that of a trace
+-- it is what is held for the rounds of a trace under these settings
 abbrev pub AreArrivalsOf : Settings → TraceTables → Arrivals → Type 0
 AreArrivalsOf settings trace arrivals = AreArrivals (rounds trace settings.window) arrivals
 

@@ -12,11 +12,11 @@ abbrev pub first_sync : List Entry → List Timed → ℕ → Option ℕ
 first_sync history times job =
     option_map (λ (timed : Timed). timed.sync) (find (λ timed. is_job job (job_at history timed)) times)
 
--- these are held
+-- for each job the map has the time at which its scheduler synced for its first commit
 abbrev pub AreFirstSyncs : List Entry → List Timed → FirstTimes → Type 0
 AreFirstSyncs history times syncs = (job : ℕ) → time_at syncs job ≡ first_sync history times job
 
--- how long a job waited, from one time to another
+-- how long a job waited, from when it came to the sync for its first commit
 abbrev pub waited_between : FirstTimes → FirstTimes → ℕ → ℕ
 waited_between came synced job = unwrap_or (time_at synced job) 0 - unwrap_or (time_at came job) 0
 
@@ -29,7 +29,7 @@ pub record IsTimely (timed : Timed) : Type 0 where
   pub decides : timed.time - timed.sync < 2 ^ 51
   pub syncs : timed.sync < 2 ^ 101
 
--- all sums over these commits have less than 128 bits
+-- what keeps all sums over these commits below 2 ^ 128
 pub record SumsFit (history : List Entry) (times : List Timed) : Type 0 where
   pub each : All IsTimely times
   pub jobs : (scheduler : ℕ) → length (committed_jobs scheduler history times) < 2 ^ 21

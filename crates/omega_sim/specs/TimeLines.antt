@@ -10,7 +10,7 @@ use Rattle.omega_model.specs.declared.settings.Settings.{Settings}
 use Rattle.omega_laws.specs.TimeReport.{busy, committed_jobs, span, wait}
 use Rattle.omega_laws.specs.VirtualTime.{Timed}
 
--- the line of how long a scheduler decided, of so long a time
+-- the line of how long a scheduler decided, and how long the whole run took
 abbrev pub busy_line : ℕ → ℕ → ℕ → Line
 busy_line scheduler decided whole = Name (codes "busy") ∷ Number scheduler ∷ Number decided ∷ Number whole ∷ []
 

@@ -35,7 +35,7 @@ impl Agenda {
         Ok(Agenda { times })
     }
 
-    /// Sets when a scheduler commits next, in place of an earlier time.
+    /// Sets when a scheduler commits next, in microseconds, in place of the time set before.
     pub fn set(&mut self, scheduler: u32, time: u128)
         requires { scheduler < length self.old }
         ensures { self.new ≡ slice_set self.old scheduler (Some time) }

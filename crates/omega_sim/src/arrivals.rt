@@ -14,17 +14,17 @@ use omega_model::{NoMemory, Round, Row};
 use std::alloc::Global;
 
 /// When each job of a trace comes first, and when its first and its last round begin, in microseconds.
-/// It takes the memory of the jobs, and its rows can be let go.
+/// It takes memory for the jobs alone, and outlives the rounds of which it is made.
 #[derive(Drop)]
 pub struct Arrivals {
+    /// For each job the time of its first task row.
     pub first_times: FirstTimes,
     /// The greatest time of the first round's rows, and that of the last one's, if there is a round.
     bases: Option<(u64, u64)>,
 }
 
 impl Arrivals {
-    /// Those of the trace with these rounds, all of whose times have 64 bits. Costs a look-up for each
-    /// task row.
+    /// The arrivals of the trace with these rounds. Costs a look-up for each task row.
     pub fn of(alloc: Global, rounds: &[Round]) -> Result<Arrivals, NoMemory>
         ensures arrivals { IfOk result (AreArrivals rounds.now) }
         ensures early { OnOk result (All (λ row. time_of row < 2 ^ 64) (rows_of rounds.now)) }
@@ -39,8 +39,8 @@ impl Arrivals {
         })
     }
 
-    /// From the first round's time to the last round's, or to this time, if that is later. It is 0 where
-    /// there is no round.
+    /// How long it is, in microseconds, from the first round's time to the last round's, or to `until`, if
+    /// that is later. 0 where there is no round.
     pub fn span(&self, until: u128) -> u128
         ensures { result ≡ span_from self.now.bases until }
     {

@@ -31,7 +31,7 @@ impl FirstTimes {
         self.times.get(&job).copied()
     }
 
-    /// Notes a time of a job, unless it has an earlier note.
+    /// Notes a time of a job in microseconds, unless one is noted for it already, whatever that is.
     pub fn note(&mut self, job: u64, time: u128) -> Result<(), NoMemory>
         ensures { OnOk result ((other : ℕ) → time_at self.new other ≡ option_or (time_at self.old other) (if job == other then Some time else None)) }
     {

@@ -12,7 +12,6 @@ mod timed;
 
 pub use agenda::Agenda;
 pub use arrivals::{Arrivals, greatest_time};
-pub use firsts::FirstTimes;
 pub use laws::sums_of_lawful_histories;
 pub use lines::time_lines;
 pub use timed::{Timed, Times};

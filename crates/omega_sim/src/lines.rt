@@ -14,8 +14,8 @@ use crate::timed::Timed;
 use omega_model::{Bytes, Entry, NoMemory, Seq, Settings};
 use std::alloc::Global;
 
-/// The bytes of the lines that say for each scheduler, from 0, how long it decided and how long all took,
-/// and for how many jobs it committed and how long these waited; times are in microseconds.
+/// The bytes of the lines that say for each scheduler, from 0, how long it decided and how long the whole run
+/// took, and for how many jobs it committed and how long these waited in all; times are in microseconds.
 ///
 /// Goes over the commits a few times for each scheduler, of which there are at most 32; each costs a
 /// look-up among the jobs.

@@ -26,7 +26,7 @@ pub fn busy(scheduler: u32, times: &[Timed]) -> u128
     total
 }
 
-/// The time of the last commit, 0 where there is none.
+/// The time of the last commit in microseconds, 0 where there is none.
 pub fn last_time(times: &[Timed]) -> u128
     ensures { result ≡ until_after 0 times.now }
 {
@@ -65,7 +65,8 @@ fn push_if(jobs: &mut Vec<u64>, job: Option<u64>) -> Result<(), NoMemory>
     Ok(())
 }
 
-/// When the scheduler of each job synced for its first commit. Costs a look-up for each commit.
+/// For each job that has a commit, when its scheduler synced for the first one, in microseconds. Costs a
+/// look-up for each commit.
 pub fn first_syncs(
     alloc: Global,
     history: &[Entry],
@@ -105,7 +106,7 @@ pub fn waited(jobs: &[u64], came: &FirstTimes, synced: &FirstTimes) -> u128
     total
 }
 
-/// How long a job waited.
+/// How long a job waited, in microseconds; 0 where no sync is noted for it.
 fn waited_by(job: u64, came: &FirstTimes, synced: &FirstTimes) -> u128
     requires { AreEarly synced.now }
     ensures time { result ≡ waited_between came.now synced.now job }

@@ -2,8 +2,8 @@
 use omega_model::Seq;
 use std::marker::Model;
 
-/// A commit of a history: its place there, its scheduler, when the scheduler synced for it, and when
-/// it committed, both in microseconds.
+/// A commit of a history: its place there, from 0, its scheduler's number, when the scheduler synced for it,
+/// and when it committed, both in microseconds of the virtual clock.
 #[derive(Clone, Copy, Debug)]
 pub struct Timed {
     pub place: u64,
@@ -22,5 +22,5 @@ impl Model for Timed {
     ghost inverse = { λ v. record { place = v.place; scheduler = v.scheduler; sync = v.sync; time = v.time } };
 }
 
-/// The commits of a history in order.
+/// The commits of a history with their times, in order.
 pub type Times = Seq<Timed>;

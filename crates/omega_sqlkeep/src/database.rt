@@ -51,8 +51,8 @@ pub fn load_from<S: Alter>(alloc: Global, connection: &mut Connection<S>) -> Res
 }
 
 /// Puts all lines at the end of the table in one transaction, which makes the table where it is absent.
-/// A refusal gives the transaction up, so that, where the disk has told no lie, nothing has changed. A
-/// connection that is in a transaction already is refused.
+/// Where anything is refused the transaction is rolled back, so that nothing has changed, as long as the
+/// disk tells no lie. A connection that is in a transaction already is refused.
 pub fn append_to<S: Alter>(connection: &mut Connection<S>, lines: &Lines) -> Result<(), Error>
     ensures none { HasCleanDisk (state S.Store connection.new) → OnErr result (IsAsBefore (state S.Store connection.old) (state S.Store connection.new)) }
 {

@@ -91,10 +91,10 @@ fn append_at(
     append_to(opened(rt, path.as_str(), file)?, lines)
 }
 
-/// Below this length a log has no page, so that nothing is lost with it.
+/// A log of fewer bytes than this has no page, so that nothing is lost with it.
 const SHORT_LOG: u64 = 512;
 
-/// Removes the log of the file at a path where it has nothing.
+/// Removes the log of the file at a path where it has no page.
 fn remove_log(rt: &HostRuntime, path: &str) -> io::Result<()> {
     let real = fs::canonicalize(rt, path)?;
     let log = format!(in rt.alloc(); "{}-wal", real.as_str())?;
@@ -123,13 +123,14 @@ fn close_at(rt: &HostRuntime, path: &str, file: OpenFile) -> Result<(), Error> {
 /// A keeper of the lines in the table `kept` of the database in a file.
 ///
 /// The file is opened at the first load or append after `enter`, and works as a `SqlKeeper` over it from
-/// then on. No other connection, and no other program, can have it open meanwhile. A load of a file that
-/// isn't there answers no lines and makes none; the first append makes it. Beside the file stands its
-/// log, whose name ends in `-wal`: until `close` the newest lines may be in it alone.
+/// then on. No other connection, and no other program, can have it open meanwhile. A load where no file
+/// stands answers no lines and makes no file; the first append makes it. Beside the file stands its log,
+/// whose name ends in `-wal`: until `close` the newest lines may be in it alone. Another `enter` lets go of
+/// the file that was open, without `close`.
 ///
-/// It tells the path and not its list. What the database refuses is a fault, as are a file that can't be
-/// opened and a load or an append before the first `enter`, but for want of memory, which is answered as
-/// such. The count of faults stops at 2^64 - 1.
+/// It tells the path and not its list. Whatever the database refuses is a fault, and so are a file that
+/// can't be opened and a load or an append before the first `enter`. Want of memory is no fault, and is
+/// answered as `NoMemory`. The count of faults stops at 2^64 - 1.
 pub struct FileKeeper<'a> {
     rt: &'a HostRuntime,
     path: Option<Text>,

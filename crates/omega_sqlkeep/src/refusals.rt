@@ -7,7 +7,7 @@ ghost use Rattle.omega_sqlkeep.specs.Refusals.{out_of_memory};
 use omega_keep::KeepRefusal;
 use sqlite::{Error, ErrorCode};
 
-/// The refusal for what a database answers: want of memory as such, and everything else as a failure.
+/// The refusal for an error of a database: `NoMemory` where memory ran out, and `Failed` else.
 pub fn refusal_of(error: Error) -> KeepRefusal
     ensures { (result ≡ OutOfMemory) ↔ (error ≡ out_of_memory) }
 {
@@ -17,7 +17,7 @@ pub fn refusal_of(error: Error) -> KeepRefusal
     }
 }
 
-/// The same, where a failure is counted, up to 2^64 - 1.
+/// The same, and a failure is counted in `faults`, up to 2^64 - 1.
 pub fn counted(error: Error, faults: &mut u64) -> KeepRefusal
     ensures memory { (result ≡ OutOfMemory) ↔ (error ≡ out_of_memory) }
     ensures quiet { result ≡ OutOfMemory → faults.new ≡ faults.old }

@@ -15,13 +15,13 @@ use std::alloc::Global;
 /// A keeper of the lines in the table `kept` of a database.
 ///
 /// A load makes the table where it is absent, and answers the lines in the order of their places. An
-/// append puts all lines at the end in one transaction; where anything is refused it gives the
-/// transaction up, so that none is added and, as long as the disk tells no lie, the database shows and has
+/// append puts all lines at the end in one transaction; where anything is refused the transaction is
+/// rolled back, so that none is added and, as long as the disk tells no lie, the database shows and has
 /// committed what it did before. It tells neither its list nor a path, and a path that is entered means
 /// nothing to it.
 ///
-/// Each statement that is refused, and each row that isn't bytes, is a fault, but for want of memory,
-/// which is answered as such. The count of faults stops at 2^64 - 1.
+/// Each statement that is refused, and each row that isn't bytes, is a fault. Want of memory is no
+/// fault, and is answered as `NoMemory`. The count of faults stops at 2^64 - 1.
 pub struct SqlKeeper<S: Alter + Drop> {
     alloc: Global,
     connection: Connection<S>,
@@ -42,8 +42,8 @@ impl<S: Alter + Drop> Drop for SqlKeeper<S> {
 impl<S: Alter + Drop> SqlKeeper<S> {
     ghost use Rattle.omega_sqlkeep.specs.Connections.{connection_of};
 
-    /// A keeper over this connection, with no fault so far. A connection that is in a transaction takes
-    /// no lines.
+    /// A keeper over this connection, with no fault so far. While the connection is in a transaction of
+    /// the caller's, each append is refused.
     pub fn over(alloc: Global, connection: Connection<S>) -> SqlKeeper<S>
         ensures connection { connection_of result ≡ connection }
         ensures count { ⟦<SqlKeeper<S> as Keeper>⟧.faults result ≡ 0 }

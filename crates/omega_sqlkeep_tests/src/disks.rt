@@ -34,8 +34,8 @@ pub fn up_again(files: Files<Disk>) -> Files<Disk> {
     Files { log, db }
 }
 
-/// What a database stands on, which hands its two files back. Who works on a database takes this as a type
-/// parameter: a function that calls others with a type of stores that it knows costs a minute of proof.
+/// What a database stands on, which hands its two files back. Functions that work on a database take this as a
+/// type parameter: one that calls others with a known type of stores costs a minute of proof.
 pub trait Ends: Alter + Drop {
     /// The files, with no call to a disk. What isn't committed is lost.
     fn into_files(self) -> Files<Disk>;

@@ -14,8 +14,8 @@ use std::alloc::Global;
 use std::test::Fail;
 use std::thread::Threads;
 
-/// The lines of the run whose tables are below. They are the tables and the lines of `tests/kept/resume-from-nothing`,
-/// which the reference answers.
+/// The lines of the run whose tables are below. The tables and the lines are those of
+/// `tests/kept/resume-from-nothing`, which the reference answers.
 const KEPT: [&str; 7] = [
     "round 0",
     "add 1 500000000 500000000 1000000000000",
@@ -100,7 +100,7 @@ struct Outcome {
     left: Option<usize>,
 }
 
-/// What a run came to of which no lines could be had.
+/// What a run came to whose lines could not be loaded.
 const NOT_LOADED: Outcome = Outcome {
     found: None,
     appended: 0,
@@ -142,7 +142,7 @@ fn run<R: Threads + Sync, P: Keeper>(
     }
 }
 
-/// Goes on with the run from what a keeper has, these lines.
+/// Goes on with the run from these lines, which are what a keeper has.
 fn gone_on_from<R: Threads + Sync, P: Keeper>(
     rt: &R,
     alloc: Global,
@@ -188,8 +188,8 @@ fn gone_on_with<R: Threads + Sync, S: Ends>(
     Ok((outcome, store.into_files()))
 }
 
-/// Goes on with the run that is kept in two files, and hands them back. A run for which no database can be opened does
-/// nothing.
+/// Goes on with the run that is kept in two files, and hands them back. Does nothing where no database can be
+/// opened in them.
 fn gone_on_in<R: Threads + Sync, O: Opens>(
     rt: &R,
     alloc: Global,

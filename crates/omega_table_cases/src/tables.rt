@@ -8,9 +8,9 @@ use std::alloc::Global;
 /// `parse TABLE TEXT ..`: the refusals of the texts, each parsed behind those before it, and then the
 /// rows of the table. `read TEXT ..`: the rows of the tables of these texts, in their order, or the
 /// refusal. `bytes TABLE TEXT ..`: the bytes of one of them. `limit TABLE COUNT FRONT BACK TEXT`: the
-/// limit that is passed by a table of so many lines, which differ in a number between front and
-/// back, and a table of attributes. `many COUNT FRONT BACK TEXT ..`: how many such lines of
-/// machines are read, before the other tables, or the refusal.
+/// limit that a table of so many lines and a table of attributes exceed, if one is; the lines differ in a
+/// number between front and back. `many COUNT FRONT BACK TEXT ..`: how many such lines of machines are read,
+/// before the other tables, or the refusal.
 pub(crate) fn answer(alloc: Global, call: &str, words: &[Bytes]) -> Result<String, Fault> {
     match (call, words) {
         ("parse", [table, texts @ ..]) => parsed(alloc, table_of(table)?, texts),
@@ -163,7 +163,7 @@ fn numbered(alloc: Global, count: u64, front: &str, back: &str) -> Result<String
     Ok(lines)
 }
 
-/// The limit that a table and one of attributes pass, or a refusal.
+/// The limit that a table and one of attributes exceed, or a refusal.
 fn limit(alloc: Global, table: Table, lines: &[u8], attrs: &[u8]) -> Result<String, Fault> {
     let mut trace = TraceTables::new(alloc);
     let first = parse_table(alloc, table, lines, &mut trace);

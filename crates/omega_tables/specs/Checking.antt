@@ -30,7 +30,7 @@ constraint_numbers fields =
     and_then (number_in 3 4 fields) (λ code.
     Ok (name, operator code)))))
 
--- a set of the different numbers among these, of which there are as many
+-- a set has exactly the numbers of a list, each of them once
 pub record Holds (named : BTreeSet ℕ) (ids : List ℕ) : Type 0 where
   pub count : btree_set_len named ≡ length (each_once ids)
   pub members : (id : ℕ) → contains nat_cmp named id ≡ list_any (λ other. other == id) ids

@@ -15,17 +15,17 @@ use omega_model::{
 use omega_units::{Rounding, read_quantity, read_u64};
 use std::alloc::Global;
 
-/// The number of the first bad column, from 1, and what is wrong with it. 0 stands for the number
-/// of fields.
+/// The number of the first bad column, from 1, and what is wrong with it. Column 0 says that the
+/// record has a wrong number of fields.
 pub type BadColumn = (u32, Cause);
 
-/// The greatest time.
+/// The greatest time, in microseconds: 2^63 - 1.
 const LAST_TIME: u64 = 9_223_372_036_854_775_807;
 
-/// The greatest index of a task.
+/// The greatest index of a task: 2^31 - 1.
 const LAST_INDEX: u64 = 2_147_483_647;
 
-/// The field in a column, counted from 1, and nothing where there is none.
+/// The field in a column, counted from 1; empty where there is no such column.
 fn column(fields: &ByteRecord, number: u32) -> &[u8]
     requires { 0 < number }
     ensures { result.now ≡ column (fields_of fields.now) number }
@@ -33,7 +33,7 @@ fn column(fields: &ByteRecord, number: u32) -> &[u8]
     fields.get(number as usize - 1).unwrap_or(&[])
 }
 
-/// The whole number of a text, up to the greatest.
+/// The whole number that a text writes, if it is at most `greatest`.
 fn bounded(greatest: u64, text: &[u8]) -> Result<u64, Cause>
     ensures value { result ≡ bounded greatest text.now }
     ensures most { IfOk result (λ number. number ≤ greatest) }
@@ -47,7 +47,7 @@ fn bounded(greatest: u64, text: &[u8]) -> Result<u64, Cause>
     Ok(number)
 }
 
-/// The whole number in a column, up to the greatest.
+/// The whole number in a column, if it is at most `greatest`.
 fn number_in(greatest: u64, number: u32, fields: &ByteRecord) -> Result<u64, BadColumn>
     requires { 0 < number }
     ensures value { result ≡ number_in greatest number (fields_of fields.now) }
@@ -59,7 +59,7 @@ fn number_in(greatest: u64, number: u32, fields: &ByteRecord) -> Result<u64, Bad
     }
 }
 
-/// The whole number in a column that may be empty, which stands for 0.
+/// The same for a column that may be empty, which stands for 0.
 fn number_or_blank_in(greatest: u64, number: u32, fields: &ByteRecord) -> Result<u64, BadColumn>
     requires { 0 < number }
     ensures value { result ≡ number_or_blank_in greatest number (fields_of fields.now) }
@@ -71,7 +71,7 @@ fn number_or_blank_in(greatest: u64, number: u32, fields: &ByteRecord) -> Result
     number_in(greatest, number, fields)
 }
 
-/// The time in a column.
+/// The time in a column, in microseconds.
 fn time_in(number: u32, fields: &ByteRecord) -> Result<u64, BadColumn>
     requires { 0 < number }
     ensures value { result ≡ time_in number (fields_of fields.now) }
@@ -88,7 +88,7 @@ fn id_in(number: u32, fields: &ByteRecord) -> Result<u64, BadColumn>
     number_in(u64::MAX, number, fields)
 }
 
-/// The units of a capacity in a column, rounded down.
+/// One amount of a capacity in a column, in units of 10^-9, rounded down.
 fn amount_down_in(number: u32, fields: &ByteRecord) -> Result<u64, BadColumn>
     requires { 0 < number }
     ensures value { result ≡ amount_down_in number (fields_of fields.now) }
@@ -100,7 +100,7 @@ fn amount_down_in(number: u32, fields: &ByteRecord) -> Result<u64, BadColumn>
     }
 }
 
-/// The units of a request in a column, rounded up.
+/// One amount of a need in a column, in units of 10^-9, rounded up.
 fn amount_up_in(number: u32, fields: &ByteRecord) -> Result<u64, BadColumn>
     requires { 0 < number }
     ensures value { result ≡ amount_up_in number (fields_of fields.now) }
@@ -154,7 +154,8 @@ fn key_in(number: u32, fields: &ByteRecord) -> Result<TaskKey, BadColumn>
     })
 }
 
-/// The specification of a task.
+/// The specification in a record of `task_events`. An empty priority is 0, and an empty flag for
+/// different machines says no.
 fn spec_of(fields: &ByteRecord) -> Result<Spec, BadColumn>
     ensures value { result ≡ spec_of (fields_of fields.now) }
     ensures most { IfOk result (λ spec. Fits spec.need most_units) }
@@ -165,7 +166,7 @@ fn spec_of(fields: &ByteRecord) -> Result<Spec, BadColumn>
     Ok(Spec { need, prec, differ })
 }
 
-/// Refuses a record of another number of fields.
+/// Refuses a record that has another number of fields than this.
 fn has_fields(number: usize, fields: &ByteRecord) -> Result<(), BadColumn>
     ensures { result ≡ has_fields number (fields_of fields.now) }
 {
@@ -244,7 +245,8 @@ fn attr_numbers(fields: &ByteRecord) -> Result<(u64, u64, bool), BadColumn>
     Ok((time, machine, deleted))
 }
 
-/// The row of a record of `machine_attributes`, or its first bad column.
+/// The row of a record of `machine_attributes`, or its first bad column. `NoMemory`, the outer error,
+/// where there is no memory for name and value.
 pub fn attr_row(alloc: Global, fields: &ByteRecord) -> Result<Result<AttrRow, BadColumn>, NoMemory>
     ensures { IfOk result (λ row. row ≡ attr_row (fields_of fields.now)) }
 {
@@ -263,7 +265,7 @@ pub fn attr_row(alloc: Global, fields: &ByteRecord) -> Result<Result<AttrRow, Ba
     }))
 }
 
-/// The operator with a number.
+/// The operator with a number from 0 to 3.
 fn operator(number: u64) -> Op
     ensures { result ≡ operator number }
 {
@@ -275,7 +277,7 @@ fn operator(number: u64) -> Op
     }
 }
 
-/// The task and the operator of a constraint.
+/// The task and the operator of a constraint. The time is checked, and not kept.
 fn constraint_numbers(fields: &ByteRecord) -> Result<(TaskKey, Op), BadColumn>
     ensures value { result ≡ constraint_numbers (fields_of fields.now) }
     ensures index { IfOk result (λ (key, op). key.index < 2 ^ 31) }
@@ -287,7 +289,8 @@ fn constraint_numbers(fields: &ByteRecord) -> Result<(TaskKey, Op), BadColumn>
     Ok((key, op))
 }
 
-/// The row of a record of `task_constraints`, or its first bad column.
+/// The row of a record of `task_constraints`, or its first bad column. `NoMemory`, the outer error,
+/// where there is no memory for name and value.
 pub fn constraint_row(
     alloc: Global,
     fields: &ByteRecord,

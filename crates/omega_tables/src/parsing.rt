@@ -168,11 +168,11 @@ fn append_rows<R: FromRecord + Drop>(
     Ok(())
 }
 
-/// Appends the rows of a table's text, in their order. `BadRow` comes only where there is a bad
-/// row; then only it or want of memory is answered. It has the number of the first such row, from
-/// 1, its first bad column and what is wrong with it. The number of fields comes before all
-/// columns. After any refusal `into` is as before. Costs time in the length of the text and that of
-/// the list, in one pass.
+/// Appends the rows of a table's text, in their order. Where there is a bad row, the answer is
+/// `BadRow` or `NoMemory`; `BadRow` comes nowhere else. It has the number of the first such row, from
+/// 1, its first bad column and what is wrong with it. The number of fields is judged before all
+/// columns. After any refusal `into` is as before. Takes one pass over the text, and time linear in
+/// it and in the list that grows.
 pub fn parse_table(
     alloc: Global,
     table: Table,

@@ -24,10 +24,10 @@ const IN_ORDER: [Table; 6] = [
     Table::MachineDisk,
 ];
 
-/// The whole rest of a table. `Fault` comes only where the count of that table rose, or can rise
-/// no further. `TooLong` comes only where the rest has more bytes than `LONGEST_TABLE`; then only
-/// it, a fault or want of memory is answered. After any refusal the bytes taken are gone. The
-/// other tables stay as they are.
+/// The whole rest of a table. `Fault` comes only where that table's count of faults rose, or can rise
+/// no further. Where the rest has more than `LONGEST_TABLE` bytes, the answer is `TooLong`, `Fault` or
+/// `NoMemory`; `TooLong` comes nowhere else. After any refusal the bytes taken are gone. The other
+/// tables stay as they are.
 pub fn read_bytes<T: Tables>(
     alloc: Global,
     tables: &mut T,

@@ -9,14 +9,14 @@ pub enum ReadRefusal {
     Fault(Table),
     /// The table has more bytes than `LONGEST_TABLE`.
     TooLong(Table),
-    /// Rows count from 1, columns from 1; column 0 stands for the number of fields.
+    /// Rows and columns count from 1. Column 0 says that the row has a wrong number of fields.
     BadRow {
         table: Table,
         row: u64,
         column: u32,
         cause: Cause,
     },
-    /// This number passes its limit.
+    /// There are so many rows, or different machines: more than the limit.
     TooMany(Kind, u64),
     NoMemory,
 }

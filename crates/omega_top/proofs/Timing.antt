@@ -28,7 +28,7 @@ use Rattle.omega_rounds.specs.Stages.{Stage, first_stage}
 use Rattle.omega_sim.specs.InBounds.{IsInBounds}
 use Rattle.omega_sim.specs.TimeLines.{lines_of_one, lines_of_time}
 use Rattle.omega_top.proofs.NewWorlds.{rounds_still}
-use Rattle.omega_top.specs.Reports.{AreRoundsOf, AreTimesBy, simulated_lines}
+use Rattle.omega_top.specs.Reports.{AreReadRounds, AreTimesBy, simulated_lines}
 
 one_few : (job : ℕ) (before : Option ℕ) (row : ActivityFields) (rows : List ActivityFields) (own : Bool) → (row.job == job) ≡ own
     → unwrap_or (last_or (Some row.activities) (map (λ row. row.activities) (filter (λ row. row.job == job) rows))) 0 ≤ most_activities
@@ -95,7 +95,7 @@ simulated_by Audit settings trace history times is = absurd (cc)
 -- the rounds of a run are those of its trace, from its new world on
 pub rounds_of_trace : (settings : Settings) (trace : TraceTables) (stage later : Stage)
     → IsWithinLimits trace → All (λ row. row.activities ≤ most_activities) trace.activities → stage ≡ first_stage settings trace
-    → later.source ≡ stage.source → AreRoundsOf settings trace later.source.rounds
+    → later.source ≡ stage.source → AreReadRounds settings trace later.source.rounds
 rounds_of_trace settings trace stage later within few new source = record {
   within = within;
   few = few;

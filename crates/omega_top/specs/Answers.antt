@@ -21,8 +21,8 @@ use Rattle.omega_top.specs.Reports.{IsReport}
 abbrev pub NeverOvercommits : List Entry → Type 0
 NeverOvercommits history = (n : ℕ) → Sound (state (take n history))
 
--- what may be answered of tables that tell these bytes: the first refusal of theirs, a read that
--- fails before any of them, or, where there is none, how the run ended, also for what is kept; and want of memory at any time
+-- what may be answered of tables that tell these bytes: their first refusal; a read that fails before any of
+-- them; where there is none, how the run ended, also for what is kept; and want of memory in any case
 abbrev pub Answers : (Table → List ℕ) → Status → Type 0
 Answers bytes Done = first_refusal bytes ≡ None
 Answers bytes WriteFault = first_refusal bytes ≡ None
@@ -87,7 +87,7 @@ UnlessReported Fact (TooMany kind number) = Fact
 UnlessReported Fact (BadKept number) = Fact
 UnlessReported Fact KeepFault = Fact
 
--- a history comes with a run that reached its report, and else none does
+-- the history of a run that didn't reach its report is empty
 abbrev pub HasHistory : List Entry → Status → Type 0
 HasHistory history status = UnlessReported (history ≡ []) status
 
@@ -134,7 +134,7 @@ pub record IsSomeRun (settings : Settings) (history : List Entry) (status : Stat
 abbrev pub WritesNothing : Option (List ℕ) → Option (List ℕ) → Status → Type 0
 WritesNothing before now status = UnlessReported (now ≡ before) status
 
--- the end of a run whose tables were read
+-- how a run may end that reads the tables that it makes
 abbrev pub EndsRun : Status → Type 0
 EndsRun Done = ⊤
 EndsRun WriteFault = ⊤

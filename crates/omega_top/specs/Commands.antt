@@ -54,6 +54,6 @@ OrderedBy Simulate settings trace history = Simulated settings trace history
 OrderedBy Run settings trace history = ⊤
 OrderedBy Audit settings trace history = InTurns history
 
--- so they stand in the order of the command that the settings name
+-- the commits of a history stand in the order of the command that the settings name
 abbrev pub IsOrdered : Settings → TraceTables → List Entry → Type 0
 IsOrdered settings = OrderedBy settings.command settings

@@ -23,7 +23,7 @@ abbrev pub kind_name : Kind → List ℕ
 kind_name Rows = codes "rows"
 kind_name Machines = codes "machines"
 
--- what is said of a bad row after its table and number
+-- what is printed of a bad row behind its table and number
 abbrev pub cause_text : ℕ → Cause → List ℕ
 cause_text column (Fields found) = codes ": " ++ decimal found ++ codes " fields"
 cause_text column Number = codes " column " ++ decimal column ++ codes ": not a whole number"

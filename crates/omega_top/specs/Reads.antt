@@ -8,8 +8,8 @@ use Rattle.omega_model.specs.declared.settings.Settings.{Settings}
 use Rattle.omega_model.specs.declared.settings.Command.TheVariants.{Audit, Generate, Replay, Resume, Run, Simulate}
 use Rattle.omega_top.specs.Commands.{reads_tables}
 
--- these are the bytes of the tables that a command reads: of made ones on `generate`, none on `audit`, and
--- else of handed ones with this left
+-- these are the bytes of the tables that a command reads: those of the made tables on `generate`, none on
+-- `audit`, and else what is left of the handed tables
 abbrev pub ReadsBy : Command → (Table → List ℕ) → (Table → Option (List ℕ)) → (Table → List ℕ) → Type 0
 ReadsBy Generate made handed bytes = bytes ≡ made
 ReadsBy Audit made handed bytes = ⊥

@@ -29,7 +29,7 @@ pub record IsSimulatedReport (settings : Settings) (trace : TraceTables) (histor
   pub bytes : report ≡ in_wide_format settings.format (simulated_lines settings trace history times)
 
 -- these rounds are those of a trace that was read, which keeps its limits
-pub record AreRoundsOf (settings : Settings) (trace : TraceTables) (some : List Round) : Type 0 where
+pub record AreReadRounds (settings : Settings) (trace : TraceTables) (some : List Round) : Type 0 where
   pub within : IsWithinLimits trace
   pub few : All (λ row. row.activities ≤ most_activities) trace.activities
   pub rounds : some ≡ rounds trace settings.window
@@ -47,7 +47,7 @@ AreTimesBy Audit settings trace history times = times ≡ None
 -- these are the rounds, the history and the times of a run of some trace that was read
 pub record IsOfSomeTrace (settings : Settings) (some : List Round) (history : List Entry) (times : Option (List Timed)) : Type 0 where
   pub trace : TraceTables
-  pub rounds : AreRoundsOf settings trace some
+  pub rounds : AreReadRounds settings trace some
   pub timed : AreTimesBy settings.command settings trace history times
 
 -- these bytes are the lines of time of a simulated history
@@ -75,6 +75,6 @@ ReportedBy Generate settings trace history report = report ≡ printed_report se
 ReportedBy Resume settings trace history report = report ≡ printed_report settings trace history
 ReportedBy Audit settings trace history report = report ≡ printed_report settings trace history
 
--- so they are as the command of the settings prints it
+-- these bytes are the report of a history, as the command of the settings prints it
 abbrev pub IsReport : Settings → TraceTables → List Entry → List ℕ → Type 0
 IsReport settings = ReportedBy settings.command settings

@@ -139,7 +139,7 @@ pub record KeepsWhole (before now : Option (List (List ℕ))) (history : List En
   pub accepted : refused_for history kept ≡ None
   pub leaves : now ≡ option_map (λ list. lines_of history) before
 
--- it stopped on the way
+-- a run that goes on from what a keeper handed out stopped before its end: why, and what the keeper's list is then
 pub record StopsFrom (settings : Settings) (trace : TraceTables) (before now : Option (List (List ℕ))) (status : Status) : Type 0 where
   pub kept : List (List ℕ)
   pub told : IfSome before (λ list. kept ≡ list)
@@ -147,7 +147,7 @@ pub record StopsFrom (settings : Settings) (trace : TraceTables) (before now : O
   pub answers : ResumeAnswers settings trace kept [] status
   pub leaves : LeavesList settings trace [] before now status
 
--- a keeper's list stays, and its count
+-- a keeper's list stays, and its count of faults
 pub record StaysAtKeeper (before now : Option (List (List ℕ))) (count count_now : ℕ) : Type 0 where
   pub list : now ≡ before
   pub faults : count_now ≡ count

@@ -16,7 +16,7 @@ ghost use Rattle.omega_model.specs.declared.settings.Command.TheVariants.{Run};
 ghost use Rattle.omega_rounds.specs.Stages.{AllHaveBegun, IsInRunOf};
 ghost use Rattle.omega_top.specs.Answers.{IsTheOnly};
 ghost use Rattle.omega_top.specs.Commands.{IsOrdered, OrderedBy, takes_turns};
-ghost use Rattle.omega_top.specs.Reports.{AreLinesOfTime, AreRoundsOf, AreTimesBy, IsOfSomeTrace, IsTimedBy};
+ghost use Rattle.omega_top.specs.Reports.{AreLinesOfTime, AreReadRounds, AreTimesBy, IsOfSomeTrace, IsTimedBy};
 ghost use Rattle.omega_top.specs.SoundHistory.{IsSoundHistory};
 
 use omega_cell::Effects;
@@ -39,8 +39,8 @@ pub struct WholeRun {
     pub effects: Effects,
     /// The tasks that wait at its end, and their jobs.
     pub left: WaitingTasks,
-    /// Of a simulated run the lines that say how long its schedulers decided and how long its jobs waited,
-    /// as text.
+    /// The lines that say how long its schedulers decided and how long its jobs waited, as text, on
+    /// `simulate`; else `None`.
     pub time: Option<Bytes>,
 }
 
@@ -99,7 +99,8 @@ pub fn whole_run(world: World, time: Option<Bytes>) -> Result<WholeRun, NoMemory
     })
 }
 
-/// Runs all rounds of a new world as a command has it. Of a simulated run it answers the times of its commits.
+/// Runs all rounds of a new world as a command has it. Answers the world after them, and on `simulate` the times
+/// of its commits.
 fn run_to_end<R: Threads + Wait + Sync, G: Gate + Sync>(
     rt: &R,
     command: Command,
@@ -143,7 +144,7 @@ fn lines_of_time(
 ) -> Result<Option<Bytes>, NoMemory>
     requires range { IsInRange settings.now }
     requires run { IsOfSomeTrace settings.now world.now.stage.source.rounds world.now.history times }
-    ensures { (trace : TraceTables) → AreRoundsOf settings.now trace world.now.stage.source.rounds
+    ensures { (trace : TraceTables) → AreReadRounds settings.now trace world.now.stage.source.rounds
         → AreTimesBy settings.now.command settings.now trace world.now.history times
         → IfOk result (λ lines. IsTimedBy settings.now.command settings.now trace world.now.history lines) }
 {
@@ -165,7 +166,7 @@ fn lines_of_simulated(
 ) -> Result<Bytes, NoMemory>
     requires range { IsInRange settings.now }
     requires run { IsOfSomeTrace settings.now world.now.stage.source.rounds world.now.history (Some times.now) }
-    ensures { (trace : TraceTables) → AreRoundsOf settings.now trace world.now.stage.source.rounds
+    ensures { (trace : TraceTables) → AreReadRounds settings.now trace world.now.stage.source.rounds
         → SimulatedWith settings.now trace world.now.history times.now
         → IfOk result (AreLinesOfTime settings.now trace world.now.history) }
 {

@@ -15,8 +15,8 @@ use omega_model::{Bytes, Format, NoMemory, Settings};
 use omega_report::{json_of, report, report_as};
 use std::alloc::Global;
 
-/// The bytes of the report of a run, in the form of the settings: of a simulated one with how long its
-/// schedulers decided and how long its jobs waited.
+/// The bytes of the report of a run, in the format of the settings; that of a simulated run also says how long
+/// its schedulers decided and how long its jobs waited.
 pub fn report_of_run(alloc: Global, settings: &Settings, run: &WholeRun) -> Result<Bytes, NoMemory>
     requires range { IsInRange settings.now }
     requires effects { AreEffects run.now.history run.now.effects }

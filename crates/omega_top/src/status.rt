@@ -6,7 +6,7 @@ use arrayvec::ArrayString;
 use omega_model::{Cause, Kind, Status, Table};
 use std::marker::Model;
 
-/// A text of at most 96 bytes, in a room of its own. A contract sees its bytes.
+/// A text of at most 96 bytes, which takes no memory beside itself. A contract sees its bytes.
 #[derive(Drop)]
 pub struct Line {
     text: ArrayString<96>,
@@ -76,7 +76,7 @@ impl Line {
     }
 }
 
-/// What is said of a status, without a line feed: nothing after `Done`.
+/// What is printed of a status, without a line feed: nothing for `Done`.
 pub fn fault_line(status: &Status) -> Line
     ensures { result ≡ fault_text status.now }
 {
@@ -170,8 +170,9 @@ fn kind_name(kind: Kind) -> &'static str
     }
 }
 
-/// The number with which the program ends: 0 after `Done`, 2 for the words, 3 for the tables, 4
-/// for the writing, 5 for want of memory, 6 for a kept line and 7 for the keeping.
+/// The number with which the program ends: 0 after `Done`, 2 where the words are refused, 3 where a table is
+/// refused or can't be read, 4 where writing failed, 5 where memory ran out, 6 where a kept line is refused,
+/// 7 where the keeper failed.
 pub fn exit_status(status: &Status) -> u8
     ensures { result ≡ exit_status status.now }
 {

@@ -19,9 +19,9 @@ use omega_model::{Command, Settings, TraceTables};
 use omega_tables::{ReadRefusal, read_tables};
 use std::alloc::Global;
 
-/// The trace of the tables that a run reads: on `generate` of those that it makes of its seed, and
-/// then only memory may want; else of those that it is handed, each of which is read to its end. After
-/// a refusal of one table none behind it was read.
+/// The trace of the tables that a run reads: on `generate` of those that it makes of its seed, which can fail
+/// for want of memory alone; else of those that it is handed, each of which is read to its end. After a
+/// refusal of one table none behind it was read.
 pub fn trace_of_run<T: Tables>(
     alloc: Global,
     settings: &Settings,

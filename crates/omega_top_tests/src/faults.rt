@@ -15,7 +15,7 @@ use std::thread::Threads;
 /// Room for every report of these tests, in bytes.
 const ROOM: u64 = 1000;
 
-/// Sees that a replay ends so, over tables that are gone then.
+/// Sees that a replay ends so, over tables that are dropped then.
 fn expect_replay<R: Threads + Wait + Sync + Abort, T: Tables + Drop>(
     rt: &R,
     alloc: Global,
@@ -40,7 +40,7 @@ fn expect_done(rt: &impl Abort, ran: &Ran, settings: &Settings) {
     assert!(rt; ran.done.settings.as_ref() == Some(settings));
 }
 
-/// Sees that a run with these words is so, over tables that are gone then.
+/// Sees that a run with these words is so, over tables that are dropped then.
 fn expect_settings<R: Threads + Wait + Sync + Abort, T: Tables + Drop>(
     rt: &R,
     alloc: Global,
@@ -96,7 +96,7 @@ fn expect_fault<T: Tables>(rt: &impl Abort, ran: &Ran, tables: &T, table: Table)
     assert_eq!(rt; tables.faults(table), 1);
 }
 
-/// Sees that a replay ends so, over tables that are gone then.
+/// Sees that a replay ends so, over tables that are dropped then.
 fn expect_read_fault<R: Threads + Wait + Sync + Abort, T: Tables + Drop>(
     rt: &R,
     alloc: Global,

@@ -13,10 +13,10 @@ use std::process::Abort;
 use std::sync::Wait;
 use std::thread::Threads;
 
-/// A scheduler that is held at a point until another has come to a point.
+/// The first scheduler is held at the first point until the second one has come to the second point.
 type Order = (u32, Point, u32, Point);
 
-/// How often a held scheduler looks at most.
+/// How often a held scheduler looks at most whether it may go on.
 const LOOKS: u64 = 200_000_000;
 
 /// Room for each report, in bytes.
@@ -30,7 +30,7 @@ const COARSE_BY_THREE: [&str; 5] = ["run", "--rule", "coarse", "--batch", "2"];
 /// One machine, on which the tasks of each run fit together.
 const MACHINE: &str = "0,1,0,p,1,1\n";
 
-/// A run with these words past a gate, over tables that are gone then.
+/// A run with these words past a gate, over tables that are dropped then.
 fn run_over<R: Threads + Wait + Sync, T: Tables + Drop>(
     rt: &R,
     alloc: Global,
@@ -177,7 +177,7 @@ fn three_held_schedulers_plan_beside_each_other(rt: HostRuntime) -> Result<(), N
     Ok(())
 }
 
-/// Of a commit of a scheduler: how many entries it had seen, and what is answered.
+/// How many entries a commit of this scheduler had seen, and what it was answered; `None` for any other entry.
 fn commit_by(entry: &Entry, number: u32) -> Option<(u64, &Judgements)> {
     match entry {
         Entry::Commit {

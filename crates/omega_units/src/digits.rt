@@ -2,7 +2,7 @@
 ghost use Rattle.std.specs.Prelude.{◌≡◌, ◌+◌, ◌*◌, ◌^◌, ◌≤◌, ◌<◌, ◌++◌, length, IfSome};
 ghost use Rattle.omega_units.specs.Digits.{number_after, number};
 
-/// With how many digits a number has 64 bits at most.
+/// A number of at most so many digits fits into 64 bits.
 const SHORT: usize = 19;
 
 /// The same as `read_digits`, where all digits are so few that 64 bits are enough.

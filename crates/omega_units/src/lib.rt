@@ -41,10 +41,11 @@ pub fn read_u64(text: &[u8]) -> Result<u64, BadNumber>
 /// The units of a quantity, each 10^-9: the exact value of the text times 10^9, rounded. The empty
 /// text is 0.
 ///
-/// Any other text is digits with a point among them, in front of them or behind them, or none, and
-/// then `e` or `E`, a sign or none, and digits, or nothing. `BadNumber` where the text is no such
-/// thing, is longer than 32 bytes, or its exact value is above 1000, which is judged before the
-/// rounding. Looks at each byte at most three times.
+/// Any other text is one or more digits, with at most one point before, among or behind them (`2`,
+/// `2.5`, `.5`, `2.`), and then, if it goes on, `e` or `E`, at most one sign, and one or more digits.
+/// No sign stands in front. `BadNumber` where the text is no such thing, is longer than 32 bytes, or
+/// has an exact value above 1000, which is judged before the rounding. Looks at each byte at most
+/// three times.
 pub fn read_quantity(text: &[u8], rounding: Rounding) -> Result<u64, BadNumber>
     ensures value { result_ok result ≡ units rounding text.now }
     ensures bound { IfOk result (λ units. units ≤ greatest_quantity) }

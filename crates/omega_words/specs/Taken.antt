@@ -53,7 +53,7 @@ is_taken table words = takes (app table) words && are_of_table table (text_in ta
 abbrev pub AreAccepted : WordTable → List (List ℕ) → Type 0
 AreAccepted table words = fault_of (app table) words ≡ []
 
--- the settings, the folder and the path of what is kept, of the matches
+-- the settings, the folder and the path of the kept lines, by the matches
 abbrev pub settings_in : WordTable → List (List ℕ) → Settings
 settings_in table words = settings_by (text_in table words)
 

@@ -4,7 +4,7 @@ ghost use Rattle.omega_model.specs.Options.{is_among, is_value, number_from};
 ghost use Rattle.omega_words.specs.Built.{built_words};
 ghost use Rattle.omega_words.specs.Choices.{choice_of, values_of};
 
-/// The numbers from `low` up to `high`.
+/// The numbers from `low` to `high`, both included.
 #[derive(Clone, Copy)]
 pub struct Span {
     pub low: u64,
@@ -22,14 +22,15 @@ pub enum Values<'a> {
     OneOf(&'a [&'a str]),
 }
 
-/// An option.
+/// An option, by its name without dashes.
 #[derive(Clone, Copy)]
 pub struct Choice<'a> {
     pub name: &'a str,
     pub values: Values<'a>,
 }
 
-// The numbers of each option that has numbers.
+// The numbers of each option that has numbers: `CAPS` in percent, `WINDOWS` and `DECISION_TIMES` in
+// microseconds.
 
 pub const SEEDS: Span = Span {
     low: 0,
@@ -108,7 +109,7 @@ pub fn table() -> [Choice<'static>; 19]
     ]
 }
 
-/// The whole number of the span that the text writes.
+/// The whole number that the text writes; `None` where it is none, or none of the span.
 pub fn number_from(text: &str, span: Span) -> Option<u64>
     ensures value { result ≡ number_from span.low span.high text.now }
     ensures within { IfSome result (λ number. number ≤ span.high) }

@@ -1,6 +1,6 @@
 //! The words of the command line, which `clap` reads as one command with options.
 //!
-//! Which words there are is data: the table of `omega_model`.
+//! Which words there are is data: the table `whole_table` in the definitions of `omega_model`.
 #![tactic(auto)]
 
 ghost use Rattle.std.specs.Prelude.{◌≡◌, IfErr, IfOk, true, map};
@@ -17,7 +17,8 @@ mod matches;
 use omega_model::{Settings, Status, Text};
 use std::alloc::Global;
 
-/// What the words say: the settings, the folder of the tables, and the path of what is kept.
+/// What the words say: the settings, the folder of the tables, and the path of the kept lines. What the
+/// words leave out has its default.
 #[derive(Debug, Drop)]
 pub struct Parsed {
     pub settings: Settings,
@@ -28,7 +29,7 @@ pub struct Parsed {
 /// Why words aren't read.
 #[derive(Clone, Copy, Debug, Drop, PartialEq, Eq)]
 pub enum WordsRefusal {
-    /// The words aren't such as the table has them.
+    /// The words aren't such as the table has them: see `read_words`.
     Usage,
     NoMemory,
 }
@@ -49,10 +50,11 @@ impl From<WordsRefusal> for Status {
 
 /// Reads words; the first is the first behind the program's name.
 ///
-/// A command and options are read as `clap` reads them. `Usage` comes only where `clap` doesn't
-/// take the words or a text isn't among the values of its option, and so never on plain words.
-/// `Ok` comes only where `clap` finds no fault in the words and all texts are values; settings,
-/// folder and the path of what is kept are those of its matches, and on plain words what the words write.
+/// A command and options are read as `clap` reads them. `Usage` comes only where `clap` doesn't take
+/// the words, the command isn't one of the table, or a text isn't among the values of its option; and
+/// so never on plain words. `Ok` comes only where `clap` finds no fault in the words, and command and
+/// texts are of the table; settings, folder and the path of the kept lines are those of its matches,
+/// and on plain words what the words write.
 pub fn read_words(alloc: Global, words: &[&str]) -> Result<Parsed, WordsRefusal>
     ensures usage { let given = map (λ word. word.now) words.now in
         IfErr result (λ e. is_taken built_words given ≡ true → e ≡ WordsRefusal.NoMemory) }

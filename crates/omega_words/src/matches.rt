@@ -1,4 +1,4 @@
-//! Settings and paths of what `clap` found.
+//! The settings and the paths that follow from what `clap` found.
 ghost use Rattle.std.specs.Prelude.{◌≡◌, ◌<◌, ◌≤◌, ◌^◌, false, true, codes, map, option_map};
 ghost use Rattle.std.specs.Option.{option_map_or};
 ghost use Rattle.omega_model.specs.Options.{is_among, is_value};
@@ -11,14 +11,15 @@ use crate::choices::{self, Choice, Span};
 use clap::ArgMatches;
 use omega_model::{Command, Extra, Format, Mode, Preempt, Rule, Settings};
 
-/// The text of a name.
+/// The text that was given for an option, by its name without dashes, or for `command`; `None` where
+/// none was.
 fn text_of<'a>(matches: &ArgMatches<'a>, name: &str) -> Option<&'a str>
     ensures { option_map (λ text. text.now) result ≡ texts_in matches.now name.now }
 {
     matches.get_str(name)
 }
 
-/// Whether the option isn't given, or its text is a value.
+/// Whether an option isn't given, or its text is one of its values.
 fn choice_passes<'a>(matches: &ArgMatches<'a>, choice: Choice<'a>) -> bool
     ensures { let option = choice_of choice.entry in let texts = texts_in matches.now in
         result ≡ option_map_or (is_value option.values) (texts option.name) true }
@@ -29,7 +30,7 @@ fn choice_passes<'a>(matches: &ArgMatches<'a>, choice: Choice<'a>) -> bool
     }
 }
 
-/// Whether each option isn't given, or its text is a value.
+/// Whether that holds of each option.
 pub fn choices_pass<'a>(matches: &ArgMatches<'a>, choices: &[Choice<'a>]) -> bool
     ensures { result ≡ are_values (map choice_of choices.now) (texts_in matches.now) }
 {
@@ -41,7 +42,7 @@ pub fn choices_pass<'a>(matches: &ArgMatches<'a>, choices: &[Choice<'a>]) -> boo
     true
 }
 
-/// The number of an option, `default` where none of the span is given.
+/// The number of an option; `default` where it isn't given, or isn't a number of the span.
 fn number_of<'a>(matches: &ArgMatches<'a>, name: &str, span: Span, default: u64) -> u64
     requires { default ≤ span.high }
     ensures value { result ≡ number_or span.low span.high default (texts_in matches.now name.now) }
@@ -65,7 +66,7 @@ fn small_number_of<'a>(matches: &ArgMatches<'a>, name: &str, span: Span, default
     number_of(matches, name, span, u64::from(default)) as u32
 }
 
-/// Whether the text of a name is this one.
+/// Whether this text was given for a name.
 fn is_text<'a>(matches: &ArgMatches<'a>, name: &str, text: &str) -> bool
     ensures { result ≡ is_text text.now (texts_in matches.now name.now) }
 {
@@ -160,7 +161,7 @@ fn named_command<'a>(matches: &ArgMatches<'a>) -> Command
     }
 }
 
-/// The command, where the table has it.
+/// The command; `None` where none is given, or one that the table doesn't have.
 pub fn command_of<'a>(matches: &ArgMatches<'a>) -> Option<Command>
     ensures { let text = texts_in matches.now (codes "command") in
         result ≡ where_it (option_map_or (is_among built_words.commands) text false) (command_of text) }
@@ -172,7 +173,8 @@ pub fn command_of<'a>(matches: &ArgMatches<'a>) -> Option<Command>
     }
 }
 
-/// The settings with this command.
+/// The settings of what was found, with this command. What isn't given has its default; the two times of
+/// the scheduler of services are those of `t-job` and `t-task` then.
 pub fn settings_of<'a>(matches: &ArgMatches<'a>, command: Command) -> Settings
     ensures { result ≡ (record (settings_by (texts_in matches.now)) { command = command }) }
 {
@@ -200,7 +202,7 @@ pub fn settings_of<'a>(matches: &ArgMatches<'a>, command: Command) -> Settings
     }
 }
 
-/// The folder of the tables, the present one where none is given.
+/// The folder of the tables, `.` where none is given.
 pub fn folder_of<'a>(matches: &ArgMatches<'a>) -> &'a str
     ensures { result.now ≡ folder_by (texts_in matches.now) }
 {
@@ -210,7 +212,7 @@ pub fn folder_of<'a>(matches: &ArgMatches<'a>) -> &'a str
     }
 }
 
-/// The path of what is kept, `omega.db` where none is given.
+/// The path of the kept lines, `omega.db` where none is given.
 pub fn kept_of<'a>(matches: &ArgMatches<'a>) -> &'a str
     ensures { result.now ≡ kept_by (texts_in matches.now) }
 {

@@ -1,4 +1,4 @@
-use Rattle.std.proofs.Common.{◌≡◌, ap, sym, ◌∙◌, subst}
+use Rattle.std.proofs.Common.{ap, sym, ◌∙◌, subst}
 use Rattle.omega_copy.specs.News.{Due, IsClaimDue}
 use Rattle.omega_copy.specs.Telling.{freed_of}
 use Rattle.omega_copy.specs.declared.news.News.{News}

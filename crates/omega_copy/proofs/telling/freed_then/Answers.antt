@@ -1,4 +1,3 @@
-use Rattle.std.proofs.Common.{sym}
 use Rattle.omega_copy.specs.Overlays.{tasks_with}
 use Rattle.omega_copy.proofs.Claimed.{taken_there}
 use Rattle.omega_copy.proofs.telling.freed_then.Goals as goal

@@ -1,4 +1,4 @@
-use Rattle.std.proofs.Common.{◌<◌, length, sym, ap, ◌∙◌}
+use Rattle.std.proofs.Common.{sym, ap, ◌∙◌}
 use Rattle.omega_model.specs.Machines.{is_listed}
 use Rattle.omega_machines.specs.Table.{machines_of}
 use Rattle.omega_copy.proofs.Claimed.{claim_told, claim_unlisted}

@@ -1,4 +1,4 @@
-use Rattle.std.proofs.Common.{◌≤◌, ◌+◌, arith, sym}
+use Rattle.std.proofs.Common.{arith, sym}
 use Rattle.omega_board.proofs.Claims.{without_none}
 use Rattle.omega_copy.proofs.Placing.{gone_more}
 use Rattle.omega_copy.proofs.tenants.take_out.Goals as goal

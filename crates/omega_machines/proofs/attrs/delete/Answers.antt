@@ -1,4 +1,4 @@
-use Rattle.std.proofs.Common.{rules, Vec, Global, remove, not, bytes_eq, ◌∙◌, ◌≡◌, sym, ap, subst, position, IfSome, Option, List, ℕ, Some, None}
+use Rattle.std.proofs.Common.{rules, Vec, Global, remove, not, bytes_eq, ◌∙◌, sym, ap, subst, position, IfSome, Option, List}
 use Rattle.std.proofs.lemmas.Fn.{filter_same}
 use Rattle.omega_model.specs.Machines.{without_attr}
 use Rattle.omega_model.specs.declared.cells.Attr.{Attr}

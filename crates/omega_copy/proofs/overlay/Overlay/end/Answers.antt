@@ -1,4 +1,4 @@
-use Rattle.std.proofs.Common.{◌≡◌, sym, subst}
+use Rattle.std.proofs.Common.{sym, subst}
 use Rattle.omega_running.proofs.Lists.{each_map}
 use Rattle.omega_copy.specs.Indexes.{TellAll}
 use Rattle.omega_copy.specs.Levels.{NearParts, Tells}

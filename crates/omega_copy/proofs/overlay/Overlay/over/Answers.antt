@@ -1,4 +1,3 @@
-use Rattle.std.proofs.Common.{◌≡◌}
 use Rattle.omega_copy.proofs.Overlaid.{overlay_none}
 use Rattle.omega_copy.proofs.overlay.Overlay.over.Goals as goal
 

@@ -1,8 +1,6 @@
-use Rattle.std.proofs.Common.{◌≡◌, List, None, refl, ap, ap₂, sym, ◌∙◌, subst}
+use Rattle.std.proofs.Common.{◌≡◌, List, refl, ap, ap₂, ◌∙◌}
 use Rattle.omega_model.specs.Cell.{task_at, with_task, without}
-use Rattle.omega_model.specs.Reply.{task_of}
 use Rattle.omega_model.specs.declared.cells.Task.{Task}
-use Rattle.omega_model.specs.declared.cells.TaskKey.{TaskKey}
 use Rattle.omega_copy.specs.declared.tenants.Tenants.{Tenants}
 use Rattle.omega_copy.proofs.Placing.{own_absent, placed_beside}
 use Rattle.omega_copy.proofs.tenants.Tenants.place.Goals as goal

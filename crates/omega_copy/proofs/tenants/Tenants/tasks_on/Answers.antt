@@ -1,4 +1,4 @@
-use Rattle.std.proofs.Common.{◌≡◌, ◌++◌, List, ap, ap₂, sym, ◌∙◌, subst}
+use Rattle.std.proofs.Common.{◌++◌, List, ap₂, sym, ◌∙◌, subst}
 use Rattle.std.specs.List.{filter}
 use Rattle.std.specs.List.Sorted.{IsPermutation}
 use Rattle.omega_model.specs.Cell.{is_on}

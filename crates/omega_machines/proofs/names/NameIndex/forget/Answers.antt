@@ -1,4 +1,4 @@
-use Rattle.std.proofs.Common.{◌≡◌, ◌∙◌, ℕ, List, Some, None, sym, ap, subst, refl, remove, nat_cmp}
+use Rattle.std.proofs.Common.{◌∙◌, ℕ, List, None, sym, ap, subst, refl, remove, nat_cmp}
 use Rattle.std.specs.List.Sorted.{IsBinarySearchResult}
 use Rattle.std.proofs.lemmas.Option.{none-some, same_Some}
 use Rattle.omega_machines.proofs.Naming.{nowhere, somewhere, number_place, position_first, position_nowhere, place, index_removed, index_unremoved, changed_at}
