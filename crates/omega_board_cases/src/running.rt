@@ -2,7 +2,7 @@
 ghost use Rattle.std.specs.Prelude.{◌<◌};
 
 use crate::script::{Steps, take_all};
-use crate::showing::{show_found, show_names, show_running, show_tasks};
+use crate::showing::{show_found, show_running, show_tasks};
 use omega_calls::{
     Fault, byte, need, number, show_need, show_task, small, spec, task, tasks, text,
 };
@@ -30,8 +30,8 @@ const SPEC: Spec = Spec {
 /// answers it.
 ///
 /// `count` answers how many there are; `on_machine MACHINE` the names of a machine's tasks in order of
-/// eviction, `tasks_on MACHINE` the tasks in order of name; `of_job JOB` the names of a job's tasks,
-/// `tasks_of_job JOB` the tasks; `left_on MACHINE PRECEDENCE AMOUNT` what a machine's tasks of at least
+/// eviction, `tasks_on MACHINE` the tasks in order of name; `extras_of_job JOB` a job's tasks whose
+/// index is that of an extra task, 2^31 or more; `left_on MACHINE PRECEDENCE AMOUNT` what a machine's tasks of at least
 /// this precedence leave of an amount; `has TASK` whether just this task is there, equal in all parts; and
 /// `other_of_job JOB MACHINE NAMES` the first of a job's tasks on a machine that isn't among these.
 /// Names are parted by commas, tasks by blanks, and `-` stands for none.
@@ -180,9 +180,8 @@ fn list(
 ) -> Result<(), Fault> {
     match call {
         "on_machine" => show_tasks(answers, running.on_machine(alloc, number)?.as_slice()),
-        "of_job" => show_names(answers, running.tasks_of_job(alloc, number)?.as_slice()),
         "tasks_on" => show_running(answers, running.tasks_on(alloc, number)?.as_slice()),
-        "tasks_of_job" => show_running(answers, running.tasks_of_job(alloc, number)?.as_slice()),
+        "extras_of_job" => show_running(answers, running.extras_of_job(alloc, number)?.as_slice()),
         _ => Err(Fault::UnknownCall),
     }
 }

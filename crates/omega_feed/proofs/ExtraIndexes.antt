@@ -7,7 +7,6 @@ use Rattle.omega_model.proofs.Lists.{by_answer}
 use Rattle.omega_model.specs.Cell.{Cell, task_at}
 use Rattle.omega_model.specs.ExtraTasks.{extra_wish, first_extra, free_indexes, is_extra_of, running_extras, wanted_of, wishes_after, used_in, capacity_in_all}
 use Rattle.omega_model.specs.Extras.{allowed, extras, keeps_within, target}
-use Rattle.omega_model.specs.Jobs.{is_of_job}
 use Rattle.omega_model.specs.Requests.{is_waiting}
 use Rattle.omega_model.specs.Wanted.{WantedTask}
 use Rattle.omega_model.specs.declared.cells.Need.{Need}
@@ -18,16 +17,6 @@ use Rattle.omega_model.specs.declared.settings.Extra.{Extra}
 use Rattle.omega_model.specs.declared.settings.Extra.TheVariants.{Max, Cap, Relative}
 use Rattle.omega_model.specs.declared.settings.Settings.{Settings}
 use Rattle.omega_feed.specs.Asked.{asked_after, extras_after}
-
--- a job's running tasks of high index are its extras
-pub job_extras : (job : ℕ) (tasks : List Task) → filter (λ task. nat_le first_extra task.key.index) (filter (is_of_job job) tasks) ≡ filter (is_extra_of job) tasks
-job_extras job [] = refl
-job_extras job (t ∷ ts) =
-    by_answer (t.key.job == job)
-    (λ own. by_answer (nat_le first_extra t.key.index)
-    (λ high. rw (own, high) (ap (λ z. t ∷ z) (job_extras job ts)))
-    (λ low. rw (own, low) (job_extras job ts)))
-    (λ other. rw other (job_extras job ts))
 
 -- a running task has an index from the first of extras on exactly where an extra of the job has it
 pub held_is : (job index : ℕ) (tasks : List Task) → first_extra ≤ index

@@ -11,7 +11,6 @@ ghost use Rattle.omega_model.specs.declared.entries.Entry.TheVariants.{End};
 ghost use Rattle.omega_feed.specs.Index.{HasLowTask};
 
 use crate::disks::MachineDisks;
-use crate::extras::running_extras;
 use crate::tasks::WantedTasks;
 use omega_model::{
     AttrRow, Copied, Entries, Entry, MachineRow, Need, NoMemory, Row, Task, TaskKey, TaskRow,
@@ -125,7 +124,7 @@ fn push_extra_ends(
     ensures entries { OnOk result (entries.new ≡ entries.old ++ map (λ task. End task.key task.machine) (filter (is_extra_of job) running.now.tasks)) }
     ensures range { All CapacityIsInRange entries.old → OnOk result (All CapacityIsInRange entries.new) }
 {
-    let extras = running_extras(alloc, running, job)?;
+    let extras = running.extras_of_job(alloc, job)?;
     push_ends(entries, extras.as_slice())
 }
 

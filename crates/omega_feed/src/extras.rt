@@ -8,55 +8,17 @@ ghost use Rattle.omega_board.specs.Board.{cell_of};
 
 use omega_board::Board;
 use omega_mapreduce::{extras, target};
-use omega_model::{Extra, Need, NoMemory, Task, TaskKey, Tasks};
-use omega_running::Running;
+use omega_model::{Extra, Need, NoMemory, TaskKey};
+use omega_running::{FIRST_EXTRA, Running};
 use std::alloc::Global;
 
-/// The least index of an extra task; the tasks of the trace have lower ones.
-pub const FIRST_EXTRA: u32 = 2_147_483_648;
-
-/// The running extras of a job, by index. Costs the job's running tasks, and the logarithm of the
+/// How many extras of a job run. Costs these and few others of the job's running tasks, and the logarithm of the
 /// number of all.
-pub fn running_extras(alloc: Global, running: &Running, job: u64) -> Result<Tasks, NoMemory>
-    ensures { IfOk result (λ found. found ≡ filter (is_extra_of job) running.now.tasks) }
-{
-    let tasks = running.tasks_of_job(alloc, job)?;
-    extras_among(alloc, tasks.as_slice())
-}
-
-/// How many extras of a job run. Costs the job's running tasks, and the logarithm of the number of all.
 pub fn running_extra_count(alloc: Global, running: &Running, job: u64) -> Result<usize, NoMemory>
     ensures { IfOk result (λ count. count ≡ length (filter (is_extra_of job) running.now.tasks)) }
 {
-    let tasks = running.tasks_of_job(alloc, job)?;
-    Ok(count_extras(tasks.as_slice()))
-}
-
-/// How many of some tasks have the index of an extra.
-fn count_extras(tasks: &[Task]) -> usize
-    ensures { result ≡ length (filter (λ task. nat_le first_extra task.key.index) tasks.now) }
-{
-    tasks.iter().filter(|task| is_extra(task)).count()
-}
-
-/// Whether a task has the index of an extra.
-fn is_extra(task: &Task) -> bool
-    ensures { result ≡ nat_le first_extra task.now.key.index }
-{
-    task.key.index >= FIRST_EXTRA
-}
-
-/// Those of some tasks that have the index of an extra.
-fn extras_among(alloc: Global, tasks: &[Task]) -> Result<Tasks, NoMemory>
-    ensures { IfOk result (λ found. found ≡ filter (λ task. nat_le first_extra task.key.index) tasks.now) }
-{
-    let mut found = Tasks::new(alloc);
-    for task in tasks {
-        if is_extra(task) {
-            found.push(*task)?;
-        }
-    }
-    Ok(found)
+    let extras = running.extras_of_job(alloc, job)?;
+    Ok(extras.len())
 }
 
 /// How many more extras a job with these activities gets on the cell of a board, where `wanted` of its

@@ -22,7 +22,6 @@ mod tasks;
 mod unplaced;
 mod wanted;
 
-pub use extras::FIRST_EXTRA;
 pub use open_jobs::OpenJobs;
 pub use ordered::{feed, rounds, time_of};
 pub use unplaced::{WaitingTasks, each_once};

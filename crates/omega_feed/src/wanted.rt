@@ -24,7 +24,7 @@ use crate::activities::JobActivities;
 use crate::constraints::TaskConstraints;
 use crate::disks::MachineDisks;
 use crate::entries::entries_of;
-use crate::extras::{FIRST_EXTRA, extra_count, free_indexes, has_all, running_extra_count};
+use crate::extras::{extra_count, free_indexes, has_all, running_extra_count};
 use crate::jobs::{Jobs, RoutedJob};
 use crate::open_jobs::OpenJobs;
 use crate::tasks::{Change, WantedTasks};
@@ -34,7 +34,7 @@ use omega_model::{
     Entries, Extra, NoMemory, Request, Requests, Row, Settings, Spec, TaskKey, TaskRow,
     TraceTables, Wish, Wishes,
 };
-use omega_running::Running;
+use omega_running::{FIRST_EXTRA, Running};
 use std::alloc::Global;
 use std::marker::Model;
 

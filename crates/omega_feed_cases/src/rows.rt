@@ -1,10 +1,10 @@
 //! Rows of a trace's tables.
 use omega_calls::{Fault, GREATEST, byte, constraint_of, need, number, small, spec, task};
-use omega_feed::FIRST_EXTRA;
 use omega_model::{
     ActivityRow, AttrRow, Bytes, ConstraintRow, Copied, DiskRow, GREATEST_QUANTITY,
     MOST_ACTIVITIES, MachineRow, Need, NoMemory, Seq, Spec, TaskKey, TaskRow, TraceTables,
 };
+use omega_running::FIRST_EXTRA;
 use std::alloc::Global;
 
 /// The times of all rows are below this one, in microseconds.

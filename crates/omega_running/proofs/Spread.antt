@@ -1,11 +1,12 @@
 -- Tasks that are spread over several trees: what is put into one tree, taken out of it or looked up in it is so for all of them.
-use Rattle.std.proofs.Common.{◌≡◌, ℕ, ◌<◌, ◌≤◌, ◌+◌, ◌%◌, Bool, true, false, ◌||◌, not, eqb, cond, List, [], ◌∷◌, ◌++◌, length, length-append, length-set, map, get_or, set, zero, suc, refl, ap, sym, subst, ◌∙◌, arith}
+use Rattle.std.proofs.Common.{◌≡◌, ℕ, ◌<◌, ◌≤◌, ◌+◌, ◌%◌, Bool, true, false, ◌||◌, not, eqb, cond, List, [], ◌∷◌, ◌++◌, length, length-append, length-set, map, get_or, set, zero, suc, nat_le, nat_lt, refl, ap, sym, subst, ◌∙◌, arith}
 use Rattle.std.specs.List.{filter, list_any}
-use Rattle.std.proofs.lemmas.Bool.{both_ways, eqb-true, eq-eqb, ne_eqb, and_parts, or_left, or_right, or_from, not_from_true, not-false}
+use Rattle.std.proofs.lemmas.Bool.{both_ways, eqb-true, false_from_ne_true, leb-true, ltb-true, eq-eqb, ne_eqb, and_parts, or_left, or_right, or_from, not_from_true, not-false}
 use Rattle.std.proofs.lemmas.List.{length-map, get_or-map, get_or-set_same, get_or-set_other, map-set}
 use Rattle.std.proofs.lemmas.List.Elements.{filter-append}
 use Rattle.std.proofs.lemmas.List.Filters.{length-filter_both}
 use Rattle.std.specs.Option.{option_map}
+use Rattle.omega_model.specs.ExtraTasks.{first_extra, is_extra_of}
 use Rattle.omega_model.specs.Keys.{same_key}
 use Rattle.omega_model.specs.Cell.{task_at}
 use Rattle.omega_model.specs.Jobs.{other_of_job, stays_of_job}
@@ -15,7 +16,7 @@ use Rattle.omega_running.specs.declared.orders.Order.{Order}
 use Rattle.omega_running.specs.declared.orders.Order.TheVariants.{ByKey, ByMachine}
 use Rattle.omega_running.specs.declared.nodes.Tree.{Tree}
 use Rattle.omega_running.specs.declared.nodes.Tree.TheVariants.{Leaf}
-use Rattle.omega_running.specs.Order.{Each, IsInOrder, precedes, is_apart, lead, put_in, taken_out, has_place, led_by}
+use Rattle.omega_running.specs.Order.{Each, IsInOrder, precedes, is_apart, lead, spread, spread_key, put_in, taken_out, has_place, led_by}
 use Rattle.omega_running.specs.Tree.{tasks_of}
 use Rattle.omega_running.specs.Forest.{is_at, with_tree, gathered, IsSpread}
 use Rattle.omega_running.proofs.Lists.{each_map, each_append, filter_none, filter_every}
@@ -23,16 +24,22 @@ use Rattle.omega_running.proofs.Strict.{trans, ahead}
 use Rattle.omega_running.proofs.InOrder.{strict, apart_by_key, apart_by_machine}
 use Rattle.omega_running.proofs.Kept.{each_passes, each_filter, filter_both, irreflexive, rises_filter, rises_put, skip_put, find_in_filter}
 
--- tasks at the same place of an order have the same first number, and so the same tree
-lead_same : (order : Order) (a b : Task) → is_apart order a b ≡ false → lead order a ≡ lead order b
-lead_same ByKey a b e = eqb-true _ _ (and_parts _ _ (not-false _ (sym (apart_by_key a b) ∙ e))).0
-lead_same ByMachine a b e = eqb-true _ _ (and_parts _ _ (not-false _ (sym (apart_by_machine a b) ∙ e))).0
+-- a key's tree is named by what stands in the key
+key_spread : (a b : TaskKey) → a.job ≡ b.job → a.index ≡ b.index → spread_key a ≡ spread_key b
+key_spread a b job index = rw (job, index) refl
+
+-- tasks at the same place of an order have the same tree
+spread_same : (order : Order) (a b : Task) → is_apart order a b ≡ false → spread order a ≡ spread order b
+spread_same ByKey a b e =
+    let parts = and_parts (eqb a.key.job b.key.job) (eqb a.key.index b.key.index) (not-false _ (sym (apart_by_key a b) ∙ e)) in
+    key_spread a.key b.key (eqb-true _ _ parts.0) (eqb-true _ _ parts.1)
+spread_same ByMachine a b e = eqb-true _ _ (and_parts _ _ (not-false _ (sym (apart_by_machine a b) ∙ e))).0
 
 pub other_tree : (order : Order) (trees place : ℕ) (a b : Task) → is_at order trees place a ≡ true → is_at order trees place b ≡ false → is_apart order a b ≡ true
 other_tree order trees place a b h k = go (is_apart order a b) refl where
   go : (x : Bool) → is_apart order a b ≡ x → is_apart order a b ≡ true
   go true e = e
-  go false e = absurd (both_ways _ k (rw (lead_same order a b e) at h))
+  go false e = absurd (both_ways _ k (rw (spread_same order a b e) at h))
 
 -- what holds of all tasks after one or several are put in
 each_put : (P : Task → Type 0) (order : Order) (t : Task) (xs : List Task) → P t → Each P xs → Each P (put_in order t xs)
@@ -96,7 +103,7 @@ with_tree_elsewhere order trees place s (t ∷ l) xs i e =
 -- all tasks: they are in order, and those of a place are those of its tree
 pub record Gathers (order : Order) (trees place : ℕ) (ls : List (List Task)) (xs : List Task) : Type 0 where
   pub rises : IsInOrder order xs
-  pub from : Each (λ y. place ≤ lead order y % trees) xs
+  pub from : Each (λ y. place ≤ spread order y % trees) xs
   pub at : (i : ℕ) → filter (is_at order trees (place + i)) xs ≡ get_or ls i []
 
 pub gathers : (order : Order) (trees place : ℕ) (ls : List (List Task)) → IsSpread order trees place ls → Gathers order trees place ls (gathered order ls)
@@ -104,20 +111,20 @@ gathers order trees place [] s = record { rises = tt; from = tt; at = λ i. refl
 gathers order trees place (l ∷ ls) s =
     let xs = gathered order ls in
     let rest = gathers order trees (place + 1) ls s.2 in
-    let off = each_map (λ y. place + 1 ≤ lead order y % trees) (λ y. is_at order trees place y ≡ false) (λ y q. ne_eqb _ _ (omega arith)) xs rest.from in
+    let off = each_map (λ y. place + 1 ≤ spread order y % trees) (λ y. is_at order trees place y ≡ false) (λ y q. ne_eqb _ _ (omega arith)) xs rest.from in
     let tree : IsTree order trees place l xs = record { rises = s.0; here = s.1; others_rise = rest.rises; elsewhere = off } in
     record {
       rises = with_tree_rises order trees place l xs tree;
-      from = each_with_tree (λ y. place ≤ lead order y % trees) order l xs
-          (each_map (λ y. is_at order trees place y ≡ true) (λ y. place ≤ lead order y % trees) (λ y q. let e : lead order y % trees ≡ place = eqb-true _ _ q in omega (arith, e)) l s.1)
-          (each_map (λ y. place + 1 ≤ lead order y % trees) (λ y. place ≤ lead order y % trees) (λ y q. omega (arith, q)) xs rest.from);
+      from = each_with_tree (λ y. place ≤ spread order y % trees) order l xs
+          (each_map (λ y. is_at order trees place y ≡ true) (λ y. place ≤ spread order y % trees) (λ y q. let e : spread order y % trees ≡ place = eqb-true _ _ q in omega (arith, e)) l s.1)
+          (each_map (λ y. place + 1 ≤ spread order y % trees) (λ y. place ≤ spread order y % trees) (λ y q. omega (arith, q)) xs rest.from);
       at = at_of l ls xs tree rest.at;
     } where
       at_of : (l : List Task) (ls : List (List Task)) (xs : List Task) → IsTree order trees place l xs → ((i : ℕ) → filter (is_at order trees (place + 1 + i)) xs ≡ get_or ls i []) → (i : ℕ) → filter (is_at order trees (place + i)) (with_tree order l xs) ≡ get_or (l ∷ ls) i []
       at_of l ls xs tree later zero = let same : place + 0 ≡ place = omega arith in rw same (with_tree_here order trees place l xs tree)
       at_of l ls xs tree later (suc i) =
           let same : place + suc i ≡ place + 1 + i = omega arith in
-          let off = each_map (λ y. is_at order trees place y ≡ true) (λ y. is_at order trees (place + 1 + i) y ≡ false) (λ y q. let e : lead order y % trees ≡ place = eqb-true _ _ q in ne_eqb _ _ (omega (arith, e))) l tree.here in
+          let off = each_map (λ y. is_at order trees place y ≡ true) (λ y. is_at order trees (place + 1 + i) y ≡ false) (λ y q. let e : spread order y % trees ≡ place = eqb-true _ _ q in ne_eqb _ _ (omega (arith, e))) l tree.here in
           rw same (with_tree_elsewhere order trees place (is_at order trees (place + 1 + i)) l xs tree off ∙ later i)
 
 -- two lists in order with the same tasks in each tree are the same
@@ -138,7 +145,7 @@ same_head s x xs y ys h k e =
     let heads : x ∷ filter s xs ≡ y ∷ filter s ys = sym (rw h refl) ∙ e ∙ rw k refl in
     cc
 
-here : (order : Order) (trees : ℕ) (x : Task) → is_at order trees (lead order x % trees) x ≡ true
+here : (order : Order) (trees : ℕ) (x : Task) → is_at order trees (spread order x % trees) x ≡ true
 here order trees x = eq-eqb _ _ refl
 
 some_pass : {C : Type 0} (s : Task → Bool) (x : Task) (xs : List Task) → s x ≡ true → [] ≡ filter s (x ∷ xs) → C
@@ -146,15 +153,15 @@ some_pass s x xs h e = let f : [] ≡ x ∷ filter s xs = e ∙ rw h refl in abs
 
 pub same_lists : (order : Order) (trees : ℕ) (xs ys : List Task) → IsInOrder order xs → IsInOrder order ys → ((i : ℕ) → filter (is_at order trees i) xs ≡ filter (is_at order trees i) ys) → xs ≡ ys
 same_lists order trees [] [] u v f = refl
-same_lists order trees [] (y ∷ ys) u v f = let e : [] ≡ filter (is_at order trees (lead order y % trees)) (y ∷ ys) = f (lead order y % trees) in some_pass (is_at order trees (lead order y % trees)) y ys (here order trees y) e
-same_lists order trees (x ∷ xs) [] u v f = let e : filter (is_at order trees (lead order x % trees)) (x ∷ xs) ≡ [] = f (lead order x % trees) in some_pass (is_at order trees (lead order x % trees)) x xs (here order trees x) (sym e)
+same_lists order trees [] (y ∷ ys) u v f = let e : [] ≡ filter (is_at order trees (spread order y % trees)) (y ∷ ys) = f (spread order y % trees) in some_pass (is_at order trees (spread order y % trees)) y ys (here order trees y) e
+same_lists order trees (x ∷ xs) [] u v f = let e : filter (is_at order trees (spread order x % trees)) (x ∷ xs) ≡ [] = f (spread order x % trees) in some_pass (is_at order trees (spread order x % trees)) x xs (here order trees x) (sym e)
 same_lists order trees (x ∷ xs) (y ∷ ys) u v f = go (precedes order x y) (precedes order y x) refl refl (same_lists order trees xs ys u.1 v.1) where
   go : (a b : Bool) → precedes order x y ≡ a → precedes order y x ≡ b → (((i : ℕ) → filter (is_at order trees i) xs ≡ filter (is_at order trees i) ys) → xs ≡ ys) → x ∷ xs ≡ y ∷ ys
-  go true b h k rest = absurd (not_before order (is_at order trees (lead order x % trees)) x xs y ys v.0 h (here order trees x) (f (lead order x % trees)))
-  go false true h k rest = absurd (not_before order (is_at order trees (lead order y % trees)) y ys x xs u.0 k (here order trees y) (sym (f (lead order y % trees))))
+  go true b h k rest = absurd (not_before order (is_at order trees (spread order x % trees)) x xs y ys v.0 h (here order trees x) (f (spread order x % trees)))
+  go false true h k rest = absurd (not_before order (is_at order trees (spread order y % trees)) y ys x xs u.0 k (here order trees y) (sym (f (spread order y % trees))))
   go false false h k rest =
-      let there : is_at order trees (lead order x % trees) y ≡ true = eq-eqb _ _ (ap (λ n. n % trees) (sym (lead_same order x y (or_from _ _ h k)))) in
-      let same : x ≡ y = same_head (is_at order trees (lead order x % trees)) x xs y ys (here order trees x) there (f (lead order x % trees)) in
+      let there : is_at order trees (spread order x % trees) y ≡ true = eq-eqb _ _ (ap (λ n. n % trees) (sym (spread_same order x y (or_from _ _ h k)))) in
+      let same : x ≡ y = same_head (is_at order trees (spread order x % trees)) x xs y ys (here order trees x) there (f (spread order x % trees)) in
       let tails = rest (λ i. same_tail (is_at order trees i) x xs ys (subst (λ z. filter (is_at order trees i) (x ∷ xs) ≡ filter (is_at order trees i) (z ∷ ys)) (sym same) (f i))) in
       rw (same, tails) refl
 
@@ -212,9 +219,9 @@ changed order trees ls i tasks xs s less p u own others =
           let differs : j ≡ i → ⊥ = λ q. both_ways _ e (eq-eqb _ _ q) in
           get_or-set_other ls i j tasks [] differs ∙ sym (all_trees order trees ls s j) ∙ sym (others j differs)
 
-pub put_in_tree : (order : Order) (trees : ℕ) (ls : List (List Task)) (t : Task) → IsSpread order trees 0 ls → lead order t % trees < length ls → Each (λ y. is_apart order t y ≡ true) (gathered order ls) → IsChanged order trees ls (lead order t % trees) (put_in order t (get_or ls (lead order t % trees) [])) (put_in order t (gathered order ls))
+pub put_in_tree : (order : Order) (trees : ℕ) (ls : List (List Task)) (t : Task) → IsSpread order trees 0 ls → spread order t % trees < length ls → Each (λ y. is_apart order t y ≡ true) (gathered order ls) → IsChanged order trees ls (spread order t % trees) (put_in order t (get_or ls (spread order t % trees) [])) (put_in order t (gathered order ls))
 put_in_tree order trees ls t s less apart =
-    let i : ℕ = lead order t % trees in
+    let i : ℕ = spread order t % trees in
     let all = gathered order ls in
     let old = gathers order trees 0 ls s in
     let tree = part order trees ls i s in
@@ -228,9 +235,9 @@ put_in_tree order trees ls t s less apart =
     (filter_put order (is_at order trees i) t all (here order trees t) ∙ ap (put_in order t) (all_trees order trees ls s i))
     (λ j differs. skip_put (precedes order) (strict order) (is_at order trees j) t all old.rises (ne_eqb _ _ (λ e. differs (sym e))))
 
-pub taken_from_tree : (order : Order) (trees : ℕ) (ls : List (List Task)) (t : Task) → IsSpread order trees 0 ls → lead order t % trees < length ls → IsChanged order trees ls (lead order t % trees) (taken_out order t (get_or ls (lead order t % trees) [])) (taken_out order t (gathered order ls))
+pub taken_from_tree : (order : Order) (trees : ℕ) (ls : List (List Task)) (t : Task) → IsSpread order trees 0 ls → spread order t % trees < length ls → IsChanged order trees ls (spread order t % trees) (taken_out order t (get_or ls (spread order t % trees) [])) (taken_out order t (gathered order ls))
 taken_from_tree order trees ls t s less =
-    let i : ℕ = lead order t % trees in
+    let i : ℕ = spread order t % trees in
     let all = gathered order ls in
     let old = gathers order trees 0 ls s in
     let tree = part order trees ls i s in
@@ -244,7 +251,7 @@ taken_from_tree order trees ls t s less =
     (λ j differs. filter_both (is_at order trees j) (is_apart order t) all
     ∙ filter_every (is_apart order t) (filter (is_at order trees j) all)
     (each_map (λ y. is_at order trees j y ≡ true) (λ y. is_apart order t y ≡ true)
-    (λ y q. let e : lead order y % trees ≡ j = eqb-true _ _ q in other_tree order trees i t y (here order trees t) (ne_eqb _ _ (λ d. differs (sym e ∙ d))))
+    (λ y q. let e : spread order y % trees ≡ j = eqb-true _ _ q in other_tree order trees i t y (here order trees t) (ne_eqb _ _ (λ d. differs (sym e ∙ d))))
     (filter (is_at order trees j) all) (each_passes (is_at order trees j) all)))
 
 any_filter : (q s : Task → Bool) (xs : List Task) → ((x : Task) → q x ≡ true → s x ≡ true) → list_any q xs ≡ true → list_any q (filter s xs) ≡ true
@@ -256,12 +263,12 @@ any_filter q s (x ∷ xs) f e = go (q x) (s x) refl refl (any_filter q s xs f) e
   go false true h k rest e = or_right _ _ (rest (rw h at e))
   go false false h k rest e = rest (rw h at e)
 
-pub place_in_tree : (order : Order) (trees : ℕ) (ls : List (List Task)) (t : Task) → IsSpread order trees 0 ls → has_place order t (gathered order ls) ≡ true → has_place order t (get_or ls (lead order t % trees) []) ≡ true
+pub place_in_tree : (order : Order) (trees : ℕ) (ls : List (List Task)) (t : Task) → IsSpread order trees 0 ls → has_place order t (gathered order ls) ≡ true → has_place order t (get_or ls (spread order t % trees) []) ≡ true
 place_in_tree order trees ls t s has =
-    let i : ℕ = lead order t % trees in
+    let i : ℕ = spread order t % trees in
     subst (λ zs. has_place order t zs ≡ true) (all_trees order trees ls s i)
     (any_filter (λ y. not (is_apart order t y)) (is_at order trees i) (gathered order ls)
-    (λ y q. eq-eqb _ _ (ap (λ n. n % trees) (sym (lead_same order t y (not_true_false _ q))))) has) where
+    (λ y q. eq-eqb _ _ (ap (λ n. n % trees) (sym (spread_same order t y (not_true_false _ q))))) has) where
       not_true_false : (b : Bool) → not b ≡ true → b ≡ false
       not_true_false true e = absurd (cc)
       not_true_false false e = refl
@@ -306,39 +313,68 @@ replaced order ts i tree tasks xs c e =
       is = rw same c.is;
     }
 
-pub put_at : (order : Order) (ts : List Tree) (i : ℕ) (t : Task) (tree new : Tree) → i ≡ lead order t % length ts → i < length ts → IsSpread order (length ts) 0 (map tasks_of ts) → Each (λ y. is_apart order t y ≡ true) (gathered order (map tasks_of ts)) → tree ≡ get_or ts i tree → tasks_of new ≡ put_in order t (tasks_of tree) → AreNow order (set ts i new) (put_in order t (gathered order (map tasks_of ts)))
+pub put_at : (order : Order) (ts : List Tree) (i : ℕ) (t : Task) (tree new : Tree) → i ≡ spread order t % length ts → i < length ts → IsSpread order (length ts) 0 (map tasks_of ts) → Each (λ y. is_apart order t y ≡ true) (gathered order (map tasks_of ts)) → tree ≡ get_or ts i tree → tasks_of new ≡ put_in order t (tasks_of tree) → AreNow order (set ts i new) (put_in order t (gathered order (map tasks_of ts)))
 put_at order ts i t tree new named less s apart old e =
     let ls : List (List Task) = map tasks_of ts in
-    let within : lead order t % length ts < length ls = rw (← named, length-map ts tasks_of) less in
+    let within : spread order t % length ts < length ls = rw (← named, length-map ts tasks_of) less in
     let changes = put_in_tree order (length ts) ls t s within apart in
     let here : IsChanged order (length ts) ls i (put_in order t (get_or ls i [])) (put_in order t (gathered order ls)) = rw named changes in
     replaced order ts i new (put_in order t (get_or ls i [])) (put_in order t (gathered order ls)) here
     (e ∙ ap (put_in order t) (sym (tree_at ts i tree less old)))
 
-pub taken_at : (order : Order) (ts : List Tree) (i : ℕ) (t : Task) (tree new : Tree) → i ≡ lead order t % length ts → i < length ts → IsSpread order (length ts) 0 (map tasks_of ts) → tree ≡ get_or ts i tree → tasks_of new ≡ taken_out order t (tasks_of tree) → AreNow order (set ts i new) (taken_out order t (gathered order (map tasks_of ts)))
+pub taken_at : (order : Order) (ts : List Tree) (i : ℕ) (t : Task) (tree new : Tree) → i ≡ spread order t % length ts → i < length ts → IsSpread order (length ts) 0 (map tasks_of ts) → tree ≡ get_or ts i tree → tasks_of new ≡ taken_out order t (tasks_of tree) → AreNow order (set ts i new) (taken_out order t (gathered order (map tasks_of ts)))
 taken_at order ts i t tree new named less s old e =
     let ls : List (List Task) = map tasks_of ts in
-    let within : lead order t % length ts < length ls = rw (← named, length-map ts tasks_of) less in
+    let within : spread order t % length ts < length ls = rw (← named, length-map ts tasks_of) less in
     let changes = taken_from_tree order (length ts) ls t s within in
     let here : IsChanged order (length ts) ls i (taken_out order t (get_or ls i [])) (taken_out order t (gathered order ls)) = rw named changes in
     replaced order ts i new (taken_out order t (get_or ls i [])) (taken_out order t (gathered order ls)) here
     (e ∙ ap (taken_out order t) (sym (tree_at ts i tree less old)))
 
 -- what is looked for in one tree is so looked for in all
-same_place : (order : Order) (trees number : ℕ) (x : Task) → lead order x ≡ number → is_at order trees (number % trees) x ≡ true
+same_place : (order : Order) (trees number : ℕ) (x : Task) → spread order x ≡ number → is_at order trees (number % trees) x ≡ true
 same_place order trees number x e = eq-eqb _ _ (ap (λ n. n % trees) e)
 
-pub found_in_tree : (trees : ℕ) (key : TaskKey) (xs : List Task) → task_at (filter (is_at ByKey trees (key.job % trees)) xs) key ≡ task_at xs key
+pub found_in_tree : (trees : ℕ) (key : TaskKey) (xs : List Task) → task_at (filter (is_at ByKey trees (spread_key key % trees)) xs) key ≡ task_at xs key
 found_in_tree trees key xs =
-    find_in_filter (λ y. same_key y.key key) (is_at ByKey trees (key.job % trees)) xs
-    (λ y q. same_place ByKey trees key.job y (eqb-true _ _ (and_parts (eqb y.key.job key.job) (eqb y.key.index key.index) q).0))
+    find_in_filter (λ y. same_key y.key key) (is_at ByKey trees (spread_key key % trees)) xs
+    (λ y q. let parts = and_parts (eqb y.key.job key.job) (eqb y.key.index key.index) q in
+    same_place ByKey trees (spread_key key) y (key_spread y.key key (eqb-true _ _ parts.0) (eqb-true _ _ parts.1)))
 
-pub led_in_tree : (order : Order) (trees number : ℕ) (xs : List Task) → led_by order number (filter (is_at order trees (number % trees)) xs) ≡ led_by order number xs
-led_in_tree order trees number xs =
-    let led : Task → Bool = λ y. eqb (lead order y) number in
-    filter_both led (is_at order trees (number % trees)) xs
-    ∙ filter_every (is_at order trees (number % trees)) (filter led xs)
-    (each_map (λ y. led y ≡ true) (λ y. is_at order trees (number % trees) y ≡ true) (λ y q. same_place order trees number y (eqb-true _ _ q)) (filter led xs) (each_passes led xs))
+pub led_in_tree : (trees machine : ℕ) (xs : List Task) → led_by ByMachine machine (filter (is_at ByMachine trees (machine % trees)) xs) ≡ led_by ByMachine machine xs
+led_in_tree trees machine xs =
+    let led : Task → Bool = λ y. eqb (lead ByMachine y) machine in
+    filter_both led (is_at ByMachine trees (machine % trees)) xs
+    ∙ filter_every (is_at ByMachine trees (machine % trees)) (filter led xs)
+    (each_map (λ y. led y ≡ true) (λ y. is_at ByMachine trees (machine % trees) y ≡ true) (λ y q. same_place ByMachine trees machine y (eqb-true _ _ q)) (filter led xs) (each_passes led xs))
+
+-- the extra tasks of a job stand in the tree that the job names
+extra_spread : (job : ℕ) (x : Task) → is_extra_of job x ≡ true → spread ByKey x ≡ job
+extra_spread job x e =
+    let parts = and_parts (eqb x.key.job job) (nat_le first_extra x.key.index) e in
+    let high : nat_lt x.key.index first_extra ≡ false =
+    false_from_ne_true _ (λ low. let less = ltb-true _ _ low in let above = leb-true _ _ parts.1 in omega (arith, less, above)) in
+    rw high (eqb-true _ _ parts.0)
+
+-- and are those of high index that it leads there
+extras_led : (job : ℕ) (xs : List Task) → filter (λ task. nat_le first_extra task.key.index) (led_by ByKey job xs) ≡ filter (is_extra_of job) xs
+extras_led job [] = refl
+extras_led job (x ∷ xs) = go (eqb x.key.job job) (nat_le first_extra x.key.index) refl refl (extras_led job xs) where
+  high : Task → Bool
+  high task = nat_le first_extra task.key.index
+
+  go : (a b : Bool) → eqb x.key.job job ≡ a → nat_le first_extra x.key.index ≡ b → filter high (led_by ByKey job xs) ≡ filter (is_extra_of job) xs
+      → filter high (led_by ByKey job (x ∷ xs)) ≡ filter (is_extra_of job) (x ∷ xs)
+  go true true own above rest = rw (own, above) (ap (λ z. x ∷ z) rest)
+  go true false own below rest = rw (own, below) rest
+  go false b other e rest = rw other rest
+
+pub extras_in_tree : (trees job : ℕ) (xs : List Task) → filter (λ task. nat_le first_extra task.key.index) (led_by ByKey job (filter (is_at ByKey trees (job % trees)) xs)) ≡ filter (is_extra_of job) xs
+extras_in_tree trees job xs =
+    extras_led job (filter (is_at ByKey trees (job % trees)) xs)
+    ∙ filter_both (is_extra_of job) (is_at ByKey trees (job % trees)) xs
+    ∙ filter_every (is_at ByKey trees (job % trees)) (filter (is_extra_of job) xs)
+    (each_map (λ y. is_extra_of job y ≡ true) (λ y. is_at ByKey trees (job % trees) y ≡ true) (λ y q. same_place ByKey trees job y (extra_spread job y q)) (filter (is_extra_of job) xs) (each_passes (is_extra_of job) xs))
 
 pub other_in_tree : (trees job machine : ℕ) (gone : List TaskKey) (xs : List Task) → other_of_job (filter (is_at ByMachine trees (machine % trees)) xs) job machine gone ≡ other_of_job xs job machine gone
 other_in_tree trees job machine gone xs =
@@ -346,7 +382,7 @@ other_in_tree trees job machine gone xs =
     (find_in_filter (stays_of_job job machine gone) (is_at ByMachine trees (machine % trees)) xs
     (λ y q. same_place ByMachine trees machine y (eqb-true _ _ (and_parts _ _ (and_parts _ _ q).1).0)))
 
-pub place_at : (order : Order) (ts : List Tree) (i : ℕ) (t : Task) (tree : Tree) → i ≡ lead order t % length ts → i < length ts → IsSpread order (length ts) 0 (map tasks_of ts) → has_place order t (gathered order (map tasks_of ts)) ≡ true → tree ≡ get_or ts i tree → has_place order t (tasks_of tree) ≡ true
+pub place_at : (order : Order) (ts : List Tree) (i : ℕ) (t : Task) (tree : Tree) → i ≡ spread order t % length ts → i < length ts → IsSpread order (length ts) 0 (map tasks_of ts) → has_place order t (gathered order (map tasks_of ts)) ≡ true → tree ≡ get_or ts i tree → has_place order t (tasks_of tree) ≡ true
 place_at order ts i t tree named less s has old =
     let there : has_place order t (get_or (map tasks_of ts) i []) ≡ true = rw named (place_in_tree order (length ts) (map tasks_of ts) t s has) in
     subst (λ zs. has_place order t zs ≡ true) (tree_at ts i tree less old) there

@@ -2,7 +2,7 @@
 use Rattle.std.specs.Prelude.{◌≡◌, ◌+◌, ◌%◌, ◌==◌, ℕ, Bool, true, List, [], ◌∷◌}
 use Rattle.omega_model.specs.declared.cells.Task.{Task}
 use Rattle.omega_running.specs.declared.orders.Order.{Order}
-use Rattle.omega_running.specs.Order.{Each, IsInOrder, lead, put_in}
+use Rattle.omega_running.specs.Order.{Each, IsInOrder, put_in, spread}
 
 -- tasks in an order, and among how many trees they are spread
 pub record SpreadTasks : Type 0 where
@@ -10,9 +10,9 @@ pub record SpreadTasks : Type 0 where
   pub tasks : List Task
   pub trees : ℕ
 
--- whether the tree at a place, of so many, is that of a task: by the number that the order sorts first
+-- whether the tree at a place, of so many, is that of a task
 abbrev pub is_at : Order → ℕ → ℕ → Task → Bool
-is_at order trees place task = lead order task % trees == place
+is_at order trees place task = spread order task % trees == place
 
 -- the tasks of a list in order with those of one more tree
 abbrev pub with_tree : Order → List Task → List Task → List Task

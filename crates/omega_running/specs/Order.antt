@@ -1,8 +1,10 @@
 -- The two orders in which the running tasks are kept.
-use Rattle.std.specs.Prelude.{◌≡◌, ℕ, Bool, true, List, [], ◌∷◌, ◌++◌, ◌==◌, ◌&&◌, ◌||◌, not, nat_lt}
+use Rattle.std.specs.Prelude.{◌≡◌, ℕ, ◌+◌, ◌%◌, ◌^◌, Bool, true, List, [], ◌∷◌, ◌++◌, ◌==◌, ◌&&◌, ◌||◌, not, nat_lt, if◌then◌else◌}
 use Rattle.std.specs.List.{filter, list_any}
 use Rattle.omega_model.specs.Keys.{key_lt}
+use Rattle.omega_model.specs.ExtraTasks.{first_extra}
 use Rattle.omega_model.specs.declared.cells.Task.{Task}
+use Rattle.omega_model.specs.declared.cells.TaskKey.{TaskKey}
 use Rattle.omega_running.specs.declared.orders.Order.{Order}
 use Rattle.omega_running.specs.declared.orders.Order.TheVariants.{ByKey, ByMachine}
 
@@ -19,6 +21,16 @@ is_apart order a b = precedes order a b || precedes order b a
 abbrev pub lead : Order → Task → ℕ
 lead ByKey task = task.key.job
 lead ByMachine task = task.machine
+
+-- the number that names the tree of a key: of the trace's tasks that of the job and the index together, so that
+-- the tasks of a job stand in many trees, and of its extra tasks that of the job, so that they stand in one
+abbrev pub spread_key : TaskKey → ℕ
+spread_key key = if nat_lt key.index first_extra then (key.job + key.index) % 2 ^ 64 else key.job
+
+-- the number that names the tree of a task: by its key, or by its machine
+abbrev pub spread : Order → Task → ℕ
+spread ByKey task = spread_key task.key
+spread ByMachine task = task.machine
 
 -- whether a task stands before all of a job's tasks on a machine, by machine and key
 abbrev pub is_before : Task → ℕ → ℕ → Bool

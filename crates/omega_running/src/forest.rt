@@ -12,7 +12,7 @@ ghost use Rattle.omega_running.specs.Order.{Each, IsInOrder, has_place, is_apart
 ghost use Rattle.omega_running.specs.Tree.{tasks_of};
 
 use crate::nodes::{Node, Tree};
-use crate::orders::Order;
+use crate::orders::{Order, spread_key};
 use omega_model::{Keys, Need, NoMemory, Task, TaskKey};
 use std::alloc::Global;
 use std::marker::Model;
@@ -21,9 +21,9 @@ use std::marker::Model;
 /// or jobs, share one. A tree takes 16 bytes beside its nodes, so the two forests of a board take 2 MiB.
 pub(crate) const TREES: usize = 65_536;
 
-/// Tasks in one of the two orders. The tasks of a job, or those of a machine, stand in one tree,
-/// which the number of the job or the machine names, so that a way down is short however many
-/// tasks there are. A contract sees the list of the tasks, and how many trees there are: none until
+/// Tasks in one of the two orders. By machine, the tasks of a machine stand in one tree, which its number
+/// names. By key, a task of the trace stands in a tree that its job and its index name together, and the
+/// extra tasks of a job in one that the job names. So a way down is short however many tasks there are. A contract sees the list of the tasks, and how many trees there are: none until
 /// `plant`.
 #[derive(Debug, Drop)]
 pub struct Forest {
@@ -71,7 +71,7 @@ impl Forest {
         Ok(())
     }
 
-    /// Where the tree of a job's or a machine's tasks is; `None` exactly where there is no tree.
+    /// Where the tree that a number names is; `None` exactly where there is no tree.
     fn place(&self, number: u64) -> Option<usize>
         ensures none { result ≡ None → self.now.trees ≡ 0 }
         ensures nothing { result ≡ None → self.now.tasks ≡ [] }
@@ -84,7 +84,7 @@ impl Forest {
         Some((number % self.trees.len() as u64) as usize)
     }
 
-    /// The tree of a job's or a machine's tasks; `None` exactly where there is no tree.
+    /// The tree that a number names; `None` exactly where there is no tree.
     fn tree(&self, number: u64) -> Option<&Tree>
         ensures none { result ≡ None → self.now.tasks ≡ [] }
         ensures ordered { IfSome result (λ tree. IsInOrder self.now.order (tasks_of tree.now)) }
@@ -99,7 +99,7 @@ impl Forest {
         requires { self.now.order ≡ ByKey }
         ensures { option_map (λ task. task.now) result ≡ task_at self.now.tasks key }
     {
-        self.tree(key.job)?.find(key)
+        self.tree(spread_key(key))?.find(key)
     }
 
     /// Puts a task in, in the node that is handed in. Goes down one way of one tree.
@@ -110,7 +110,7 @@ impl Forest {
         ensures tasks { self.new.tasks ≡ put_in self.old.order task self.old.tasks }
         ensures trees { self.new.trees ≡ self.old.trees }
     {
-        let Some(place) = self.place(self.order.lead(&task)) else {
+        let Some(place) = self.place(self.order.spread(&task)) else {
             unreachable!()
         };
         let tree = &mut self.trees[place];
@@ -125,7 +125,7 @@ impl Forest {
         ensures tasks { self.new.tasks ≡ taken_out self.old.order task.now self.old.tasks }
         ensures trees { self.new.trees ≡ self.old.trees }
     {
-        let Some(place) = self.place(self.order.lead(task)) else {
+        let Some(place) = self.place(self.order.spread(task)) else {
             unreachable!()
         };
         let tree = &mut self.trees[place];
@@ -134,12 +134,26 @@ impl Forest {
         room
     }
 
-    /// Appends the tasks of a job or of a machine. Costs these, and one way down of one tree.
-    pub fn collect(&self, number: u64, found: &mut Vec<Task>) -> Result<(), NoMemory>
-        ensures { OnOk result (found.new.items ≡ found.old.items ++ led_by self.now.order number self.now.tasks) }
+    /// Appends the tasks of a machine. Costs these, and one way down of one tree.
+    pub fn collect(&self, machine: u64, found: &mut Vec<Task>) -> Result<(), NoMemory>
+        requires { self.now.order ≡ ByMachine }
+        ensures { OnOk result (found.new.items ≡ found.old.items ++ led_by ByMachine machine self.now.tasks) }
     {
-        match self.tree(number) {
-            Some(tree) => tree.collect(self.order, number, found),
+        match self.tree(machine) {
+            Some(tree) => tree.collect(self.order, machine, found),
+            None => Ok(()),
+        }
+    }
+
+    /// Appends the tasks of a job that stand in the tree with its extra tasks: these, and few others. Costs these,
+    /// and one way down of one tree.
+    pub fn collect_beside_extras(&self, job: u64, found: &mut Vec<Task>) -> Result<(), NoMemory>
+        requires { self.now.order ≡ ByKey }
+        ensures { OnOk result (found.new.items ≡ found.old.items
+            ++ led_by ByKey job (filter (is_at ByKey self.now.trees (job % self.now.trees)) self.now.tasks)) }
+    {
+        match self.tree(job) {
+            Some(tree) => tree.collect(self.order, job, found),
             None => Ok(()),
         }
     }

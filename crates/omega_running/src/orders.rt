@@ -1,9 +1,12 @@
 //! The two orders in which the running tasks are kept.
 ghost use Rattle.std.specs.Prelude.{◌≡◌};
 ghost use Rattle.omega_model.specs.Keys.{key_lt, is_among};
-ghost use Rattle.omega_running.specs.Order.{precedes, lead, is_before, is_behind};
+ghost use Rattle.omega_running.specs.Order.{precedes, lead, spread, spread_key, is_before, is_behind};
 
 use omega_model::{Task, TaskKey};
+
+/// The least index of an extra task; the tasks of the trace have lower ones.
+pub const FIRST_EXTRA: u32 = 2_147_483_648;
 
 /// An order of tasks: by key, or by machine and then by key.
 #[derive(Clone, Copy, Debug)]
@@ -33,6 +36,28 @@ impl Order {
             Order::ByKey => task.key.job,
             Order::ByMachine => task.machine,
         }
+    }
+
+    /// The number that names the tree of a task.
+    pub fn spread(self, task: &Task) -> u64
+        ensures { result ≡ spread self task.now }
+    {
+        match self {
+            Order::ByKey => spread_key(task.key),
+            Order::ByMachine => task.machine,
+        }
+    }
+}
+
+/// The number that names the tree of a key. The tasks of the trace that a job has stand in many trees, and its
+/// extra tasks in one.
+pub fn spread_key(key: TaskKey) -> u64
+    ensures { result ≡ spread_key key }
+{
+    if key.index < FIRST_EXTRA {
+        key.job.wrapping_add(u64::from(key.index))
+    } else {
+        key.job
     }
 }
 

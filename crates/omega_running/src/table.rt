@@ -1,8 +1,9 @@
 //! The running tasks.
-ghost use Rattle.std.specs.Prelude.{◌≡◌, ◌+◌, ◌≤◌, ◌<◌, [], ◌∷◌, max, length, option_map, IsOk, IfOk, OnOk, is_some, None, Some, vec_len, vec_capacity, if◌then◌else◌};
+ghost use Rattle.std.specs.Prelude.{◌≡◌, ◌+◌, ◌≤◌, ◌<◌, [], ◌∷◌, max, length, nat_le, option_map, IsOk, IfOk, OnOk, is_some, None, Some, vec_len, vec_capacity, if◌then◌else◌};
 ghost use Rattle.std.specs.List.{filter};
 ghost use Rattle.omega_model.specs.Cell.{task_at, with_task, without, is_on, by_rank, keys_of};
-ghost use Rattle.omega_model.specs.Jobs.{is_of_job, other_of_job};
+ghost use Rattle.omega_model.specs.ExtraTasks.{first_extra, is_extra_of};
+ghost use Rattle.omega_model.specs.Jobs.{other_of_job};
 ghost use Rattle.omega_model.specs.Need.{minus};
 ghost use Rattle.omega_running.specs.Staying.{staying_on};
 ghost use Rattle.omega_running.specs.Kept.{KeysRise};
@@ -10,7 +11,7 @@ ghost use Rattle.omega_running.specs.Standing.{stands_in};
 
 use crate::forest::{Forest, TREES};
 use crate::nodes::Node;
-use crate::orders::Order;
+use crate::orders::{FIRST_EXTRA, Order};
 use crate::standing::same_task;
 use omega_model::{Keys, Need, NoMemory, Seq, Task, TaskKey, Tasks};
 use std::alloc::Global;
@@ -190,14 +191,14 @@ impl Running {
         }
     }
 
-    /// A job's running tasks by index. Takes the time of what the job has, and logarithmic in the
-    /// number of tasks.
-    pub fn tasks_of_job(&self, alloc: Global, job: u64) -> Result<Tasks, NoMemory>
-        ensures { IfOk result (λ tasks. tasks ≡ filter (is_of_job job) self.now.tasks) }
+    /// A job's running extra tasks, by index. Takes the time of these and of few others of the job's tasks,
+    /// and logarithmic in the number of tasks.
+    pub fn extras_of_job(&self, alloc: Global, job: u64) -> Result<Tasks, NoMemory>
+        ensures { IfOk result (λ tasks. tasks ≡ filter (is_extra_of job) self.now.tasks) }
     {
         let mut found = Vec::new(alloc);
-        self.by_key.collect(job, &mut found)?;
-        Ok(Seq::of(found))
+        self.by_key.collect_beside_extras(job, &mut found)?;
+        extras_among(alloc, &found)
     }
 
     /// The key of the job's task on the machine with the least index that isn't in `gone`; `None`
@@ -237,4 +238,17 @@ pub fn keys_of(alloc: Global, tasks: &[Task]) -> Result<Keys, NoMemory>
         keys.push(task.key)?;
     }
     Ok(Seq::of(keys))
+}
+
+/// Those of some tasks that have the index of an extra task.
+fn extras_among(alloc: Global, tasks: &[Task]) -> Result<Tasks, NoMemory>
+    ensures { IfOk result (λ found. found ≡ filter (λ task. nat_le first_extra task.key.index) tasks.now) }
+{
+    let mut found = Tasks::new(alloc);
+    for task in tasks {
+        if task.key.index >= FIRST_EXTRA {
+            found.push(*task)?;
+        }
+    }
+    Ok(found)
 }

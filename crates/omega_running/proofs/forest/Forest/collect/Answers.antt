@@ -1,15 +1,18 @@
-use Rattle.std.proofs.Common.{◌≡◌, ap, ◌∙◌, length, map}
-use Rattle.omega_running.specs.Forest.{gathered}
+use Rattle.std.proofs.Common.{◌≡◌, ◌%◌, ap, ◌∙◌}
+use Rattle.std.specs.List.{filter}
+use Rattle.omega_running.specs.Forest.{is_at}
 use Rattle.omega_running.specs.Order.{led_by}
 use Rattle.omega_running.specs.Tree.{tasks_of}
+use Rattle.omega_running.specs.declared.orders.Order.TheVariants.{ByMachine}
 use Rattle.omega_running.proofs.Spread.{led_in_tree}
 use Rattle.omega_running.proofs.forest.Forest.collect.Goals as goal
 
 pub returns-in-Some : goal.returns-in-Some
 returns-in-Some c =
-    let order = c.self.inside.order in
-    let trees = c.self.inside.trees.items in
-    let part = rw (← c.self.view_is) at c.in-Some.ensures.part in
-    let led : led_by order c.args.number (tasks_of c.in-Some.tree.now) ≡ led_by order c.args.number (gathered order (map tasks_of trees)) =
-    ap (led_by order c.args.number) part ∙ led_in_tree order (length trees) c.args.number (gathered order (map tasks_of trees)) in
-    rw (← c.self.view_is, ← led) c.collect.ensures
+    let forest = c.args.self.now in
+    let machine = c.args.machine in
+    let led : led_by ByMachine machine (tasks_of c.in-Some.tree.now) ≡ led_by ByMachine machine forest.tasks =
+    ap (led_by ByMachine machine) (c.in-Some.ensures.part ∙ ap (λ order. filter (is_at order forest.trees (machine % forest.trees)) forest.tasks) c.requires)
+    ∙ led_in_tree forest.trees machine forest.tasks in
+    let by : c.self.inside.order ≡ ByMachine = rw (← c.self.view_is) at c.requires in
+    rw (← led, ← by) c.collect.ensures

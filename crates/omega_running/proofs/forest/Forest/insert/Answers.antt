@@ -1,6 +1,6 @@
 use Rattle.std.proofs.Common.{◌≡◌, ◌<◌, ◌%◌, true, length, map, set, subst}
 use Rattle.omega_running.specs.Forest.{gathered}
-use Rattle.omega_running.specs.Order.{Each, IsInOrder, is_apart, lead, put_in}
+use Rattle.omega_running.specs.Order.{Each, IsInOrder, is_apart, put_in, spread}
 use Rattle.omega_running.specs.Tree.{tasks_of}
 use Rattle.omega_running.proofs.Spread.{AreNow, part, put_at, tree_at}
 use Rattle.omega_running.proofs.forest.Forest.insert.Goals as goal
@@ -17,7 +17,7 @@ put c =
     let order = c.self.inside.order in
     let trees = c.self.inside.trees.items in
     let less : c.in-Some.place < length trees = rw (← c.self.view_is) at c.in-Some.ensures.within in
-    let named : c.in-Some.place ≡ lead order c.args.task % length trees = rw (← c.self.view_is, c.lead.ensures) at c.in-Some.ensures.place in
+    let named : c.in-Some.place ≡ spread order c.args.task % length trees = rw (← c.self.view_is, c.spread.ensures) at c.in-Some.ensures.place in
     let apart : Each (λ y. is_apart order c.args.task y ≡ true) (gathered order (map tasks_of trees)) = rw (← c.self.view_is) at c.requires.apart in
     let new : tasks_of c.insert.result ≡ put_in order c.args.task (tasks_of c.index_mut-tree.result.now) = rw c.take.ensures.taken at c.insert.ensures in
     put_at order trees c.in-Some.place c.args.task c.index_mut-tree.result.now c.insert.result named less c.self.invariant apart c.index_mut-tree.ensures.value new

@@ -16,5 +16,5 @@ returns-in-Some c =
     let machine = c.args.machine in
     let led : led_by ByMachine machine (tasks_of c.in-Some.tree.now) ≡ led_by ByMachine machine forest.tasks =
     ap (led_by ByMachine machine) (c.in-Some.ensures.part ∙ ap (λ order. filter (is_at order forest.trees (machine % forest.trees)) forest.tasks) c.requires)
-    ∙ led_in_tree ByMachine forest.trees machine forest.tasks in
+    ∙ led_in_tree forest.trees machine forest.tasks in
     c.left_on.ensures ∙ ap (λ ts. minus c.args.amount (total (filter (stays_against c.args.prec) ts))) led

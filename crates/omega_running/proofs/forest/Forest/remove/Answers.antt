@@ -1,6 +1,6 @@
 use Rattle.std.proofs.Common.{◌≡◌, ◌<◌, ◌%◌, true, length, map, set, subst}
 use Rattle.omega_running.specs.Forest.{gathered}
-use Rattle.omega_running.specs.Order.{IsInOrder, has_place, lead, taken_out}
+use Rattle.omega_running.specs.Order.{IsInOrder, has_place, spread, taken_out}
 use Rattle.omega_running.specs.Tree.{tasks_of}
 use Rattle.omega_running.proofs.Spread.{AreNow, part, place_at, taken_at, tree_at}
 use Rattle.omega_running.proofs.forest.Forest.remove.Goals as goal
@@ -17,7 +17,7 @@ remove-rest-requires-clause-there c =
     let order = c.self.inside.order in
     let trees = c.self.inside.trees.items in
     let less : c.in-Some.place < length trees = rw (← c.self.view_is) at c.in-Some.ensures.within in
-    let named : c.in-Some.place ≡ lead order c.args.task.now % length trees = rw (← c.self.view_is, c.lead.ensures) at c.in-Some.ensures.place in
+    let named : c.in-Some.place ≡ spread order c.args.task.now % length trees = rw (← c.self.view_is, c.spread.ensures) at c.in-Some.ensures.place in
     let there : has_place order c.args.task.now (gathered order (map tasks_of trees)) ≡ true = rw (← c.self.view_is) at c.requires in
     rw c.take.ensures.taken (place_at order trees c.in-Some.place c.args.task.now c.index_mut-tree.result.now named less c.self.invariant there c.index_mut-tree.ensures.value)
 
@@ -26,7 +26,7 @@ out c =
     let order = c.self.inside.order in
     let trees = c.self.inside.trees.items in
     let less : c.in-Some.place < length trees = rw (← c.self.view_is) at c.in-Some.ensures.within in
-    let named : c.in-Some.place ≡ lead order c.args.task.now % length trees = rw (← c.self.view_is, c.lead.ensures) at c.in-Some.ensures.place in
+    let named : c.in-Some.place ≡ spread order c.args.task.now % length trees = rw (← c.self.view_is, c.spread.ensures) at c.in-Some.ensures.place in
     let new : tasks_of c.remove-rest.result.0 ≡ taken_out order c.args.task.now (tasks_of c.index_mut-tree.result.now) = rw c.take.ensures.taken at c.remove-rest.ensures in
     taken_at order trees c.in-Some.place c.args.task.now c.index_mut-tree.result.now c.remove-rest.result.0 named less c.self.invariant c.index_mut-tree.ensures.value new
 

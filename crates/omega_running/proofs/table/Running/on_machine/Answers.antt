@@ -14,7 +14,7 @@ pub returns : goal.returns
 returns c =
     let keys = c.self.inside.by_key.tasks in
     let ys = c.sort_unstable_by_key.new.self.items in
-    let found : c.collect.new.found.items ≡ filter (is_on c.args.machine) keys = (rw (c.new-found.ensures.items, c.self.invariant.machine_order) at c.in_ok-collect.ensures) ∙ c.self.invariant.same c.args.machine in
+    let found : c.collect.new.found.items ≡ filter (is_on c.args.machine) keys = (rw c.new-found.ensures.items at c.in_ok-collect.ensures) ∙ c.self.invariant.same c.args.machine in
     let moved : IsPermutation (filter (is_on c.args.machine) keys) ys = subst (λ zs. IsPermutation zs ys) found c.sort_unstable_by_key.ensures.permutation in
     let rises : IsInOrder ByKey (filter (is_on c.args.machine) keys) = rises_filter (precedes ByKey) (is_on c.args.machine) keys c.self.invariant.keys_rise in
     let sorted = c.sort_unstable_by_key.ensures.sorted (λ (t : Task). (t.spec.prec, t.key.job, t.key.index)) (answers_always _ _ _ (λ f a r f' q. search rules)) in

@@ -1,7 +1,7 @@
 use Rattle.std.proofs.Common.{◌≡◌, ◌++◌, drop, nat_le}
 use Rattle.std.specs.List.{filter}
 use Rattle.omega_model.specs.ExtraTasks.{first_extra}
-use Rattle.omega_feed.proofs.extras.extras_among.Given as goal
+use Rattle.omega_running.proofs.table.extras_among.Given as goal
 
 abbrev pub invariant-loop-task : goal.invariant-loop-task
 invariant-loop-task l =
