@@ -52,7 +52,7 @@ spread() { # COLUMN
 cells() { # NUMBERS
     awk -v t="$1" '
         function told(median, least, greatest) {
-            if (greatest - least < 0.02) return sprintf("%.2f s", median)
+            if (greatest - least < 0.015) return sprintf("%.2f s", median)
             return sprintf("%.2f s (%.2f to %.2f)", median, least, greatest)
         }
         BEGIN {
