@@ -1,5 +1,5 @@
 -- To cut rows in order where the round changes is to gather the rows of each round.
-use Rattle.std.proofs.Common.{◌≡◌, ℕ, ◌+◌, ◌/◌, ◌<◌, ◌≤◌, ◌==◌, Bool, true, false, cond, not, List, [], ◌∷◌, ◌++◌, map, refl, ap, ap₂, sym, ◌∙◌, inl, inr, arith, append-nil, append_assoc}
+use Rattle.std.proofs.Common.{◌≡◌, ℕ, ◌+◌, ◌/◌, ◌<◌, ◌≤◌, ◌==◌, Bool, true, false, cond, not, if◌then◌else◌, List, [], ◌∷◌, ◌++◌, map, refl, ap, ap₂, sym, ◌∙◌, inl, inr, arith, append-nil, append_assoc}
 use Rattle.std.specs.List.{filter}
 use Rattle.std.proofs.Math.Nat.{mul-le-mul_left}
 use Rattle.std.proofs.lemmas.Grind.{flat_map-append}
@@ -12,8 +12,21 @@ use Rattle.omega_model.specs.Lawful.{rows_of}
 use Rattle.omega_model.specs.declared.rows.Row.{Row}
 use Rattle.omega_model.specs.declared.rows.Round.{Round}
 use Rattle.omega_model.specs.declared.rows.TraceTables.{TraceTables}
-use Rattle.omega_feed.specs.Cut.{closed, cut}
-use Rattle.omega_feed.proofs.Rising.{Rise, rise_feed}
+use Rattle.omega_feed.specs.Events.{Rise}
+use Rattle.omega_feed.specs.Rounds.{gathered}
+use Rattle.omega_feed.proofs.Rising.{rise_by_time}
+
+-- the round of these rows, unless there are none
+abbrev pub closed : ℕ → List Row → List Round
+closed number [] = []
+closed number (row ∷ rows) = record { number = number; rows = row ∷ rows } ∷ []
+
+-- the rounds that come of the rows of a round so far and those that follow
+abbrev cut : ℕ → ℕ → List Row → List Row → List Round
+cut window number rows [] = closed number rows
+cut window number rows (row ∷ rest) =
+    if round_number window row == number then cut window number (rows ++ row ∷ []) rest
+    else closed number rows ++ cut window (round_number window row) (row ∷ []) rest
 
 each_of_once : (P : ℕ → Type 0) (ns : List ℕ) → Each P ns → Each P (each_once ns)
 each_of_once P [] e = tt
@@ -23,7 +36,7 @@ map_where : {X Y : Type 0} (f g : X → Y) (xs : List X) → Each (λ x. f x ≡
 map_where f g [] e = refl
 map_where f g (x ∷ xs) e = rw (e.0, map_where f g xs e.1) refl
 
-each_of_map : {X Y : Type 0} (P : Y → Type 0) (f : X → Y) (xs : List X) → Each (λ x. P (f x)) xs → Each P (map f xs)
+pub each_of_map : {X Y : Type 0} (P : Y → Type 0) (f : X → Y) (xs : List X) → Each (λ x. P (f x)) xs → Each P (map f xs)
 each_of_map P f [] e = tt
 each_of_map P f (x ∷ xs) e = (e.0, each_of_map P f xs e.1)
 
@@ -66,11 +79,8 @@ later_round w n m rows rest h e =
     ap (λ z. let round : Round = record { number = m; rows = z } in round)
     (filter_right (is_of_round w m) rows rest (each_map (λ r. round_number w r ≡ n) (λ r. is_of_round w m r ≡ false) (λ r p. ne_eqb _ _ (λ e. omega arith)) rows e))
 
-abbrev gathered : ℕ → List Row → List Round
-gathered w rows = map (round_at w rows) (each_once (map (round_number w) rows))
-
 -- a round that has closed, and those that are gathered of later rows
-closed_front : (w n : ℕ) (x : Row) (rows rest : List Row) → Each (λ r. round_number w r ≡ n) (x ∷ rows) → Each (λ r. n < round_number w r) rest
+pub closed_front : (w n : ℕ) (x : Row) (rows rest : List Row) → Each (λ r. round_number w r ≡ n) (x ∷ rows) → Each (λ r. n < round_number w r) rest
     → closed n (x ∷ rows) ++ gathered w rest ≡ gathered w ((x ∷ rows) ++ rest)
 closed_front w n x rows rest e f =
     let later = map_where (round_at w rest) (round_at w ((x ∷ rows) ++ rest)) (each_once (map (round_number w) rest))
@@ -101,7 +111,7 @@ cut_from w n x rows (y ∷ rest) e f r =
           ap (λ z. closed n (x ∷ rows) ++ z) new
           ∙ closed_front w n x rows (y ∷ rest) e (above, each_map (λ s. round_number w y ≤ round_number w s) (λ s. n < round_number w s) (λ s p. omega arith) rest r.0)
 
-quotients_rise : (w a b : ℕ) → 0 < w → a ≤ b → a / w ≤ b / w
+pub quotients_rise : (w a b : ℕ) → 0 < w → a ≤ b → a / w ≤ b / w
 quotients_rise w a b h p =
     elim (cases_lt (b / w) (a / w)) [
       | inl less ↦ let more : b / w + 1 ≤ a / w = omega arith in absurd (omega (arith, mul-le-mul_left w more))
@@ -124,8 +134,8 @@ cut_all w (row ∷ rows) r = by_cases (round_number w row == 0) refl (cut_from w
   by_cases false is e = e
 
 -- rows in order of time, cut where the round changes, are the rounds of the trace
-pub cut_feed : (trace : TraceTables) (w : ℕ) → 0 < w → cut w 0 [] (feed trace) ≡ rounds trace w
-cut_feed trace w h = cut_all w (feed trace) (rise_quotients w h (feed trace) (rise_feed (event_rows trace)))
+cut_feed : (trace : TraceTables) (w : ℕ) → 0 < w → cut w 0 [] (feed trace) ≡ rounds trace w
+cut_feed trace w h = cut_all w (feed trace) (rise_quotients w h (feed trace) (rise_by_time (event_rows trace)))
 
 -- a round that has closed has its rows
 closed_has : (n : ℕ) (rows : List Row) → rows_of (closed n rows) ≡ rows

@@ -8,7 +8,7 @@ use Rattle.std.specs.Ordering.{nat_cmp}
 use Rattle.std.proofs.lemmas.Bool.{eq-eqb, ne_eqb, eqb-true, cases_eq, cases_Bool}
 use Rattle.std.proofs.lemmas.List.Folds.{list_any-append}
 use Rattle.omega_model.specs.Feed.{feed, each_once}
-use Rattle.omega_model.specs.Fields.{ActivityFields}
+use Rattle.omega_model.specs.Fields.{ActivityFields, TaskFields}
 use Rattle.omega_model.specs.Plan.{first_item}
 use Rattle.omega_model.specs.Requests.{job_of_row, jobs_in_order}
 use Rattle.omega_model.specs.Routing.{class_in, class_of}
@@ -18,6 +18,7 @@ use Rattle.omega_model.specs.declared.rows.TraceTables.{TraceTables}
 use Rattle.omega_model.specs.declared.settings.Settings.{Settings}
 use Rattle.omega_machines.proofs.Finding.{apart}
 use Rattle.omega_feed.specs.Asked.{home, routed, is_job, with_job}
+use Rattle.omega_feed.specs.Events.{task_rows}
 use Rattle.omega_feed.specs.Index.{job_at, AreFound}
 use Rattle.omega_feed.specs.declared.jobs.RoutedJob.{RoutedJob}
 
@@ -260,8 +261,25 @@ module _ (settings : Settings) (activities : List ActivityFields) (class : ℕ �
         later job none = let past = past ns row.key.job job none in first job past.0 ∙ rw past.1 refl
 
 -- the jobs noted from row to row are those of the trace in order of their first task row
-pub jobs_noted : (settings : Settings) (trace : TraceTables)
+jobs_noted : (settings : Settings) (trace : TraceTables)
     → fold (note_job settings trace.activities) [] (feed trace) ≡ map (routed settings trace) (jobs_in_order (feed trace))
 jobs_noted settings trace =
     fold_routed settings trace.activities (class_of trace) [] (feed trace) (λ job none. refl)
     ∙ ap (map (routed settings trace)) (each_added (filter_map job_of_row (feed trace)))
+
+-- the jobs with that of one more task row
+abbrev pub note_task : Settings → List ActivityFields → List RoutedJob → TaskFields → List RoutedJob
+note_task settings activities jobs row = note_job settings activities jobs (Task row)
+
+-- of all rows only those of tasks are noted
+tasks_noted : (settings : Settings) (activities : List ActivityFields) (jobs : List RoutedJob) (rows : List Row)
+    → fold (note_task settings activities) jobs (task_rows rows) ≡ fold (note_job settings activities) jobs rows
+tasks_noted settings activities jobs [] = refl
+tasks_noted settings activities jobs (Machine row ∷ rows) = tasks_noted settings activities jobs rows
+tasks_noted settings activities jobs (Attr row ∷ rows) = tasks_noted settings activities jobs rows
+tasks_noted settings activities jobs (Task row ∷ rows) = tasks_noted settings activities (note_task settings activities jobs row) rows
+
+-- the jobs noted from task row to task row are those of the trace in order of their first task row
+pub task_jobs_noted : (settings : Settings) (trace : TraceTables)
+    → fold (note_task settings trace.activities) [] (task_rows (feed trace)) ≡ map (routed settings trace) (jobs_in_order (feed trace))
+task_jobs_noted settings trace = tasks_noted settings trace.activities [] (feed trace) ∙ jobs_noted settings trace

@@ -1,5 +1,7 @@
 pub mod Rising
 pub mod Cutting
+pub mod Merging
+pub mod Parting
 pub mod JobList
 pub mod KeyOrder
 pub mod AskedAfter

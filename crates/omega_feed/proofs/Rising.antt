@@ -1,5 +1,5 @@
 -- Items in order of a number: there is one such list in which those of one number stand as they stood.
-use Rattle.std.proofs.Common.{◌≡◌, ℕ, suc, ◌<◌, ◌≤◌, Bool, true, false, cond, not, ◌&&◌, eqb, ltb, List, [], ◌∷◌, length, get_or, refl, ap, sym, ◌∙◌, inl, inr, arith}
+use Rattle.std.proofs.Common.{◌≡◌, ℕ, suc, ◌<◌, ◌≤◌, Bool, true, false, cond, not, ◌&&◌, eqb, ltb, List, [], ◌∷◌, ◌++◌, length, get_or, refl, ap, sym, ◌∙◌, inl, inr, arith}
 use Rattle.std.specs.List.{filter}
 use Rattle.std.specs.List.Sorted.{IsSortedByKey, IsStableByKey, IsNonDecreasingBy, ties}
 use Rattle.std.specs.Ordering.{nat_cmp, is_lt}
@@ -7,39 +7,31 @@ use Rattle.std.proofs.lemmas.Bool.{lt-ltb, le-ltb, eq-eqb, ne_eqb, ltb-true, ltb
 use Rattle.std.proofs.lemmas.List.Elements.{filter_agree}
 use Rattle.std.proofs.lemmas.List.Sorted.{IsNonDecreasingBy-from_sort}
 use Rattle.omega_running.specs.Order.{Each}
-use Rattle.omega_running.proofs.Lists.{each_map, filter_none}
+use Rattle.omega_running.proofs.Lists.{each_append, each_map, filter_none}
 use Rattle.omega_model.specs.Feed.{time_of, put_by_time, by_time}
 use Rattle.omega_model.specs.declared.rows.Row.{Row}
+use Rattle.omega_feed.specs.Events.{Rise, has_time}
 
--- no number is above a later one
-abbrev pub Rise : {X : Type 0} → (X → ℕ) → List X → Type 0
-Rise key [] = Unit {0}
-Rise key (x ∷ xs) = Each (λ y. key x ≤ key y) xs × Rise key xs
-
--- whether an item has this number
-abbrev pub at : {X : Type 0} → (X → ℕ) → ℕ → X → Bool
-at key n x = eqb (key x) n
-
-pub none_below : {X : Type 0} (key : X → ℕ) (n : ℕ) (x : X) (xs : List X) → n < key x → Rise key (x ∷ xs) → filter (at key n) (x ∷ xs) ≡ []
+pub none_below : {X : Type 0} (key : X → ℕ) (n : ℕ) (x : X) (xs : List X) → n < key x → Rise key (x ∷ xs) → filter (has_time key n) (x ∷ xs) ≡ []
 none_below {X} key n x xs h r =
-    filter_none (at key n) (x ∷ xs) (
+    filter_none (has_time key n) (x ∷ xs) (
       ne_eqb (key x) n (λ e. omega arith),
-      each_map (λ y. key x ≤ key y) (λ y. at key n y ≡ false) (λ y p. ne_eqb (key y) n (λ e. omega arith)) xs r.0,
+      each_map (λ y. key x ≤ key y) (λ y. has_time key n y ≡ false) (λ y p. ne_eqb (key y) n (λ e. omega arith)) xs r.0,
     )
 
 -- what has the number of the first item isn't nothing
-some_at : {X : Type 0} (key : X → ℕ) (x : X) (xs : List X) → filter (at key (key x)) (x ∷ xs) ≡ x ∷ filter (at key (key x)) xs
+some_at : {X : Type 0} (key : X → ℕ) (x : X) (xs : List X) → filter (has_time key (key x)) (x ∷ xs) ≡ x ∷ filter (has_time key (key x)) xs
 some_at key x xs = rw (eq-eqb (key x) (key x) refl) refl
 
 not_above : {X : Type 0} (key : X → ℕ) (x y : X) (xs ys : List X) → Rise key (y ∷ ys)
-    → filter (at key (key x)) (x ∷ xs) ≡ filter (at key (key x)) (y ∷ ys) → key y ≤ key x
+    → filter (has_time key (key x)) (x ∷ xs) ≡ filter (has_time key (key x)) (y ∷ ys) → key y ≤ key x
 not_above key x y xs ys r same =
     elim (cases_order (key x) (key y)) [
       | inl e ↦ omega arith
       | inr (inl less) ↦ absurd (nothing (sym (some_at key x xs) ∙ same ∙ none_below key (key x) y ys less r))
       | inr (inr more) ↦ omega arith
     ] where
-      nothing : x ∷ filter (at key (key x)) xs ≡ [] → ⊥
+      nothing : x ∷ filter (has_time key (key x)) xs ≡ [] → ⊥
       nothing e = cc
 
 same_tail : {X : Type 0} (b : Bool) (x : X) (xs ys : List X) → cond b (x ∷ xs) xs ≡ cond b (x ∷ ys) ys → xs ≡ ys
@@ -48,7 +40,7 @@ same_tail false x xs ys e = e
 
 -- two lists in order that hold the same items at each number are one
 pub one_order : {X : Type 0} (key : X → ℕ) (xs ys : List X) → Rise key xs → Rise key ys
-    → ((x : X) → filter (at key (key x)) xs ≡ filter (at key (key x)) ys) → xs ≡ ys
+    → ((x : X) → filter (has_time key (key x)) xs ≡ filter (has_time key (key x)) ys) → xs ≡ ys
 one_order key [] [] r s same = refl
 one_order key [] (y ∷ ys) r s same = let e = same y ∙ some_at key y ys in absurd (cc)
 one_order key (x ∷ xs) [] r s same = let e = sym (some_at key x xs) ∙ same x in absurd (cc)
@@ -58,12 +50,12 @@ one_order {X} key (x ∷ xs) (y ∷ ys) r s same =
     let level : key y ≡ key x = omega arith in
     let first : x ≡ y = firsts (sym (some_at key x xs) ∙ same x ∙ rw (eq-eqb (key y) (key x) level) refl) in
     rw (sym first) (ap (λ zs. x ∷ zs) (one_order key xs ys r.1 s.1 (λ z. rest z first))) where
-      firsts : x ∷ filter (at key (key x)) xs ≡ y ∷ filter (at key (key x)) ys → x ≡ y
+      firsts : x ∷ filter (has_time key (key x)) xs ≡ y ∷ filter (has_time key (key x)) ys → x ≡ y
       firsts e = cc
 
-      rest : (z : X) → x ≡ y → filter (at key (key z)) xs ≡ filter (at key (key z)) ys
+      rest : (z : X) → x ≡ y → filter (has_time key (key z)) xs ≡ filter (has_time key (key z)) ys
       rest z e =
-          same_tail (at key (key z) x) x _ _
+          same_tail (has_time key (key z) x) x _ _
           (same z ∙ rw (sym e) refl)
 
 -- what a sort by number says
@@ -88,13 +80,13 @@ tie_is a b =
 
 -- what a stable sort by number says
 pub same_from_stable : {X : Type 0} (key : X → ℕ) (xs ys : List X) → IsStableByKey key nat_cmp xs ys
-    → (x : X) → filter (at key (key x)) ys ≡ filter (at key (key x)) xs
+    → (x : X) → filter (has_time key (key x)) ys ≡ filter (has_time key (key x)) xs
 same_from_stable {X} key xs ys h x =
     let lt : X → X → Bool = λ a b. is_lt (nat_cmp (key a) (key b)) in
-    let p = filter_agree (ties lt x) (at key (key x)) (λ y. tie_is (key x) (key y)) in
+    let p = filter_agree (ties lt x) (has_time key (key x)) (λ y. tie_is (key x) (key y)) in
     sym (p ys) ∙ h x ∙ p xs
 
-each_put : (P : Row → Type 0) (row : Row) (rows : List Row) → P row → Each P rows → Each P (put_by_time row rows)
+pub each_put : (P : Row → Type 0) (row : Row) (rows : List Row) → P row → Each P rows → Each P (put_by_time row rows)
 each_put P row [] p e = (p, tt)
 each_put P row (other ∷ rows) p e = by_cases (ltb (time_of other) (time_of row)) (each_put P row rows p e.1) where
   by_cases : (b : Bool) → Each P (put_by_time row rows) → Each P (cond b (other ∷ put_by_time row rows) (row ∷ other ∷ rows))
@@ -114,9 +106,9 @@ rise_put row (other ∷ rows) r =
           let h : time_of row ≤ time_of other = ltb-false _ _ is in
           ((h, each_map (λ y. time_of other ≤ time_of y) (λ y. time_of row ≤ time_of y) (λ y p. omega arith) rows r.0), r)
 
-swapped : (n : ℕ) (other row : Row) (F G : List Row) → time_of other < time_of row → F ≡ cond (at time_of n row) (row ∷ G) G
-    → cond (at time_of n other) (other ∷ F) F ≡ cond (at time_of n row) (row ∷ cond (at time_of n other) (other ∷ G) G) (cond (at time_of n other) (other ∷ G) G)
-swapped n other row F G h e = by_cases (at time_of n other) (at time_of n row) refl refl e where
+swapped : (n : ℕ) (other row : Row) (F G : List Row) → time_of other < time_of row → F ≡ cond (has_time time_of n row) (row ∷ G) G
+    → cond (has_time time_of n other) (other ∷ F) F ≡ cond (has_time time_of n row) (row ∷ cond (has_time time_of n other) (other ∷ G) G) (cond (has_time time_of n other) (other ∷ G) G)
+swapped n other row F G h e = by_cases (has_time time_of n other) (has_time time_of n row) refl refl e where
   by_cases : (a b : Bool) → eqb (time_of other) n ≡ a → eqb (time_of row) n ≡ b → F ≡ cond b (row ∷ G) G
       → cond a (other ∷ F) F ≡ cond b (row ∷ cond a (other ∷ G) G) (cond a (other ∷ G) G)
   by_cases true true p q f =
@@ -126,29 +118,32 @@ swapped n other row F G h e = by_cases (at time_of n other) (at time_of n row) r
   by_cases true false p q f = ap (λ z. other ∷ z) f
   by_cases false b p q f = f
 
-filter_put : (n : ℕ) (row : Row) (rows : List Row) → filter (at time_of n) (put_by_time row rows) ≡ filter (at time_of n) (row ∷ rows)
+filter_put : (n : ℕ) (row : Row) (rows : List Row) → filter (has_time time_of n) (put_by_time row rows) ≡ filter (has_time time_of n) (row ∷ rows)
 filter_put n row [] = refl
 filter_put n row (other ∷ rows) = by_cases (ltb (time_of other) (time_of row)) refl (filter_put n row rows) where
   by_cases : (b : Bool) → ltb (time_of other) (time_of row) ≡ b
-      → filter (at time_of n) (put_by_time row rows) ≡ filter (at time_of n) (row ∷ rows)
-      → filter (at time_of n) (cond b (other ∷ put_by_time row rows) (row ∷ other ∷ rows)) ≡ filter (at time_of n) (row ∷ other ∷ rows)
+      → filter (has_time time_of n) (put_by_time row rows) ≡ filter (has_time time_of n) (row ∷ rows)
+      → filter (has_time time_of n) (cond b (other ∷ put_by_time row rows) (row ∷ other ∷ rows)) ≡ filter (has_time time_of n) (row ∷ other ∷ rows)
   by_cases true is e = swapped n other row _ _ (ltb-true _ _ is) e
   by_cases false is e = refl
 
-rise_by_time : (rows : List Row) → Rise time_of (by_time rows)
+pub rise_by_time : (rows : List Row) → Rise time_of (by_time rows)
 rise_by_time [] = tt
 rise_by_time (row ∷ rows) = rise_put row (by_time rows) (rise_by_time rows)
 
-pub filter_by_time : (n : ℕ) (rows : List Row) → filter (at time_of n) (by_time rows) ≡ filter (at time_of n) rows
+pub filter_by_time : (n : ℕ) (rows : List Row) → filter (has_time time_of n) (by_time rows) ≡ filter (has_time time_of n) rows
 filter_by_time n [] = refl
 filter_by_time n (row ∷ rows) =
-    filter_put n row (by_time rows) ∙ ap (λ z. cond (at time_of n row) (row ∷ z) z) (filter_by_time n rows)
+    filter_put n row (by_time rows) ∙ ap (λ z. cond (has_time time_of n row) (row ∷ z) z) (filter_by_time n rows)
 
--- a stable sort by time gives the rows in order
-pub by_time_from_sort : (xs ys : List Row) → IsSortedByKey time_of nat_cmp ys → IsStableByKey time_of nat_cmp xs ys → ys ≡ by_time xs
-by_time_from_sort xs ys sorted stable =
-    one_order time_of ys (by_time xs) (rise_from_sort time_of ys sorted) (rise_by_time xs)
-    (λ x. same_from_stable time_of xs ys stable x ∙ sym (filter_by_time (time_of x) xs))
+-- rows in order of time that have the same rows of each time as others are these others in order
+pub by_time_is : (xs ys : List Row) → Rise time_of ys
+    → ((row : Row) → filter (has_time time_of (time_of row)) ys ≡ filter (has_time time_of (time_of row)) xs) → ys ≡ by_time xs
+by_time_is xs ys rise same =
+    one_order time_of ys (by_time xs) rise (rise_by_time xs) (λ row. same row ∙ sym (filter_by_time (time_of row) xs))
 
-pub rise_feed : (rows : List Row) → Rise time_of (by_time rows)
-rise_feed rows = rise_by_time rows
+-- one item more at the end, whose number is not below the others
+pub rise_push : {X : Type 0} (key : X → ℕ) (xs : List X) (x : X) → Rise key xs → Each (λ y. key y ≤ key x) xs → Rise key (xs ++ x ∷ [])
+rise_push key [] x r e = (tt, tt)
+rise_push key (y ∷ xs) x r e =
+    (each_append (λ z. key y ≤ key z) xs (x ∷ []) r.0 (e.0, tt), rise_push key xs x r.1 e.1)

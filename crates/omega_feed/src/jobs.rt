@@ -7,11 +7,12 @@ ghost use Rattle.omega_model.specs.Requests.{jobs_in_order};
 ghost use Rattle.omega_model.specs.Routing.{scheduler_for};
 ghost use Rattle.omega_model.specs.declared.rows.TraceTables.{TraceTables};
 ghost use Rattle.omega_feed.specs.Asked.{home, is_job, routed, with_job};
+ghost use Rattle.omega_feed.specs.Events.{task_rows};
 ghost use Rattle.omega_feed.specs.Index.{job_at};
 
 use crate::activities::JobActivities;
 use crate::notes::Notes;
-use omega_model::{NoMemory, Row, Settings, TaskRow};
+use omega_model::{NoMemory, Settings, TaskRow};
 use std::alloc::Global;
 use std::collections::BTreeMap;
 use std::marker::Model;
@@ -60,23 +61,22 @@ impl Jobs {
     }
 
     /// The jobs of a trace in order of their first task row, each with its scheduler, where these are
-    /// its feed and its activities. Costs a look-up for each task row, and two more for each job.
+    /// its task rows in order of time and its activities. Costs a look-up for each row, and two more for each
+    /// job.
     pub fn of(
         alloc: Global,
-        rows: &[Row],
+        rows: &[TaskRow],
         settings: &Settings,
         activities: &JobActivities,
     ) -> Result<Jobs, NoMemory>
         requires { IsInRange settings.now }
-        ensures { (trace : TraceTables) → rows.now ≡ feed trace → activities.now ≡ trace.activities
+        ensures { (trace : TraceTables) → rows.now ≡ task_rows (feed trace) → activities.now ≡ trace.activities
             → IfOk result (λ jobs. jobs ≡ map (routed settings.now trace) (jobs_in_order (feed trace))) }
     {
         let mut jobs = Jobs::new(alloc);
         jobs.notes = Notes::for_count(alloc, rows.len())?;
         for row in rows {
-            if let Row::Task(row) = row {
-                jobs.note(settings, activities, row)?;
-            }
+            jobs.note(settings, activities, row)?;
         }
         Ok(jobs)
     }

@@ -1,6 +1,6 @@
 //! The rows of a trace in the order in which they happen, and what they ask for.
 //!
-//! `feed` puts the rows of the events in order, and `rounds` cuts them into windows of time. `Wanted`
+//! `Events` are the rows of the events in order of time, and `EventRounds` cuts them into windows. `Wanted`
 //! takes them one by one, knows which tasks are to run, and says what each row does to the cell and
 //! what a scheduler is asked to place, the extra tasks of MapReduce jobs among it, and in the end what
 //! is wanted and doesn't run. `OpenJobs` are the jobs of which something may have to be placed; only
@@ -11,18 +11,20 @@ mod activities;
 mod constraints;
 mod disks;
 mod entries;
+mod events;
 mod extras;
 mod jobs;
 mod last;
 mod notes;
 mod open_jobs;
-mod ordered;
+mod rounds;
 mod task_list;
 mod tasks;
 mod unplaced;
 mod wanted;
 
+pub use events::{Events, time_of};
 pub use open_jobs::OpenJobs;
-pub use ordered::{feed, rounds, time_of};
+pub use rounds::EventRounds;
 pub use unplaced::{WaitingTasks, each_once};
 pub use wanted::Wanted;

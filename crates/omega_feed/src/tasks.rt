@@ -12,7 +12,7 @@ ghost use Rattle.omega_feed.specs.Parts.{AreParts, BelongsAt, NeverFall, StandsA
 
 use crate::notes::Notes;
 use crate::task_list::TaskList;
-use omega_model::{NoMemory, Row, Spec, TaskKey, TaskRow};
+use omega_model::{NoMemory, Spec, TaskKey, TaskRow};
 use omega_running::Running;
 use std::alloc::Global;
 use std::marker::Model;
@@ -58,7 +58,11 @@ impl WantedTasks {
     /// No tasks, and for each of these jobs a place with a slot for each of its tasks that these rows submit or
     /// schedule. Costs the rows, and these tasks and the jobs, each times the logarithm of their number, whatever
     /// their order; takes the memory of the slots, and while it runs that of the tasks' keys.
-    pub fn of_rows(alloc: Global, rows: &[Row], mut jobs: Vec<u64>) -> Result<WantedTasks, NoMemory>
+    pub fn of_rows(
+        alloc: Global,
+        rows: &[TaskRow],
+        mut jobs: Vec<u64>,
+    ) -> Result<WantedTasks, NoMemory>
         ensures { IfOk result (λ tasks. tasks ≡ []) }
     {
         let keys = task_keys(alloc, rows)?;
@@ -278,13 +282,11 @@ fn put_place(
 
 /// The keys of the tasks that these rows submit or schedule, in order, each once. Mostly a task's rows of both
 /// kinds follow one another; then its key is sorted once.
-fn task_keys(alloc: Global, rows: &[Row]) -> Result<Vec<TaskKey>, NoMemory> {
+fn task_keys(alloc: Global, rows: &[TaskRow]) -> Result<Vec<TaskKey>, NoMemory> {
     let mut keys = Vec::new(alloc);
     for row in rows {
-        if let Row::Task(row) = row {
-            if row.code <= 1 && keys.last() != Some(&row.key) {
-                keys.push(row.key)?;
-            }
+        if row.code <= 1 && keys.last() != Some(&row.key) {
+            keys.push(row.key)?;
         }
     }
     keys.sort_unstable();

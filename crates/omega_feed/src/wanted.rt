@@ -16,6 +16,7 @@ ghost use Rattle.omega_model.specs.declared.settings.Settings.{Settings};
 ghost use Rattle.omega_board.specs.Board.{cell_of};
 ghost use Rattle.omega_running.specs.Kept.{KeysRise};
 ghost use Rattle.omega_feed.specs.Asked.{activities_in, asked_after, asked_extra, asked_wish, asked_wishes, extras_after, is_task_of};
+ghost use Rattle.omega_feed.specs.Events.{HasOthers};
 ghost use Rattle.omega_feed.specs.Index.{HasLowTask, job_at, routed_request, wanted_task};
 ghost use Rattle.omega_feed.specs.Left.{AreLeft};
 ghost use Rattle.omega_feed.specs.Open.{GetsNoExtras, IsOpen, IsQuietAt, OpensAtMost, OthersAreQuiet, RowOpens, StayOpen, is_missed};
@@ -24,6 +25,7 @@ use crate::activities::JobActivities;
 use crate::constraints::TaskConstraints;
 use crate::disks::MachineDisks;
 use crate::entries::entries_of;
+use crate::events::Events;
 use crate::extras::{extra_count, free_indexes, has_all, running_extra_count};
 use crate::jobs::{Jobs, RoutedJob};
 use crate::open_jobs::OpenJobs;
@@ -62,20 +64,22 @@ impl Model for Wanted {
 }
 
 impl Wanted {
-    /// What a trace with this feed asks for before its first row: no task is wanted. Costs two look-ups
+    /// What a trace with these events asks for before its first row, where the tables have its other rows: no
+    /// task is wanted. Costs two look-ups
     /// for each task row, whose keys are sorted, four more for each job, two or three for each constraint,
     /// and one for each row of disks and of activities. Takes the memory of a slot for each task.
     pub fn new(
         alloc: Global,
         tables: &TraceTables,
-        rows: &[Row],
+        events: &Events,
         settings: &Settings,
     ) -> Result<Wanted, NoMemory>
-        requires settings { IsInRange settings.now }
-        requires rows { rows.now ≡ feed tables.now }
-        ensures { IfOk result (λ wanted. wanted ≡ asked_after settings.now tables.now []) }
+        requires { IsInRange settings.now }
+        ensures { (trace : TraceTables) → events.now ≡ feed trace → HasOthers trace tables.now
+            → IfOk result (λ wanted. wanted ≡ asked_after settings.now trace []) }
     {
         let activities = JobActivities::new(alloc, &tables.activities)?;
+        let rows = events.tasks();
         let jobs = Jobs::of(alloc, rows, settings, &activities)?;
         let tasks = WantedTasks::of_rows(alloc, rows, jobs.numbers(alloc)?)?;
         Ok(Wanted {

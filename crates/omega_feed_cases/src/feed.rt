@@ -1,5 +1,6 @@
 //! A trace's rows and what they ask for: the calls of `omega_feed`.
 ghost use Rattle.std.specs.Prelude.{◌≡◌, [], List, IfOk, OnOk, IsTrue};
+ghost use Rattle.omega_model.specs.Feed.{feed};
 ghost use Rattle.omega_model.specs.Ranges.{IsInRange, IsPercentage};
 ghost use Rattle.omega_model.specs.declared.cells.Task.{Task};
 ghost use Rattle.omega_feed.specs.Open.{OthersAreQuiet};
@@ -9,8 +10,8 @@ use crate::rows::push_row;
 use crate::showing::{show_entries, show_requests, show_rounds};
 use omega_board::Board;
 use omega_calls::{Fault, is_colon, number, part, policy_of, small, text};
-use omega_feed::{OpenJobs, Wanted, feed, rounds};
-use omega_model::{Bytes, Extra, Requests, Round, Rounds, Row, Settings, TraceTables};
+use omega_feed::{EventRounds, Events, OpenJobs, Wanted};
+use omega_model::{Bytes, Copied, Extra, Requests, Round, Rounds, Row, Settings, TraceTables};
 use std::alloc::Global;
 
 /// A trace, how many batch schedulers there are, and how many extras MapReduce jobs get.
@@ -203,7 +204,39 @@ fn rounds_of(alloc: Global, tables: &TraceTables, window: &Bytes) -> Result<Roun
     if window == 0 {
         return Err(Fault::MayNot);
     }
-    Ok(rounds(alloc, feed(alloc, tables)?, window)?)
+    let cut = EventRounds::cut(alloc, events_of(alloc, tables)?, window)?;
+    collected(alloc, &cut)
+}
+
+/// These rounds as a list.
+fn collected(alloc: Global, cut: &EventRounds) -> Result<Rounds, Fault> {
+    let mut rounds = Rounds::new(alloc);
+    for i in 0..cut.len() {
+        if let Some(round) = cut.get(alloc, i)? {
+            rounds.push(round)?;
+        }
+    }
+    Ok(rounds)
+}
+
+/// The rows of the events in order of time: those of the one round that there is where the window is long enough.
+fn rows_of(alloc: Global, tables: &TraceTables) -> Result<Vec<Row>, Fault> {
+    let cut = EventRounds::cut(alloc, events_of(alloc, tables)?, u64::MAX)?;
+    match cut.get(alloc, 0)? {
+        Some(Round { number: _, rows }) => Ok(rows.into_items()),
+        None => Ok(Vec::new(alloc)),
+    }
+}
+
+/// The events of tables.
+fn events_of(alloc: Global, tables: &TraceTables) -> Result<Events, Fault>
+    ensures { IfOk result (λ events. events ≡ feed tables.now) }
+{
+    let mut copy = TraceTables::new(alloc);
+    copy.machines = tables.machines.copy(alloc)?;
+    copy.attrs = tables.attrs.copy(alloc)?;
+    copy.tasks = tables.tasks.copy(alloc)?;
+    Ok(Events::take(alloc, &mut copy)?)
 }
 
 /// Whether a cap is a percentage.
@@ -235,8 +268,8 @@ fn at_first(trace: &Trace, alloc: Global) -> Result<Wanted, Fault>
     ensures { IfOk result (λ wanted. wanted.tasks ≡ []) }
 {
     let settings = settings_of(trace.batch, trace.extra)?;
-    let rows = feed(alloc, &trace.tables)?;
-    Ok(Wanted::new(alloc, &trace.tables, &rows, &settings)?)
+    let events = events_of(alloc, &trace.tables)?;
+    Ok(Wanted::new(alloc, &trace.tables, &events, &settings)?)
 }
 
 /// Appends what a scheduler is asked on the board once all rows were taken.
@@ -248,7 +281,7 @@ fn show_asked(
     answers: &mut String,
 ) -> Result<(), Fault> {
     let (scheduler, closed) = (small(scheduler)?, closed_of(closed)?);
-    let rows = feed(alloc, &scene.trace.tables)?;
+    let rows = rows_of(alloc, &scene.trace.tables)?;
     let question = Question { scheduler, closed };
     show_asked_after(scene, alloc, &rows, question, answers)
 }
@@ -362,7 +395,7 @@ fn show_by_round_of(
     scheduler: u32,
     answers: &mut String,
 ) -> Result<(), Fault> {
-    let rows = feed(alloc, &scene.trace.tables)?;
+    let rows = rows_of(alloc, &scene.trace.tables)?;
     show_each_round(scene, alloc, &rows, cut.as_slice(), scheduler, answers)
 }
 
@@ -397,7 +430,7 @@ fn show_taken(
     alloc: Global,
     answers: &mut String,
 ) -> Result<(), Fault> {
-    let rows = feed(alloc, &trace.tables)?;
+    let rows = rows_of(alloc, &trace.tables)?;
     show_taken_of(trace, board, alloc, &rows, answers)
 }
 
@@ -442,7 +475,7 @@ fn show_unwanted(
     alloc: Global,
     answers: &mut String,
 ) -> Result<(), Fault> {
-    let rows = feed(alloc, &trace.tables)?;
+    let rows = rows_of(alloc, &trace.tables)?;
     show_unwanted_of(trace, board, alloc, &rows, answers)
 }
 
@@ -515,7 +548,7 @@ fn show_waiting(
     alloc: Global,
     answers: &mut String,
 ) -> Result<(), Fault> {
-    let rows = feed(alloc, &trace.tables)?;
+    let rows = rows_of(alloc, &trace.tables)?;
     show_waiting_of(trace, board, alloc, &rows, answers)
 }
 

@@ -14,7 +14,7 @@ use Rattle.omega_rounds.specs.Taking.{Taking}
 use Rattle.omega_rounds.proofs.EndedRounds.{HasEnded, ended_more, ended_none}
 use Rattle.omega_laws.proofs.Places.{take_next}
 use Rattle.omega_rounds.proofs.Taking.{taking_first}
-use Rattle.omega_rounds.proofs.WorldSteps.{rows_more}
+use Rattle.omega_sim.proofs.Arrived.{rows_of_push}
 
 -- the rounds that have begun are over, and the schedulers took turns
 pub record HasPlayed (start now : WorldState) : Type 0 where
@@ -43,7 +43,7 @@ begins_turn now next number turns reaches trace made opens =
     let rows : rows_begun (next_stage now.stage (length next.history)) ≡ rows_begun now.stage ++ round.rows =
     ap (λ (n : ℕ). rows_of (take n now.stage.source.rounds)) (add-one now.stage.begun)
     ∙ ap rows_of (take_next now.stage.source.rounds now.stage.begun round reaches.next)
-    ∙ rows_more (take now.stage.begun now.stage.source.rounds) round in
+    ∙ rows_of_push (take now.stage.begun now.stage.source.rounds) round in
     record {
       now = subst (IsRoundNow trace (rows_begun now.stage) now.history round) (sym reaches.stage) (record {
         made = made;

@@ -31,7 +31,7 @@ use Rattle.omega_rounds.proofs.EndedRounds.{HasEnded, same_run}
 use Rattle.omega_rounds.proofs.KeptRounds.{common_ended, common_front, common_told, common_within, drop_next, ends_middle, none_behind, refused_at, refused_middle, refused_none}
 use Rattle.omega_rounds.proofs.PlayedRounds.{HasPlayed, begins_turn, played_more, turns_now}
 use Rattle.omega_rounds.proofs.RoundStarts.{ends_between, none_in_round}
-use Rattle.omega_rounds.proofs.WorldSteps.{rows_more}
+use Rattle.omega_sim.proofs.Arrived.{rows_of_push}
 
 -- ---- what remains of the run's history
 
@@ -70,7 +70,7 @@ next_remains now after round opened_at next stage trace whole turns history all 
     let rows_are : rows_of (take (now.stage.begun + 1) some) ≡ rows ++ round.rows =
     ap (λ (n : ℕ). rows_of (take n some)) begun
     ∙ ap rows_of (take_next some now.stage.begun round next)
-    ∙ rows_more (take now.stage.begun some) round in
+    ∙ rows_of_push (take now.stage.begun some) round in
     subst (λ (s : Stage). Rounds s.settings trace (rows_begun s) after.history (drop s.begun s.source.rounds) history) (sym stage)
     (subst (λ (rs : List Row). Rounds settings trace rs after.history (drop (now.stage.begun + 1) some) history) (sym rows_are)
     (subst (λ (n : ℕ). Rounds settings trace (rows ++ round.rows) after.history (drop n some) history) (sym begun)

@@ -22,7 +22,7 @@ use Rattle.omega_rounds.specs.InTime.{BeginsInTime, EndsInTime, PlaysInTime, las
 use Rattle.omega_rounds.specs.Playing.{IsAtStart, IsRoundNow}
 use Rattle.omega_rounds.specs.Stages.{AllHaveBegun, IsInRunOf, Source, Stage, WorldState, next_stage, rows_begun, world_of}
 use Rattle.omega_rounds.proofs.EndedRounds.{HasEnded, ended_more, ended_none, same_run}
-use Rattle.omega_rounds.proofs.WorldSteps.{rows_more}
+use Rattle.omega_sim.proofs.Arrived.{rows_of_push}
 
 -- the rounds that have begun in a world have been played by the clock, with these times
 abbrev pub IsTicked : TraceTables → WorldState → List Timed → Type 0
@@ -81,7 +81,7 @@ begins_in_time now next number times reaches trace made opens =
     let rows : rows_begun (next_stage now.stage (length next.history)) ≡ rows_begun now.stage ++ round.rows =
     ap (λ (n : ℕ). rows_of (take n now.stage.source.rounds)) (add-one now.stage.begun)
     ∙ ap rows_of (take_next now.stage.source.rounds now.stage.begun round reaches.next)
-    ∙ rows_more (take now.stage.begun now.stage.source.rounds) round in
+    ∙ rows_of_push (take now.stage.begun now.stage.source.rounds) round in
     record {
       here = subst (IsRoundNow trace (rows_begun now.stage) now.history round) (sym reaches.stage) (record {
         made = made;

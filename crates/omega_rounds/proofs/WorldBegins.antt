@@ -48,7 +48,8 @@ use Rattle.omega_laws.proofs.Places.{take_next}
 use Rattle.omega_rounds.proofs.Requested.{open_own, requests_own}
 use Rattle.omega_laws.proofs.RoundGrows.{has_left_opened}
 use Rattle.omega_rounds.proofs.WorkerLists.{seen_none, sum_none, sum_of_none}
-use Rattle.omega_rounds.proofs.WorldSteps.{new_idle, rows_more, rows_same, state_at}
+use Rattle.omega_rounds.proofs.WorldSteps.{new_idle, rows_same, state_at}
+use Rattle.omega_sim.proofs.Arrived.{rows_of_push}
 use Rattle.omega_rounds.proofs.Worlds.{begins_done, begins_rows, goes_done, goes_rows, world_begins, world_goes_on}
 
 -- nobody has work where no request is left at any desk
@@ -137,7 +138,7 @@ module _ (settings : Settings) (all : List Round) (asked : Asked) (begun old_pla
   rows_later place =
       ap (λ (n : ℕ). rows_of (take n all)) (add-one begun)
       ∙ ap rows_of (take_next all begun round next)
-      ∙ rows_more (take begun all) round
+      ∙ rows_of_push (take begun all) round
 
   tasks_later : (place : ℕ) → tasks ≡ wanted (rows_begun (later_at place))
   tasks_later place =

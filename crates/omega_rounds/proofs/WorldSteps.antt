@@ -36,6 +36,7 @@ use Rattle.omega_rounds.specs.declared.steps.Stepped.TheVariants.{Synced, Commit
 use Rattle.omega_rounds.proofs.CommitCounts.{commits_other, indexes_on, synced_longer}
 use Rattle.omega_rounds.proofs.DeskCommits.{desk_other, desk_own}
 use Rattle.omega_laws.proofs.Places.{take_next}
+use Rattle.omega_sim.proofs.Arrived.{rows_of_push}
 use Rattle.omega_rounds.proofs.PlansKept.{plans_after}
 use Rattle.omega_rounds.proofs.Requested.{requests_none}
 use Rattle.omega_rounds.proofs.WorkerCommits.{fewer_left}
@@ -46,11 +47,6 @@ use Rattle.omega_rounds.proofs.Worlds.{rows_within, steps_done, steps_rows, worl
 abbrev pub state_at : Stage → List Entry → List Worker → WorldState
 state_at stage history workers = record { stage = stage; history = history; synced = map synced_of workers; to_do = sum_by to_do_of workers }
 
--- the rows of one more round
-pub rows_more : (some : List Round) (round : Round) → rows_of (some ++ round ∷ []) ≡ rows_of some ++ round.rows
-rows_more some round =
-    flat_map-append (λ (r : Round). r.rows) some (round ∷ []) ∙ ap (λ (rows : List Row). rows_of some ++ rows) (append-nil round.rows)
-
 -- the rows of the rounds that have begun are those of the round that is under way and of the rounds before it
 pub rows_same : (trace : TraceTables) (stage : Stage) (world : World) → IsInRunOf stage trace → (begun : HasBegun trace stage world)
     → rows_begun stage ≡ rows_now stage.settings trace world.history begun.in_round.underway
@@ -58,7 +54,7 @@ rows_same trace stage world made begun =
     let underway = begun.in_round.underway in
     ap₂ (λ (n : ℕ) (all : List Round). rows_of (take n all)) (begun.count ∙ add-one underway.done) (ap (λ (s : Source). s.rounds) made)
     ∙ ap rows_of (take_next (rounds trace stage.settings.window) underway.done underway.round underway.next)
-    ∙ rows_more (take underway.done (rounds trace stage.settings.window)) underway.round
+    ∙ rows_of_push (take underway.done (rounds trace stage.settings.window)) underway.round
 
 -- before the first round no request is left at a desk
 pub new_idle : (trace : TraceTables) (stage : Stage) (history : List Entry) (world : World) (scheduler : ℕ) (desk : DeskState)

@@ -1,7 +1,8 @@
 //! How far a world has come in the run of its trace.
 
 use crate::opening::Demand;
-use omega_model::{Rounds, Settings};
+use omega_feed::EventRounds;
+use omega_model::Settings;
 
 /// The rounds of a trace under these settings, and what the trace asks for.
 ///
@@ -9,7 +10,7 @@ use omega_model::{Rounds, Settings};
 pub(crate) struct Course {
     pub settings: Settings,
     /// All rounds of the trace.
-    pub rounds: Rounds,
+    pub rounds: EventRounds,
     /// How many of them have begun.
     pub begun: usize,
     /// How many entries the history had after the rows of the last round that has begun.

@@ -5,7 +5,7 @@ ghost use Rattle.omega_cell.specs.Effects.{AreEffects};
 ghost use Rattle.omega_feed.specs.Asked.{asked_after};
 ghost use Rattle.omega_feed.specs.Left.{AreLeft, IsLeft};
 ghost use Rattle.omega_model.specs.Applying.{EachMayApply};
-ghost use Rattle.omega_model.specs.Feed.{feed as feed_of};
+ghost use Rattle.omega_model.specs.Feed.{feed};
 ghost use Rattle.omega_model.specs.Lawful.{LawfulSoFar};
 ghost use Rattle.omega_model.specs.Legal.{Legal, Sound};
 ghost use Rattle.omega_model.specs.Policy.{schedulers};
@@ -31,9 +31,9 @@ use crate::steps::{RoundStep, Stepped};
 use crate::worker::Worker;
 use crate::worth::are_worth_threads;
 use omega_cell::{Cell, Effects};
-use omega_feed::{OpenJobs, WaitingTasks, Wanted, feed, rounds};
+use omega_feed::{EventRounds, Events, OpenJobs, WaitingTasks, Wanted};
 use omega_io::Gate;
-use omega_model::{Entries, Entry, NoMemory, Round, Row, Settings, TraceTables};
+use omega_model::{Entries, Entry, NoMemory, Settings, TraceTables};
 use omega_sim::greatest_time;
 use std::alloc::Global;
 use std::marker::Model;
@@ -72,17 +72,18 @@ impl Model for World {
 
 impl World {
     /// The world of a trace with the empty history, before its first round. Takes the tables over, and gives
-    /// their memory back. Costs a sort of the rows by time, and copies each row twice and each constraint once.
+    /// their memory back but for the rows of the events. Costs a look at each row, a sort of tables of events that
+    /// aren't in order of time, and a copy of each constraint.
     pub fn new(alloc: Global, settings: &Settings, tables: TraceTables) -> Result<World, NoMemory>
         requires { IsInRange settings.now }
         ensures stage { IfOk result (λ world. world.stage ≡ first_stage settings.now tables) }
         ensures is_new { IfOk result (λ world. IsNew (world_of world)) }
         ensures to_do { IfOk result (λ world. world.to_do ≡ 0) }
     {
-        let (rows, wanted) = rows_and_wanted(alloc, settings, tables)?;
+        let (events, wanted) = events_and_wanted(alloc, settings, tables)?;
         let open_jobs = OpenJobs::new(alloc);
         let demand = Demand { wanted, open_jobs };
-        let rounds = rounds(alloc, rows, settings.window)?;
+        let rounds = EventRounds::cut(alloc, events, settings.window)?;
         let workers = new_workers(alloc, settings)?;
         Ok(World {
             alloc,
@@ -193,14 +194,14 @@ impl World {
             mut course,
             mut crew,
         } = self;
-        let Some(round) = course.rounds.get(course.begun) else {
+        reopen_since(&mut course.demand, &crew.cell, course.opened_at)?;
+        let Some(round) = course.rounds.get(alloc, course.begun)? else {
             unreachable!()
         };
         let number = round.number;
-        reopen_since(&mut course.demand, &crew.cell, course.opened_at)?;
         open_round(
             alloc,
-            round,
+            &round,
             &mut course.demand,
             &mut crew.cell,
             &mut crew.workers,
@@ -305,21 +306,25 @@ impl World {
     }
 
     /// The greatest time of the rows of the round that is under way, in microseconds. `None` exactly before
-    /// the first round. Costs a look at each of these rows.
-    pub fn base(&self) -> Option<u64>
-        ensures rows { result ≡ rows_time self.now.stage }
-        ensures none { result ≡ None → self.now.stage.begun ≡ 0 }
+    /// the first round. Copies these rows.
+    pub fn base(&self) -> Result<Option<u64>, NoMemory>
+        ensures rows { IfOk result (λ base. base ≡ rows_time self.now.stage) }
+        ensures none { IfOk result (λ base. base ≡ None → self.now.stage.begun ≡ 0) }
     {
-        let last = self.course.begun.checked_sub(1)?;
-        let round = self.course.rounds.get(last)?;
-        Some(greatest_time(round.rows.as_slice()))
+        let Some(last) = self.course.begun.checked_sub(1) else {
+            return Ok(None);
+        };
+        match self.course.rounds.get(self.alloc, last)? {
+            Some(round) => Ok(Some(greatest_time(round.rows.as_slice()))),
+            None => Ok(None),
+        }
     }
 
     /// All rounds of the trace, also those that haven't begun.
-    pub fn rounds(&self) -> &[Round]
+    pub fn rounds(&self) -> &EventRounds
         ensures { result.now ≡ self.now.stage.source.rounds }
     {
-        self.course.rounds.as_slice()
+        &self.course.rounds
     }
 
     /// The settings of the run.
@@ -342,20 +347,20 @@ impl World {
     }
 }
 
-/// The rows of a trace in order of time, and what it asks for before the first of them. The memory of the tables
-/// is given back.
-fn rows_and_wanted(
+/// The rows of a trace's events in order of time, and what it asks for before the first of them. The memory of the
+/// other rows is given back.
+fn events_and_wanted(
     alloc: Global,
     settings: &Settings,
-    tables: TraceTables,
-) -> Result<(Vec<Row>, Wanted), NoMemory>
+    mut tables: TraceTables,
+) -> Result<(Events, Wanted), NoMemory>
     requires { IsInRange settings.now }
-    ensures rows { IfOk result (λ made. made.0.items ≡ feed_of tables) }
+    ensures events { IfOk result (λ made. made.0 ≡ feed tables) }
     ensures wanted { IfOk result (λ made. made.1 ≡ asked_after settings.now tables []) }
 {
-    let rows = feed(alloc, &tables)?;
-    let wanted = Wanted::new(alloc, &tables, &rows, settings)?;
-    Ok((rows, wanted))
+    let events = Events::take(alloc, &mut tables)?;
+    let wanted = Wanted::new(alloc, &tables, &events, settings)?;
+    Ok((events, wanted))
 }
 
 /// A worker for each scheduler.

@@ -10,3 +10,4 @@ pub mod Ticks
 pub mod InTime
 pub mod Pigeons
 pub mod Fitting
+pub mod Arrived

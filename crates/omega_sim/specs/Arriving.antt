@@ -27,6 +27,11 @@ abbrev pub bases : List Round → Option (ℕ × ℕ)
 bases [] = None
 bases (first ∷ rest) = Some (greatest_time first.rows, greatest_time (fold (λ (last round : Round). round) first rest).rows)
 
+-- the times of the first and the last round, with that of one more at the end
+abbrev pub with_base : Option (ℕ × ℕ) → ℕ → Option (ℕ × ℕ)
+with_base None time = Some (time, time)
+with_base (Some (first, last)) time = Some (first, time)
+
 -- what is held is when each job of these rounds comes first, and the times of the first and the last round
 pub record AreArrivals (some : List Round) (arrivals : Arrivals) : Type 0 where
   pub came : Arrive (rows_of some) arrivals.first_times

@@ -1,16 +1,16 @@
 //! What the lines of time need of a trace.
-ghost use Rattle.std.specs.Prelude.{◌≡◌, ◌∷◌, ◌++◌, [], ◌<◌, ◌^◌, List, All, IfOk, OnOk};
+ghost use Rattle.std.specs.Prelude.{◌≡◌, ◌∷◌, ◌++◌, [], ◌<◌, ◌^◌, ◌+◌, List, All, IfOk, OnOk, length, take};
 ghost use Rattle.omega_model.specs.Feed.{time_of};
 ghost use Rattle.omega_model.specs.Lawful.{rows_of};
 ghost use Rattle.omega_model.specs.Requests.{job_of_row};
 ghost use Rattle.omega_model.specs.declared.rows.Row.{Row};
-ghost use Rattle.omega_sim.specs.Arriving.{AreArrivals, Arrive, bases, span_from};
+ghost use Rattle.omega_sim.specs.Arriving.{AreArrivals, Arrive, span_from, with_base};
 ghost use Rattle.omega_sim.specs.Firsts.{time_at};
 ghost use Rattle.omega_laws.specs.Simulated.{greatest_time};
 
 use crate::firsts::FirstTimes;
-use omega_feed::time_of;
-use omega_model::{NoMemory, Round, Row};
+use omega_feed::{EventRounds, time_of};
+use omega_model::{NoMemory, Row};
 use std::alloc::Global;
 
 /// When each job of a trace comes first, and when its first and its last round begin, in microseconds.
@@ -24,19 +24,40 @@ pub struct Arrivals {
 }
 
 impl Arrivals {
-    /// The arrivals of the trace with these rounds. Costs a look-up for each task row.
-    pub fn of(alloc: Global, rounds: &[Round]) -> Result<Arrivals, NoMemory>
+    /// The arrivals of the trace with these rounds. Costs a copy of each row, and a look-up for each task row.
+    pub fn of(alloc: Global, rounds: &EventRounds) -> Result<Arrivals, NoMemory>
         ensures arrivals { IfOk result (AreArrivals rounds.now) }
         ensures early { OnOk result (All (λ row. time_of row < 2 ^ 64) (rows_of rounds.now)) }
     {
-        let mut first_times = FirstTimes::new(alloc);
-        for round in rounds {
-            note_rows(&mut first_times, round.rows.as_slice())?;
+        let mut arrivals = Arrivals {
+            first_times: FirstTimes::new(alloc),
+            bases: None,
+        };
+        for i in 0..rounds.len() {
+            arrivals.note_round(alloc, rounds, i)?;
         }
-        Ok(Arrivals {
-            first_times,
-            bases: bases(rounds),
-        })
+        Ok(arrivals)
+    }
+
+    /// Notes the rows of the round at a place, where those of all before it are noted.
+    fn note_round(
+        &mut self,
+        alloc: Global,
+        rounds: &EventRounds,
+        place: usize,
+    ) -> Result<(), NoMemory>
+        requires within { place < length rounds.now }
+        requires arrivals { AreArrivals (take place rounds.now) self.old }
+        requires early { All (λ row. time_of row < 2 ^ 64) (rows_of (take place rounds.now)) }
+        ensures arrivals { OnOk result (AreArrivals (take (place + 1) rounds.now) self.new) }
+        ensures early { OnOk result (All (λ row. time_of row < 2 ^ 64) (rows_of (take (place + 1) rounds.now))) }
+    {
+        let Some(round) = rounds.get(alloc, place)? else {
+            unreachable!()
+        };
+        note_rows(&mut self.first_times, round.rows.as_slice())?;
+        self.bases = with_base(self.bases, greatest_time(round.rows.as_slice()));
+        Ok(())
     }
 
     /// How long it is, in microseconds, from the first round's time to the last round's, or to `until`, if
@@ -53,16 +74,14 @@ impl Arrivals {
     }
 }
 
-/// The greatest time of the first round's rows, and that of the last one's.
-fn bases(rounds: &[Round]) -> Option<(u64, u64)>
-    ensures { result ≡ bases rounds.now }
+/// The times of the first and the last round, with one more at the end.
+fn with_base(bases: Option<(u64, u64)>, time: u64) -> Option<(u64, u64)>
+    ensures { result ≡ with_base bases time }
 {
-    let first = rounds.first()?;
-    let last = rounds.last()?;
-    Some((
-        greatest_time(first.rows.as_slice()),
-        greatest_time(last.rows.as_slice()),
-    ))
+    match bases {
+        None => Some((time, time)),
+        Some((first, _)) => Some((first, time)),
+    }
 }
 
 /// The greatest time of some rows, in microseconds, or 0 where there is none. Costs a look at each row.

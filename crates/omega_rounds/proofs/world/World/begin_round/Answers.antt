@@ -1,5 +1,5 @@
-use Rattle.std.proofs.Common.{Bor, ◌≡◌, ◌+◌, ◌∙◌, List, length, Some, sym, ap, subst}
-use Rattle.std.specs.Prelude.{option_map, slice_get}
+use Rattle.std.proofs.Common.{◌≡◌, ◌+◌, ◌∙◌, List, length, Some, sym, ap, subst}
+use Rattle.std.specs.Prelude.{slice_get}
 use Rattle.std.specs.List.{fold}
 use Rattle.omega_feed.specs.Asked.{Asked}
 use Rattle.omega_feed.specs.Open.{OthersAreQuiet}
@@ -22,8 +22,8 @@ use Rattle.omega_rounds.proofs.world.World.begin_round.Goals as goal
 
 pub open_round-requires-clause-asked : goal.open_round-requires-clause-asked
 open_round-requires-clause-asked c =
-    let round = c.in-Some.round.now in
-    let next : slice_get c.self.inside.course.rounds c.self.inside.course.begun ≡ Some round = sym c.get.ensures ∙ ap (option_map (λ (r : Bor Round). r.now)) c.in-Some.is in
+    let round : Round = c.in-Some.round in
+    let next : slice_get c.self.inside.course.rounds c.self.inside.course.begun ≡ Some round = sym c.in_ok-round.ensures ∙ c.in-Some.is in
     subst (λ (a : Asked). IsAsked (record a { tasks = fold wanted_after a.tasks round.rows })) (sym c.reopen_since.ensures.wanted)
     (is_asked c.self.inside.course.settings c.self.inside.course.rounds c.self.inside.course.demand.wanted c.self.inside.course.begun c.self.inside.course.opened_at c.self.inside.crew.cell.history c.self.inside.crew.workers.items round
     c.self.invariant.0 next)
@@ -48,7 +48,7 @@ reopen_since-requires-clause-quiet c = c.self.invariant.1
 
 pub invariant_of-world : goal.invariant_of-world
 invariant_of-world c =
-    let round = c.in-Some.round.now in
+    let round : Round = c.in-Some.round in
     let asked : Asked = c.self.inside.course.demand.wanted in
     let same : c.reopen_since.new.demand.wanted ≡ asked = c.reopen_since.ensures.wanted in
     let wanted : c.open_round.new.demand.wanted ≡ record asked { tasks = fold wanted_after asked.tasks round.rows } =
@@ -56,7 +56,7 @@ invariant_of-world c =
     let history : (trace : TraceTables) (rows : List Row) → asked.disks ≡ trace.disks → asked.tasks ≡ wanted_tasks rows
     → c.open_round.new.cell.history ≡ (opened trace rows c.self.inside.crew.cell.history round).history =
     λ trace rows disks tasks. c.in_ok-open_round.ensures.history trace rows (ap (λ (a : Asked). a.disks) same ∙ disks) (ap (λ (a : Asked). a.tasks) same ∙ tasks) in
-    let next : slice_get c.self.inside.course.rounds c.self.inside.course.begun ≡ Some round = sym c.get.ensures ∙ ap (option_map (λ (r : Bor Round). r.now)) c.in-Some.is in
+    let next : slice_get c.self.inside.course.rounds c.self.inside.course.begun ≡ Some round = sym c.in_ok-round.ensures ∙ c.in-Some.is in
     let idle : HaveNoWork c.self.inside.crew.workers.items =
     idle_all (stage_of c.self.inside.course.settings c.self.inside.course.rounds c.self.inside.course.demand.wanted c.self.inside.course.begun c.self.inside.course.opened_at) c.self.inside.course.demand.wanted.tasks c.self.inside.crew.cell.history
     c.self.inside.crew.workers.items c.self.invariant.0 (ap (λ (w : WorldState). w.to_do) c.self.view_is ∙ c.requires.no_work) in
@@ -77,7 +77,7 @@ invariant_of-world c =
 
 pub returns-clause-run : goal.returns-clause-run
 returns-clause-run c =
-    let round = c.in-Some.round.now in
+    let round : Round = c.in-Some.round in
     let asked : Asked = c.self.inside.course.demand.wanted in
     let same : c.reopen_since.new.demand.wanted ≡ asked = c.reopen_since.ensures.wanted in
     let wanted : c.open_round.new.demand.wanted ≡ record asked { tasks = fold wanted_after asked.tasks round.rows } =
@@ -86,7 +86,7 @@ returns-clause-run c =
     → c.open_round.new.cell.history ≡ (opened trace rows c.self.inside.crew.cell.history round).history =
     λ trace rows disks tasks. c.in_ok-open_round.ensures.history trace rows (ap (λ (a : Asked). a.disks) same ∙ disks) (ap (λ (a : Asked). a.tasks) same ∙ tasks) in
     let stage = stage_of c.self.inside.course.settings c.self.inside.course.rounds c.self.inside.course.demand.wanted c.self.inside.course.begun c.self.inside.course.opened_at in
-    let next : slice_get c.self.inside.course.rounds c.self.inside.course.begun ≡ Some round = sym c.get.ensures ∙ ap (option_map (λ (r : Bor Round). r.now)) c.in-Some.is in
+    let next : slice_get c.self.inside.course.rounds c.self.inside.course.begun ≡ Some round = sym c.in_ok-round.ensures ∙ c.in-Some.is in
     let idle : HaveNoWork c.self.inside.crew.workers.items =
     idle_all stage c.self.inside.course.demand.wanted.tasks c.self.inside.crew.cell.history
     c.self.inside.crew.workers.items c.self.invariant.0 (ap (λ (w : WorldState). w.to_do) c.self.view_is ∙ c.requires.no_work) in
