@@ -345,7 +345,7 @@ for tool in "${needed[@]}"; do
         exit 2
     fi
 done
-mkdir -p "$data" || exit 1
+mkdir -p "$data" && data=$(cd "$data" && pwd) || exit 1
 [ -x "$data/reading" ] || rustc -O --edition 2021 -o "$data/reading" "$here/reading.rs" || exit 1
 case $1 in
 one | picky)
