@@ -90,7 +90,8 @@ fn known_of(rule: Rule, copy: u64) -> Option<u64>
     }
 }
 
-/// Judges a claim, and applies it where it is placed.
+/// Judges a claim, and applies it where it is placed. Room for names that were not needed is given back,
+/// since the entry that holds them stays.
 fn judge_one(
     board: &mut Board,
     claim: &Claim,
@@ -115,6 +116,7 @@ fn judge_one(
     if verdict.is_placed() {
         board.apply_placed(claim, evicted.as_slice(), undo);
     }
+    evicted.shrink_to_fit();
     Judgement {
         verdict,
         evicted: Seq::of(evicted),
