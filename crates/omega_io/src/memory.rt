@@ -86,6 +86,9 @@ impl MemoryTables {
     pub fn cut(self, largest: usize) -> MemoryTables
         requires { 0 < largest }
         ensures largest { result.largest ≡ largest }
+        ensures alloc { result.alloc ≡ self.alloc }
+        ensures held { result.held ≡ self.held }
+        ensures calls { result.calls ≡ self.calls }
         ensures rests { (t : Table) → ⟦<MemoryTables as Tables>⟧.rest result t ≡ ⟦<MemoryTables as Tables>⟧.rest self t }
         ensures counts { (t : Table) → ⟦<MemoryTables as Tables>⟧.faults result t ≡ ⟦<MemoryTables as Tables>⟧.faults self t }
         ensures folder { ⟦<MemoryTables as Tables>⟧.entered result ≡ ⟦<MemoryTables as Tables>⟧.entered self }
@@ -98,6 +101,7 @@ impl MemoryTables {
     /// The same tables, of which the read number `call` fails, counted from 0 over all tables. A
     /// second `fail_at` takes the place of the first.
     pub fn fail_at(self, call: u64) -> MemoryTables
+        ensures all { result ≡ record self { calls = record self.calls { failing = Some call } } }
         ensures failing { result.calls.failing ≡ Some call }
         ensures rests { (t : Table) → ⟦<MemoryTables as Tables>⟧.rest result t ≡ ⟦<MemoryTables as Tables>⟧.rest self t }
         ensures counts { (t : Table) → ⟦<MemoryTables as Tables>⟧.faults result t ≡ ⟦<MemoryTables as Tables>⟧.faults self t }
@@ -169,6 +173,9 @@ impl MemorySink {
     pub fn cut(self, largest: usize) -> MemorySink
         requires { 0 < largest }
         ensures largest { result.largest ≡ largest }
+        ensures bytes { result.bytes ≡ self.bytes }
+        ensures most { result.most ≡ self.most }
+        ensures calls { result.calls ≡ self.calls }
         ensures written { ⟦<MemorySink as Sink>⟧.written result ≡ ⟦<MemorySink as Sink>⟧.written self }
         ensures count { ⟦<MemorySink as Sink>⟧.faults result ≡ ⟦<MemorySink as Sink>⟧.faults self }
     {
@@ -180,6 +187,7 @@ impl MemorySink {
     /// The same sink, of which the write number `call` fails, counted from 0. A second `fail_at`
     /// takes the place of the first.
     pub fn fail_at(self, call: u64) -> MemorySink
+        ensures all { result ≡ record self { calls = record self.calls { failing = Some call } } }
         ensures failing { result.calls.failing ≡ Some call }
         ensures written { ⟦<MemorySink as Sink>⟧.written result ≡ ⟦<MemorySink as Sink>⟧.written self }
         ensures count { ⟦<MemorySink as Sink>⟧.faults result ≡ ⟦<MemorySink as Sink>⟧.faults self }
