@@ -1,42 +1,15 @@
 -- Places that are noted in the map of all machines.
-use Rattle.std.proofs.Common.{◌≡◌, ℕ, zero, suc, ◌+◌, ◌-◌, ◌<◌, ◌≤◌, ◌⊎◌, inl, inr, Bool, true, false, ◌==◌, ◌||◌, List, [], ◌∷◌, ◌++◌, length, take, drop, min, refl, ap, sym, ◌∙◌, append_assoc, arith, Some, None, get_or}
-use Rattle.std.specs.Prelude.{slice_get, unwrap_or}
-use Rattle.std.specs.BTreeMap as tree
-use Rattle.std.specs.BTreeMap.{BTreeMap}
+use Rattle.std.proofs.Common.{◌≡◌, ℕ, zero, suc, ◌+◌, ◌-◌, ◌<◌, ◌≤◌, ◌⊎◌, inl, inr, Bool, true, false, ◌==◌, ◌||◌, List, [], ◌∷◌, ◌++◌, length, take, drop, min, refl, ap, sym, ◌∙◌, append_assoc, arith, Some, get_or}
+use Rattle.std.specs.Prelude.{slice_get}
 use Rattle.std.specs.List.{list_any, zip}
-use Rattle.std.specs.Ordering.{nat_cmp}
-use Rattle.std.proofs.lemmas.Bool.{cases_eq, eq-eqb, ne_eqb}
+use Rattle.std.proofs.lemmas.Bool.{eq-eqb}
 use Rattle.std.proofs.lemmas.List.{drop_all, drop_more}
-use Rattle.omega_model.proofs.Places.{at_place, off_place}
 use Rattle.omega_model.specs.Touches.{copied_seqs}
 use Rattle.omega_model.specs.Touches.{places_on, seq}
 use Rattle.omega_model.specs.declared.claims.Claim.{Claim}
 use Rattle.omega_model.specs.declared.claims.Judgement.{Judgement}
 use Rattle.omega_model.specs.declared.entries.Entry.{Entry}
-use Rattle.omega_keep.specs.Touching.{ends_with, noted, places_of, with_place}
-
--- a machine is noted, and the others stay
-pub touch_more : (places without more : BTreeMap ℕ (List ℕ)) (list : List ℕ) (machine place : ℕ)
-    → tree.Updates nat_cmp places without machine None → tree.Updates nat_cmp without more machine (Some list)
-    → list ≡ with_place place (places_of places machine)
-    → (id : ℕ) → places_of more id ≡ noted place (machine == id) (places_of places id)
-touch_more places without more list machine place u v is id =
-    elim (cases_eq machine id) [
-      | inl same ↦ here same
-      | inr ne ↦ apart ne
-    ] where
-      here : machine ≡ id → places_of more id ≡ noted place (machine == id) (places_of places id)
-      here same =
-          let there : tree.get nat_cmp more id ≡ Some list = v.0 id ∙ rw (at_place machine id same) refl in
-          let told : places_of more id ≡ with_place place (places_of places id) =
-          ap (λ z. unwrap_or z []) there ∙ is ∙ ap (λ k. with_place place (places_of places k)) same in
-          rw (eq-eqb machine id same) told
-
-      apart : (machine ≡ id → ⊥) → places_of more id ≡ noted place (machine == id) (places_of places id)
-      apart ne =
-          let off = off_place machine id ne in
-          let told : places_of more id ≡ places_of places id = ap (λ z. unwrap_or z []) (v.2 id off ∙ u.2 id off) in
-          rw (ne_eqb machine id ne) told
+use Rattle.omega_keep.specs.Touching.{ends_with, noted, with_place}
 
 at_last : (place : ℕ) (places : List ℕ) → slice_get (places ++ place ∷ []) (length places) ≡ Some place
 at_last place [] = refl

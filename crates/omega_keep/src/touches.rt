@@ -51,22 +51,19 @@ impl Touches {
         }
     }
 
-    /// Notes the entry at a place, from 0. Where memory runs out, what was noted of its machines may be
-    /// lost.
+    /// Notes the entry at a place, from 0. Where memory runs out, it may be noted for some of its machines
+    /// and not for others.
     pub fn note(&mut self, alloc: Global, place: u64, entry: &Entry) -> Result<(), NoMemory>
         ensures { OnOk result ((id : ℕ) → places_of self.new.places id ≡ noted place (touches id entry.now) (places_of self.old.places id)) }
     {
         match entry {
-            Entry::Round { .. } => Ok(()),
-            Entry::MachineAdd { machine, .. }
-            | Entry::MachineUpdate { machine, .. }
-            | Entry::MachineRemove { machine }
-            | Entry::AttrSet { machine, .. }
-            | Entry::AttrDelete { machine, .. }
-            | Entry::End { machine, .. } => self.touch(alloc, *machine, place),
             Entry::Commit { txn, reply, .. } => {
                 self.touch_placed(alloc, place, txn.claims.as_slice(), reply.as_slice())
             }
+            _ => match entry.machine() {
+                Some(machine) => self.touch(alloc, machine, place),
+                None => Ok(()),
+            },
         }
     }
 
@@ -107,21 +104,24 @@ impl Touches {
     fn touch(&mut self, alloc: Global, machine: u64, place: u64) -> Result<(), NoMemory>
         ensures { OnOk result ((id : ℕ) → places_of self.new.places id ≡ noted place (machine == id) (places_of self.old.places id)) }
     {
-        let places = self.places.remove(&machine).unwrap_or(Seq::new(alloc));
-        self.places.insert(machine, with_place(places, place)?)?;
+        if let Some(places) = self.places.get_mut(&machine) {
+            return add_place(places, place);
+        }
+        let mut places = Seq::new(alloc);
+        add_place(&mut places, place)?;
+        self.places.insert(machine, places)?;
         Ok(())
     }
 }
 
-/// Places with one more at their end, unless they end with it.
-fn with_place(places: Seq<u64>, place: u64) -> Result<Seq<u64>, NoMemory>
-    ensures { IfOk result (λ more. more ≡ with_place place places) }
+/// Adds a place at the end of some places, unless they end with it.
+fn add_place(places: &mut Seq<u64>, place: u64) -> Result<(), NoMemory>
+    ensures { OnOk result (places.new ≡ with_place place places.old) }
 {
-    let mut places = places;
     if !ends_with(places.as_slice(), place) {
         places.push(place)?;
     }
-    Ok(places)
+    Ok(())
 }
 
 /// Whether the last of some places is this one.
