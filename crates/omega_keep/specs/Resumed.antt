@@ -1,5 +1,5 @@
 -- When kept lines are those of the beginning of a history, up to the end of a round.
-use Rattle.std.specs.Prelude.{◌≡◌, ℕ, suc, ◌==◌, ◌||◌, ◌⊎◌, Bool, false, List, [], ◌∷◌, Option, Some, None, IsTrue, length, map, take, slice_get, if◌then◌else◌}
+use Rattle.std.specs.Prelude.{◌≡◌, ℕ, suc, ◌==◌, ◌||◌, Bool, false, List, [], ◌∷◌, Option, Some, None, IsTrue, length, map, take, slice_get, if◌then◌else◌}
 use Rattle.std.specs.Option.{option_map_or}
 use Rattle.std.specs.Str.{bytes_eq}
 use Rattle.omega_model.specs.Lawful.{begins_round}
@@ -34,7 +34,3 @@ pub record AreWholeRounds (history : List Entry) (lines : List (List ℕ)) : Typ
   pub count : ℕ
   pub ends : IsTrue (ends_round history count)
   pub told : lines ≡ take count (lines_of history)
-
--- a keeper's list went on from one list to another by whole rounds of a history, if it changed at all
-abbrev pub GoesOnByRounds : List Entry → List (List ℕ) → List (List ℕ) → Type 0
-GoesOnByRounds history before after = (after ≡ before) ⊎ AreWholeRounds history after
