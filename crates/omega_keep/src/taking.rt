@@ -12,7 +12,7 @@ use crate::possible::is_possible;
 use crate::stop::Stop;
 use crate::touches::Touches;
 use omega_cell::Cell;
-use omega_model::{Entry, Judgement, Judgements, TaskKey, Txn, Verdict};
+use omega_model::{Entry, Judgement, Judgements, TaskKey, Txn};
 use std::alloc::Global;
 
 /// Takes an entry where it is possible. After a refusal the cell may have one entry more: a commit with
@@ -132,16 +132,8 @@ fn is_same(due: &Judgement, judgement: &Judgement) -> bool
     ensures same { result ≡ true → due.now ≡ judgement.now }
     ensures all { due.now ≡ judgement.now → result ≡ true }
 {
-    is_verdict(due.verdict, judgement.verdict)
+    due.verdict == judgement.verdict
         && are_tasks(due.evicted.as_slice(), judgement.evicted.as_slice())
-}
-
-/// Whether two verdicts are the same.
-fn is_verdict(due: Verdict, verdict: Verdict) -> bool
-    ensures same { result ≡ true → due ≡ verdict }
-    ensures all { due ≡ verdict → result ≡ true }
-{
-    due == verdict
 }
 
 /// Whether two lists of tasks are the same.
@@ -149,21 +141,5 @@ fn are_tasks(due: &[TaskKey], keys: &[TaskKey]) -> bool
     ensures same { result ≡ true → due.now ≡ keys.now }
     ensures all { due.now ≡ keys.now → result ≡ true }
 {
-    if due.len() != keys.len() {
-        return false;
-    }
-    for i in 0..due.len() {
-        if !is_task(due[i], keys[i]) {
-            return false;
-        }
-    }
-    true
-}
-
-/// Whether two names of tasks are the same.
-fn is_task(due: TaskKey, key: TaskKey) -> bool
-    ensures same { result ≡ true → due ≡ key }
-    ensures all { due ≡ key → result ≡ true }
-{
-    due == key
+    due == keys
 }
