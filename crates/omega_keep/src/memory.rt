@@ -77,6 +77,7 @@ impl MemoryKeeper {
     /// The same keeper, of which the load or append number `call` fails, both counted together from 0.
     /// A second `fail_at` takes the place of the first.
     pub fn fail_at(self, call: u64) -> MemoryKeeper
+        ensures all { result ≡ record self { calls = record self.calls { failing = Some call } } }
         ensures failing { result.calls.failing ≡ Some call }
         ensures list { ⟦<MemoryKeeper as Keeper>⟧.kept result ≡ ⟦<MemoryKeeper as Keeper>⟧.kept self }
         ensures path { ⟦<MemoryKeeper as Keeper>⟧.entered result ≡ ⟦<MemoryKeeper as Keeper>⟧.entered self }
