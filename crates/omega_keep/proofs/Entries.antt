@@ -4,8 +4,8 @@ use Rattle.std.specs.List.{list_all}
 use Rattle.omega_model.specs.Report.{Line, Name, Number, word_text}
 use Rattle.omega_model.specs.declared.entries.Entry.{Entry}
 use Rattle.omega_model.specs.declared.entries.Entry.TheVariants.{Round, MachineAdd, MachineUpdate, MachineRemove, AttrSet, AttrDelete, End, Commit}
-use Rattle.omega_keep.specs.declared.unread.Unread.{Unread}
-use Rattle.omega_keep.specs.declared.unread.Unread.TheVariants as unread
+use Rattle.omega_keep.specs.declared.read_stop.ReadStop.{ReadStop}
+use Rattle.omega_keep.specs.declared.read_stop.ReadStop.TheVariants as read_stop
 use Rattle.omega_keep.specs.KeptLines.{need_words, key_words, bytes_word, parted, entry_text, IsAnswered, IsInRange}
 use Rattle.omega_keep.specs.Reading.{Fails, is_space, round_at, add_at, update_at, remove_at, set_at, unset_at, end_at, entry_named, entry_at}
 use Rattle.omega_keep.proofs.Again.{letters_if, word_again, rest_again, number_again, need_again, key_again, bytes_again}
@@ -54,9 +54,9 @@ some_is x y e = cc
 pub one_line : (a b : Entry) → IsInRange a → IsInRange b → IsAnswered a → IsAnswered b → entry_text a ≡ entry_text b → a ≡ b
 one_line a b ha hb xa xb same = some_is a b (sym (entry_again a ha xa) ∙ ap entry_at same ∙ entry_again b hb xb)
 
-pub no_line : (e : Unread) (read : Option Entry) → e ≡ unread.NoLine → Fails e read → read ≡ None
-no_line unread.NoLine read e h = h
-no_line unread.OutOfMemory read e h = absurd cc
+pub no_line : (e : ReadStop) (read : Option Entry) → e ≡ read_stop.NoLine → Fails e read → read ≡ None
+no_line read_stop.NoLine read e h = h
+no_line read_stop.OutOfMemory read e h = absurd cc
 
 pub true_is_not_false : true ≡ false → ⊥
 true_is_not_false e = cc

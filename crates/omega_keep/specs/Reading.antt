@@ -18,8 +18,8 @@ use Rattle.omega_model.specs.declared.claims.Verdict.{Verdict}
 use Rattle.omega_model.specs.declared.claims.Verdict.TheVariants.{Placed, NoMachine, AlreadyRunning, Changed, VictimRank, SameJob, Full, Withdrawn}
 use Rattle.omega_model.specs.declared.entries.Entry.{Entry}
 use Rattle.omega_model.specs.declared.entries.Entry.TheVariants.{Round, MachineAdd, MachineUpdate, MachineRemove, AttrSet, AttrDelete, End, Commit}
-use Rattle.omega_keep.specs.declared.unread.Unread.{Unread}
-use Rattle.omega_keep.specs.declared.unread.Unread.TheVariants as unread
+use Rattle.omega_keep.specs.declared.read_stop.ReadStop.{ReadStop}
+use Rattle.omega_keep.specs.declared.read_stop.ReadStop.TheVariants as read_stop
 
 infixl 10 ◌>>=◌
 abbrev pub ◌>>=◌ : {A B : Type 0} → Option A → (A → Option B) → Option B
@@ -27,12 +27,12 @@ abbrev pub ◌>>=◌ : {A B : Type 0} → Option A → (A → Option B) → Opti
 None >>= f = None
 
 -- nothing was read, since reading gives nothing or memory ran out
-abbrev pub Fails : {Y : Type 0} → Unread → Option Y → Type 0
-Fails unread.OutOfMemory read = Unit {0}
-Fails unread.NoLine read = read ≡ None
+abbrev pub Fails : {Y : Type 0} → ReadStop → Option Y → Type 0
+Fails read_stop.OutOfMemory read = Unit {0}
+Fails read_stop.NoLine read = read ≡ None
 
 -- what a function returned, seen by `view`, is what reading gives, unless memory ran out
-abbrev pub Gives : {X Y : Type 0} → (X → Y) → Result X Unread → Option Y → Type 0
+abbrev pub Gives : {X Y : Type 0} → (X → Y) → Result X ReadStop → Option Y → Type 0
 Gives view (Ok x) read = read ≡ Some (view x)
 Gives view (Err e) read = Fails e read
 

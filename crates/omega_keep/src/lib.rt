@@ -12,12 +12,12 @@ mod lines;
 mod listed;
 mod memory;
 mod possible;
+mod read_stop;
 mod reading;
 mod steady;
 mod stop;
 mod taking;
 mod touches;
-mod unread;
 mod words;
 mod writing;
 

@@ -3,8 +3,8 @@ ghost use Rattle.std.specs.Prelude.{◌≡◌, Some, IfOk, IfSome};
 ghost use Rattle.omega_model.specs.declared.entries.Entry.{Entry};
 ghost use Rattle.omega_keep.specs.KeptLines.{entry_text, IsAnswered, IsInRange, IsLineOf};
 
+use crate::read_stop::ReadStop;
 use crate::reading::entry_at;
-use crate::unread::Unread;
 use crate::writing::entry_line;
 use omega_model::{Entry, NoMemory};
 use std::alloc::Global;
@@ -20,8 +20,8 @@ pub fn read_entry(alloc: Global, line: &[u8]) -> Result<Option<Entry>, NoMemory>
 {
     let entry = match entry_at(alloc, line) {
         Ok(entry) => entry,
-        Err(Unread::NoLine) => return Ok(None),
-        Err(Unread::OutOfMemory) => return Err(NoMemory),
+        Err(ReadStop::NoLine) => return Ok(None),
+        Err(ReadStop::OutOfMemory) => return Err(NoMemory),
     };
     let again = entry_line(alloc, &entry)?;
     if again.as_slice() == line {

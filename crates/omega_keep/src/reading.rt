@@ -5,7 +5,7 @@ ghost use Rattle.std.specs.Prelude.{◌≡◌, IfOk, length};
 ghost use Rattle.omega_keep.specs.KeptLines.{IsAnswered};
 ghost use Rattle.omega_keep.specs.Reading.{Gives, number_at, short_at, need_at, key_at, bytes_of, bytes_at, round_at, add_at, update_at, remove_at, set_at, unset_at, end_at, tiny_at, keys_from, keys_at, rule_of, mode_of, running_at, changed_at, rank_at, same_at, full_at, withdrawn_at, verdict_named, verdict_at, claim_at, judgement_at, claims_from, claims_at, commit_at, entry_named, entry_at};
 
-use crate::unread::Unread;
+use crate::read_stop::ReadStop;
 use crate::words::cut;
 use hex::FromHexError;
 use omega_model::{
@@ -17,31 +17,31 @@ use std::alloc::Global;
 
 /// The number that begins a text, and what stands behind it.
 #[tactic(auto, unfolding(crate::specs::Reading::number_at))]
-fn number_at(text: &[u8]) -> Result<(u64, &[u8]), Unread>
+fn number_at(text: &[u8]) -> Result<(u64, &[u8]), ReadStop>
     ensures { Gives (λ x. (x.0, x.1.now)) result (number_at text.now) }
 {
     let (word, rest) = cut(text);
     match read_u64(word) {
         Ok(number) => Ok((number, rest)),
-        Err(_) => Err(Unread::NoLine),
+        Err(_) => Err(ReadStop::NoLine),
     }
 }
 
 /// The number below 2^32 that begins a text, and what stands behind it.
 #[tactic(auto, unfolding(crate::specs::Reading::short_at))]
-fn short_at(text: &[u8]) -> Result<(u32, &[u8]), Unread>
+fn short_at(text: &[u8]) -> Result<(u32, &[u8]), ReadStop>
     ensures { Gives (λ x. (x.0, x.1.now)) result (short_at text.now) }
 {
     let (number, rest) = number_at(text)?;
     if number > 4_294_967_295 {
-        return Err(Unread::NoLine);
+        return Err(ReadStop::NoLine);
     }
     Ok((number as u32, rest))
 }
 
 /// The amount that begins a text, and what stands behind it.
 #[tactic(auto, unfolding(crate::specs::Reading::need_at))]
-fn need_at(text: &[u8]) -> Result<(Need, &[u8]), Unread>
+fn need_at(text: &[u8]) -> Result<(Need, &[u8]), ReadStop>
     ensures { Gives (λ x. (x.0, x.1.now)) result (need_at text.now) }
 {
     let (cpu, rest) = number_at(text)?;
@@ -52,7 +52,7 @@ fn need_at(text: &[u8]) -> Result<(Need, &[u8]), Unread>
 
 /// The name of a task that begins a text.
 #[tactic(auto, unfolding(crate::specs::Reading::key_at))]
-fn key_at(text: &[u8]) -> Result<(TaskKey, &[u8]), Unread>
+fn key_at(text: &[u8]) -> Result<(TaskKey, &[u8]), ReadStop>
     ensures { Gives (λ x. (x.0, x.1.now)) result (key_at text.now) }
 {
     let (job, rest) = number_at(text)?;
@@ -62,7 +62,7 @@ fn key_at(text: &[u8]) -> Result<(TaskKey, &[u8]), Unread>
 
 /// The bytes of a word.
 #[tactic(auto, unfolding(crate::specs::Reading::bytes_of))]
-fn bytes_of(alloc: Global, word: &[u8]) -> Result<Bytes, Unread>
+fn bytes_of(alloc: Global, word: &[u8]) -> Result<Bytes, ReadStop>
     ensures { Gives (λ x. x) result (bytes_of word.now) }
 {
     if word == b"-".as_slice() {
@@ -70,14 +70,14 @@ fn bytes_of(alloc: Global, word: &[u8]) -> Result<Bytes, Unread>
     }
     match hex::decode(alloc, word) {
         Ok(bytes) => Ok(Seq::of(bytes)),
-        Err(FromHexError::OutOfMemory) => Err(Unread::OutOfMemory),
-        Err(_) => Err(Unread::NoLine),
+        Err(FromHexError::OutOfMemory) => Err(ReadStop::OutOfMemory),
+        Err(_) => Err(ReadStop::NoLine),
     }
 }
 
 /// The name or value that begins a text.
 #[tactic(auto, unfolding(crate::specs::Reading::bytes_at))]
-fn bytes_at(alloc: Global, text: &[u8]) -> Result<(Bytes, &[u8]), Unread>
+fn bytes_at(alloc: Global, text: &[u8]) -> Result<(Bytes, &[u8]), ReadStop>
     ensures { Gives (λ x. (x.0, x.1.now)) result (bytes_at text.now) }
 {
     let (word, rest) = cut(text);
@@ -87,7 +87,7 @@ fn bytes_at(alloc: Global, text: &[u8]) -> Result<(Bytes, &[u8]), Unread>
 
 /// The entry of a round, behind its keyword.
 #[tactic(auto, unfolding(crate::specs::Reading::round_at))]
-fn round_at(text: &[u8]) -> Result<Entry, Unread>
+fn round_at(text: &[u8]) -> Result<Entry, ReadStop>
     ensures value { Gives (λ x. x) result (round_at text.now) }
     ensures answered { IfOk result IsAnswered }
 {
@@ -97,7 +97,7 @@ fn round_at(text: &[u8]) -> Result<Entry, Unread>
 
 /// That of a machine that is added.
 #[tactic(auto, unfolding(crate::specs::Reading::add_at))]
-fn add_at(text: &[u8]) -> Result<Entry, Unread>
+fn add_at(text: &[u8]) -> Result<Entry, ReadStop>
     ensures value { Gives (λ x. x) result (add_at text.now) }
     ensures answered { IfOk result IsAnswered }
 {
@@ -108,7 +108,7 @@ fn add_at(text: &[u8]) -> Result<Entry, Unread>
 
 /// That of a machine that is updated.
 #[tactic(auto, unfolding(crate::specs::Reading::update_at))]
-fn update_at(text: &[u8]) -> Result<Entry, Unread>
+fn update_at(text: &[u8]) -> Result<Entry, ReadStop>
     ensures value { Gives (λ x. x) result (update_at text.now) }
     ensures answered { IfOk result IsAnswered }
 {
@@ -119,7 +119,7 @@ fn update_at(text: &[u8]) -> Result<Entry, Unread>
 
 /// That of a machine that is removed.
 #[tactic(auto, unfolding(crate::specs::Reading::remove_at))]
-fn remove_at(text: &[u8]) -> Result<Entry, Unread>
+fn remove_at(text: &[u8]) -> Result<Entry, ReadStop>
     ensures value { Gives (λ x. x) result (remove_at text.now) }
     ensures answered { IfOk result IsAnswered }
 {
@@ -129,7 +129,7 @@ fn remove_at(text: &[u8]) -> Result<Entry, Unread>
 
 /// That of an attribute that is set.
 #[tactic(auto, unfolding(crate::specs::Reading::set_at))]
-fn set_at(alloc: Global, text: &[u8]) -> Result<Entry, Unread>
+fn set_at(alloc: Global, text: &[u8]) -> Result<Entry, ReadStop>
     ensures value { Gives (λ x. x) result (set_at text.now) }
     ensures answered { IfOk result IsAnswered }
 {
@@ -145,7 +145,7 @@ fn set_at(alloc: Global, text: &[u8]) -> Result<Entry, Unread>
 
 /// That of an attribute that is deleted.
 #[tactic(auto, unfolding(crate::specs::Reading::unset_at))]
-fn unset_at(alloc: Global, text: &[u8]) -> Result<Entry, Unread>
+fn unset_at(alloc: Global, text: &[u8]) -> Result<Entry, ReadStop>
     ensures value { Gives (λ x. x) result (unset_at text.now) }
     ensures answered { IfOk result IsAnswered }
 {
@@ -156,7 +156,7 @@ fn unset_at(alloc: Global, text: &[u8]) -> Result<Entry, Unread>
 
 /// That of a task that ends.
 #[tactic(auto, unfolding(crate::specs::Reading::end_at))]
-fn end_at(text: &[u8]) -> Result<Entry, Unread>
+fn end_at(text: &[u8]) -> Result<Entry, ReadStop>
     ensures value { Gives (λ x. x) result (end_at text.now) }
     ensures answered { IfOk result IsAnswered }
 {
@@ -167,19 +167,19 @@ fn end_at(text: &[u8]) -> Result<Entry, Unread>
 
 /// The number below 2^8 that begins a text, and what stands behind it.
 #[tactic(auto, unfolding(crate::specs::Reading::tiny_at))]
-fn tiny_at(text: &[u8]) -> Result<(u8, &[u8]), Unread>
+fn tiny_at(text: &[u8]) -> Result<(u8, &[u8]), ReadStop>
     ensures { Gives (λ x. (x.0, x.1.now)) result (tiny_at text.now) }
 {
     let (number, rest) = number_at(text)?;
     if number > 255 {
-        return Err(Unread::NoLine);
+        return Err(ReadStop::NoLine);
     }
     Ok((number as u8, rest))
 }
 
 /// So many names of tasks that begin a text, and what stands behind them. No memory is taken for more
 /// of them than there are.
-fn keys_from(alloc: Global, count: u64, text: &[u8]) -> Result<(Keys, &[u8]), Unread>
+fn keys_from(alloc: Global, count: u64, text: &[u8]) -> Result<(Keys, &[u8]), ReadStop>
     ensures { Gives (λ x. (x.0, x.1.now)) result (keys_from count text.now) }
 {
     let mut keys = Seq::new(alloc);
@@ -194,7 +194,7 @@ fn keys_from(alloc: Global, count: u64, text: &[u8]) -> Result<(Keys, &[u8]), Un
 
 /// The names of tasks that begin a text, behind their number, and what stands behind them.
 #[tactic(auto, unfolding(crate::specs::Reading::keys_at))]
-fn keys_at(alloc: Global, text: &[u8]) -> Result<(Keys, &[u8]), Unread>
+fn keys_at(alloc: Global, text: &[u8]) -> Result<(Keys, &[u8]), ReadStop>
     ensures { Gives (λ x. (x.0, x.1.now)) result (keys_at text.now) }
 {
     let (count, rest) = number_at(text)?;
@@ -228,7 +228,7 @@ fn mode_of(word: &[u8]) -> Mode
 
 /// The verdict on a task that runs already, behind its keyword.
 #[tactic(auto, unfolding(crate::specs::Reading::running_at))]
-fn running_at(text: &[u8]) -> Result<(Verdict, &[u8]), Unread>
+fn running_at(text: &[u8]) -> Result<(Verdict, &[u8]), ReadStop>
     ensures { Gives (λ x. (x.0, x.1.now)) result (running_at text.now) }
 {
     let (machine, rest) = number_at(text)?;
@@ -237,7 +237,7 @@ fn running_at(text: &[u8]) -> Result<(Verdict, &[u8]), Unread>
 
 /// That on a claim whose machine has changed.
 #[tactic(auto, unfolding(crate::specs::Reading::changed_at))]
-fn changed_at(text: &[u8]) -> Result<(Verdict, &[u8]), Unread>
+fn changed_at(text: &[u8]) -> Result<(Verdict, &[u8]), ReadStop>
     ensures { Gives (λ x. (x.0, x.1.now)) result (changed_at text.now) }
 {
     let (now, rest) = number_at(text)?;
@@ -247,7 +247,7 @@ fn changed_at(text: &[u8]) -> Result<(Verdict, &[u8]), Unread>
 
 /// That on a claim with a victim whose precedence is not lower.
 #[tactic(auto, unfolding(crate::specs::Reading::rank_at))]
-fn rank_at(text: &[u8]) -> Result<(Verdict, &[u8]), Unread>
+fn rank_at(text: &[u8]) -> Result<(Verdict, &[u8]), ReadStop>
     ensures { Gives (λ x. (x.0, x.1.now)) result (rank_at text.now) }
 {
     let (key, rest) = key_at(text)?;
@@ -256,7 +256,7 @@ fn rank_at(text: &[u8]) -> Result<(Verdict, &[u8]), Unread>
 
 /// That on a claim whose job has a task that stays on the machine.
 #[tactic(auto, unfolding(crate::specs::Reading::same_at))]
-fn same_at(text: &[u8]) -> Result<(Verdict, &[u8]), Unread>
+fn same_at(text: &[u8]) -> Result<(Verdict, &[u8]), ReadStop>
     ensures { Gives (λ x. (x.0, x.1.now)) result (same_at text.now) }
 {
     let (key, rest) = key_at(text)?;
@@ -265,7 +265,7 @@ fn same_at(text: &[u8]) -> Result<(Verdict, &[u8]), Unread>
 
 /// That on a claim for which too little is free.
 #[tactic(auto, unfolding(crate::specs::Reading::full_at))]
-fn full_at(text: &[u8]) -> Result<(Verdict, &[u8]), Unread>
+fn full_at(text: &[u8]) -> Result<(Verdict, &[u8]), ReadStop>
     ensures { Gives (λ x. (x.0, x.1.now)) result (full_at text.now) }
 {
     let (free, rest) = need_at(text)?;
@@ -274,7 +274,7 @@ fn full_at(text: &[u8]) -> Result<(Verdict, &[u8]), Unread>
 
 /// That on a claim that is withdrawn with its gang.
 #[tactic(auto, unfolding(crate::specs::Reading::withdrawn_at))]
-fn withdrawn_at(text: &[u8]) -> Result<(Verdict, &[u8]), Unread>
+fn withdrawn_at(text: &[u8]) -> Result<(Verdict, &[u8]), ReadStop>
     ensures { Gives (λ x. (x.0, x.1.now)) result (withdrawn_at text.now) }
 {
     let (place, rest) = short_at(text)?;
@@ -283,7 +283,7 @@ fn withdrawn_at(text: &[u8]) -> Result<(Verdict, &[u8]), Unread>
 
 /// The verdict with this keyword.
 #[tactic(auto, unfolding(crate::specs::Reading::verdict_named))]
-fn verdict_named<'a>(word: &[u8], rest: &'a [u8]) -> Result<(Verdict, &'a [u8]), Unread>
+fn verdict_named<'a>(word: &[u8], rest: &'a [u8]) -> Result<(Verdict, &'a [u8]), ReadStop>
     ensures { Gives (λ x. (x.0, x.1.now)) result (verdict_named word.now rest.now) }
 {
     if word == b"placed".as_slice() {
@@ -303,13 +303,13 @@ fn verdict_named<'a>(word: &[u8], rest: &'a [u8]) -> Result<(Verdict, &'a [u8]),
     } else if word == b"withdrawn".as_slice() {
         withdrawn_at(rest)
     } else {
-        Err(Unread::NoLine)
+        Err(ReadStop::NoLine)
     }
 }
 
 /// The verdict that begins a text.
 #[tactic(auto, unfolding(crate::specs::Reading::verdict_at))]
-fn verdict_at(text: &[u8]) -> Result<(Verdict, &[u8]), Unread>
+fn verdict_at(text: &[u8]) -> Result<(Verdict, &[u8]), ReadStop>
     ensures { Gives (λ x. (x.0, x.1.now)) result (verdict_at text.now) }
 {
     let (word, rest) = cut(text);
@@ -318,7 +318,7 @@ fn verdict_at(text: &[u8]) -> Result<(Verdict, &[u8]), Unread>
 
 /// The claim that begins a text.
 #[tactic(auto, unfolding(crate::specs::Reading::claim_at))]
-fn claim_at(alloc: Global, text: &[u8]) -> Result<(Claim, &[u8]), Unread>
+fn claim_at(alloc: Global, text: &[u8]) -> Result<(Claim, &[u8]), ReadStop>
     ensures { Gives (λ x. (x.0, x.1.now)) result (claim_at text.now) }
 {
     let (_, rest) = cut(text);
@@ -347,7 +347,7 @@ fn claim_at(alloc: Global, text: &[u8]) -> Result<(Claim, &[u8]), Unread>
 
 /// What is answered to a claim, at the beginning of a text.
 #[tactic(auto, unfolding(crate::specs::Reading::judgement_at))]
-fn judgement_at(alloc: Global, text: &[u8]) -> Result<(Judgement, &[u8]), Unread>
+fn judgement_at(alloc: Global, text: &[u8]) -> Result<(Judgement, &[u8]), ReadStop>
     ensures { Gives (λ x. (x.0, x.1.now)) result (judgement_at text.now) }
 {
     let (verdict, rest) = verdict_at(text)?;
@@ -358,7 +358,7 @@ fn judgement_at(alloc: Global, text: &[u8]) -> Result<(Judgement, &[u8]), Unread
 
 /// All claims of a text, and what is answered to them.
 #[tactic(auto, unfolding(crate::specs::Reading::claims_at))]
-fn claims_at(alloc: Global, text: &[u8]) -> Result<(Claims, Judgements), Unread>
+fn claims_at(alloc: Global, text: &[u8]) -> Result<(Claims, Judgements), ReadStop>
     ensures value { Gives (λ x. x) result (claims_at text.now) }
     ensures answered { IfOk result (λ x. length x.1 ≡ length x.0) }
 {
@@ -376,14 +376,14 @@ fn claims_at(alloc: Global, text: &[u8]) -> Result<(Claims, Judgements), Unread>
         rest = after;
     }
     if !rest.is_empty() {
-        return Err(Unread::NoLine);
+        return Err(ReadStop::NoLine);
     }
     Ok((claims, reply))
 }
 
 /// The entry of a commit, behind its keyword.
 #[tactic(auto, unfolding(crate::specs::Reading::commit_at))]
-fn commit_at(alloc: Global, text: &[u8]) -> Result<Entry, Unread>
+fn commit_at(alloc: Global, text: &[u8]) -> Result<Entry, ReadStop>
     ensures value { Gives (λ x. x) result (commit_at text.now) }
     ensures answered { IfOk result IsAnswered }
 {
@@ -409,7 +409,7 @@ fn commit_at(alloc: Global, text: &[u8]) -> Result<Entry, Unread>
 
 /// The entry with this keyword.
 #[tactic(auto, unfolding(crate::specs::Reading::entry_named))]
-fn entry_named(alloc: Global, word: &[u8], rest: &[u8]) -> Result<Entry, Unread>
+fn entry_named(alloc: Global, word: &[u8], rest: &[u8]) -> Result<Entry, ReadStop>
     ensures value { Gives (λ x. x) result (entry_named word.now rest.now) }
     ensures answered { IfOk result IsAnswered }
 {
@@ -430,13 +430,13 @@ fn entry_named(alloc: Global, word: &[u8], rest: &[u8]) -> Result<Entry, Unread>
     } else if word == b"commit".as_slice() {
         commit_at(alloc, rest)
     } else {
-        Err(Unread::NoLine)
+        Err(ReadStop::NoLine)
     }
 }
 
 /// The entry that the words of a text may mean. Costs the length of the text.
 #[tactic(auto, unfolding(crate::specs::Reading::entry_at))]
-pub fn entry_at(alloc: Global, text: &[u8]) -> Result<Entry, Unread>
+pub fn entry_at(alloc: Global, text: &[u8]) -> Result<Entry, ReadStop>
     ensures value { Gives (λ x. x) result (entry_at text.now) }
     ensures answered { IfOk result IsAnswered }
 {
