@@ -1,5 +1,6 @@
 //! Bells, at which callers sleep until their turn comes.
 ghost use Rattle.std.specs.Prelude.{◌≡◌, ◌<◌};
+ghost use Rattle.omega_lock.specs.declared.bells.TheConstants.{BELLS};
 
 use atomic_table::{Play, Seat as Hand, Table, TableRule};
 use std::alloc::Global;
@@ -28,13 +29,13 @@ impl Play<(), ()> for Touch {
 #[derive(Drop)]
 pub(crate) struct Bells {
     table: Table<(), (), (), Unruled, Global>,
-    ghost row: { table.shared.table_id.words ≡ 32 },
+    ghost row: { table.shared.table_id.words ≡ BELLS },
 }
 
 impl Bells {
     /// Bells that nobody has rung. `None` where memory runs out.
     pub fn new(alloc: Global) -> Option<Bells> {
-        match Table::of_words(alloc, &[0; 32], &()) {
+        match Table::of_words(alloc, &[0; BELLS as usize], &()) {
             Ok((table, _)) => Some(Bells { table }),
             Err(_) => None,
         }
@@ -65,7 +66,7 @@ impl Bells {
 
 /// The bell of a ticket.
 fn bell_of(ticket: u64) -> usize
-    ensures { result < 32 }
+    ensures { result < BELLS }
 {
     (ticket % BELLS) as usize
 }
