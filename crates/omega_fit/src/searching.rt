@@ -63,7 +63,7 @@ fn search_in<F: Fn(usize) -> bool>(
     }
     let (left, slot, right) = parted(slots);
     let half = left.len();
-    match search_in(left, base, from, lesser(to, half), need, test) {
+    match search_in(left, base, from, to.min(half), need, test) {
         Some(found) => Some(found),
         None => {
             if from <= half && half < to && passes_here(need, slot.free, base + half, test) {
@@ -98,13 +98,4 @@ fn passes_here<F: Fn(usize) -> bool>(
     ensures fails { result ≡ false → Holds need free → F.post test.now position false }
 {
     holds(need, free) && test(position)
-}
-
-/// The lesser of two numbers.
-fn lesser(one: usize, other: usize) -> usize
-    ensures one { result ≤ one }
-    ensures other { result ≤ other }
-    ensures all { (n : ℕ) → n < one → n < other → n < result }
-{
-    if one <= other { one } else { other }
 }
