@@ -88,7 +88,7 @@ impl<T: Drop> AnswerRoom<T> {
 fn rooms_of(alloc: Global, claims: &[Claim]) -> Result<Vec<KeyRoom>, NoMemory>
     ensures { IfOk result (λ rooms. rooms.items ≡ victim_counts claims.now) }
 {
-    let mut rooms = Vec::new(alloc);
+    let mut rooms = Vec::with_capacity(alloc, claims.len())?;
     for claim in claims {
         rooms.push(KeyRoom::of(alloc, claim.victims.len())?)?;
     }
