@@ -124,12 +124,7 @@ pub fn number_from(text: &str, span: Span) -> Option<u64>
 pub fn is_among(names: &[&str], text: &str) -> bool
     ensures { result ≡ is_among (map (λ name. name.now) names.now) text.now }
 {
-    for name in names {
-        if *name == text {
-            return true;
-        }
-    }
-    false
+    names.contains(&text)
 }
 
 /// Whether the text is one of the values.

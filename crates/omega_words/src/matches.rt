@@ -51,10 +51,7 @@ fn number_of<'a>(matches: &ArgMatches<'a>, name: &str, span: Span, default: u64)
     let Some(text) = text_of(matches, name) else {
         return default;
     };
-    match choices::number_from(text, span) {
-        Some(number) => number,
-        None => default,
-    }
+    choices::number_from(text, span).unwrap_or(default)
 }
 
 /// The same for numbers of 32 bits.
@@ -206,18 +203,12 @@ pub fn settings_of<'a>(matches: &ArgMatches<'a>, command: Command) -> Settings
 pub fn folder_of<'a>(matches: &ArgMatches<'a>) -> &'a str
     ensures { result.now ≡ folder_by (texts_in matches.now) }
 {
-    match text_of(matches, "tables") {
-        None => ".",
-        Some(text) => text,
-    }
+    text_of(matches, "tables").unwrap_or(".")
 }
 
 /// The path of the kept lines, `omega.db` where none is given.
 pub fn kept_of<'a>(matches: &ArgMatches<'a>) -> &'a str
     ensures { result.now ≡ kept_by (texts_in matches.now) }
 {
-    match text_of(matches, "kept") {
-        None => "omega.db",
-        Some(text) => text,
-    }
+    text_of(matches, "kept").unwrap_or("omega.db")
 }
