@@ -85,10 +85,9 @@ impl Board {
     fn already_running(&self, claim: &Claim) -> Option<Verdict>
         ensures { result ≡ already_running (cell_of self.now) claim.now }
     {
-        match self.running.get(claim.key) {
-            Some(task) => Some(Verdict::AlreadyRunning(task.machine)),
-            None => None,
-        }
+        self.running
+            .get(claim.key)
+            .map(|task| Verdict::AlreadyRunning(task.machine))
     }
 
     fn changed(&self, machine: u64, copy_seq: Option<u64>) -> Option<Verdict>
@@ -159,10 +158,10 @@ impl Board {
         ensures { result ≡ victim_rank (cell_of self.now) claim.now }
     {
         let prec = claim.spec.prec;
-        match standing.iter().find(|key| self.withstands(prec, **key)) {
-            Some(key) => Some(Verdict::VictimRank(*key)),
-            None => None,
-        }
+        standing
+            .iter()
+            .find(|key| self.withstands(prec, **key))
+            .map(|key| Verdict::VictimRank(*key))
     }
 
     fn withstands(&self, prec: u8, key: TaskKey) -> bool
@@ -183,13 +182,9 @@ impl Board {
         if !claim.spec.differ {
             return None;
         }
-        let other = self
-            .running
-            .other_of_job(claim.key.job, claim.machine, &claim.victims);
-        match other {
-            Some(key) => Some(Verdict::SameJob(key)),
-            None => None,
-        }
+        self.running
+            .other_of_job(claim.key.job, claim.machine, claim.victims.as_slice())
+            .map(Verdict::SameJob)
     }
 
     fn full(&self, claim: &Claim, standing: &[TaskKey]) -> Option<Verdict>

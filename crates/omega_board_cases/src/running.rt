@@ -161,7 +161,7 @@ fn show_other(
     answers: &mut String,
 ) -> Result<(), Fault> {
     let gone = tasks(alloc, gone)?;
-    match running.other_of_job(job, machine, &gone) {
+    match running.other_of_job(job, machine, gone.as_slice()) {
         Some(key) => show_task(answers, key),
         None => {
             answers.push('-')?;

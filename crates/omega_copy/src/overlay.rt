@@ -82,10 +82,10 @@ impl<'a> Overlay<'a> {
     }
 
     /// Whether a task of this job runs on a machine after the claims. Costs three look-ups.
-    pub fn has_of_job(&self, alloc: Global, job: u64, machine: u64) -> bool
+    pub fn has_of_job(&self, job: u64, machine: u64) -> bool
         ensures { result ≡ list_any (stays_of_job job machine []) (tasks_claimed self.now) }
     {
-        self.tenants.has_of_job(alloc, self.running, job, machine)
+        self.tenants.has_of_job(self.running, job, machine)
     }
 
     /// The tasks on a machine after the claims, in any order. Takes the time of what the machine has.

@@ -14,7 +14,7 @@ ghost use Rattle.omega_copy.specs.Telling.{freed_on};
 ghost use Rattle.omega_copy.specs.Tenants.{AreBeside, GoesBeside, MayPlace, MayPutAll, MayTakeOver, is_whole, put_all};
 
 use omega_board::Board;
-use omega_model::{Claim, Need, NoMemory, Seq, Task, TaskKey, Tasks};
+use omega_model::{Claim, Need, NoMemory, Task, TaskKey, Tasks};
 use omega_running::Running;
 use std::alloc::Global;
 use std::collections::BTreeSet;
@@ -61,17 +61,16 @@ impl Tenants {
     }
 
     /// Whether a task of this job runs on a machine. Costs three look-ups.
-    pub fn has_of_job(&self, alloc: Global, board: &Running, job: u64, machine: u64) -> bool
+    pub fn has_of_job(&self, board: &Running, job: u64, machine: u64) -> bool
         ensures { (tasks : List Task) → AreBeside self.now board.now.tasks tasks → result ≡ list_any (stays_of_job job machine []) tasks }
     {
-        let none = Seq::new(alloc);
-        if self.own.other_of_job(job, machine, &none).is_some() {
+        if self.own.other_of_job(job, machine, &[]).is_some() {
             return true;
         }
         if self.is_whole(machine) {
             return false;
         }
-        board.other_of_job(job, machine, &none).is_some()
+        board.other_of_job(job, machine, &[]).is_some()
     }
 
     /// The tasks on a machine, in any order. Takes the time of what the machine has.

@@ -188,7 +188,7 @@ fn victims_on(
     if !machine.up {
         return Ok(None);
     }
-    if has_rival(alloc, overlay, wish, machine.id) {
+    if has_rival(overlay, wish, machine.id) {
         return Ok(None);
     }
     let mut tasks = overlay.tasks_on(alloc, machine.id)?.into_items();

@@ -155,7 +155,7 @@ fn claim_for_wish(
             progress,
         });
     }
-    match first_to_take(alloc, overlay, indexes.free(), wish, &progress) {
+    match first_to_take(overlay, indexes.free(), wish, &progress) {
         Some(position) => Ok(Step {
             claim: Some(claim_at(overlay, wish, position, Seq::new(alloc))),
             progress: progress.found(position),

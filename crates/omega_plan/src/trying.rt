@@ -14,13 +14,11 @@ use omega_attrs::eligible;
 use omega_copy::Overlay;
 use omega_fit::FitIndex;
 use omega_model::{Claim, Keys, Wish};
-use std::alloc::Global;
 
 /// The first position, round from the plan's start, whose machine suits the wish and takes it as it
 /// is. Begins where the progress says. Looks at the index's root alone where every machine has too
 /// little of one component; else at the machines with room, and at worst at all positions.
 pub(crate) fn first_to_take(
-    alloc: Global,
     overlay: &Overlay,
     index: &FitIndex,
     wish: &Wish,
@@ -34,19 +32,13 @@ pub(crate) fn first_to_take(
     ensures below { IfSome result (λ position. position < length overlay.now.board.table) }
 {
     match progress.as_is {
-        Some(begin) => first_from(alloc, overlay, index, wish, begin),
+        Some(begin) => first_from(overlay, index, wish, begin),
         None => None,
     }
 }
 
 /// The first position, round from `begin`, whose machine suits the wish and takes it as it is.
-fn first_from(
-    alloc: Global,
-    overlay: &Overlay,
-    index: &FitIndex,
-    wish: &Wish,
-    begin: usize,
-) -> Option<usize>
+fn first_from(overlay: &Overlay, index: &FitIndex, wish: &Wish, begin: usize) -> Option<usize>
     requires sound { Sound (cell_after overlay.now) }
     requires index { index.now.free ≡ frees_of (cell_after overlay.now) }
     requires absent { task_at (tasks_claimed overlay.now) wish.now.key ≡ None }
@@ -55,29 +47,28 @@ fn first_from(
     ensures below { IfSome result (λ position. position < length overlay.now.board.table) }
 {
     index.first(begin, wish.spec.need, |position| {
-        suits_alone(alloc, overlay, wish, position)
+        suits_alone(overlay, wish, position)
     })
 }
 
 /// Whether the machine at a position suits the wish and, where the wish wants different machines, has no task
 /// of its job. Looks in the running tasks only then.
-fn suits_alone(alloc: Global, overlay: &Overlay, wish: &Wish, position: usize) -> bool
+fn suits_alone(overlay: &Overlay, wish: &Wish, position: usize) -> bool
     ensures { SuitsAlone (cell_after overlay.now) wish.now position result }
 {
     match overlay.board().machines().at(position) {
         Some(machine) => {
-            eligible(&wish.constraints, &machine.attrs)
-                && !has_rival(alloc, overlay, wish, machine.id)
+            eligible(&wish.constraints, &machine.attrs) && !has_rival(overlay, wish, machine.id)
         }
         None => false,
     }
 }
 
 /// Whether the wish wants different machines, and a task of its job is on this one.
-pub(crate) fn has_rival(alloc: Global, overlay: &Overlay, wish: &Wish, id: u64) -> bool
+pub(crate) fn has_rival(overlay: &Overlay, wish: &Wish, id: u64) -> bool
     ensures { result ≡ has_rival (cell_after overlay.now) (claim_of wish.now [] id) [] }
 {
-    wish.spec.differ && overlay.has_of_job(alloc, wish.key.job, id)
+    wish.spec.differ && overlay.has_of_job(wish.key.job, id)
 }
 
 /// The claim of a wish on the machine at a position, with these victims.

@@ -13,7 +13,7 @@ ghost use Rattle.omega_running.specs.Tree.{tasks_of};
 
 use crate::nodes::{Node, Tree};
 use crate::orders::{Order, spread_key};
-use omega_model::{Keys, Need, NoMemory, Task, TaskKey};
+use omega_model::{Need, NoMemory, Task, TaskKey};
 use std::alloc::Global;
 use std::marker::Model;
 
@@ -172,7 +172,7 @@ impl Forest {
 
     /// The first of the job's tasks on the machine that isn't in `gone`. Costs those up to it, each
     /// looked up in `gone`, and one way down of one tree.
-    pub fn other_of_job(&self, job: u64, machine: u64, gone: &Keys) -> Option<TaskKey>
+    pub fn other_of_job(&self, job: u64, machine: u64, gone: &[TaskKey]) -> Option<TaskKey>
         requires { self.now.order ≡ ByMachine }
         ensures { result ≡ other_of_job self.now.tasks job machine gone.now }
     {

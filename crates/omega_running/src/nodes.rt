@@ -9,7 +9,7 @@ ghost use Rattle.omega_running.specs.Order.{IsInOrder, put_in, taken_out, has_pl
 ghost use Rattle.omega_running.specs.Tree.{tasks_of, tasks_at};
 
 use crate::orders::{Order, is_among, is_before, is_behind, key_lt};
-use omega_model::{Keys, Need, NoMemory, Spec, Task, TaskKey};
+use omega_model::{Need, NoMemory, Spec, Task, TaskKey};
 use std::alloc::Global;
 use std::mem;
 
@@ -200,7 +200,7 @@ impl Tree {
 
     /// The first of the job's tasks on the machine that isn't in `gone`. Costs those up to it, each
     /// looked up in `gone`, and one way down.
-    pub fn other_of_job(&self, job: u64, machine: u64, gone: &Keys) -> Option<TaskKey>
+    pub fn other_of_job(&self, job: u64, machine: u64, gone: &[TaskKey]) -> Option<TaskKey>
         requires { IsInOrder ByMachine (tasks_of self.now) }
         ensures { result ≡ other_of_job (tasks_of self.now) job machine gone.now }
     {
@@ -217,7 +217,7 @@ impl Tree {
         if earlier.is_some() {
             return earlier;
         }
-        if !is_among(node.task.key, gone.as_slice()) {
+        if !is_among(node.task.key, gone) {
             return Some(node.task.key);
         }
         node.right.other_of_job(job, machine, gone)

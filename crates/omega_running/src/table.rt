@@ -204,7 +204,7 @@ impl Running {
     /// The key of the job's task on the machine with the least index that isn't in `gone`; `None`
     /// exactly where there is none. Takes the time of the job's tasks on the machine, each looked
     /// up in `gone`, and logarithmic in the number of tasks.
-    pub fn other_of_job(&self, job: u64, machine: u64, gone: &Keys) -> Option<TaskKey>
+    pub fn other_of_job(&self, job: u64, machine: u64, gone: &[TaskKey]) -> Option<TaskKey>
         ensures { result ≡ other_of_job self.now.tasks job machine gone.now }
     {
         self.by_machine.other_of_job(job, machine, gone)

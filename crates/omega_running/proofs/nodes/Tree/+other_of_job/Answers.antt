@@ -50,7 +50,7 @@ returns-then-not-is_among t c =
     let q : is_behind c.in-Fork.node.value.task c.args.machine c.args.job ≡ false = cc in
     let e : c.other_of_job-earlier.result ≡ other_of_job (tasks_of c.in-Fork.node.value.left) c.args.job c.args.machine c.args.gone.now = rw c.deref-3.ensures at c.other_of_job-earlier.ensures in
     let none : is_some (other_of_job (tasks_of c.in-Fork.node.value.left) c.args.job c.args.machine c.args.gone.now) ≡ false = cc in
-    let asked : c.is_among.result ≡ is_among c.in-Fork.node.value.task.key c.args.gone.now = rw (c.deref-4.ensures, c.as_slice.ensures) at c.is_among.ensures in
+    let asked : c.is_among.result ≡ is_among c.in-Fork.node.value.task.key c.args.gone.now = rw c.deref-4.ensures at c.is_among.ensures in
     let out : is_among c.in-Fork.node.value.task.key c.args.gone.now ≡ false = sym asked ∙ c.if-not-is_among.true in
     rw c.deref-then-not-is_among.ensures (sym (other_here c.args.job c.args.machine c.args.gone.now f p q none out))
 
@@ -64,6 +64,6 @@ returns t c =
     let f = at_fork {order = ByMachine} c.requires c.in-Fork.is in
     let e : c.other_of_job-earlier.result ≡ other_of_job (tasks_of c.in-Fork.node.value.left) c.args.job c.args.machine c.args.gone.now = rw c.deref-3.ensures at c.other_of_job-earlier.ensures in
     let none : is_some (other_of_job (tasks_of c.in-Fork.node.value.left) c.args.job c.args.machine c.args.gone.now) ≡ false = cc in
-    let asked : c.is_among.result ≡ is_among c.in-Fork.node.value.task.key c.args.gone.now = rw (c.deref-4.ensures, c.as_slice.ensures) at c.is_among.ensures in
+    let asked : c.is_among.result ≡ is_among c.in-Fork.node.value.task.key c.args.gone.now = rw c.deref-4.ensures at c.is_among.ensures in
     let among : is_among c.in-Fork.node.value.task.key c.args.gone.now ≡ true = sym asked ∙ c.if-not-is_among.false in
     c.other_of_job-2.ensures ∙ rw c.deref-5.ensures (sym (other_later c.args.job c.args.machine c.args.gone.now f none among))
