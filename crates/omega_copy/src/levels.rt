@@ -61,12 +61,7 @@ fn place_of(levels: &[Level], prec: u8) -> Option<usize>
     ensures below { IfSome result (λ place. place < length levels.now) }
     ensures prec { IfSome result (λ place. IsLevelAt levels.now prec place) }
 {
-    for (place, level) in levels.iter().enumerate() {
-        if level.prec == prec {
-            return Some(place);
-        }
-    }
-    None
+    levels.iter().position(|level| level.prec == prec)
 }
 
 /// Makes room in each level for at least so many more machines. Each tells the same, also where memory

@@ -63,12 +63,9 @@ pub(crate) fn tell_claim(
         → index.old.free ≡ freed_of prec (record { machines = machines_of board.now.table; tasks = tasks })
         → index.new.free ≡ freed_of prec (record { machines = machines_of board.now.table; tasks = tasks_with tasks claim.now }) }
 {
-    match board.machines().position(claim.machine) {
-        Some(position) => {
-            let freed = freed_then(index, prec, board, tenants, claim, position);
-            index.put(position, freed);
-        }
-        None => {}
+    if let Some(position) = board.machines().position(claim.machine) {
+        let freed = freed_then(index, prec, board, tenants, claim, position);
+        index.put(position, freed);
     }
 }
 
@@ -188,8 +185,7 @@ fn tell(index: &mut FitIndex, prec: u8, board: &Board, machine: u64)
     requires { length index.old.free ≡ length board.now.table }
     ensures { (stale : ℕ → Bool) → TellsBut (is_this_or machine stale) prec board.now.tasks index.old.free (machines_of board.now.table) → TellsBut stale prec board.now.tasks index.new.free (machines_of board.now.table) }
 {
-    match board.machines().position(machine) {
-        Some(position) => index.put(position, freed_at(board, prec, position)),
-        None => {}
+    if let Some(position) = board.machines().position(machine) {
+        index.put(position, freed_at(board, prec, position));
     }
 }

@@ -23,8 +23,8 @@ pub(crate) const TREES: usize = 65_536;
 
 /// Tasks in one of the two orders. By machine, the tasks of a machine stand in one tree, which its number
 /// names. By key, a task of the trace stands in a tree that its job and its index name together, and the
-/// extra tasks of a job in one that the job names. So a way down is short however many tasks there are. A contract sees the list of the tasks, and how many trees there are: none until
-/// `plant`.
+/// extra tasks of a job in one that the job names. So a way down is short however many tasks there are. A
+/// contract sees the list of the tasks, and how many trees there are: none until `plant`.
 #[derive(Debug, Drop)]
 pub struct Forest {
     order: Order,

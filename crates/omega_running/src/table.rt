@@ -131,10 +131,7 @@ impl Running {
         ensures tasks { self.new.tasks ≡ without (key ∷ []) self.old.tasks }
         ensures spare { self.new.spare ≡ self.old.spare + (if is_some result then 1 else 0) }
     {
-        let Some(found) = self.by_key.find(key) else {
-            return None;
-        };
-        let task = *found;
+        let task = *self.by_key.find(key)?;
         self.take_out(&task);
         Some(task)
     }
