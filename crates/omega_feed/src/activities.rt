@@ -4,16 +4,16 @@ ghost use Rattle.omega_model.specs.Fields.{most_activities};
 ghost use Rattle.omega_feed.specs.Asked.{activities_in};
 
 use crate::last::last_of;
-use omega_model::{ActivityRow, Copied, NoMemory, Seq};
+use omega_model::{ActivityRow, NoMemory, Seq};
 use std::alloc::Global;
 use std::collections::BTreeMap;
 use std::marker::Model;
+use std::snapshot::Snapshot;
 
-/// The rows of activities in the order of their file, and the activities of the last row for each
-/// job. No call reads the rows; a contract sees them. They take 16 bytes each for as long as a run lasts.
+/// The activities of the last row for each job. A contract sees the rows, in the order of their file.
 #[derive(Drop)]
 pub struct JobActivities {
-    rows: Seq<ActivityRow>,
+    rows: Snapshot<Seq<ActivityRow>>,
     last: BTreeMap<u64, u64>,
 }
 
@@ -24,19 +24,19 @@ impl Model for JobActivities {
 
     ghost Value = { List ActivityFields };
 
-    ghost view = { λ activities. activities.rows };
+    ghost view = { λ activities. activities.rows.value };
 
-    ghost invariant = { λ activities. AreLastActivities activities.last activities.rows };
+    ghost invariant = { λ activities. AreLastActivities activities.last activities.rows.value };
 }
 
 impl JobActivities {
-    /// A copy of the rows. Costs the logarithm of the number of jobs that have any, for each row.
+    /// The activities that these rows say. Costs the logarithm of the number of jobs that have any, for each row.
     pub fn new(alloc: Global, rows: &Seq<ActivityRow>) -> Result<JobActivities, NoMemory>
         ensures { IfOk result (λ activities. activities ≡ rows.now) }
     {
         let last = last_of(alloc, rows.as_slice())?;
         Ok(JobActivities {
-            rows: rows.copy(alloc)?,
+            rows: Snapshot::of(rows),
             last,
         })
     }

@@ -4,16 +4,16 @@ ghost use Rattle.omega_model.specs.Fields.{greatest_quantity};
 ghost use Rattle.omega_model.specs.Wanted.{disk_of};
 
 use crate::last::last_of;
-use omega_model::{Copied, DiskRow, GREATEST_QUANTITY, NoMemory, Seq};
+use omega_model::{DiskRow, GREATEST_QUANTITY, NoMemory, Seq};
 use std::alloc::Global;
 use std::collections::BTreeMap;
 use std::marker::Model;
+use std::snapshot::Snapshot;
 
-/// The rows of disks in the order of their file, and the disk of the last row for each machine. No call
-/// reads the rows; a contract sees them. They take 16 bytes each for as long as a run lasts.
+/// The disk of the last row for each machine. A contract sees the rows, in the order of their file.
 #[derive(Drop)]
 pub struct MachineDisks {
-    rows: Seq<DiskRow>,
+    rows: Snapshot<Seq<DiskRow>>,
     last: BTreeMap<u64, u64>,
 }
 
@@ -24,19 +24,19 @@ impl Model for MachineDisks {
 
     ghost Value = { List DiskFields };
 
-    ghost view = { λ disks. disks.rows };
+    ghost view = { λ disks. disks.rows.value };
 
-    ghost invariant = { λ disks. AreLastDisks disks.last disks.rows };
+    ghost invariant = { λ disks. AreLastDisks disks.last disks.rows.value };
 }
 
 impl MachineDisks {
-    /// A copy of the rows. Costs the logarithm of the number of machines for each row.
+    /// The disks that these rows say. Costs the logarithm of the number of machines for each row.
     pub fn new(alloc: Global, rows: &Seq<DiskRow>) -> Result<MachineDisks, NoMemory>
         ensures { IfOk result (λ disks. disks ≡ rows.now) }
     {
         let last = last_of(alloc, rows.as_slice())?;
         Ok(MachineDisks {
-            rows: rows.copy(alloc)?,
+            rows: Snapshot::of(rows),
             last,
         })
     }
