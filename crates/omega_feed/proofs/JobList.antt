@@ -57,24 +57,12 @@ which_at job (other ∷ jobs) new zero is = inl is
 which_at job (other ∷ jobs) new (suc place) is =
     elim (which_at job jobs new place is) [ inl e ↦ inl e | inr e ↦ inr (ap suc e.0, e.1) ]
 
-pub known : (places : BTreeMap ℕ ℕ) (jobs : List RoutedJob) → AreFound places jobs → (job : ℕ) → is_some (tree.get nat_cmp places job) ≡ true → list_any (is_job job) jobs ≡ true
-known places jobs found job has = by_cases (tree.get nat_cmp places job) refl has where
-  by_cases : (o : Option ℕ) → tree.get nat_cmp places job ≡ o → is_some o ≡ true → list_any (is_job job) jobs ≡ true
-  by_cases None is e = absurd (cc)
-  by_cases (Some place) is e = any_at job jobs place ((found job place).0 is)
-
-pub unknown : (places : BTreeMap ℕ ℕ) (jobs : List RoutedJob) → AreFound places jobs → (job : ℕ) → tree.get nat_cmp places job ≡ None → list_any (is_job job) jobs ≡ false
-unknown places jobs found job none =
-    elim (cases_Bool (list_any (is_job job) jobs)) [
-      | inl e ↦ let at = at_any job jobs e in let some = (found job at.0).1 at.1 in absurd (nothing at.0 (sym none ∙ some))
-      | inr e ↦ e
-    ] where
-      nothing : (place : ℕ) → None ≡ Some place → ⊥
-      nothing place e = cc
-
-pub none_from : {X : Type 0} (o : Option X) → is_some o ≡ false → o ≡ None
-none_from None e = refl
-none_from (Some x) e = absurd (cc)
+-- a job that isn't among these has no place
+pub absent : (places : BTreeMap ℕ ℕ) (jobs : List RoutedJob) → AreFound places jobs → (job : ℕ) → list_any (is_job job) jobs ≡ false → tree.get nat_cmp places job ≡ None
+absent places jobs found job none = by_cases (tree.get nat_cmp places job) refl where
+  by_cases : (o : Option ℕ) → tree.get nat_cmp places job ≡ o → o ≡ None
+  by_cases None is = refl
+  by_cases (Some place) is = let both : true ≡ false = sym (any_at job jobs place ((found job place).0 is)) ∙ none in absurd (cc)
 
 -- whether a place was found for a job is whether it is among the jobs
 pub has_placed : (jobs : List RoutedJob) (job : ℕ) (found : Option ℕ) → ((place : ℕ) → (found ≡ Some place) ↔ (job_at jobs place ≡ Some job))
@@ -128,6 +116,21 @@ found_more places more jobs new n found none end u job place =
           elim (which_at job jobs new place is) [
             | inl e ↦ u.2 job (apart _ _ ne) ∙ (found job place).1 e
             | inr e ↦ absurd (ne e.1)
+          ]
+
+-- jobs are found as before once a new number was put in and taken out again
+pub still_found : (places more less : BTreeMap ℕ ℕ) (jobs : List RoutedJob) (number n : ℕ) → AreFound places jobs
+    → tree.get nat_cmp places number ≡ None
+    → tree.Updates nat_cmp places more number (Some n)
+    → tree.Updates nat_cmp more less number None
+    → AreFound less jobs
+still_found places more less jobs number n found none put gone job place =
+    (λ is. (found job place).0 (sym same ∙ is), λ is. same ∙ (found job place).1 is) where
+      same : tree.get nat_cmp less job ≡ tree.get nat_cmp places job
+      same =
+          elim (cases_eq number job) [
+            | inl one ↦ ap (λ z. tree.get nat_cmp less z) (sym one) ∙ gone.1 ∙ sym none ∙ ap (λ z. tree.get nat_cmp places z) one
+            | inr ne ↦ gone.2 job (apart _ _ ne) ∙ put.2 job (apart _ _ ne)
           ]
 
 -- one more number at the end, unless it is there

@@ -69,8 +69,9 @@ impl Model for Events {
 }
 
 impl Events {
-    /// Takes the rows of the events out of the tables, which keep the others. Costs a look at each row, and for a
-    /// table that isn't in order of time a sort, which takes the memory of its rows once more.
+    /// Takes the rows of the events out of the tables, which keep the others. A refused call leaves the tables
+    /// without the rows of their events, which are gone. Costs a look at each row, and for a table that isn't in
+    /// order of time a sort, which takes the memory of its rows once more.
     pub fn take(alloc: Global, tables: &mut TraceTables) -> Result<Events, NoMemory>
         ensures events { IfOk result (λ events. events ≡ feed tables.old) }
         ensures others { OnOk result (tables.new ≡ record tables.old { machines = []; attrs = []; tasks = [] }) }

@@ -1,5 +1,5 @@
 //! The jobs of a trace in order of their first task row.
-ghost use Rattle.std.specs.Prelude.{◌≡◌, ◌↔◌, [], ℕ, Some, map, slice_get, OnOk, OnErr, IfOk, IsTrue};
+ghost use Rattle.std.specs.Prelude.{◌≡◌, ◌↔◌, [], ℕ, false, Some, map, slice_get, OnOk, OnErr, IfOk, IsTrue};
 ghost use Rattle.std.specs.List.{list_any};
 ghost use Rattle.omega_model.specs.Feed.{feed};
 ghost use Rattle.omega_model.specs.Ranges.{IsInRange};
@@ -106,14 +106,12 @@ impl Jobs {
         self.place(job).is_some()
     }
 
-    /// Appends a job, unless it is there. A refused call leaves the jobs.
+    /// Appends a job that isn't there. A refused call leaves the jobs.
     fn add(&mut self, job: RoutedJob) -> Result<(), NoMemory>
+        requires { list_any (is_job job.job) self.old ≡ false }
         ensures ok { OnOk result (self.new ≡ with_job self.old job) }
         ensures err { OnErr result (self.new ≡ self.old) }
     {
-        if self.places.contains_key(&job.job) {
-            return Ok(());
-        }
         let place = self.list.len();
         self.places.insert(job.job, place)?;
         if self.list.push(job).is_err() {

@@ -133,6 +133,13 @@ impl TaskList {
         self.count != 0
     }
 
+    /// How many tasks are wanted. Takes the same time for any number of them.
+    pub fn len(&self) -> usize
+        ensures { result ≡ length self.now }
+    {
+        self.count
+    }
+
     /// The slots that are left: all but those at the front that are known to be empty.
     fn left(&self) -> &[Slot]
         ensures { tasks_in result.now ≡ self.now }

@@ -1,5 +1,5 @@
 //! The wanted tasks.
-ghost use Rattle.std.specs.Prelude.{◌≡◌, ◌↔◌, [], All, IfNone, IfOk, IfSome, IsTrue, List, MatchResult, OnErr, OnOk, map, not, ◌<◌};
+ghost use Rattle.std.specs.Prelude.{◌≡◌, ◌↔◌, [], All, IfNone, IfOk, IfSome, IsTrue, List, MatchResult, OnErr, OnOk, length, map, not, ◌<◌};
 ghost use Rattle.std.specs.List.{filter, flat_map, list_any};
 ghost use Rattle.omega_model.specs.ExtraTasks.{HasLowIndex, first_extra, is_wanted, wanted_of};
 ghost use Rattle.omega_model.specs.ReportCounts.{waits};
@@ -160,6 +160,16 @@ impl WantedTasks {
         match self.find(job) {
             Some(tasks) => tasks.has_any(),
             None => false,
+        }
+    }
+
+    /// How many tasks of a job are wanted. Costs the logarithm of the number of jobs.
+    pub fn count_of(&self, job: u64) -> usize
+        ensures { result ≡ length (wanted_of job self.now) }
+    {
+        match self.find(job) {
+            Some(tasks) => tasks.len(),
+            None => 0,
         }
     }
 

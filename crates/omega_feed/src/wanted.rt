@@ -65,9 +65,9 @@ impl Model for Wanted {
 
 impl Wanted {
     /// What a trace with these events asks for before its first row, where the tables have its other rows: no
-    /// task is wanted. Costs two look-ups
-    /// for each task row, whose keys are sorted, four more for each job, two or three for each constraint,
-    /// and one for each row of disks and of activities. Takes the memory of a slot for each task.
+    /// task is wanted. Costs two look-ups for each task row, whose keys are sorted, five more for each job, two
+    /// or three for each constraint, and one for each row of disks and of activities. Takes the memory of a slot
+    /// for each task.
     pub fn new(
         alloc: Global,
         tables: &TraceTables,
@@ -197,7 +197,7 @@ impl Wanted {
     /// Whether the job at a place is quiet on the cell of a board: none of its wanted tasks waits, and
     /// it gets no extras. Costs the slots that are left of the job, up to its first task that waits, and of
     /// each wanted task the logarithm of the number of those that run; of a job with activities besides its
-    /// running tasks, and the memory of both.
+    /// running extras and few others of its running tasks, and the memory of these extras.
     pub(crate) fn is_quiet_at(
         &self,
         alloc: Global,
@@ -224,12 +224,12 @@ impl Wanted {
         let Some(activities) = self.activities.of(job) else {
             return Ok(true);
         };
-        let wanted = self.tasks.of_job(alloc, job)?;
-        if wanted.is_empty() {
+        let wanted = self.tasks.count_of(job);
+        if wanted == 0 {
             return Ok(true);
         }
         let held = running_extra_count(alloc, running, job)?;
-        Ok(has_all(self.extra, activities, wanted.len(), held))
+        Ok(has_all(self.extra, activities, wanted, held))
     }
 
     /// The entries of the row that was taken last, on the cell of a board. Costs the logarithm of the
