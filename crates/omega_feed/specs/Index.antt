@@ -16,8 +16,8 @@ use Rattle.omega_model.specs.declared.rows.Row.TheVariants.{Task}
 use Rattle.omega_model.specs.declared.wishes.Request.{Request}
 use Rattle.omega_feed.specs.Asked.{Asked, job_request}
 use Rattle.omega_feed.specs.declared.jobs.RoutedJob.{RoutedJob}
-use Rattle.omega_feed.specs.declared.tasks.Change.{Change}
-use Rattle.omega_feed.specs.declared.tasks.Change.TheVariants.{Want, End, Keep}
+use Rattle.omega_feed.specs.declared.tasks.TaskChange.{TaskChange}
+use Rattle.omega_feed.specs.declared.tasks.TaskChange.TheVariants.{Want, End, Keep}
 
 -- a wanted task from its key and what it asks for
 abbrev pub wanted_task : TaskKey × Spec → WantedTask
@@ -28,7 +28,7 @@ abbrev pub key_cmp : TaskKey → TaskKey → Ordering
 key_cmp a b = ordering_then (nat_cmp a.job b.job) (nat_cmp a.index b.index)
 
 -- the wanted tasks after a row of a task that makes this change
-abbrev pub changed_by : Change → TaskFields → List WantedTask → List WantedTask
+abbrev pub changed_by : TaskChange → TaskFields → List WantedTask → List WantedTask
 changed_by Want row tasks = with_wanted row.key row.spec tasks
 changed_by End row tasks = filter (λ task. not (is_named row.key task)) tasks
 changed_by Keep row tasks = tasks

@@ -12,7 +12,7 @@ use std::marker::Model;
 use std::mem;
 
 /// A row with a time.
-pub(crate) trait Timed {
+pub(crate) trait HasTime {
     ghost use Rattle.std.specs.Prelude.{◌≡◌, ℕ};
 
     ghost time: { Self → ℕ };
@@ -22,7 +22,7 @@ pub(crate) trait Timed {
         ensures { result ≡ time self.now };
 }
 
-impl Timed for MachineRow {
+impl HasTime for MachineRow {
     ghost time = { λ row. row.time };
 
     fn time(&self) -> u64 {
@@ -30,7 +30,7 @@ impl Timed for MachineRow {
     }
 }
 
-impl Timed for AttrRow {
+impl HasTime for AttrRow {
     ghost time = { λ row. row.time };
 
     fn time(&self) -> u64 {
@@ -38,7 +38,7 @@ impl Timed for AttrRow {
     }
 }
 
-impl Timed for TaskRow {
+impl HasTime for TaskRow {
     ghost time = { λ row. row.time };
 
     fn time(&self) -> u64 {
@@ -95,7 +95,7 @@ impl Events {
 }
 
 /// Rows in order of time; those of one time stay in the order in which they stand.
-fn in_order<R: Timed + Drop>(mut rows: Vec<R>) -> Result<Vec<R>, NoMemory>
+fn in_order<R: HasTime + Drop>(mut rows: Vec<R>) -> Result<Vec<R>, NoMemory>
     ensures rise { IfOk result (λ sorted. Rise R.time sorted.items) }
     ensures same { IfOk result (λ sorted. (row : R) → filter (has_time R.time (R.time row)) sorted.items
         ≡ filter (has_time R.time (R.time row)) rows.items) }
@@ -108,7 +108,7 @@ fn in_order<R: Timed + Drop>(mut rows: Vec<R>) -> Result<Vec<R>, NoMemory>
 }
 
 /// Whether rows are in order of time.
-fn are_in_order<R: Timed>(rows: &[R]) -> bool
+fn are_in_order<R: HasTime>(rows: &[R]) -> bool
     ensures { IsTrue result → Rise R.time rows.now }
 {
     let mut last = 0;
@@ -178,7 +178,7 @@ fn push_tasks(rows: &mut Vec<Row>, tasks: &[TaskRow]) -> Result<(), NoMemory>
     Ok(())
 }
 
-impl Timed for Row {
+impl HasTime for Row {
     ghost use Rattle.omega_model.specs.Feed.{time_of};
 
     ghost time = { time_of };

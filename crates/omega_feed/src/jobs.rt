@@ -11,7 +11,7 @@ ghost use Rattle.omega_feed.specs.Events.{task_rows};
 ghost use Rattle.omega_feed.specs.Index.{job_at};
 
 use crate::activities::JobActivities;
-use crate::notes::Notes;
+use crate::notes::PlaceNotes;
 use omega_model::{NoMemory, Settings, TaskRow};
 use std::alloc::Global;
 use std::collections::BTreeMap;
@@ -32,7 +32,7 @@ pub struct RoutedJob {
 pub struct Jobs {
     list: Vec<RoutedJob>,
     places: BTreeMap<u64, usize>,
-    notes: Notes,
+    notes: PlaceNotes,
 }
 
 impl Model for Jobs {
@@ -56,7 +56,7 @@ impl Jobs {
         Jobs {
             list: Vec::new(alloc),
             places: BTreeMap::new(alloc),
-            notes: Notes::none(alloc),
+            notes: PlaceNotes::none(alloc),
         }
     }
 
@@ -74,7 +74,7 @@ impl Jobs {
             → IfOk result (λ jobs. jobs ≡ map (routed settings.now trace) (jobs_in_order (feed trace))) }
     {
         let mut jobs = Jobs::new(alloc);
-        jobs.notes = Notes::for_count(alloc, rows.len())?;
+        jobs.notes = PlaceNotes::for_count(alloc, rows.len())?;
         for row in rows {
             jobs.note(settings, activities, row)?;
         }

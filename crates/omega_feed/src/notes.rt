@@ -12,23 +12,23 @@ const MOST_NOTES: usize = 131_072;
 /// Numbers may share a note, by chance or because somebody chose them so; then all but one of them have
 /// to be searched for.
 #[derive(Drop)]
-pub(crate) struct Notes {
+pub(crate) struct PlaceNotes {
     places: Vec<u32>,
 }
 
-impl Notes {
+impl PlaceNotes {
     /// No notes: every guess is wrong.
-    pub fn none(alloc: Global) -> Notes {
-        Notes {
+    pub fn none(alloc: Global) -> PlaceNotes {
+        PlaceNotes {
             places: Vec::new(alloc),
         }
     }
 
     /// Two notes for each of so many numbers, but no more than `MOST_NOTES`. Takes the memory of these.
-    pub fn for_count(alloc: Global, count: usize) -> Result<Notes, NoMemory> {
+    pub fn for_count(alloc: Global, count: usize) -> Result<PlaceNotes, NoMemory> {
         let mut places = Vec::new(alloc);
         places.resize(count.saturating_mul(2).min(MOST_NOTES), 0)?;
-        Ok(Notes { places })
+        Ok(PlaceNotes { places })
     }
 
     /// The place at which a number is likely to stand; `usize::MAX` where there are no notes.
@@ -39,7 +39,7 @@ impl Notes {
         }
     }
 
-    /// Notes the place of a number, over that of another number if they share the note.
+    /// PlaceNotes the place of a number, over that of another number if they share the note.
     pub fn note(&mut self, number: u64, place: usize) {
         let note = self.note_of(number);
         if let (Some(noted), Ok(place)) = (self.places.get_mut(note), u32::try_from(place)) {

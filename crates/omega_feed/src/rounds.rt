@@ -4,7 +4,7 @@ ghost use Rattle.omega_running.specs.Order.{Each};
 ghost use Rattle.omega_feed.specs.Events.{AreInOrder, Rise, merged};
 ghost use Rattle.omega_feed.specs.Rounds.{HavePart, first_time, gathered, least, next_number, part_round};
 
-use crate::events::{Events, Timed, merged};
+use crate::events::{Events, HasTime, merged};
 use omega_model::{AttrRow, MachineRow, NoMemory, Round, TaskRow};
 use std::alloc::Global;
 use std::marker::Model;
@@ -152,7 +152,7 @@ fn next_number(
 }
 
 /// The time of the first row, in microseconds.
-fn first_time<R: Timed>(rows: &[R]) -> Option<u64>
+fn first_time<R: HasTime>(rows: &[R]) -> Option<u64>
     ensures { result ≡ first_time R.time rows.now }
 {
     match rows.first() {
@@ -173,7 +173,7 @@ fn least(one: Option<u64>, other: Option<u64>) -> Option<u64>
 }
 
 /// The rows of the round of this number, and the later ones, where none is of an earlier round.
-fn split_round<R: Timed>(rows: &[R], number: u64, window: u64) -> (&[R], &[R])
+fn split_round<R: HasTime>(rows: &[R], number: u64, window: u64) -> (&[R], &[R])
     requires window { 0 < window }
     requires order { Rise R.time rows.now }
     requires reached { Each (λ row. number ≤ R.time row / window) rows.now }
@@ -185,7 +185,7 @@ fn split_round<R: Timed>(rows: &[R], number: u64, window: u64) -> (&[R], &[R])
 }
 
 /// How many rows from the front are of the round of this number, where none is of an earlier one.
-fn count_round<R: Timed>(rows: &[R], number: u64, window: u64) -> usize
+fn count_round<R: HasTime>(rows: &[R], number: u64, window: u64) -> usize
     requires window { 0 < window }
     requires order { Rise R.time rows.now }
     requires reached { Each (λ row. number ≤ R.time row / window) rows.now }

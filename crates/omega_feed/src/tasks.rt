@@ -10,7 +10,7 @@ ghost use Rattle.omega_feed.specs.Index.{changed_by, wanted_task};
 ghost use Rattle.omega_feed.specs.Open.{RunsIfOf};
 ghost use Rattle.omega_feed.specs.Parts.{AreParts, BelongsAt, NeverFall, StandsAt, joined, waiting_jobs};
 
-use crate::notes::Notes;
+use crate::notes::PlaceNotes;
 use crate::task_list::TaskList;
 use omega_model::{NoMemory, Spec, TaskKey, TaskRow};
 use omega_running::Running;
@@ -19,7 +19,7 @@ use std::marker::Model;
 
 /// What a task row does to the wanted tasks.
 #[derive(Clone, Copy, Debug, PartialEq, Eq)]
-pub enum Change {
+pub enum TaskChange {
     /// The row's task is wanted as the row says.
     Want,
     /// The row's task is no longer wanted.
@@ -39,7 +39,7 @@ pub struct WantedTasks {
     alloc: Global,
     jobs: Vec<u64>,
     parts: Vec<TaskList>,
-    notes: Notes,
+    notes: PlaceNotes,
 }
 
 impl Model for WantedTasks {
@@ -83,7 +83,7 @@ impl WantedTasks {
             alloc,
             jobs: Vec::with_capacity(alloc, count)?,
             parts: Vec::with_capacity(alloc, count)?,
-            notes: Notes::for_count(alloc, count)?,
+            notes: PlaceNotes::for_count(alloc, count)?,
         })
     }
 
@@ -175,15 +175,15 @@ impl WantedTasks {
 
     /// What a row does to the tasks. Costs the logarithms of the number of jobs and of the job's slots at
     /// most.
-    pub fn change_of(&self, row: &TaskRow) -> Change
+    pub fn change_of(&self, row: &TaskRow) -> TaskChange
         ensures change { wanted_after_task self.now row.now ≡ changed_by result row.now self.now }
         ensures low { row.now.key.index < first_extra }
     {
         match row.code {
-            0 | 1 => Change::Want,
-            3..=6 => Change::End,
-            7.. if self.contains(row.key) => Change::Want,
-            _ => Change::Keep,
+            0 | 1 => TaskChange::Want,
+            3..=6 => TaskChange::End,
+            7.. if self.contains(row.key) => TaskChange::Want,
+            _ => TaskChange::Keep,
         }
     }
 

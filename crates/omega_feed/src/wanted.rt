@@ -29,7 +29,7 @@ use crate::events::Events;
 use crate::extras::{extra_count, free_indexes, has_all, running_extra_count};
 use crate::jobs::{Jobs, RoutedJob};
 use crate::open_jobs::OpenJobs;
-use crate::tasks::{Change, WantedTasks};
+use crate::tasks::{TaskChange, WantedTasks};
 use crate::unplaced::{WaitingTasks, each_once};
 use omega_board::Board;
 use omega_model::{
@@ -124,9 +124,9 @@ impl Wanted {
         ensures alone { OpensAtMost open_jobs.old open_jobs.new self.old row.now.key.job }
     {
         match self.tasks.change_of(row) {
-            Change::Want => self.want(row.key, row.spec, open_jobs),
-            Change::End => self.end(row.key, open_jobs),
-            Change::Keep => Ok(()),
+            TaskChange::Want => self.want(row.key, row.spec, open_jobs),
+            TaskChange::End => self.end(row.key, open_jobs),
+            TaskChange::Keep => Ok(()),
         }
     }
 

@@ -8,7 +8,7 @@ use Rattle.omega_feed.proofs.events.are_in_order.Goals as goal
 
 pub loop-row-preserved : goal.loop-row-preserved
 loop-row-preserved g c =
-    let time = g.R.Timed.time in
+    let time = g.R.HasTime.time in
     let rows = c.args.rows.now in
     let place = c.loop-row.row-index in
     let row = c.row-item.result in

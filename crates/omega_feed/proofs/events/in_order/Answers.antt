@@ -5,10 +5,10 @@ use Rattle.omega_feed.proofs.events.in_order.Goals as goal
 
 pub returns-clause-rise : goal.returns-clause-rise
 returns-clause-rise g c =
-    rise_from_sort g.R.Timed.time c.sort_by_key.new.self.items
-    (c.in_ok-sort_by_key.ensures.sorted g.R.Timed.time (answers_always _ _ _ (λ f a r g h. search rules)))
+    rise_from_sort g.R.HasTime.time c.sort_by_key.new.self.items
+    (c.in_ok-sort_by_key.ensures.sorted g.R.HasTime.time (answers_always _ _ _ (λ f a r g h. search rules)))
 
 pub returns-clause-same : goal.returns-clause-same
 returns-clause-same g c =
-    same_from_stable g.R.Timed.time c.args.rows.items c.sort_by_key.new.self.items
-    (c.in_ok-sort_by_key.ensures.stable g.R.Timed.time (answers_always _ _ _ (λ f a r g h. search rules)))
+    same_from_stable g.R.HasTime.time c.args.rows.items c.sort_by_key.new.self.items
+    (c.in_ok-sort_by_key.ensures.stable g.R.HasTime.time (answers_always _ _ _ (λ f a r g h. search rules)))

@@ -6,7 +6,7 @@ use Rattle.omega_feed.proofs.rounds.count_round.Goals as goal
 
 pub returns-then-time-window-clause-later : goal.returns-then-time-window-clause-later
 returns-then-time-window-clause-later g c =
-    let time = g.R.Timed.time in
+    let time = g.R.HasTime.time in
     let window = c.args.window in
     let number = c.args.number in
     let rows = c.args.rows.now in

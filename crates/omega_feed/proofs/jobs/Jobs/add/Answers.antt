@@ -1,9 +1,6 @@
-use Rattle.std.proofs.Common.{◌≡◌, ◌++◌, ◌∷◌, [], Bool, List, None, ap, cond, false, sym, ◌∙◌, refl}
-use Rattle.std.specs.BTreeMap as tree
+use Rattle.std.proofs.Common.{◌≡◌, ◌++◌, ◌∷◌, [], ap, false, ◌∙◌, refl}
 use Rattle.std.specs.List.{list_any}
-use Rattle.std.specs.Ordering.{nat_cmp}
 use Rattle.omega_feed.specs.Asked.{is_job}
-use Rattle.omega_feed.specs.declared.jobs.RoutedJob.{RoutedJob}
 use Rattle.omega_feed.proofs.JobList.{absent, found_more, still_found}
 use Rattle.omega_feed.proofs.jobs.Jobs.add.Goals as goal
 

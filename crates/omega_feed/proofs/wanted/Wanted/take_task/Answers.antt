@@ -4,7 +4,7 @@ use Rattle.std.specs.Prelude.{OnOk}
 use Rattle.omega_model.specs.Wanted.{WantedTask, is_named, wanted_after_task}
 use Rattle.omega_feed.specs.Asked.{Asked}
 use Rattle.omega_feed.specs.Index.{changed_by}
-use Rattle.omega_feed.specs.declared.tasks.Change.TheVariants.{End}
+use Rattle.omega_feed.specs.declared.tasks.TaskChange.TheVariants.{End}
 use Rattle.omega_feed.proofs.wanted.Wanted.take_task.Goals as goal
 
 pub returns-in-End-clause-ok : goal.returns-in-End-clause-ok
