@@ -155,10 +155,7 @@ fn next_number(
 fn first_time<R: HasTime>(rows: &[R]) -> Option<u64>
     ensures { result ≡ first_time R.time rows.now }
 {
-    match rows.first() {
-        Some(row) => Some(row.time()),
-        None => None,
-    }
+    rows.first().map(|row| row.time())
 }
 
 /// The lesser of two numbers, where both are there.

@@ -16,7 +16,7 @@ use Rattle.omega_model.specs.declared.entries.Entry.{Entry}
 use Rattle.omega_model.specs.declared.rows.Round.{Round}
 use Rattle.omega_model.specs.declared.rows.TraceTables.{TraceTables}
 use Rattle.omega_model.specs.declared.settings.Settings.{Settings}
-use Rattle.omega_sim.specs.Arriving.{AreArrivalsOf, bases, first_time, span_from}
+use Rattle.omega_sim.specs.Arriving.{AreArrivalsOf, row_times, first_time, span_from}
 use Rattle.omega_sim.specs.Summing.{AreFirstSyncs, waited_between, waited_in_all}
 use Rattle.omega_sim.specs.TimeLines.{busy_line, lines_of_one, wait_line}
 use Rattle.omega_sim.specs.declared.arrivals.Arrivals.{Arrivals}
@@ -37,7 +37,7 @@ sums_same one other same total (job ∷ jobs) =
     ∙ sums_same one other same (total + other job) jobs
 
 -- the time of all is that of the rounds
-spans : (some : List Round) (times : List Timed) → span_from (bases some) (until_after 0 times) ≡ span some times
+spans : (some : List Round) (times : List Timed) → span_from (row_times some) (until_after 0 times) ≡ span some times
 spans [] times = refl
 spans (first ∷ rest) times = refl
 
@@ -50,12 +50,12 @@ module _ (settings : Settings) (trace : TraceTables) (arrivals : Arrivals) (sync
       (ap (λ o. unwrap_or o 0) (arrive.came job ∙ ap (first_time job) (rounds_have trace settings.window window)))
 
   -- what is held says the lines of each scheduler
-  pub lines_same : (whole : ℕ) → whole ≡ span_from arrivals.bases (until_after 0 times) → (scheduler : ℕ)
+  pub lines_same : (whole : ℕ) → whole ≡ span_from arrivals.row_times (until_after 0 times) → (scheduler : ℕ)
       → lines_by arrivals.first_times synced whole history times scheduler ≡ lines_of_one settings trace history times scheduler
   lines_same whole is scheduler =
       ap₂ (λ (all waited : ℕ). busy_line scheduler (busy scheduler times) all
       ∷ wait_line scheduler (length (committed_jobs scheduler history times)) waited ∷ [])
-      (is ∙ ap (λ b. span_from b (until_after 0 times)) arrive.based ∙ spans (rounds trace settings.window) times)
+      (is ∙ ap (λ b. span_from b (until_after 0 times)) arrive.timed ∙ spans (rounds trace settings.window) times)
       (sums_same (waited_between arrivals.first_times synced) (waited trace history times) waits 0 (committed_jobs scheduler history times))
 
 -- the texts of lines that are the same are the text of all

@@ -23,19 +23,20 @@ abbrev pub Arrive : List Row → FirstTimes → Type 0
 Arrive rows times = (job : ℕ) → time_at times job ≡ first_time job rows
 
 -- the greatest time of the first round's rows, and that of the last one's, if there is a round
-abbrev pub bases : List Round → Option (ℕ × ℕ)
-bases [] = None
-bases (first ∷ rest) = Some (greatest_time first.rows, greatest_time (fold (λ (last round : Round). round) first rest).rows)
+abbrev pub row_times : List Round → Option (ℕ × ℕ)
+row_times [] = None
+row_times (first ∷ rest) = Some (greatest_time first.rows, greatest_time (fold (λ (last round : Round). round) first rest).rows)
 
--- the times of the first and the last round, with that of one more at the end
-abbrev pub with_base : Option (ℕ × ℕ) → ℕ → Option (ℕ × ℕ)
-with_base None time = Some (time, time)
-with_base (Some (first, last)) time = Some (first, time)
+-- the greatest times of the rows of the first and the last round, with that of one more at the end
+abbrev pub with_row_time : Option (ℕ × ℕ) → ℕ → Option (ℕ × ℕ)
+with_row_time None time = Some (time, time)
+with_row_time (Some (first, last)) time = Some (first, time)
 
--- what is held is when each job of these rounds comes first, and the times of the first and the last round
+-- what is held is when each job of these rounds comes first, and the greatest times of the first and the last
+-- round's rows
 pub record AreArrivals (some : List Round) (arrivals : Arrivals) : Type 0 where
   pub came : Arrive (rows_of some) arrivals.first_times
-  pub based : arrivals.bases ≡ bases some
+  pub timed : arrivals.row_times ≡ row_times some
 
 -- it is what is held for the rounds of a trace under these settings
 abbrev pub AreArrivalsOf : Settings → TraceTables → Arrivals → Type 0

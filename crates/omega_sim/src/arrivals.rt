@@ -4,7 +4,7 @@ ghost use Rattle.omega_model.specs.Feed.{time_of};
 ghost use Rattle.omega_model.specs.Lawful.{rows_of};
 ghost use Rattle.omega_model.specs.Requests.{job_of_row};
 ghost use Rattle.omega_model.specs.declared.rows.Row.{Row};
-ghost use Rattle.omega_sim.specs.Arriving.{AreArrivals, Arrive, span_from, with_base};
+ghost use Rattle.omega_sim.specs.Arriving.{AreArrivals, Arrive, span_from, with_row_time};
 ghost use Rattle.omega_sim.specs.Firsts.{time_at};
 ghost use Rattle.omega_laws.specs.Simulated.{greatest_time};
 
@@ -13,14 +13,14 @@ use omega_feed::{EventRounds, time_of};
 use omega_model::{NoMemory, Row};
 use std::alloc::Global;
 
-/// When each job of a trace comes first, and when its first and its last round begin, in microseconds.
-/// It takes memory for the jobs alone, and outlives the rounds of which it is made.
+/// When each job of a trace comes first, and the greatest times of the rows of its first and its last round,
+/// in microseconds. It takes memory for the jobs alone, and outlives the rounds of which it is made.
 #[derive(Drop)]
 pub struct Arrivals {
     /// For each job the time of its first task row.
     pub first_times: FirstTimes,
     /// The greatest time of the first round's rows, and that of the last one's, if there is a round.
-    bases: Option<(u64, u64)>,
+    row_times: Option<(u64, u64)>,
 }
 
 impl Arrivals {
@@ -31,7 +31,7 @@ impl Arrivals {
     {
         let mut arrivals = Arrivals {
             first_times: FirstTimes::new(alloc),
-            bases: None,
+            row_times: None,
         };
         for i in 0..rounds.len() {
             arrivals.note_round(alloc, rounds, i)?;
@@ -56,16 +56,16 @@ impl Arrivals {
             unreachable!()
         };
         note_rows(&mut self.first_times, round.rows.as_slice())?;
-        self.bases = with_base(self.bases, greatest_time(round.rows.as_slice()));
+        self.row_times = with_row_time(self.row_times, greatest_time(round.rows.as_slice()));
         Ok(())
     }
 
     /// How long it is, in microseconds, from the first round's time to the last round's, or to `until`, if
     /// that is later. 0 where there is no round.
     pub fn span(&self, until: u128) -> u128
-        ensures { result ≡ span_from self.now.bases until }
+        ensures { result ≡ span_from self.now.row_times until }
     {
-        match self.bases {
+        match self.row_times {
             None => 0,
             Some((first, last)) => u128::from(last)
                 .max(until)
@@ -74,11 +74,11 @@ impl Arrivals {
     }
 }
 
-/// The times of the first and the last round, with one more at the end.
-fn with_base(bases: Option<(u64, u64)>, time: u64) -> Option<(u64, u64)>
-    ensures { result ≡ with_base bases time }
+/// The greatest times of the rows of the first and the last round, with that of one more at the end.
+fn with_row_time(row_times: Option<(u64, u64)>, time: u64) -> Option<(u64, u64)>
+    ensures { result ≡ with_row_time row_times time }
 {
-    match bases {
+    match row_times {
         None => Some((time, time)),
         Some((first, _)) => Some((first, time)),
     }

@@ -14,4 +14,5 @@ pub use agenda::Agenda;
 pub use arrivals::{Arrivals, greatest_time};
 pub use laws::sums_of_lawful_histories;
 pub use lines::time_lines;
+pub use sums::last_time;
 pub use timed::{Timed, Times};

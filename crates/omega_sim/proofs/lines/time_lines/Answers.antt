@@ -52,5 +52,5 @@ returns c trace arrive =
     ∙ ap (λ (n : ℕ). flat_map text_of (map (lines_by arrivals.first_times synced c.span-span.result history times) (range_with_len 0 n))) count
     ∙ all_text (lines_by arrivals.first_times synced c.span-span.result history times) (lines_of_one settings trace history times)
     (lines_same settings trace arrivals synced history times (omega arith) arrive c.in_ok-synced.ensures c.span-span.result
-    (c.span-span.ensures ∙ ap (span_from arrivals.bases) c.last_time.ensures))
+    (c.span-span.ensures ∙ ap (span_from arrivals.row_times) c.last_time.ensures))
     (range_with_len 0 (schedulers settings))

@@ -6,9 +6,9 @@ use Rattle.omega_model.specs.Lawful.{rows_of}
 use Rattle.omega_model.specs.declared.rows.Round.{Round}
 use Rattle.omega_model.specs.declared.rows.Row.{Row}
 use Rattle.omega_laws.specs.Simulated.{greatest_time}
-use Rattle.omega_sim.specs.Arriving.{Arrive, bases, with_base}
+use Rattle.omega_sim.specs.Arriving.{Arrive, row_times, with_row_time}
 use Rattle.omega_laws.proofs.Places.{take_next}
-use Rattle.omega_sim.proofs.Arrived.{bases_push, rows_of_push}
+use Rattle.omega_sim.proofs.Arrived.{row_times_push, rows_of_push}
 use Rattle.omega_sim.proofs.arrivals.Arrivals.note_round.Goals as goal
 
 pub returns-clause-arrivals : goal.returns-clause-arrivals
@@ -22,11 +22,11 @@ returns-clause-arrivals c =
     record {
       came = subst (λ (rows : List Row). Arrive rows c.note_rows.new.first_times) rows
           (c.in_ok-note_rows.ensures.arrive (rows_of before) c.requires.arrivals.came);
-      based = c.with_base-self.ensures
-          ∙ ap (with_base c.args.self.now.bases) (c.greatest_time.ensures ∙ ap greatest_time c.as_slice-2.ensures)
-          ∙ ap (λ b. with_base b (greatest_time round.rows)) c.requires.arrivals.based
-          ∙ sym (bases_push before round)
-          ∙ ap bases (sym next);
+      timed = c.with_row_time-self.ensures
+          ∙ ap (with_row_time c.args.self.now.row_times) (c.greatest_time.ensures ∙ ap greatest_time c.as_slice-2.ensures)
+          ∙ ap (λ b. with_row_time b (greatest_time round.rows)) c.requires.arrivals.timed
+          ∙ sym (row_times_push before round)
+          ∙ ap row_times (sym next);
     }
 
 pub returns-clause-early : goal.returns-clause-early
