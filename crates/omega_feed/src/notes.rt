@@ -39,7 +39,7 @@ impl PlaceNotes {
         }
     }
 
-    /// PlaceNotes the place of a number, over that of another number if they share the note.
+    /// Notes the place of a number, over that of another number if they share the note.
     pub fn note(&mut self, number: u64, place: usize) {
         let note = self.note_of(number);
         if let (Some(noted), Ok(place)) = (self.places.get_mut(note), u32::try_from(place)) {
