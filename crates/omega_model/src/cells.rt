@@ -128,9 +128,3 @@ impl Copied for Machine {
         })
     }
 }
-
-impl Copied for Task {
-    fn copy(&self, _alloc: Global) -> Result<Task, NoMemory> {
-        Ok(*self)
-    }
-}

@@ -133,16 +133,6 @@ impl Copied for Judgement {
     }
 }
 
-impl Copied for Outcome {
-    fn copy(&self, alloc: Global) -> Result<Outcome, NoMemory> {
-        Ok(Outcome {
-            key: self.key,
-            verdict: self.verdict,
-            evicted: self.evicted.copy(alloc)?,
-        })
-    }
-}
-
 impl Copied for Txn {
     fn copy(&self, alloc: Global) -> Result<Txn, NoMemory> {
         Ok(Txn {

@@ -3,8 +3,7 @@ ghost use Rattle.std.specs.Prelude.{◌≡◌, ◌≤◌, length, option_map, sl
 ghost use Rattle.omega_model.specs.Parts.{PositionsRise};
 
 use crate::cells::{Machine, Tasks};
-use crate::list::{Copied, NoMemory, Seq};
-use std::alloc::Global;
+use crate::list::Seq;
 use std::marker::Model;
 
 /// A machine of a cell as it is now: its position in the list from 0, its row, how many entries
@@ -48,13 +47,6 @@ impl Delta {
         Delta { from, to, parts }
     }
 
-    /// The place from which it leads: it serves a copy that has seen so many entries.
-    pub fn from(&self) -> u64
-        ensures { result ≡ self.now.from }
-    {
-        self.from
-    }
-
     /// The place to which it leads: a copy that it brought up to date has seen so many entries.
     pub fn to(&self) -> u64
         ensures { result ≡ self.now.to }
@@ -82,16 +74,5 @@ impl Delta {
     {
         let Delta { parts, .. } = self;
         parts
-    }
-}
-
-impl Copied for Part {
-    fn copy(&self, alloc: Global) -> Result<Part, NoMemory> {
-        Ok(Part {
-            position: self.position,
-            machine: self.machine.copy(alloc)?,
-            seq: self.seq,
-            tasks: self.tasks.copy(alloc)?,
-        })
     }
 }

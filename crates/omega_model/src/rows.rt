@@ -237,22 +237,3 @@ impl Copied for DiskRow {
         Ok(*self)
     }
 }
-
-impl Copied for Row {
-    fn copy(&self, alloc: Global) -> Result<Row, NoMemory> {
-        Ok(match self {
-            Row::Machine(row) => Row::Machine(row.copy(alloc)?),
-            Row::Attr(row) => Row::Attr(row.copy(alloc)?),
-            Row::Task(row) => Row::Task(row.copy(alloc)?),
-        })
-    }
-}
-
-impl Copied for Round {
-    fn copy(&self, alloc: Global) -> Result<Round, NoMemory> {
-        Ok(Round {
-            number: self.number,
-            rows: self.rows.copy(alloc)?,
-        })
-    }
-}

@@ -54,22 +54,3 @@ impl Copied for Constraint {
         })
     }
 }
-
-impl Copied for Wish {
-    fn copy(&self, alloc: Global) -> Result<Wish, NoMemory> {
-        Ok(Wish {
-            key: self.key,
-            spec: self.spec,
-            constraints: self.constraints.copy(alloc)?,
-        })
-    }
-}
-
-impl Copied for Request {
-    fn copy(&self, alloc: Global) -> Result<Request, NoMemory> {
-        Ok(Request {
-            job: self.job,
-            wishes: self.wishes.copy(alloc)?,
-        })
-    }
-}
