@@ -1,6 +1,6 @@
 -- A worker whose scheduler commits.
-use Rattle.std.proofs.Common.{◌≡◌, ◌≢◌, ◌≤◌, ◌<◌, ◌+◌, ℕ, true, false, List, [], ◌∷◌, ◌++◌, length, take, Bor, Option, Some, None, refl, sym, ap, subst, ◌∙◌}
-use Rattle.std.specs.Prelude.{slice_get, option_map, is_some}
+use Rattle.std.proofs.Common.{◌≡◌, ◌≢◌, ◌≤◌, ◌<◌, ◌+◌, ℕ, true, false, List, [], ◌∷◌, ◌++◌, length, take, Option, Some, None, refl, sym, ap, subst, ◌∙◌}
+use Rattle.std.specs.Prelude.{slice_get, is_some}
 use Rattle.omega_model.specs.State.{reply_of}
 use Rattle.omega_model.specs.Work.{Standing, after_outcomes, commits_of, moved_on, outcomes_of}
 use Rattle.omega_model.specs.declared.claims.Outcome.{Outcome}
@@ -15,6 +15,7 @@ use Rattle.omega_desk.specs.Desks.{AnswersFirst, DeskState, IsSameDesk, left_at}
 use Rattle.omega_desk.specs.Walks.{are_wished}
 use Rattle.omega_rounds.specs.AttemptsLeft.{attempts_left}
 use Rattle.omega_laws.specs.NextCommit.{attempt_txn}
+use Rattle.omega_rounds.specs.Opening.{has_work}
 use Rattle.omega_rounds.specs.Workers.{IsWorker, to_do_of}
 use Rattle.omega_rounds.specs.WorkerSteps.{CommitsFirst, attempt_outcomes}
 use Rattle.omega_rounds.specs.declared.plans.Planned.{Planned}
@@ -28,18 +29,19 @@ pub first_none : (requests : List Request) → None ≡ slice_get requests 0 →
 first_none [] none = refl
 first_none (request ∷ rest) none = absurd (cc)
 
--- so where a look at it finds nothing
-pub first_unseen : (requests : List Request) (found : Option (Bor Request)) → is_some found ≡ false
-    → option_map (λ (request : Bor Request). request.now) found ≡ slice_get requests 0 → requests ≡ []
-first_unseen requests None unseen is = first_none requests is
-first_unseen requests (Some request) unseen is = absurd (cc)
+-- so where a worker has no work
+pub no_work : (worker : Worker) → has_work worker ≡ false → worker.desk.requests ≡ []
+no_work worker idle = none_there worker.desk.requests idle where
+  none_there : (requests : List Request) → is_some (slice_get requests 0) ≡ false → requests ≡ []
+  none_there [] none = refl
+  none_there (request ∷ rest) none = absurd (cc)
 
--- and one is where it finds something
-pub first_seen : (requests : List Request) (found : Option (Bor Request)) → is_some found ≡ true
-    → option_map (λ (request : Bor Request). request.now) found ≡ slice_get requests 0 → requests ≢ []
-first_seen requests None seen is = absurd (cc)
-first_seen [] (Some request) seen is = absurd (cc)
-first_seen (first ∷ rest) (Some request) seen is = λ none. absurd (cc none)
+-- and some are where it has work
+pub some_work : (worker : Worker) → has_work worker ≡ true → worker.desk.requests ≢ []
+some_work worker works = some_there worker.desk.requests works where
+  some_there : (requests : List Request) → is_some (slice_get requests 0) ≡ true → requests ≢ []
+  some_there [] some = absurd (cc)
+  some_there (request ∷ rest) some = λ none. absurd (cc none)
 
 -- the first request and the others
 pub first_some : (requests : List Request) (request : Request) → Some request ≡ slice_get requests 0

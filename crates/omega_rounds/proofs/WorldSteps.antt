@@ -4,8 +4,7 @@ use Rattle.std.specs.Prelude.{◌⊎◌, slice_get, option_map}
 use Rattle.std.specs.List.{All, sum_by}
 use Rattle.std.proofs.lemmas.Bool.{ne_eqb}
 use Rattle.std.proofs.lemmas.Bool.Decides.{eqb_tells}
-use Rattle.std.proofs.lemmas.Grind.{flat_map-append}
-use Rattle.std.proofs.lemmas.List.{append-nil, length-set}
+use Rattle.std.proofs.lemmas.List.{length-set}
 use Rattle.std.proofs.lemmas.List.Elements.{All-head}
 use Rattle.omega_model.specs.Feed.{rounds}
 use Rattle.omega_model.specs.Lawful.{rows_of}

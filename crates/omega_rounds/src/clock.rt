@@ -13,7 +13,7 @@ ghost use Rattle.omega_sim.specs.Agenda.{IsFirst};
 use crate::steps::{RoundStep, Stepped};
 use crate::world::World;
 use omega_model::{NoMemory, Settings};
-use omega_sim::{Agenda, Timed, Times};
+use omega_sim::{Agenda, Timed, Times, last_time};
 
 /// Runs all rounds of a new world to their end by a virtual clock. When a round begins all schedulers
 /// that have work sync, and each decides for as long as the settings say for its first request and the
@@ -67,15 +67,8 @@ fn play_round(world: &mut World, times: &mut Times) -> Result<(), NoMemory>
 fn base_of(world: &World, times: &[Timed]) -> Result<u128, NoMemory>
     ensures { IfOk result (λ base. base ≡ max (until_after 0 times.now) (unwrap_or (rows_time world.now.stage) 0)) }
 {
-    let rows = u128::from(world.base()?.unwrap_or(0));
+    let rows = u128::from(world.rows_time()?.unwrap_or(0));
     Ok(last_time(times).max(rows))
-}
-
-/// When the last of these commits was made, or 0 where there is none.
-fn last_time(times: &[Timed]) -> u128
-    ensures { result ≡ until_after 0 times.now }
-{
-    times.last().map_or(0, |last| last.time)
 }
 
 /// Where a round begins all schedulers that have work sync.

@@ -222,7 +222,5 @@ fn begin_all(
 pub(crate) fn first_at_work(workers: &[Worker]) -> Option<usize>
     ensures { result ≡ position has_work workers.now }
 {
-    workers
-        .iter()
-        .position(|worker| worker.desk.present().is_some())
+    workers.iter().position(|worker| worker.has_work())
 }

@@ -29,7 +29,7 @@ impl Player {
         requires may_play { MayPlay shared.now.of self.old }
         ensures played { HasPlayed self.old self.new }
     {
-        while self.worker.desk.present().is_some() {
+        while self.worker.has_work() {
             let Ok(()) = self.attempt(rt, alloc, shared, gate) else {
                 self.failed = true;
                 return;

@@ -25,7 +25,7 @@ pub(crate) fn play_all<R: Threads + Wait + Sync, G: Gate + Sync>(
     requires may_play { All (MayPlay shared.now.of) players.old }
     ensures played { HavePlayed players.old players.new }
 {
-    if players.len() == 0 {
+    if players.is_empty() {
         return;
     }
     if players.len() == 1 {
@@ -61,12 +61,5 @@ pub(crate) fn play_all<R: Threads + Wait + Sync, G: Gate + Sync>(
 fn any_has_work(players: &[Player]) -> bool
     ensures { result ≡ list_any (λ player. has_work player.worker) players.now }
 {
-    players.iter().any(has_work)
-}
-
-/// Whether a player has work.
-fn has_work(player: &Player) -> bool
-    ensures { result ≡ has_work player.now.worker }
-{
-    player.worker.desk.present().is_some()
+    players.iter().any(|player| player.worker.has_work())
 }

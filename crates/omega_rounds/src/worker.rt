@@ -8,6 +8,7 @@ ghost use Rattle.omega_laws.specs.VirtualTime.{first_wishes};
 ghost use Rattle.omega_model.specs.Ranges.{IsInRange};
 ghost use Rattle.omega_model.specs.Work.{fresh};
 ghost use Rattle.omega_rounds.specs.Forked.{IsNotDue, HasSyncedOrStays};
+ghost use Rattle.omega_rounds.specs.Opening.{has_work};
 ghost use Rattle.omega_rounds.specs.Plans.{IsReady};
 ghost use Rattle.omega_rounds.specs.Workers.{IsWorker};
 ghost use Rattle.omega_rounds.specs.WorkerSteps.{CommitsFirst, WorkerSteps, SyncsWorker};
@@ -65,6 +66,13 @@ impl Worker {
         Ok(())
     }
 
+    /// Whether its scheduler has work: a request is left at its desk.
+    pub fn has_work(&self) -> bool
+        ensures { result ≡ has_work self.now }
+    {
+        self.desk.present().is_some()
+    }
+
     /// How many wishes of its first request are left, 0 where no request is.
     pub fn left(&self) -> usize
         ensures { result ≡ first_wishes (Some self.now.desk.requests) }
@@ -93,7 +101,7 @@ impl Worker {
         ensures desk { OnErr result (self.new.desk ≡ self.old.desk) }
         ensures synced { OnErr result (self.new.synced ≡ self.old.synced) }
     {
-        if self.desk.present().is_none() {
+        if !self.has_work() {
             return Ok(Stepped::Idle);
         }
         let Some(seen) = self.synced else {
@@ -118,7 +126,7 @@ impl Worker {
         ensures indexes { AreIndexesOf cell.now.history indexes.new }
         ensures synced { OnOk result (IsNotDue self.new) }
     {
-        if self.desk.present().is_none() {
+        if !self.has_work() {
             return Ok(());
         }
         if self.synced.is_some() {

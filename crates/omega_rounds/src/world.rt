@@ -307,9 +307,9 @@ impl World {
 
     /// The greatest time of the rows of the round that is under way, in microseconds. `None` exactly before
     /// the first round. Copies these rows.
-    pub fn base(&self) -> Result<Option<u64>, NoMemory>
-        ensures rows { IfOk result (λ base. base ≡ rows_time self.now.stage) }
-        ensures none { IfOk result (λ base. base ≡ None → self.now.stage.begun ≡ 0) }
+    pub fn rows_time(&self) -> Result<Option<u64>, NoMemory>
+        ensures rows { IfOk result (λ time. time ≡ rows_time self.now.stage) }
+        ensures none { IfOk result (λ time. time ≡ None → self.now.stage.begun ≡ 0) }
     {
         let Some(last) = self.course.begun.checked_sub(1) else {
             return Ok(None);

@@ -65,7 +65,7 @@ fn looks_of(worker: &Worker, free: &FitIndex, board: &Board) -> u64 {
 /// Whether none of the first machines with room for a wish, from a position to the end of the list, suits it.
 /// Where there are few of them the search is a short one.
 fn is_long(wish: &Wish, start: usize, free: &FitIndex, board: &Board) -> bool {
-    if wish.constraints.len() == 0 {
+    if wish.constraints.is_empty() {
         return false;
     }
     let mut from = start;

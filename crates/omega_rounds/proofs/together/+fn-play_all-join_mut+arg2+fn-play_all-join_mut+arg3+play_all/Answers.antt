@@ -1,6 +1,7 @@
 use Rattle.std.proofs.Common.{rules, ℕ, ◌≡◌, ◌∙◌, false, sym, arith}
 use Rattle.std.specs.Prelude.{All}
 use Rattle.std.specs.List.{list_any}
+use Rattle.std.proofs.lemmas.Bool.{eqb-true}
 use denote.Param.{param}
 use denote.Param.Send.{IsSync, param_sync, sendable}
 use Rattle.std.proofs.Crossing.{crosses, sync}
@@ -44,8 +45,8 @@ join_mut-requires-send-F g t c κs within =
     let gate : (i : ℕ) → IsSync (param i g.row.G) = λ i. param_sync i g.row.G (record { shared = c.requires.sync.1.shared }) in
     search (player_send, shared_sync, runtime, gate, sync, crosses, sendable) depth 20
 
-pub returns-then-players-eq0 : goal.returns-then-players-eq0
-returns-then-players-eq0 g t c = record { played = played_empty c.args.players.now c.if-players-eq0.true }
+pub returns-then-is_empty : goal.returns-then-is_empty
+returns-then-is_empty g t c = record { played = played_empty c.args.players.now (eqb-true _ _ (sym c.if-is_empty.ensures)) }
 
 pub play-requires : goal.play-requires
 play-requires g t c = record {

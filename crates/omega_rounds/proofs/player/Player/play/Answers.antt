@@ -1,12 +1,12 @@
 use Rattle.std.proofs.Common.{sym, ◌∙◌}
 use Rattle.omega_rounds.proofs.PlayingOn.{played_all, plays_first, plays_more, stopped}
-use Rattle.omega_rounds.proofs.WorkerCommits.{first_seen, first_unseen}
+use Rattle.omega_rounds.proofs.WorkerCommits.{no_work, some_work}
 use Rattle.omega_rounds.proofs.player.Player.play.Goals as goal
 
 pub returns : goal.returns
 returns g c = record {
   played = played_all c.args.shared.now.of c.args.self.now c.loop-alloc.self _ c.loop-alloc.invariant
-      (first_unseen c.loop-alloc.self.worker.desk.requests c.present.result (sym c.is_some.ensures ∙ c.loop-alloc-test.false) c.present.ensures);
+      (no_work c.loop-alloc.self.worker (sym c.has_work.ensures ∙ c.loop-alloc-test.false));
 }
 
 pub loop-alloc-init : goal.loop-alloc-init
@@ -17,7 +17,7 @@ attempt-requires-clause-may_play g c = c.loop-alloc.invariant.may_play
 
 pub attempt-requires-clause-work : goal.attempt-requires-clause-work
 attempt-requires-clause-work g c =
-    first_seen c.loop-alloc.self.worker.desk.requests c.present.result (sym c.is_some.ensures ∙ c.loop-alloc-test.true) c.present.ensures
+    some_work c.loop-alloc.self.worker (sym c.has_work.ensures ∙ c.loop-alloc-test.true)
 
 pub loop-alloc-smaller : goal.loop-alloc-smaller
 loop-alloc-smaller g c = c.in-Ok.ensures.fewer

@@ -1,11 +1,14 @@
-use Rattle.std.proofs.Common.{refl, not, ap, ◌∙◌, subst, sym}
+use Rattle.std.proofs.Common.{refl, ◌∙◌, subst, sym}
 use Rattle.omega_copy.specs.Indexes.{AreIndexesOf}
 use Rattle.omega_rounds.proofs.CommitCounts.{indexes_on}
-use Rattle.omega_rounds.proofs.WorkerCommits.{first_unseen}
+use Rattle.omega_rounds.proofs.WorkerCommits.{no_work, some_work}
 use Rattle.omega_rounds.proofs.worker.Worker.step.Goals as goal
 
-pub returns-then-is_none-clause-step : goal.returns-then-is_none-clause-step
-returns-then-is_none-clause-step c = record { no_work = first_unseen c.args.self.now.desk.requests c.present.result (c.is_none.ensures ∙ ap not c.if-is_none.true) c.present.ensures; history = refl; worker = refl }
+pub returns-then-not-has_work-clause-step : goal.returns-then-not-has_work-clause-step
+returns-then-not-has_work-clause-step c = record { no_work = no_work c.args.self.now (sym c.has_work.ensures ∙ c.if-not-has_work.true); history = refl; worker = refl }
+
+pub sync-requires-clause-work : goal.sync-requires-clause-work
+sync-requires-clause-work c = some_work c.args.self.now (sym c.has_work.ensures ∙ c.if-not-has_work.false)
 
 pub returns-in_err-place-clause-indexes : goal.returns-in_err-place-clause-indexes
 returns-in_err-place-clause-indexes c = subst (λ h. AreIndexesOf h c.args.indexes.now) (sym c.in_err-place.ensures.err) c.requires.indexes

@@ -1,13 +1,16 @@
-use Rattle.std.proofs.Common.{not, ap, ◌∙◌, inl, inr}
+use Rattle.std.proofs.Common.{◌∙◌, inl, inr, sym}
 use Rattle.omega_rounds.proofs.SyncedTogether.{stays}
-use Rattle.omega_rounds.proofs.WorkerCommits.{first_unseen}
+use Rattle.omega_rounds.proofs.WorkerCommits.{no_work, some_work}
 use Rattle.omega_rounds.proofs.worker.Worker.sync_if_due.Goals as goal
 
-pub returns-then-is_none-clause-may : goal.returns-then-is_none-clause-may
-returns-then-is_none-clause-may c = stays c.args.cell.now.history c.args.self.now c.requires.ready
+pub returns-then-not-has_work-clause-may : goal.returns-then-not-has_work-clause-may
+returns-then-not-has_work-clause-may c = stays c.args.cell.now.history c.args.self.now c.requires.ready
 
-pub returns-then-is_none-clause-synced : goal.returns-then-is_none-clause-synced
-returns-then-is_none-clause-synced c = λ none. first_unseen c.args.self.now.desk.requests c.present.result (c.is_none.ensures ∙ ap not c.if-is_none.true) c.present.ensures
+pub returns-then-not-has_work-clause-synced : goal.returns-then-not-has_work-clause-synced
+returns-then-not-has_work-clause-synced c = λ none. no_work c.args.self.now (sym c.has_work.ensures ∙ c.if-not-has_work.true)
+
+pub sync-requires-clause-work : goal.sync-requires-clause-work
+sync-requires-clause-work c = some_work c.args.self.now (sym c.has_work.ensures ∙ c.if-not-has_work.false)
 
 pub returns-then-is_some-clause-may : goal.returns-then-is_some-clause-may
 returns-then-is_some-clause-may c = stays c.args.cell.now.history c.args.self.now c.requires.ready
