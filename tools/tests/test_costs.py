@@ -11,9 +11,10 @@ from called import call
 import costs
 
 # A shell by the prover's name, which runs the file of its first word: a check that works for a while, and where the
-# crate is the low one for as long again by another such process.
-WORK = 'i=0\nwhile [ $i -lt 300000 ]; do i=$((i + 1)); done\n'
-CHECK = 'case $* in *omega_low*) ../rattle ../half ;; esac\n' + WORK
+# crate is the low one four times as long besides, by other such processes. So that it takes longer is seen also on a
+# machine whose processors are now fast and now slow.
+WORK = 'i=0\nwhile [ $i -lt 150000 ]; do i=$((i + 1)); done\n'
+CHECK = 'case $* in *omega_low*) for part in 1 2 3 4; do ../rattle ../part; done ;; esac\n' + WORK
 GATE = """cd rt-edit-1-a
 ../rattle check --crate-name omega_sim --incremental /x/seed || exit 3
 cd ../rt-edit-2-b
@@ -61,7 +62,7 @@ class Costs(unittest.TestCase):
 
     def test_what_checks_took(self) -> None:
         shutil.copy('/bin/sh', self.folder / 'rattle')
-        self.write('half', WORK)
+        self.write('part', WORK)
         for name in ('rt-edit-1-a/check', 'rt-edit-2-b/check', 'crate/check', 'crate/build', 'crate/fmt'):
             self.write(name, CHECK)
         gate, file = self.write('gate', 'cd %s\n%s' % (self.folder, GATE)), self.folder / 'costs.csv'
