@@ -1,5 +1,5 @@
 -- The jobs of which something may have to be placed, by their places among all jobs.
-use Rattle.std.specs.Prelude.{◌≡◌, ◌⊎◌, ◌≤◌, ◌+◌, ◌&&◌, ◌||◌, ℕ, Bool, true, false, All, List, Some, None, is_some, length, nat_le}
+use Rattle.std.specs.Prelude.{◌≡◌, ◌⊎◌, ◌≤◌, ◌+◌, ◌&&◌, ◌||◌, ℕ, Bool, true, false, All, List, Option, IfSome, Some, None, is_some, length, nat_le}
 use Rattle.std.specs.BTreeSet as set
 use Rattle.std.specs.BTreeSet.{BTreeSet}
 use Rattle.std.specs.List.{IsDistinct, list_any}
@@ -55,6 +55,10 @@ IsQuietAt asked tasks place = (job : ℕ) → job_at asked.jobs place ≡ Some j
 abbrev pub OthersAreQuiet : BTreeSet ℕ → Asked → List Task → Type 0
 OthersAreQuiet places asked tasks = (place job : ℕ) → job_at asked.jobs place ≡ Some job
     → set.contains nat_cmp places place ≡ false → IsQuiet asked tasks job
+
+-- the place that was opened last, if it is known, is open
+abbrev pub LatestIsOpen : BTreeSet ℕ → Option ℕ → Type 0
+LatestIsOpen places latest = IfSome latest (λ place. set.contains nat_cmp places place ≡ true)
 
 -- at each open place stands a job, and it isn't quiet
 abbrev pub NoneIsQuiet : BTreeSet ℕ → Asked → List Task → Type 0

@@ -30,15 +30,12 @@ impl Model for TaskConstraints {
 }
 
 impl TaskConstraints {
-    /// A copy of the rows. Costs the logarithm of the number of tasks for each row.
-    pub fn new(alloc: Global, rows: &Seq<ConstraintRow>) -> Result<TaskConstraints, NoMemory>
-        ensures { IfOk result (λ constraints. constraints ≡ rows.now) }
+    /// Takes these rows over. Costs the logarithm of the number of tasks for each row.
+    pub fn new(alloc: Global, rows: Seq<ConstraintRow>) -> Result<TaskConstraints, NoMemory>
+        ensures { IfOk result (λ constraints. constraints ≡ rows) }
     {
         let places = places_of(alloc, rows.as_slice())?;
-        Ok(TaskConstraints {
-            rows: rows.copy(alloc)?,
-            places,
-        })
+        Ok(TaskConstraints { rows, places })
     }
 
     /// The constraints of a task in the order of the file. Costs what they are, and the logarithm of

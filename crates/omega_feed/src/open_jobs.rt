@@ -14,15 +14,20 @@ use std::marker::Model;
 #[derive(Drop)]
 pub struct OpenJobs {
     places: BTreeSet<usize>,
+    /// The place that was opened last, while it is open: rows that follow one another are mostly of one job.
+    latest: Option<usize>,
 }
 
 impl Model for OpenJobs {
     ghost use Rattle.std.specs.Prelude.{ℕ};
     ghost use Rattle.std.specs.BTreeSet.{BTreeSet};
+    ghost use Rattle.omega_feed.specs.Open.{LatestIsOpen};
 
     ghost Value = { BTreeSet ℕ };
 
     ghost view = { λ jobs. jobs.places };
+
+    ghost invariant = { λ jobs. LatestIsOpen jobs.places jobs.latest };
 }
 
 impl OpenJobs {
@@ -32,11 +37,12 @@ impl OpenJobs {
     {
         OpenJobs {
             places: BTreeSet::new(alloc),
+            latest: None,
         }
     }
 
     /// Opens a job, if the trace has it, and no other. A refused call leaves what is open. Costs the
-    /// logarithm of the number of jobs.
+    /// logarithm of the number of jobs, and for the job that was opened last a comparison.
     pub fn reopen(&mut self, wanted: &Wanted, job: u64) -> Result<(), NoMemory>
         ensures stay { StayOpen self.old self.new }
         ensures ok { OnOk result (IsOpen self.new wanted.now job) }
@@ -46,7 +52,11 @@ impl OpenJobs {
         let Some(place) = wanted.place(job) else {
             return Ok(());
         };
+        if self.latest == Some(place) {
+            return Ok(());
+        }
         self.places.insert(place)?;
+        self.latest = Some(place);
         Ok(())
     }
 
@@ -69,6 +79,7 @@ impl OpenJobs {
             }
         }
         self.places = places;
+        self.latest = None;
         Ok(())
     }
 

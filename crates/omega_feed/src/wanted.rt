@@ -64,28 +64,34 @@ impl Model for Wanted {
 }
 
 impl Wanted {
-    /// What a trace with these events asks for before its first row, where the tables have its other rows: no
-    /// task is wanted. Costs two look-ups for each task row, whose keys are sorted, five more for each job, two
-    /// or three for each constraint, and one for each row of disks and of activities. Takes the memory of a slot
-    /// for each task.
+    /// What a trace with these events asks for before its first row, where the tables have its other rows, of
+    /// which the constraints are taken over: no task is wanted. Costs two look-ups for each task row, whose keys
+    /// are sorted, five more for each job, two or three for each constraint, and one for each row of disks and of
+    /// activities. Takes the memory of a slot for each task.
     pub fn new(
         alloc: Global,
-        tables: &TraceTables,
+        tables: TraceTables,
         events: &Events,
         settings: &Settings,
     ) -> Result<Wanted, NoMemory>
         requires { IsInRange settings.now }
-        ensures { (trace : TraceTables) → events.now ≡ feed trace → HasOthers trace tables.now
+        ensures { (trace : TraceTables) → events.now ≡ feed trace → HasOthers trace tables
             → IfOk result (λ wanted. wanted ≡ asked_after settings.now trace []) }
     {
-        let activities = JobActivities::new(alloc, &tables.activities)?;
+        let TraceTables {
+            constraints,
+            activities,
+            disks,
+            ..
+        } = tables;
+        let activities = JobActivities::new(alloc, &activities)?;
         let rows = events.tasks();
         let jobs = Jobs::of(alloc, rows, settings, &activities)?;
         let tasks = WantedTasks::of_rows(alloc, rows, jobs.numbers(alloc)?)?;
         Ok(Wanted {
             jobs,
-            constraints: TaskConstraints::new(alloc, &tables.constraints)?,
-            disks: MachineDisks::new(alloc, &tables.disks)?,
+            constraints: TaskConstraints::new(alloc, constraints)?,
+            disks: MachineDisks::new(alloc, &disks)?,
             activities,
             extra: settings.extra,
             tasks,

@@ -3,6 +3,7 @@ ghost use Rattle.std.specs.Prelude.{◌≡◌, [], List, IfOk, OnOk, IsTrue};
 ghost use Rattle.omega_model.specs.Feed.{feed};
 ghost use Rattle.omega_model.specs.Ranges.{IsInRange, IsPercentage};
 ghost use Rattle.omega_model.specs.declared.cells.Task.{Task};
+ghost use Rattle.omega_feed.specs.Events.{HasOthers};
 ghost use Rattle.omega_feed.specs.Open.{OthersAreQuiet};
 
 use crate::board::show_step;
@@ -239,6 +240,17 @@ fn events_of(alloc: Global, tables: &TraceTables) -> Result<Events, Fault>
     Ok(Events::take(alloc, &mut copy)?)
 }
 
+/// The rows of tables that are no events.
+fn others_of(alloc: Global, tables: &TraceTables) -> Result<TraceTables, Fault>
+    ensures { IfOk result (HasOthers tables.now) }
+{
+    let mut copy = TraceTables::new(alloc);
+    copy.constraints = tables.constraints.copy(alloc)?;
+    copy.activities = tables.activities.copy(alloc)?;
+    copy.disks = tables.disks.copy(alloc)?;
+    Ok(copy)
+}
+
 /// Whether a cap is a percentage.
 fn is_percentage(extra: Extra) -> bool
     ensures { IsTrue result → IsPercentage extra }
@@ -269,7 +281,8 @@ fn at_first(trace: &Trace, alloc: Global) -> Result<Wanted, Fault>
 {
     let settings = settings_of(trace.batch, trace.extra)?;
     let events = events_of(alloc, &trace.tables)?;
-    Ok(Wanted::new(alloc, &trace.tables, &events, &settings)?)
+    let others = others_of(alloc, &trace.tables)?;
+    Ok(Wanted::new(alloc, others, &events, &settings)?)
 }
 
 /// Appends what a scheduler is asked on the board once all rows were taken.

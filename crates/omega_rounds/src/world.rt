@@ -72,8 +72,8 @@ impl Model for World {
 
 impl World {
     /// The world of a trace with the empty history, before its first round. Takes the tables over, and gives
-    /// their memory back but for the rows of the events. Costs a look at each row, a sort of tables of events that
-    /// aren't in order of time, and a copy of each constraint.
+    /// their memory back but for the rows of the events and of constraints. Costs a few look-ups for each row, and a
+    /// sort of tables of events that aren't in order of time.
     pub fn new(alloc: Global, settings: &Settings, tables: TraceTables) -> Result<World, NoMemory>
         requires { IsInRange settings.now }
         ensures stage { IfOk result (λ world. world.stage ≡ first_stage settings.now tables) }
@@ -348,7 +348,7 @@ impl World {
 }
 
 /// The rows of a trace's events in order of time, and what it asks for before the first of them. The memory of the
-/// other rows is given back.
+/// other rows is given back, but for those of constraints.
 fn events_and_wanted(
     alloc: Global,
     settings: &Settings,
@@ -359,7 +359,7 @@ fn events_and_wanted(
     ensures wanted { IfOk result (λ made. made.1 ≡ asked_after settings.now tables []) }
 {
     let events = Events::take(alloc, &mut tables)?;
-    let wanted = Wanted::new(alloc, &tables, &events, settings)?;
+    let wanted = Wanted::new(alloc, tables, &events, settings)?;
     Ok((events, wanted))
 }
 
