@@ -53,12 +53,14 @@ impl PieceIndexes {
         Ok(())
     }
 
-    /// How many of so many entries the indexes of the further pieces haven't seen; all, where there are none.
+    /// How many of so many entries those indexes of further pieces that have seen most haven't seen; all, where
+    /// there are none. Where there are fewer workers than processors some of them are never used.
     pub fn unseen(&self, entries: u64) -> u64 {
-        match self.further.first() {
-            Some(indexes) => entries.saturating_sub(indexes.seen()),
-            None => entries,
+        let mut seen: u64 = 0;
+        for indexes in &self.further {
+            seen = seen.max(indexes.seen());
         }
+        entries.saturating_sub(seen)
     }
 }
 
@@ -108,12 +110,13 @@ pub(crate) fn sync_pieces<R: Threads + Sync>(
     if workers.len() < 2 {
         return sync_each(alloc, cell, workers, first);
     }
-    let before = further.len() / 2;
+    let half = workers.len() / 2;
+    // With the first indexes the lower half gets those for no more pieces than it has workers.
+    let before = (further.len() / 2).min(half - 1);
     let (near, far) = further.split_at_mut(before);
     let Some((other, far)) = far.split_first_mut() else {
         return sync_each(alloc, cell, workers, first);
     };
-    let half = workers.len() / 2;
     let (low, high) = workers.split_at_mut(half);
     let (one, two) = join_mut(
         rt,

@@ -84,7 +84,8 @@ fn reopen_jobs(open_jobs: &mut OpenJobs, wanted: &Wanted, keys: &[TaskKey]) -> R
 /// Opens the jobs of the tasks that an entry may stop when it is fed to the cell of a board: of all tasks on a
 /// machine that is added, updated or removed, and of a task that ends, if something of its job may wait then.
 /// Most tasks that end are no longer wanted, so that their jobs aren't looked at again. Costs the machine's
-/// tasks, each the logarithm of the number of jobs and of wanted tasks.
+/// tasks, which are sorted, each the logarithm of the number of jobs; for a task that ends the logarithms of the
+/// number of jobs and of its job's slots.
 pub(crate) fn reopen_stopped(
     alloc: Global,
     open_jobs: &mut OpenJobs,

@@ -197,7 +197,7 @@ fn apart(
     (workers, passes)
 }
 
-/// Shares a cell. Where memory runs out the cell is gone.
+/// Shares a cell. Where memory runs out the cell is gone. May wait.
 fn share<R: Wait>(
     rt: &R,
     alloc: Global,

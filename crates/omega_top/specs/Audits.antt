@@ -43,21 +43,21 @@ AuditStops lines (TooLong table) = ⊥
 AuditStops lines (BadRow table row column cause) = ⊥
 AuditStops lines (TooMany kind number) = ⊥
 
--- an audit stops before its report for what a keeper handed out, which is its list, where it tells that
+-- an audit stops before its report for some lines, which are the keeper's list where it tells that
 pub record StopsAudit (kept : Option (List (List ℕ))) (status : Status) : Type 0 where
   pub lines : List (List ℕ)
   pub told : IfSome kept (λ list. lines ≡ list)
   pub stops : AuditStops lines status
 
--- a history and a report are those of an audit of what a keeper handed out, which is its list, where it tells that
+-- a history and a report are those of an audit of some lines, which are the keeper's list where it tells that
 pub record IsAuditOf (format : Format) (kept : Option (List (List ℕ))) (history : List Entry) (report : List ℕ) : Type 0 where
   pub lines : List (List ℕ)
   pub told : IfSome kept (λ list. lines ≡ list)
   pub audited : IsAudited lines history
   pub bytes : report ≡ in_format format (audit_lines history)
 
--- an audit of the lines that a keeper handed out, which are those of its list, where it tells that; its report
--- is written, or a part of it from the front where the sink fails, and else nothing
+-- an audit of some lines, which are the keeper's list where it tells that; its report is written, or a part
+-- of it from the front where the sink fails, and else nothing
 pub record IsAudit (format : Format) (kept : Option (List (List ℕ))) (history : List Entry) (status : Status) (before now : Option (List ℕ)) : Type 0 where
   pub lines : List (List ℕ)
   pub told : IfSome kept (λ list. lines ≡ list)

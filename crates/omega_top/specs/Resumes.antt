@@ -61,7 +61,7 @@ LeavesList settings trace history before now (TooLong table) = now ≡ before
 LeavesList settings trace history before now (BadRow table row column cause) = now ≡ before
 LeavesList settings trace history before now (TooMany kind number) = now ≡ before
 
--- a run that goes on from what a keeper handed out, which is its list, where it tells that
+-- a run that goes on from some lines, which are the keeper's list where it tells that
 pub record IsResume (settings : Settings) (trace : TraceTables) (before now : Option (List (List ℕ))) (history : List Entry) (status : Status) : Type 0 where
   pub kept : List (List ℕ)
   pub told : IfSome before (λ list. kept ≡ list)
