@@ -19,8 +19,8 @@ use omega_running::Running;
 use std::alloc::Global;
 
 /// The entries of a row, where the tasks `left` are wanted after it and the tasks `running` run before it.
-/// Costs the logarithm of their numbers, and the running tasks of a job that the row leaves without a
-/// wanted task.
+/// Costs the logarithm of their numbers, and of a job that the row leaves without a wanted task the running
+/// extras and few others of its running tasks.
 pub fn entries_of(
     alloc: Global,
     row: &Row,

@@ -42,7 +42,7 @@ impl OpenJobs {
     }
 
     /// Opens a job, if the trace has it, and no other. A refused call leaves what is open. Costs the
-    /// logarithm of the number of jobs, and for the job that was opened last a comparison.
+    /// logarithm of the number of jobs; for the job that was opened last, to look up its place and no more.
     pub fn reopen(&mut self, wanted: &Wanted, job: u64) -> Result<(), NoMemory>
         ensures stay { StayOpen self.old self.new }
         ensures ok { OnOk result (IsOpen self.new wanted.now job) }
@@ -64,7 +64,8 @@ impl OpenJobs {
     /// waits, and that gets no extras, since it has no activities, no wanted task, or all its extras. A
     /// refused call leaves what is open. Costs the slots that are left of each open job, up to its first task
     /// that waits, and of each wanted task the logarithm of the number of those that run; of a job with
-    /// activities its running tasks, too; and memory for the jobs that stay open.
+    /// activities its running extras and few others of its running tasks, and the memory of these extras; and
+    /// memory for the jobs that stay open.
     pub fn settle(&mut self, alloc: Global, wanted: &Wanted, board: &Board) -> Result<(), NoMemory>
         requires { OthersAreQuiet self.old wanted.now board.now.tasks }
         ensures ok { OnOk result (OthersAreQuiet self.new wanted.now board.now.tasks) }

@@ -65,9 +65,9 @@ impl Model for Wanted {
 
 impl Wanted {
     /// What a trace with these events asks for before its first row, where the tables have its other rows, of
-    /// which the constraints are taken over: no task is wanted. Costs two look-ups for each task row, whose keys
-    /// are sorted, five more for each job, two or three for each constraint, and one for each row of disks and of
-    /// activities. Takes the memory of a slot for each task.
+    /// which the constraints are taken over: no task is wanted. Costs a look-up for each task row and one for each
+    /// task, whose keys are sorted, five more for each job, two for each constraint, and one for each row of disks
+    /// and of activities. Takes the memory of a slot for each task.
     pub fn new(
         alloc: Global,
         tables: TraceTables,
@@ -239,8 +239,8 @@ impl Wanted {
     }
 
     /// The entries of the row that was taken last, on the cell of a board. Costs the logarithm of the
-    /// number of tasks that are wanted or run, and the running tasks of a job that the row leaves
-    /// without a wanted task.
+    /// number of tasks that are wanted or run, and of a job that the row leaves without a wanted task the
+    /// running extras and few others of its running tasks.
     pub fn entries(&self, alloc: Global, row: &Row, board: &Board) -> Result<Entries, NoMemory>
         ensures entries { IfOk result (λ entries. entries ≡ row_entries self.now.disks (cell_of board.now) self.now.tasks row.now) }
         ensures range { IfOk result (λ entries. All CapacityIsInRange entries) }
@@ -255,8 +255,8 @@ impl Wanted {
     ///
     /// Only open jobs are looked at. Costs their number, and of those that are the scheduler's the slots that
     /// are left, and of each wanted task the logarithm of the number of those that run. A job with activities
-    /// costs besides its running tasks and its extras, each times the same logarithm; the number of machines
-    /// costs nothing.
+    /// costs besides its running extras, few others of its running tasks, and the extras that it gets, each
+    /// times the same logarithm. Each wish costs a copy of its constraints. The number of machines costs nothing.
     pub fn requests(
         &self,
         alloc: Global,
