@@ -6,11 +6,11 @@
     tables.py steady FOLDER MACHINES HOURS LOAD [SEED]  a cell that is as full at the beginning as at the end
     tables.py SHAPE FOLDER SIZE                         tables of one extreme shape; without words they are listed
 
-LOAD is in per cent of the CPU of all machines. In a steady cell it is what the tasks that run at a time ask for, on
-an average. In the other two it says how fast jobs come: the CPU time of all tasks is so much of what the machines
-have while jobs come. Many tasks live on when no more come, so what is in use at a time is less. The figures that the
-trace is made by are rough ones for a cluster of a few machine types in which most jobs have one task, a few have
-many, and services run long.
+SEED is 3 where it is left out. Tables that stand in FOLDER are overwritten. LOAD is in per cent of the CPU of all
+machines. In a steady cell it is what the tasks that run at a time ask for, on an average. In the other two it says
+how fast jobs come: the CPU time of all tasks is so much of what the machines have while jobs come. Many tasks live on
+when no more come, so what is in use at a time is less. The figures that the trace is made by are rough ones for a
+cluster of a few machine types in which most jobs have one task, a few have many, and services run long.
 """
 import math
 import os

@@ -136,24 +136,28 @@ def parser() -> argparse.ArgumentParser:
     added.add_argument('--per', metavar='TIME', default='1h', help='how long a span of time is; an hour by default')
     added.add_argument('report', metavar='REPORT')
     command('events', events, 'each line of the report as a JSON object with names, a line each, with its round, '
-            'the time at which that begins (microseconds) and its commit').add_argument('report', metavar='REPORT')
+            'the time at which its window begins (microseconds) and its commit; on `simulate` the round may '
+            'begin later').add_argument('report', metavar='REPORT')
     added = command('waits', waits, 'for each task when it was submitted, first placed, evicted, displaced and ended '
                     '(microseconds), or that it never ran; and on standard error the quantiles of the wait by kind '
-                    'of job (seconds)')
+                    'of job (seconds). How long decisions take on `simulate` isn\'t in these times')
     added.add_argument('--quantiles', action='store_true', help='print these alone, on standard output')
     added.add_argument('tables', metavar='TABLES', type=Path, help='the folder of the tables')
     added.add_argument('report', metavar='REPORT')
     command('compare', compare, 'a row for each report, with the words of its run where they stand in the file '
             '`words` beside it').add_argument('reports', metavar='REPORT', nargs='+')
     added = command('plot', plot, 'use and conflicts over time, and waits by kind of job, as figures in a folder')
-    added.add_argument('--format', choices=('svg', 'png', 'pdf'), default='svg')
-    added.add_argument('--per', metavar='TIME', help='how long a span of time is in the figure of conflicts')
-    added.add_argument('--tables', metavar='TABLES', type=Path, help='the folder of the tables, for the waits')
+    added.add_argument('--format', choices=('svg', 'png', 'pdf'), default='svg', help='svg by default')
+    added.add_argument('--per', metavar='TIME', help='how long a span of time is in the figure of conflicts; '
+                       'by default one that suits the length of the report')
+    added.add_argument('--tables', metavar='TABLES', type=Path, help='the folder of the tables, for the waits; '
+                       'by default that of the file `words` beside the report')
     added.add_argument('report', metavar='REPORT')
     added.add_argument('folder', metavar='FOLDER', type=Path)
     added = command('page', make_page, 'one page of HTML on some runs, which needs nothing else')
-    added.add_argument('--tables', metavar='TABLES', type=Path, help='the folder of the tables, for the waits')
-    added.add_argument('--title', default='Runs of omega')
+    added.add_argument('--tables', metavar='TABLES', type=Path, help='the folder of the tables, for the waits; '
+                       'by default that of the file `words` beside the report')
+    added.add_argument('--title', default='Runs of omega', help='`Runs of omega` by default')
     added.add_argument('reports', metavar='REPORT', nargs='+')
     added.add_argument('file', metavar='FILE', type=Path)
     return whole
