@@ -151,7 +151,8 @@ fn scaled(number: u128, raise: u128, lower: u128, rounding: Rounding) -> Option<
     }
 }
 
-/// A number that isn't 0, times ten to a power. `None` exactly above `MOST`.
+/// A number that isn't 0, times ten to a power. `None` exactly above `MOST`. Multiplies two numbers of 64
+/// bits, since nearly every quantity of a trace comes here.
 fn raised(number: u128, power: u128) -> Option<u64>
     requires { 0 < number }
     ensures value { SomeIff result (number * 10 ^ power ≤ MOST) (number * 10 ^ power) }
@@ -160,7 +161,10 @@ fn raised(number: u128, power: u128) -> Option<u64>
     if power > 12 {
         return None;
     }
-    let units = number.checked_mul(10u128.pow(power as u32))?;
+    if number > MOST {
+        return None;
+    }
+    let units = u128::from(number as u64) * u128::from(10u64.pow(power as u32));
     if units > MOST {
         return None;
     }
