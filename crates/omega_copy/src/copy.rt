@@ -140,8 +140,8 @@ impl PrivateCopy {
 
     /// Takes in what changed between the entries that it has seen and a later place of a history for
     /// which it stands. The indexes are told. Where memory runs out, the copy is as before. Costs the parts
-    /// of the delta, for each level with their tasks, whatever number of entries it leads over, and on the
-    /// board what differs.
+    /// of the delta and the tasks on their machines, each of which is looked up on the board, and for each
+    /// level these tasks once more, whatever number of entries it leads over.
     pub fn catch_up(&mut self, alloc: Global, delta: Delta) -> Result<(), NoMemory>
         requires history { MayCatchUp self.old delta }
         ensures stands { OnOk result ((history : List Entry) → CopyOf self.old history → Carries delta history self.old.seen delta.to → EachMayApply history → CopyOf self.new history) }

@@ -71,7 +71,8 @@ impl<'a> Overlay<'a> {
         self.board
     }
 
-    /// Whether the task of this name runs after the claims. Costs two look-ups.
+    /// Whether the task of this name runs after the claims. Costs two look-ups, and a third where the board
+    /// has the task.
     pub fn runs(&self, key: TaskKey) -> bool
         ensures runs { result ≡ is_some (task_at (tasks_claimed self.now) key) }
         ensures absent { result ≡ false → task_at (tasks_claimed self.now) key ≡ None }

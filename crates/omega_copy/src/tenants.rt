@@ -47,7 +47,7 @@ impl Tenants {
         self.whole.contains(&machine)
     }
 
-    /// Whether the task of this name runs. Costs two look-ups.
+    /// Whether the task of this name runs. Costs two look-ups, and a third where the board has the task.
     pub fn runs(&self, board: &Running, key: TaskKey) -> bool
         ensures { (tasks : List Task) → AreBeside self.now board.now.tasks tasks → result ≡ is_some (task_at tasks key) }
     {

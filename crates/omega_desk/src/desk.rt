@@ -21,8 +21,8 @@ use std::marker::Model;
 
 /// What is left of a scheduler's work in a round, and how many attempts it has taken in all.
 ///
-/// A contract sees whose desk it is, the requests that are left in order, the first of them with the
-/// wishes that aren't placed yet, and the counts that decide when a request ends.
+/// A contract sees whose desk it is, how many attempts it has taken, the requests that are left in order,
+/// the first of them with the wishes that aren't placed yet, and the counts that decide when a request ends.
 #[derive(Drop)]
 pub struct Desk {
     settings: Settings,

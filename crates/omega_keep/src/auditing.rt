@@ -32,7 +32,8 @@ pub enum AuditRefusal {
 /// has the reply that is due on them. `BadKept` names the first line of which that doesn't hold.
 ///
 /// Costs the lines, what their entries change, and for each claim the logarithm of the number of
-/// machines and of how often its machine was touched.
+/// machines and of how often its machine was touched. A claim whose victims don't come in order of
+/// eviction, or one for different machines whose victims are tasks of its own job, may cost their square.
 pub fn audit(alloc: Global, lines: &Lines) -> Result<Cell, AuditRefusal>
     ensures audited { IfOk result (λ cell. IsAudited lines.now cell.history) }
     ensures refused { IfErr result (Refuses lines.now) }

@@ -12,7 +12,7 @@ use atomic_table::Seat as Token;
 use std::sync::Wait;
 
 impl<T: Counted> Lock<T> {
-    /// Makes a seat for each caller, by number. There is room for them.
+    /// Makes a seat for each caller, by number. There is room for them. May wait.
     pub(crate) fn seats<R: Wait>(
         &self,
         rt: &R,
@@ -35,7 +35,7 @@ impl<T: Counted> Lock<T> {
         seats
     }
 
-    /// Makes the seat of this number.
+    /// Makes the seat of this number. May wait.
     fn seat<R: Wait>(
         &self,
         rt: &R,

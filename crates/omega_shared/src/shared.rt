@@ -89,7 +89,7 @@ impl SharedCell {
     /// have seen more. May wait.
     ///
     /// Under the turn only what is new is put together, which costs the entries that the copy hasn't
-    /// seen and the machines that they touch.
+    /// seen and the machines that they touch, with their tasks.
     pub fn sync<R: Wait>(
         &self,
         rt: &R,

@@ -5,8 +5,8 @@
 //! `FileKeeper` over the file at the path that it enters.
 //!
 //! What stands on a disk no contract can say, so neither tells its list. A contract knows their counts of
-//! faults: a call answers that the keeper failed only where the database refused it something, and never
-//! for want of memory.
+//! faults: a call answers that the keeper failed only where the database refused it something or no path
+//! was entered, and never for want of memory.
 #![tactic(auto)]
 
 mod database;
