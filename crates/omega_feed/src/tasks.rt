@@ -55,9 +55,11 @@ impl Model for WantedTasks {
 }
 
 impl WantedTasks {
-    /// No tasks, and for each of these jobs a place with a slot for each of its tasks that these rows submit or
-    /// schedule. Costs the rows, and these tasks and the jobs, each times the logarithm of their number, whatever
-    /// their order; takes the memory of the slots, and while it runs that of the tasks' keys.
+    /// No tasks, and for each of these jobs, each of which stands there once, a place with a slot for each of its
+    /// tasks that these rows submit or schedule. Costs a look at each row, the logarithm of the number of jobs for
+    /// each job and each row of another job than the row before it, and the tasks of each job, times the logarithm
+    /// of their number where they don't come in order; takes the memory of the slots, and while it runs that of
+    /// the tasks' keys.
     pub fn of_rows(
         alloc: Global,
         rows: &[TaskRow],
@@ -65,12 +67,12 @@ impl WantedTasks {
     ) -> Result<WantedTasks, NoMemory>
         ensures { IfOk result (λ tasks. tasks ≡ []) }
     {
-        let keys = task_keys(alloc, rows)?;
         jobs.sort_unstable();
         let mut tasks = WantedTasks::for_count(alloc, jobs.len())?;
-        for job in jobs {
-            let own = keys_of(&keys, job);
-            tasks.make_place(job, TaskList::of_keys(alloc, own)?)?;
+        let keys = keys_by_place(alloc, rows, &jobs)?;
+        for (job, mut own) in jobs.into_iter().zip(keys) {
+            own.sort_unstable();
+            tasks.make_place(job, TaskList::of_keys(alloc, &own)?)?;
         }
         Ok(tasks)
     }
@@ -290,23 +292,43 @@ fn put_place(
     }
 }
 
-/// The keys of the tasks that these rows submit or schedule, in order, each once. Mostly a task's rows of both
-/// kinds follow one another; then its key is sorted once.
-fn task_keys(alloc: Global, rows: &[TaskRow]) -> Result<Vec<TaskKey>, NoMemory> {
-    let mut keys = Vec::new(alloc);
+/// The keys of the tasks that these rows submit or schedule, for each of these jobs, which rise, a list in the
+/// order of the rows. Rows that follow one another are mostly of one job, and a task's rows of both kinds follow
+/// one another; then the job is looked for once, and the key is taken once.
+fn keys_by_place(
+    alloc: Global,
+    rows: &[TaskRow],
+    jobs: &[u64],
+) -> Result<Vec<Vec<TaskKey>>, NoMemory> {
+    let mut lists = empty_lists(alloc, jobs.len())?;
+    let mut place = 0;
     for row in rows {
-        if row.code <= 1 && keys.last() != Some(&row.key) {
-            keys.push(row.key)?;
+        if row.code > 1 {
+            continue;
+        }
+        if jobs.get(place) != Some(&row.key.job) {
+            place = jobs.partition_point(|job| *job < row.key.job);
+        }
+        if let Some(list) = lists.get_mut(place) {
+            take_key(list, row.key)?;
         }
     }
-    keys.sort_unstable();
-    keys.dedup();
-    Ok(keys)
+    Ok(lists)
 }
 
-/// The keys of a job's tasks among these, which are in order. Costs the logarithm of their number.
-fn keys_of(keys: &[TaskKey], job: u64) -> &[TaskKey] {
-    let (_lower, rest) = keys.split_at(keys.partition_point(|key| key.job < job));
-    let (own, _greater) = rest.split_at(rest.partition_point(|key| key.job == job));
-    own
+/// So many empty lists.
+fn empty_lists(alloc: Global, count: usize) -> Result<Vec<Vec<TaskKey>>, NoMemory> {
+    let mut lists = Vec::with_capacity(alloc, count)?;
+    for _ in 0..count {
+        lists.push(Vec::new(alloc))?;
+    }
+    Ok(lists)
+}
+
+/// Appends a key, unless it is the last one already.
+fn take_key(keys: &mut Vec<TaskKey>, key: TaskKey) -> Result<(), NoMemory> {
+    if keys.last() != Some(&key) {
+        keys.push(key)?;
+    }
+    Ok(())
 }
