@@ -1,12 +1,14 @@
 //! Tables that are read in pieces of any size and that fail. What each column may hold, the limits and
 //! all other cases are lines of `crates/omega_table_cases/stdin`.
 ghost use Rattle.std.specs.Prelude.{◌<◌};
+ghost use Rattle.std.specs.Thread.{IsSync};
 
 use omega_io::{MemoryTables, Tables};
-use omega_model::{Bytes, NoMemory, Seq, Status, Table, TraceTables};
-use omega_tables::{ReadRefusal, read_tables};
+use omega_model::{AttrRow, Bytes, Cause, NoMemory, Seq, Status, Table, TraceTables};
+use omega_tables::{ReadRefusal, parse_table, read_tables};
 use std::alloc::{AllocError, Global};
 use std::test::Fail;
+use std::thread::Threads;
 
 /// One machine of the example, and one task.
 const MACHINES: &[u8] = b"0,1,0,p,0.5,0.25\n";
@@ -46,18 +48,19 @@ fn printed(alloc: Global, answer: Result<TraceTables, ReadRefusal>) -> Result<St
 }
 
 /// What is read of the example in pieces of at most so many bytes.
-fn read_cut(alloc: Global, largest: usize) -> Result<String, AllocError>
-    requires { 0 < largest }
+fn read_cut<P: Threads + Sync>(rt: &P, alloc: Global, largest: usize) -> Result<String, AllocError>
+    requires sync { IsSync P.row }
+    requires largest { 0 < largest }
 {
     let held = six(alloc, MACHINES, TASKS)?;
     let mut tables = MemoryTables::new(alloc, held).cut(largest);
-    printed(alloc, read_tables(alloc, &mut tables))
+    printed(alloc, read_tables(rt, alloc, &mut tables))
 }
 
 #[test]
 fn reads_that_are_cut(rt: HostRuntime) -> Result<(), Fail> {
     for largest in [1, 7, 4096] {
-        assert_eq!(rt; read_cut(rt.alloc(), largest)?.as_str(), EXAMPLE);
+        assert_eq!(rt; read_cut(&rt, rt.alloc(), largest)?.as_str(), EXAMPLE);
     }
     Ok(())
 }
@@ -77,14 +80,17 @@ fn failing_table(call: u64) -> Option<Table> {
 }
 
 /// The refusal of the example where this call fails, and the faults of a table.
-fn read_failing(
+fn read_failing<P: Threads + Sync>(
+    rt: &P,
     alloc: Global,
     call: u64,
     table: Table,
-) -> Result<(Option<ReadRefusal>, u64), AllocError> {
+) -> Result<(Option<ReadRefusal>, u64), AllocError>
+    requires { IsSync P.row }
+{
     let held = six(alloc, MACHINES, TASKS)?;
     let mut tables = MemoryTables::new(alloc, held).cut(1).fail_at(call);
-    let refusal = read_tables(alloc, &mut tables).err();
+    let refusal = read_tables(rt, alloc, &mut tables).err();
     Ok((refusal, tables.faults(table)))
 }
 
@@ -96,8 +102,70 @@ fn each_call_fails(rt: HostRuntime) -> Result<(), Fail> {
             None => (None, 0),
         };
         let table = failing_table(call).unwrap_or(Table::MachineEvents);
-        let answer = read_failing(rt.alloc(), call, table)?;
+        let answer = read_failing(&rt, rt.alloc(), call, table)?;
         assert_eq!(rt; answer, (want, faults), "{call}");
+    }
+    Ok(())
+}
+
+/// So many rows are a text of more than a mebibyte, which is read in pieces where there are processors.
+const LONG: u64 = 80_000;
+
+/// `LONG` rows, whose machines are numbered from 0. The one of this number is no row.
+fn numbered(alloc: Global, bad: u64) -> Result<String, AllocError> {
+    let mut text = String::new(alloc);
+    for number in 0..LONG {
+        if number == bad {
+            text.push_str("bad\n")?;
+        } else {
+            write!(text, "0,{number},name,value,0\n")?;
+        }
+    }
+    Ok(text)
+}
+
+/// Whether the machines of these rows are numbered from 0.
+fn are_in_order(rows: &[AttrRow]) -> bool {
+    rows.iter()
+        .zip(0..u64::MAX)
+        .all(|(row, number)| row.machine == number)
+}
+
+/// The refusal of such rows and how many were read, and whether they are in order.
+fn read_numbered<P: Threads + Sync>(
+    rt: &P,
+    alloc: Global,
+    bad: u64,
+) -> Result<(Option<ReadRefusal>, usize, bool), AllocError>
+    requires { IsSync P.row }
+{
+    let text = numbered(alloc, bad)?;
+    let mut trace = TraceTables::new(alloc);
+    let table = Table::MachineAttributes;
+    let refusal = parse_table(rt, alloc, table, text.as_bytes(), &mut trace).err();
+    let rows = trace.attrs.as_slice();
+    Ok((refusal, rows.len(), are_in_order(rows)))
+}
+
+/// The refusal of the long text whose row of this number, from 1, has a single field.
+fn bad_at(row: u64) -> ReadRefusal {
+    ReadRefusal::BadRow {
+        table: Table::MachineAttributes,
+        row,
+        column: 0,
+        cause: Cause::Fields(1),
+    }
+}
+
+#[test]
+fn a_text_that_is_cut_in_pieces(rt: HostRuntime) -> Result<(), Fail> {
+    for (bad, refusal, rows) in [
+        (LONG, None, 80_000),
+        (70_000, Some(bad_at(70_001)), 0),
+        (30_000, Some(bad_at(30_001)), 0),
+    ] {
+        let answer = read_numbered(&rt, rt.alloc(), bad)?;
+        assert_eq!(rt; answer, (refusal, rows, true), "{bad}");
     }
     Ok(())
 }

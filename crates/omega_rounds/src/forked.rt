@@ -1,5 +1,5 @@
 //! Plans of one turn that are made at the same time, all on the one board that the schedulers share.
-ghost use Rattle.std.specs.Prelude.{◌≤◌, IfOk, List, OnOk};
+ghost use Rattle.std.specs.Prelude.{IfOk, List, OnOk};
 ghost use Rattle.std.specs.Thread.{IsSync};
 ghost use Rattle.omega_copy.specs.Indexes.{AreIndexesOf};
 ghost use Rattle.omega_model.specs.declared.entries.Entry.{Entry};
@@ -9,13 +9,10 @@ ghost use Rattle.omega_running.specs.Order.{Each};
 use crate::worker::Worker;
 use omega_cell::Cell;
 use omega_copy::Indexes;
+use omega_io::pieces_on;
 use omega_model::NoMemory;
 use std::alloc::Global;
-use std::thread::{Threads, available_parallelism, join_mut};
-
-/// In how many pieces the workers of a turn are cut at most. Each has indexes of its own, which have to be told
-/// what changed.
-const MOST_PIECES: usize = 8;
+use std::thread::{Threads, join_mut};
 
 /// What plans need beside the cell's board: the indexes of the first piece, which are used too where plans
 /// are made one after the other, and those of each further piece.
@@ -73,17 +70,6 @@ fn indexes_for(alloc: Global, count: usize) -> Result<Vec<Indexes>, NoMemory>
         all.push(Indexes::new(alloc))?;
     }
     Ok(all)
-}
-
-/// In how many pieces plans are made: in as many as there are processors, up to `MOST_PIECES`, and in one where
-/// their number isn't known.
-fn pieces_on<R: Threads>(rt: &R) -> usize
-    ensures { 1 ≤ result }
-{
-    match available_parallelism(rt) {
-        Ok(count) => count.get().min(MOST_PIECES),
-        Err(_) => 1,
-    }
 }
 
 /// Lets all of these workers sync that have work and haven't, in as many pieces as there are indexes, each

@@ -1,9 +1,12 @@
 //! Tables as text: the calls of `omega_tables`.
+ghost use Rattle.std.specs.Thread.{IsSync};
+
 use omega_calls::{Fault, number, text};
 use omega_io::SteadyTables;
 use omega_model::{Bytes, Copied, Seq, Table, TraceTables};
 use omega_tables::{ReadRefusal, over_limit, parse_table, read_bytes, read_tables};
 use std::alloc::Global;
+use std::thread::Threads;
 
 /// `parse TABLE TEXT ..`: the refusals of the texts, each parsed behind those before it, and then the
 /// rows of the table. `read TEXT ..`: the rows of the tables of these texts, in their order, or the
@@ -11,18 +14,31 @@ use std::alloc::Global;
 /// limit that a table of so many lines and a table of attributes exceed, if one is; the lines differ in a
 /// number between front and back. `many COUNT FRONT BACK TEXT ..`: how many such lines of machines are read,
 /// before the other tables, or the refusal.
-pub(crate) fn answer(alloc: Global, call: &str, words: &[Bytes]) -> Result<String, Fault> {
+pub(crate) fn answer<P: Threads + Sync>(
+    rt: &P,
+    alloc: Global,
+    call: &str,
+    words: &[Bytes],
+) -> Result<String, Fault>
+    requires { IsSync P.row }
+{
     match (call, words) {
-        ("parse", [table, texts @ ..]) => parsed(alloc, table_of(table)?, texts),
-        ("read", _) => read(alloc, words),
+        ("parse", [table, texts @ ..]) => parsed(rt, alloc, table_of(table)?, texts),
+        ("read", _) => read(rt, alloc, words),
         ("bytes", [table, texts @ ..]) => bytes(alloc, table_of(table)?, texts),
         ("limit", [table, count, front, back, attrs]) => {
             let lines = numbered(alloc, number(count)?, text(front)?, text(back)?)?;
-            limit(alloc, table_of(table)?, lines.as_bytes(), attrs.as_slice())
+            limit(
+                rt,
+                alloc,
+                table_of(table)?,
+                lines.as_bytes(),
+                attrs.as_slice(),
+            )
         }
         ("many", [count, front, back, others @ ..]) => {
             let lines = numbered(alloc, number(count)?, text(front)?, text(back)?)?;
-            many(alloc, Seq::of(lines.into_bytes()), others)
+            many(rt, alloc, Seq::of(lines.into_bytes()), others)
         }
         _ => Err(Fault::UnknownCall),
     }
@@ -42,23 +58,33 @@ fn table_of(word: &Bytes) -> Result<Table, Fault> {
 }
 
 /// The refusals of texts of one table, and the rows.
-fn parsed(alloc: Global, table: Table, texts: &[Bytes]) -> Result<String, Fault> {
+fn parsed<P: Threads + Sync>(
+    rt: &P,
+    alloc: Global,
+    table: Table,
+    texts: &[Bytes],
+) -> Result<String, Fault>
+    requires { IsSync P.row }
+{
     let mut trace = TraceTables::new(alloc);
-    let refusals = refusals_of(alloc, table, texts, &mut trace);
+    let refusals = refusals_of(rt, alloc, table, texts, &mut trace);
     let rows = rows_of(alloc, table, &trace);
     joined(refusals, rows)
 }
 
 /// The refusals of texts of one table, each parsed behind those before it.
-fn refusals_of(
+fn refusals_of<P: Threads + Sync>(
+    rt: &P,
     alloc: Global,
     table: Table,
     texts: &[Bytes],
     trace: &mut TraceTables,
-) -> Result<String, Fault> {
+) -> Result<String, Fault>
+    requires { IsSync P.row }
+{
     let mut refusals = String::new(alloc);
     for text in texts {
-        if let Err(refusal) = parse_table(alloc, table, text.as_slice(), trace) {
+        if let Err(refusal) = parse_table(rt, alloc, table, text.as_slice(), trace) {
             write!(refusals, "{refusal:?} ")?;
         }
     }
@@ -102,23 +128,38 @@ fn tables_of(alloc: Global, texts: &[Bytes]) -> Result<SteadyTables, Fault> {
 }
 
 /// The rows of all tables, or the refusal.
-fn read(alloc: Global, texts: &[Bytes]) -> Result<String, Fault> {
+fn read<P: Threads + Sync>(rt: &P, alloc: Global, texts: &[Bytes]) -> Result<String, Fault>
+    requires { IsSync P.row }
+{
     let tables = tables_of(alloc, texts)?;
-    match trace_of(alloc, tables) {
+    match trace_of(rt, alloc, tables) {
         Ok(trace) => Ok(format!(in alloc; "{trace:?}")?),
         Err(refusal) => Ok(format!(in alloc; "{refusal:?}")?),
     }
 }
 
 /// The rows of tables, or what is refused. The tables are let go here, so that no other function owns both.
-fn trace_of(alloc: Global, mut tables: SteadyTables) -> Result<TraceTables, ReadRefusal> {
-    read_tables(alloc, &mut tables)
+fn trace_of<P: Threads + Sync>(
+    rt: &P,
+    alloc: Global,
+    mut tables: SteadyTables,
+) -> Result<TraceTables, ReadRefusal>
+    requires { IsSync P.row }
+{
+    read_tables(rt, alloc, &mut tables)
 }
 
 /// How many rows of machines are read, before the other tables, or the refusal.
-fn many(alloc: Global, machines: Bytes, others: &[Bytes]) -> Result<String, Fault> {
+fn many<P: Threads + Sync>(
+    rt: &P,
+    alloc: Global,
+    machines: Bytes,
+    others: &[Bytes],
+) -> Result<String, Fault>
+    requires { IsSync P.row }
+{
     let tables = tables_behind(alloc, machines, others)?;
-    match trace_of(alloc, tables) {
+    match trace_of(rt, alloc, tables) {
         Ok(trace) => Ok(format!(in alloc; "{}", trace.machines.len())?),
         Err(refusal) => Ok(format!(in alloc; "{refusal:?}")?),
     }
@@ -164,10 +205,18 @@ fn numbered(alloc: Global, count: u64, front: &str, back: &str) -> Result<String
 }
 
 /// The limit that a table and one of attributes exceed, or a refusal.
-fn limit(alloc: Global, table: Table, lines: &[u8], attrs: &[u8]) -> Result<String, Fault> {
+fn limit<P: Threads + Sync>(
+    rt: &P,
+    alloc: Global,
+    table: Table,
+    lines: &[u8],
+    attrs: &[u8],
+) -> Result<String, Fault>
+    requires { IsSync P.row }
+{
     let mut trace = TraceTables::new(alloc);
-    let first = parse_table(alloc, table, lines, &mut trace);
-    let second = parse_table(alloc, Table::MachineAttributes, attrs, &mut trace);
+    let first = parse_table(rt, alloc, table, lines, &mut trace);
+    let second = parse_table(rt, alloc, Table::MachineAttributes, attrs, &mut trace);
     let passed = over_limit(alloc, &trace);
     drop(trace);
     if first.is_err() || second.is_err() {

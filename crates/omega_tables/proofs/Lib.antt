@@ -1,3 +1,5 @@
 pub mod Field
 pub mod Counting
 pub mod InOrder
+pub mod Cutting
+pub mod Together

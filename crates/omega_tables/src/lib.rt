@@ -7,6 +7,7 @@
 mod columns;
 mod limits;
 mod parsing;
+mod pieces;
 mod reading;
 mod refusal;
 

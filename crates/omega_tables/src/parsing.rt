@@ -1,5 +1,6 @@
 //! Records of a table, and their typed rows.
 ghost use Rattle.std.specs.Prelude.{◌≡◌, ◌++◌, IfOk, OnOk, IfErr, OnErr, Ok, None};
+ghost use Rattle.std.specs.Thread.{IsSync};
 ghost use Rattle.csv.specs.Records.{fields_of};
 ghost use Rattle.omega_model.specs.Rows.{rows_in, rows_or_none};
 ghost use Rattle.omega_model.specs.Trace.{with_rows};
@@ -9,17 +10,20 @@ ghost use Rattle.omega_tables.specs.Reading.{Stands};
 use crate::columns::{
     BadColumn, activity_row, attr_row, constraint_row, disk_row, machine_row, task_row,
 };
+use crate::pieces::read_pieces;
 use crate::refusal::ReadRefusal;
 use csv::{ByteRecord, ReaderBuilder};
+use omega_io::pieces_on;
 use omega_model::{
     ActivityRow, AttrRow, ConstraintRow, DiskRow, MachineRow, NoMemory, Seq, Table, TaskRow,
     TraceTables,
 };
 use std::alloc::Global;
 use std::mem;
+use std::thread::Threads;
 
 /// A typed row, read from the fields of a record.
-trait FromRecord: Sized {
+pub(crate) trait FromRecord: Sized {
     ghost use Rattle.std.specs.Prelude.{◌≡◌, ℕ, List, Result, IfOk};
     ghost use Rattle.csv.specs.Records.{fields_of};
     ghost use Rattle.omega_model.specs.Columns.{BadColumn};
@@ -110,7 +114,7 @@ impl FromRecord for DiskRow {
 }
 
 /// The rows of a table's text, or the first bad record. Holds one record at a time.
-fn read_rows<R: FromRecord + Drop>(
+pub(crate) fn read_rows<R: FromRecord + Drop>(
     alloc: Global,
     table: Table,
     text: &[u8],
@@ -145,18 +149,20 @@ fn read_rows<R: FromRecord + Drop>(
 }
 
 /// Appends the rows of a table's text to a list. An empty list takes them over without a copy.
-fn append_rows<R: FromRecord + Drop>(
+fn append_rows<P: Threads + Sync, R: FromRecord + Drop + Send>(
+    rt: &P,
     alloc: Global,
     table: Table,
     text: &[u8],
     into: &mut Seq<R>,
 ) -> Result<(), ReadRefusal>
+    requires sync { IsSync P.row }
     ensures rows { OnOk result (into.new ≡ into.old ++ rows_or_none (rows_in R.row_of text.now)) }
     ensures none { OnOk result (bad_row table (rows_in R.row_of text.now) ≡ None) }
     ensures refusal { IfErr result (λ refusal. Stands (bad_row table (rows_in R.row_of text.now)) refusal) }
     ensures stays { OnErr result (into.new ≡ into.old) }
 {
-    let mut rows = read_rows(alloc, table, text)?;
+    let mut rows = read_pieces(rt, alloc, table, text, pieces_on(rt))?;
     if into.is_empty() {
         *into = Seq::of(rows);
         return Ok(());
@@ -171,25 +177,31 @@ fn append_rows<R: FromRecord + Drop>(
 /// Appends the rows of a table's text, in their order. Where there is a bad row, the answer is
 /// `BadRow` or `NoMemory`; `BadRow` comes nowhere else. It has the number of the first such row, from
 /// 1, its first bad column and what is wrong with it. The number of fields is judged before all
-/// columns. After any refusal `into` is as before. Takes one pass over the text, and time linear in
-/// it and in the list that grows.
-pub fn parse_table(
+/// columns. After any refusal `into` is as before. Takes time linear in the text and in the list that
+/// grows.
+///
+/// A text of a mebibyte or more without quotes is read in pieces at the same time, as many as there are
+/// processors and at most eight. Its rows but those of the first piece are held twice for a moment. The call
+/// waits only for the threads that it has begun.
+pub fn parse_table<P: Threads + Sync>(
+    rt: &P,
     alloc: Global,
     table: Table,
     text: &[u8],
     into: &mut TraceTables,
 ) -> Result<(), ReadRefusal>
+    requires sync { IsSync P.row }
     ensures rows { OnOk result (into.new ≡ with_rows table text.now into.old) }
     ensures none { OnOk result (row_refusal table text.now ≡ None) }
     ensures refusal { IfErr result (λ refusal. Stands (row_refusal table text.now) refusal) }
     ensures stays { OnErr result (into.new ≡ into.old) }
 {
     match table {
-        Table::MachineEvents => append_rows(alloc, table, text, &mut into.machines),
-        Table::MachineAttributes => append_rows(alloc, table, text, &mut into.attrs),
-        Table::TaskEvents => append_rows(alloc, table, text, &mut into.tasks),
-        Table::TaskConstraints => append_rows(alloc, table, text, &mut into.constraints),
-        Table::MapreduceJobs => append_rows(alloc, table, text, &mut into.activities),
-        Table::MachineDisk => append_rows(alloc, table, text, &mut into.disks),
+        Table::MachineEvents => append_rows(rt, alloc, table, text, &mut into.machines),
+        Table::MachineAttributes => append_rows(rt, alloc, table, text, &mut into.attrs),
+        Table::TaskEvents => append_rows(rt, alloc, table, text, &mut into.tasks),
+        Table::TaskConstraints => append_rows(rt, alloc, table, text, &mut into.constraints),
+        Table::MapreduceJobs => append_rows(rt, alloc, table, text, &mut into.activities),
+        Table::MachineDisk => append_rows(rt, alloc, table, text, &mut into.disks),
     }
 }

@@ -1,5 +1,6 @@
 //! The reading of whole tables.
 ghost use Rattle.std.specs.Prelude.{◌≡◌, ◌≢◌, ◌≤◌, ℕ, List, [], length, Some, None, IfOk, OnOk, OnErr, IfErr, IfSome};
+ghost use Rattle.std.specs.Thread.{IsSync};
 ghost use Rattle.omega_io.specs.Edge.{Tells};
 ghost use Rattle.omega_model.specs.Trace.{trace_of, with_rows};
 ghost use Rattle.omega_model.specs.Limits.{IsWithinLimits};
@@ -13,6 +14,7 @@ use crate::refusal::ReadRefusal;
 use omega_io::Tables;
 use omega_model::{Bytes, LONGEST_TABLE, Seq, Table, TraceTables};
 use std::alloc::Global;
+use std::thread::Threads;
 
 /// The order in which the tables are read.
 const IN_ORDER: [Table; 6] = [
@@ -56,12 +58,14 @@ pub fn read_bytes<T: Tables>(
 }
 
 /// Reads one table to its end and appends its rows.
-fn read_table<T: Tables>(
+fn read_table<P: Threads + Sync, T: Tables>(
+    rt: &P,
     alloc: Global,
     tables: &mut T,
     table: Table,
     into: &mut TraceTables,
 ) -> Result<(), ReadRefusal>
+    requires sync { IsSync P.row }
     ensures rows { OnOk result (IfSome (T.rest tables.old table) (λ bytes. into.new ≡ with_rows table bytes into.old)) }
     ensures none { OnOk result (IfSome (T.rest tables.old table) (λ bytes. table_refusal table bytes ≡ None)) }
     ensures to_end { OnOk result (IfSome (T.rest tables.old table) (λ bytes. T.rest tables.new table ≡ Some [])) }
@@ -74,7 +78,7 @@ fn read_table<T: Tables>(
     ensures folder { T.entered tables.new ≡ T.entered tables.old }
 {
     let bytes = read_bytes(alloc, tables, table)?;
-    parse_table(alloc, table, bytes.as_slice(), into)
+    parse_table(rt, alloc, table, bytes.as_slice(), into)
 }
 
 /// Reads the six tables, each to its end, in the order of `Table`, and makes their rows.
@@ -84,7 +88,15 @@ fn read_table<T: Tables>(
 /// machines. `Fault` comes only where the count of its table rose, or can rise no further. After
 /// any refusal the bytes taken so far are gone: the tables before the one that is refused were read
 /// to their end, and those behind it are as they were. Holds the text of one table at a time.
-pub fn read_tables<T: Tables>(alloc: Global, tables: &mut T) -> Result<TraceTables, ReadRefusal>
+///
+/// The rows of a long text are made in pieces at the same time, as `parse_table` says. The call waits only
+/// for the threads that it has begun.
+pub fn read_tables<P: Threads + Sync, T: Tables>(
+    rt: &P,
+    alloc: Global,
+    tables: &mut T,
+) -> Result<TraceTables, ReadRefusal>
+    requires sync { IsSync P.row }
     ensures trace { (bytes : Table → List ℕ) → Tells (T.rest tables.old) bytes → IfOk result (λ trace. trace ≡ trace_of bytes) }
     ensures none { (bytes : Table → List ℕ) → Tells (T.rest tables.old) bytes → OnOk result (first_refusal bytes ≡ None) }
     ensures within { IfOk result IsWithinLimits }
@@ -97,7 +109,7 @@ pub fn read_tables<T: Tables>(alloc: Global, tables: &mut T) -> Result<TraceTabl
 {
     let mut trace = TraceTables::new(alloc);
     for table in IN_ORDER {
-        read_table(alloc, tables, table, &mut trace)?;
+        read_table(rt, alloc, tables, table, &mut trace)?;
     }
     check_rows(alloc, &trace)?;
     Ok(trace)

@@ -207,7 +207,7 @@ pub fn omega_with<R: Threads + Wait + Sync, T: Tables, K: Sink, G: Gate + Sync, 
 {
     match settings.command {
         Command::Audit => audit_and_write(alloc, settings, out, keeper),
-        _ => match trace_of_run(alloc, settings, tables) {
+        _ => match trace_of_run(rt, alloc, settings, tables) {
             Ok(trace) => {
                 let input = RunInput {
                     settings: *settings,

@@ -1,5 +1,6 @@
 //! The trace of a run: of the tables that it is handed, or of those that it makes.
 ghost use Rattle.std.specs.Prelude.{◌≡◌, ◌≢◌, ℕ, List, None, false, true, IfErr, IfOk, OnOk};
+ghost use Rattle.std.specs.Thread.{IsSync};
 ghost use Rattle.omega_io.specs.Edge.{Tells};
 ghost use Rattle.omega_model.specs.Generated.{generated};
 ghost use Rattle.omega_model.specs.Limits.{IsWithinLimits};
@@ -18,15 +19,18 @@ use omega_io::Tables;
 use omega_model::{Command, Settings, TraceTables};
 use omega_tables::{ReadRefusal, read_tables};
 use std::alloc::Global;
+use std::thread::Threads;
 
 /// The trace of the tables that a run reads: on `generate` of those that it makes of its seed, which can fail
 /// for want of memory alone; else of those that it is handed, each of which is read to its end. After a
 /// refusal of one table none behind it was read.
-pub fn trace_of_run<T: Tables>(
+pub fn trace_of_run<P: Threads + Sync, T: Tables>(
+    rt: &P,
     alloc: Global,
     settings: &Settings,
     tables: &mut T,
 ) -> Result<TraceTables, ReadRefusal>
+    requires sync { IsSync P.row }
     requires range { IsInRange settings.now }
     requires run { settings.now.command ≢ Audit }
     ensures trace { (bytes : Table → List ℕ) → Reads settings.now (T.rest tables.old) bytes
@@ -46,9 +50,9 @@ pub fn trace_of_run<T: Tables>(
     ensures folder { T.entered tables.new ≡ T.entered tables.old }
 {
     if makes_tables(settings.command) {
-        generated_trace(alloc, settings)
+        generated_trace(rt, alloc, settings)
     } else {
-        read_tables(alloc, tables)
+        read_tables(rt, alloc, tables)
     }
 }
 
@@ -60,8 +64,13 @@ fn makes_tables(command: Command) -> bool
 }
 
 /// The trace of the tables that are made of the seed.
-fn generated_trace(alloc: Global, settings: &Settings) -> Result<TraceTables, ReadRefusal>
-    requires { IsInRange settings.now }
+fn generated_trace<P: Threads + Sync>(
+    rt: &P,
+    alloc: Global,
+    settings: &Settings,
+) -> Result<TraceTables, ReadRefusal>
+    requires sync { IsSync P.row }
+    requires range { IsInRange settings.now }
     ensures trace { IfOk result (λ trace. trace ≡ trace_of (generated settings.now.seed settings.now.machines settings.now.jobs)) }
     ensures none { OnOk result (first_refusal (generated settings.now.seed settings.now.machines settings.now.jobs) ≡ None) }
     ensures within { IfOk result IsWithinLimits }
@@ -70,5 +79,5 @@ fn generated_trace(alloc: Global, settings: &Settings) -> Result<TraceTables, Re
     // A law. It does nothing.
     generated_tables_are_never_refused();
     let mut tables = tables_of_seed(alloc, settings.seed, settings.machines, settings.jobs)?;
-    read_tables(alloc, &mut tables)
+    read_tables(rt, alloc, &mut tables)
 }
