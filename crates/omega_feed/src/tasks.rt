@@ -71,7 +71,9 @@ impl WantedTasks {
         let mut tasks = WantedTasks::for_count(alloc, jobs.len())?;
         let keys = keys_by_place(alloc, rows, &jobs)?;
         for (job, mut own) in jobs.into_iter().zip(keys) {
-            own.sort_unstable();
+            if !own.is_sorted() {
+                own.sort_unstable();
+            }
             tasks.make_place(job, TaskList::of_keys(alloc, &own)?)?;
         }
         Ok(tasks)
@@ -293,8 +295,8 @@ fn put_place(
 }
 
 /// The keys of the tasks that these rows submit or schedule, for each of these jobs, which rise, a list in the
-/// order of the rows. Rows that follow one another are mostly of one job, and a task's rows of both kinds follow
-/// one another; then the job is looked for once, and the key is taken once.
+/// order of the rows. Rows that follow one another are mostly of one job; then the job is looked for once. Where
+/// keys come in order, each stands in its list once.
 fn keys_by_place(
     alloc: Global,
     rows: &[TaskRow],
@@ -325,9 +327,10 @@ fn empty_lists(alloc: Global, count: usize) -> Result<Vec<Vec<TaskKey>>, NoMemor
     Ok(lists)
 }
 
-/// Appends a key, unless it is the last one already.
+/// Appends a key, unless it is found among those that are there, which it is where they rise. Costs the logarithm
+/// of their number where it isn't greater than the last one.
 fn take_key(keys: &mut Vec<TaskKey>, key: TaskKey) -> Result<(), NoMemory> {
-    if keys.last() != Some(&key) {
+    if keys.last() < Some(&key) || keys.binary_search(&key).is_err() {
         keys.push(key)?;
     }
     Ok(())
