@@ -105,22 +105,22 @@ module _ (tenants : Tenants) (board tasks : List Task) (beside : AreBeside tenan
       ∙ ap₂ (λ a b. a || b) (any_filtered test (is_on id) (job_on job id) tenants.own.tasks) (any_filtered test (is_on id) (job_on job id) board)
 
   -- one of the tenants is of the job, or none is
-  pub job_own : (job : ℕ) (found : Bool) → found ≡ true → found ≡ is_some (other_of_job tenants.own.tasks job id []) → true ≡ list_any (stays_of_job job id []) tasks
+  pub job_own : (job : ℕ) (found : Bool) → found ≡ true → found ≡ list_any (stays_of_job job id []) tenants.own.tasks → true ≡ list_any (stays_of_job job id []) tasks
   job_own job found passed is =
-      let own : list_any (stays_of_job job id []) tenants.own.tasks ≡ true = sym (some_other tenants.own.tasks job id []) ∙ sym is ∙ passed in
+      let own : list_any (stays_of_job job id []) tenants.own.tasks ≡ true = sym is ∙ passed in
       by_answer (is_whole tenants id)
       (λ whole. sym (job_whole job whole ∙ own))
       (λ partly. sym (job_both job partly ∙ ap (λ b. b || list_any (stays_of_job job id []) board) own))
 
-  pub job_none : (job : ℕ) (found : Bool) → found ≡ false → found ≡ is_some (other_of_job tenants.own.tasks job id []) → is_whole tenants id ≡ true
+  pub job_none : (job : ℕ) (found : Bool) → found ≡ false → found ≡ list_any (stays_of_job job id []) tenants.own.tasks → is_whole tenants id ≡ true
       → false ≡ list_any (stays_of_job job id []) tasks
-  job_none job found failed is whole = sym (job_whole job whole ∙ sym (some_other tenants.own.tasks job id []) ∙ sym is ∙ failed)
+  job_none job found failed is whole = sym (job_whole job whole ∙ sym is ∙ failed)
 
-  pub job_board : (job : ℕ) (found other : Bool) → found ≡ false → found ≡ is_some (other_of_job tenants.own.tasks job id []) → is_whole tenants id ≡ false
+  pub job_board : (job : ℕ) (found other : Bool) → found ≡ false → found ≡ list_any (stays_of_job job id []) tenants.own.tasks → is_whole tenants id ≡ false
       → other ≡ is_some (other_of_job board job id []) → other ≡ list_any (stays_of_job job id []) tasks
   job_board job found other failed is partly other_is =
       other_is ∙ some_other board job id []
-      ∙ sym (job_both job partly ∙ ap (λ b. b || list_any (stays_of_job job id []) board) (sym (some_other tenants.own.tasks job id []) ∙ sym is ∙ failed))
+      ∙ sym (job_both job partly ∙ ap (λ b. b || list_any (stays_of_job job id []) board) (sym is ∙ failed))
 
   -- what they leave of an amount
   pub left_whole : (prec : ℕ) (amount : Need) → is_whole tenants id ≡ true → minus amount (staying_on prec tenants.own.tasks id) ≡ minus amount (staying_on prec tasks id)

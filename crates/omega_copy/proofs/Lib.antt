@@ -9,5 +9,6 @@ pub mod GoingOn
 pub mod Besides
 pub mod Hosting
 pub mod Placing
+pub mod Listed
 pub mod Claimed
 pub mod Overlaid

@@ -80,7 +80,7 @@ put_at own (t ∷ tasks) key order may =
     ∙ sym (ap (either (task_at own key)) (ap (λ b. cond b (Some t) (task_at tasks key)) other)))
 
 -- tasks in order that aren't there may be put in
-may_put : (own tasks : List Task) → IsInOrder ByKey own → IsInOrder ByKey tasks → Each (λ t. task_at own t.key ≡ None) tasks → MayPutAll own tasks
+pub may_put : (own tasks : List Task) → IsInOrder ByKey own → IsInOrder ByKey tasks → Each (λ t. task_at own t.key ≡ None) tasks → MayPutAll own tasks
 may_put own [] order rise absent = tt
 may_put own (t ∷ tasks) order rise absent = (
   absent.0,

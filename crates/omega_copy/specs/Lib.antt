@@ -3,6 +3,7 @@ pub mod Levels
 pub mod Telling
 pub mod Indexes
 pub mod Overlays
+pub mod Placed
 pub mod Tenants
 pub mod Beside
 pub mod News

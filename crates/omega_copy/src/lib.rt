@@ -16,6 +16,7 @@ mod indexes;
 mod levels;
 mod news;
 mod overlay;
+mod placed;
 mod telling;
 mod tenants;
 

@@ -22,11 +22,15 @@ use omega_running::Running;
 use std::alloc::Global;
 use std::marker::Model;
 
+/// A pass over fewer claims than this costs no more than a look-up.
+const FEW: usize = 16;
+
 /// Claims beside a board, each placed on the cell after those before it. The board stays as it is, so
 /// several can stand beside one board.
 ///
 /// A contract sees the board and the claims. What an overlay answers is what the board would with the
-/// claims placed.
+/// claims placed. A question that names a machine costs a pass over the claims too, until
+/// `ready_for_machines` or a claim with victims.
 #[derive(Drop)]
 pub struct Overlay<'a> {
     board: &'a Board,
@@ -105,11 +109,24 @@ impl<'a> Overlay<'a> {
         self.tenants.freed_at(self.board, prec, position)
     }
 
+    /// Readies the claims for many questions that name a machine: unless they are few, each costs a look-up
+    /// from now on, and no pass over the claims. All stays as it is, also where memory runs out. Costs the
+    /// claims, the first time.
+    pub fn ready_for_machines(&mut self, alloc: Global) -> Result<(), NoMemory>
+        ensures { self.new ≡ self.old }
+    {
+        if self.claims.len() < FEW {
+            return Ok(());
+        }
+        self.tenants.index(alloc)
+    }
+
     /// Places a claim on the cell after those before it, on which it would be placed and evict all of its
     /// victims. The indexes are told. Where memory runs out, all is as before.
     ///
-    /// A claim without victims costs a look-up for each index, whatever runs on its machine; one with
-    /// victims costs the tasks on its machine.
+    /// A claim without victims costs a look-up for each index, whatever runs on its machine, and where its
+    /// key isn't greater than those before it, up to a pass over these; one with victims costs the tasks on
+    /// its machine, and the first one the claims before it.
     pub fn claim(
         &mut self,
         alloc: Global,

@@ -1,5 +1,5 @@
 //! The tasks on machines where claims stand beside a board.
-ghost use Rattle.std.specs.Prelude.{◌≡◌, ◌<◌, ◌≤◌, ◌⊎◌, [], true, List, Some, IfOk, OnOk, IsPermutation, is_some, length, slice_get};
+ghost use Rattle.std.specs.Prelude.{◌≡◌, ◌<◌, ◌≤◌, ◌⊎◌, [], true, List, Some, IfOk, OnOk, IsPermutation, is_some, slice_get};
 ghost use Rattle.std.specs.List.{filter, list_any};
 ghost use Rattle.omega_model.specs.Cell.{is_on, task_at, without};
 ghost use Rattle.omega_model.specs.Jobs.{stays_of_job};
@@ -11,8 +11,9 @@ ghost use Rattle.omega_machines.specs.Table.{machines_of};
 ghost use Rattle.omega_running.specs.Staying.{staying_on};
 ghost use Rattle.omega_copy.specs.Overlays.{tasks_with};
 ghost use Rattle.omega_copy.specs.Telling.{freed_on};
-ghost use Rattle.omega_copy.specs.Tenants.{AreBeside, GoesBeside, MayPlace, MayPutAll, MayTakeOver, is_whole, put_all};
+ghost use Rattle.omega_copy.specs.Tenants.{AreBeside, GoesBeside, MayPlace, MayTakeOver, is_whole};
 
+use crate::placed::{Placed, put_all};
 use omega_board::Board;
 use omega_model::{Claim, Need, NoMemory, Task, TaskKey, Tasks};
 use omega_running::Running;
@@ -22,9 +23,11 @@ use std::collections::BTreeSet;
 /// The tasks of the claims that stand beside a board, and all tasks of the machines on which something
 /// was evicted, which are whole: of what runs there the board has no say. A board's other machines keep
 /// its tasks.
+///
+/// A question by machine passes over all tasks here until `index` readies them, or something is evicted.
 #[derive(Drop)]
 pub(crate) struct Tenants {
-    pub own: Running,
+    pub own: Placed,
     pub whole: BTreeSet<u64>,
 }
 
@@ -35,7 +38,7 @@ impl Tenants {
         ensures whole { result.whole.keys ≡ [] }
     {
         Tenants {
-            own: Running::new(alloc),
+            own: Placed::new(alloc),
             whole: BTreeSet::new(alloc),
         }
     }
@@ -51,7 +54,7 @@ impl Tenants {
     pub fn runs(&self, board: &Running, key: TaskKey) -> bool
         ensures { (tasks : List Task) → AreBeside self.now board.now.tasks tasks → result ≡ is_some (task_at tasks key) }
     {
-        if self.own.get(key).is_some() {
+        if self.own.has(key) {
             return true;
         }
         match board.get(key) {
@@ -60,11 +63,12 @@ impl Tenants {
         }
     }
 
-    /// Whether a task of this job runs on a machine. Costs three look-ups.
+    /// Whether a task of this job runs on a machine. Costs three look-ups, or a pass over the tasks here and
+    /// two.
     pub fn has_of_job(&self, board: &Running, job: u64, machine: u64) -> bool
         ensures { (tasks : List Task) → AreBeside self.now board.now.tasks tasks → result ≡ list_any (stays_of_job job machine []) tasks }
     {
-        if self.own.other_of_job(job, machine, &[]).is_some() {
+        if self.own.has_of_job(job, machine) {
             return true;
         }
         if self.is_whole(machine) {
@@ -73,7 +77,7 @@ impl Tenants {
         board.other_of_job(job, machine, &[]).is_some()
     }
 
-    /// The tasks on a machine, in any order. Takes the time of what the machine has.
+    /// The tasks on a machine, in any order. Takes the time of what the machine has, or of all tasks here too.
     pub fn tasks_on(&self, alloc: Global, board: &Running, machine: u64) -> Result<Tasks, NoMemory>
         ensures { IfOk result (λ found. (tasks : List Task) → AreBeside self.now board.now.tasks tasks → IsPermutation (filter (is_on machine) tasks) found) }
     {
@@ -86,7 +90,7 @@ impl Tenants {
     }
 
     /// What is left of an amount when each task of at least this precedence on a machine has taken its
-    /// need; a component stops at 0. Takes the time of what the machine has.
+    /// need; a component stops at 0. Takes the time of what the machine has, or of all tasks here too.
     pub fn left_on(&self, board: &Running, machine: u64, prec: u8, amount: Need) -> Need
         ensures { (tasks : List Task) → AreBeside self.now board.now.tasks tasks → result ≡ minus amount (staying_on prec tasks machine) }
     {
@@ -98,7 +102,7 @@ impl Tenants {
     }
 
     /// What is free on the machine at a position once all tasks of a lower precedence are off it; `None`
-    /// where it isn't up. Costs the tasks on the machine.
+    /// where it isn't up. Costs the tasks on the machine, or all tasks here too.
     pub fn freed_at(&self, board: &Board, prec: u8, position: usize) -> Option<Need>
         ensures { (tasks : List Task) (machine : Machine) → AreBeside self.now board.now.tasks tasks
             → slice_get (machines_of board.now.table) position ≡ Some machine → result ≡ freed_on prec tasks machine }
@@ -110,8 +114,18 @@ impl Tenants {
         Some(self.left_on(board.running(), machine.id, prec, machine.cap))
     }
 
-    /// Takes over the board's tasks on a machine, unless it is whole already; then it is. What runs stays
-    /// the same, also where memory runs out. Takes the time of what the machine has.
+    /// Readies the tasks for questions by machine: from now on each costs a look-up and what the machine has,
+    /// and no pass over all of them. What runs stays the same, also where memory runs out. Costs the tasks,
+    /// the first time.
+    pub fn index(&mut self, alloc: Global) -> Result<(), NoMemory>
+        ensures { (board tasks : List Task) → AreBeside self.old board tasks → AreBeside self.new board tasks }
+    {
+        self.own.index(alloc)
+    }
+
+    /// Takes over the board's tasks on a machine, unless it is whole already; then it is, and all tasks are
+    /// ready for questions by machine. What runs stays the same, also where memory runs out. Takes the time
+    /// of what the machine has, and the first time that of all tasks.
     fn take_over(&mut self, alloc: Global, board: &Running, machine: u64) -> Result<(), NoMemory>
         requires { MayTakeOver self.old board.now.tasks machine }
         ensures kept { (tasks : List Task) → AreBeside self.old board.now.tasks tasks → AreBeside self.new board.now.tasks tasks }
@@ -121,7 +135,8 @@ impl Tenants {
             return Ok(());
         }
         let tasks = board.tasks_on(alloc, machine)?;
-        reserve(&mut self.own, alloc, tasks.len())?;
+        self.own.index(alloc)?;
+        self.own.reserve(alloc, tasks.len())?;
         self.whole.insert(machine)?;
         put_all(&mut self.own, tasks.as_slice());
         Ok(())
@@ -143,8 +158,7 @@ impl Tenants {
         if !claim.victims.is_empty() {
             self.take_over(alloc, board, claim.machine)?;
         }
-        reserve(&mut self.own, alloc, 1)?;
-        Ok(())
+        self.own.reserve(alloc, 1)
     }
 
     /// Places a claim, for which room was made: its victims stop, and its task runs.
@@ -156,15 +170,6 @@ impl Tenants {
         take_out(&mut self.own, claim.victims.as_slice());
         self.own.insert_reserved(task_of(claim));
     }
-}
-
-/// Makes room for at least `n` more tasks among few, which stand in one tree. They stay as they are.
-fn reserve(own: &mut Running, alloc: Global, n: usize) -> Result<(), NoMemory>
-    ensures tasks { own.new.tasks ≡ own.old.tasks }
-    ensures room { OnOk result (n ≤ own.new.spare) }
-{
-    own.keep_small(alloc)?;
-    own.reserve(alloc, n)
 }
 
 /// The task of a claim.
@@ -179,22 +184,11 @@ fn task_of(claim: &Claim) -> Task
 }
 
 /// Takes out the tasks of these names that are there.
-fn take_out(own: &mut Running, keys: &[TaskKey])
+fn take_out(own: &mut Placed, keys: &[TaskKey])
     ensures tasks { own.new.tasks ≡ without keys.now own.old.tasks }
     ensures room { own.old.spare ≤ own.new.spare }
 {
     for key in keys {
-        let _ = own.remove(*key);
-    }
-}
-
-/// Puts tasks in that aren't there, for which room was made.
-fn put_all(own: &mut Running, tasks: &[Task])
-    requires may { MayPutAll own.old.tasks tasks.now }
-    requires room { length tasks.now ≤ own.old.spare }
-    ensures { own.new.tasks ≡ put_all own.old.tasks tasks.now }
-{
-    for task in tasks {
-        own.insert_reserved(*task);
+        own.remove(*key);
     }
 }

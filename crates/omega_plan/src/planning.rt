@@ -29,7 +29,8 @@ use std::alloc::Global;
 ///
 /// Takes memory for the claims, and for what all of them but the last change beside the board; the answer
 /// holds that of its claims alone, since a history keeps it. Each wish costs a search; wishes in a row that
-/// differ in the task's index alone cost one pass over the machines together. In the end each level costs the
+/// differ in the task's index alone cost one pass over the machines together. A wish whose key isn't greater
+/// than those before it costs up to a pass over the claims beside the board too. In the end each level costs the
 /// tasks on the machines of all claims but the last.
 pub fn plan(
     alloc: Global,
@@ -89,14 +90,32 @@ fn claims_but_last(
     let mut progress = Progress::at(start);
     for wish in others {
         let begin = progress.advance(previous, wish);
+        make_ready(alloc, overlay, wish, preempts)?;
         let step = claim_for_wish(alloc, overlay, indexes, wish, preempts, begin)?;
         place(alloc, overlay, indexes, step.claim)?;
         previous = wish;
         progress = step.progress;
     }
     let begin = progress.advance(previous, last);
+    make_ready(alloc, overlay, last, preempts)?;
     let step = claim_for_wish(alloc, overlay, indexes, last, preempts, begin)?;
     Ok(step.claim)
+}
+
+/// Readies the claims beside the board where finding a machine for a wish may ask for what runs on one machine
+/// after the other: where it wants different machines, or others may be evicted for it. They stay as they are.
+fn make_ready(
+    alloc: Global,
+    overlay: &mut Overlay,
+    wish: &Wish,
+    preempts: bool,
+) -> Result<(), NoMemory>
+    ensures { overlay.new ≡ overlay.old }
+{
+    if wish.spec.differ || (preempts && wish.spec.prec > 0) {
+        overlay.ready_for_machines(alloc)?;
+    }
+    Ok(())
 }
 
 /// Places a claim, if there is one, beside the board. Where memory runs out, all is as before.
