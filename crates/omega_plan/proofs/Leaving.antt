@@ -70,9 +70,6 @@ take_keys zero tasks = refl
 take_keys (suc n) [] = refl
 take_keys (suc n) (t ∷ tasks) = ap (λ ks. t.key ∷ ks) (take_keys n tasks)
 
-pub minus_nothing : (a : Need) → minus a nothing ≡ a
-minus_nothing a = need_is _ _ (omega arith) (omega arith) (omega arith)
-
 -- a search finds the least number that passes
 find_least_from : (test : ℕ → Bool) (from k n : ℕ) → from ≤ n → n < from + k → test n ≡ true → ((m : ℕ) → from ≤ m → m < n → test m ≡ false) → find test (range_with_len from k) ≡ Some n
 find_least_from test from zero n le below passes fails = absurd (omega (arith, le, below))
