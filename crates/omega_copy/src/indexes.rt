@@ -98,8 +98,9 @@ impl Indexes {
     /// Lends what is free on each machine of the cell after the claims of an overlay once all tasks of a
     /// lower precedence than this one are off it: where a need is more than that, evictions for a wish of
     /// this precedence make no room. What is lent is given back by `take_back`; where it wasn't, the next
-    /// call makes it anew. Making it costs the machines and their tasks. From then on whatever changes a
-    /// machine costs the tasks on it, for each precedence that was asked for, but for a claim without victims.
+    /// call makes it anew. Making it costs the machines and their tasks, and for each machine a pass over the
+    /// overlay's claims, unless they are ready for machines. From then on whatever changes a machine costs the
+    /// tasks on it, for each precedence that was asked for, but for a claim without victims.
     pub fn lend_level(
         &mut self,
         alloc: Global,

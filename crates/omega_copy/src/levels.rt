@@ -32,7 +32,7 @@ impl Level {
 }
 
 /// The level of a precedence on the cell after the claims of an overlay. Costs the machines and the tasks
-/// on them.
+/// on them, and for each machine a pass over the claims, unless they are ready for machines.
 pub(crate) fn level_of(alloc: Global, overlay: &Overlay, prec: u8) -> Result<Level, NoMemory>
     ensures tells { IfOk result (λ level. Tells (cell_after overlay.now) level) }
     ensures prec { IfOk result (λ level. level.prec ≡ prec) }

@@ -29,8 +29,8 @@ const FEW: usize = 16;
 /// several can stand beside one board.
 ///
 /// A contract sees the board and the claims. What an overlay answers is what the board would with the
-/// claims placed. A question that names a machine costs a pass over the claims too, until
-/// `ready_for_machines` or a claim with victims.
+/// claims placed. A question that names a machine costs a pass over the claims too, unless they are ready for
+/// machines: after a claim with victims, or after `ready_for_machines` where they are not few.
 #[derive(Drop)]
 pub struct Overlay<'a> {
     board: &'a Board,
@@ -86,14 +86,16 @@ impl<'a> Overlay<'a> {
         self.tenants.runs(self.running, key)
     }
 
-    /// Whether a task of this job runs on a machine after the claims. Costs three look-ups.
+    /// Whether a task of this job runs on a machine after the claims. Costs three look-ups and, unless the
+    /// claims are ready for machines, a pass over them.
     pub fn has_of_job(&self, job: u64, machine: u64) -> bool
         ensures { result ≡ list_any (stays_of_job job machine []) (tasks_claimed self.now) }
     {
         self.tenants.has_of_job(self.running, job, machine)
     }
 
-    /// The tasks on a machine after the claims, in any order. Takes the time of what the machine has.
+    /// The tasks on a machine after the claims, in any order. Takes the time of what the machine has and,
+    /// unless the claims are ready for machines, a pass over them.
     pub fn tasks_on(&self, alloc: Global, machine: u64) -> Result<Tasks, NoMemory>
         ensures tasks { IfOk result (λ tasks. IsPermutation (filter (is_on machine) (tasks_claimed self.now)) tasks) }
         ensures ordered { KeysRise (tasks_claimed self.now) }
@@ -102,23 +104,24 @@ impl<'a> Overlay<'a> {
     }
 
     /// What is free on the machine at a position after the claims, once all tasks of a lower precedence
-    /// are off it; `None` where it isn't up. Costs the tasks on the machine.
+    /// are off it; `None` where it isn't up. Costs the tasks on the machine and, unless the claims are ready for
+    /// machines, a pass over them.
     pub(crate) fn freed_at(&self, prec: u8, position: usize) -> Option<Need>
         ensures { (machine : Machine) → slice_get (machines_of self.now.board.table) position ≡ Some machine → result ≡ freed_on prec (tasks_claimed self.now) machine }
     {
         self.tenants.freed_at(self.board, prec, position)
     }
 
-    /// Readies the claims for many questions that name a machine: unless they are few, each costs a look-up
-    /// from now on, and no pass over the claims. All stays as it is, also where memory runs out. Costs the
-    /// claims, the first time.
+    /// Readies the claims for many questions that name a machine: each costs a look-up from now on, and no pass
+    /// over the claims. Does nothing while they are few, so it is called again as they grow. All stays as it is,
+    /// also where memory runs out. Costs the claims, the first time that they aren't few.
     pub fn ready_for_machines(&mut self, alloc: Global) -> Result<(), NoMemory>
         ensures { self.new ≡ self.old }
     {
         if self.claims.len() < FEW {
             return Ok(());
         }
-        self.tenants.index(alloc)
+        self.tenants.plant(alloc)
     }
 
     /// Places a claim on the cell after those before it, on which it would be placed and evict all of its

@@ -17,16 +17,16 @@ use omega_running::{Running, is_among, key_lt};
 use std::alloc::Global;
 use std::marker::Model;
 
-/// Tasks with distinct keys. They stand in a list in order of key until `index` puts them into a table, for
-/// which each task takes two nodes. In the list a key is found in the time of the logarithm of the number of
-/// tasks, and what a machine has in that of all tasks; in the table both in the logarithm, and what is found.
-/// So a list serves where few tasks stand or few questions name a machine.
+/// Tasks with distinct keys. They stand in a list in order of key until `plant` puts them into trees, by key and
+/// by machine, for which each task takes two nodes. In the list a key is found in the time of the logarithm of
+/// the number of tasks, and what a machine has in that of all tasks; in trees both in the logarithm, and what is
+/// found. So a list serves where few tasks stand or few questions name a machine.
 ///
 /// A contract sees the list of the tasks in order of key, and `spare`, for how many more there is room.
 #[derive(Drop)]
 pub(crate) struct Placed {
     list: Vec<Task>,
-    table: Option<Running>,
+    trees: Option<Running>,
 }
 
 impl Model for Placed {
@@ -36,7 +36,7 @@ impl Model for Placed {
 
     ghost Value = { RunningTasks };
 
-    ghost view = { λ p. seen p.list.items (vec_capacity p.list - vec_len p.list) p.table };
+    ghost view = { λ p. seen p.list.items (vec_capacity p.list - vec_len p.list) p.trees };
 
     ghost invariant = { λ p. KeysRise p.list.items };
 }
@@ -48,17 +48,17 @@ impl Placed {
     {
         Placed {
             list: Vec::new(alloc),
-            table: None,
+            trees: None,
         }
     }
 
-    /// No task, in a table. Takes no memory.
-    fn in_table(alloc: Global) -> Placed
+    /// No task, in trees. Takes no memory.
+    fn in_trees(alloc: Global) -> Placed
         ensures { result.tasks ≡ [] }
     {
         Placed {
             list: Vec::new(alloc),
-            table: Some(Running::new(alloc)),
+            trees: Some(Running::new(alloc)),
         }
     }
 
@@ -66,8 +66,8 @@ impl Placed {
     pub fn has(&self, key: TaskKey) -> bool
         ensures { result ≡ is_some (task_at self.now.tasks key) }
     {
-        match &self.table {
-            Some(table) => table.get(key).is_some(),
+        match &self.trees {
+            Some(trees) => trees.get(key).is_some(),
             None => has_key(self.list.as_slice(), key),
         }
     }
@@ -76,8 +76,8 @@ impl Placed {
     pub fn has_of_job(&self, job: u64, machine: u64) -> bool
         ensures { result ≡ list_any (stays_of_job job machine []) self.now.tasks }
     {
-        match &self.table {
-            Some(table) => table_has_of_job(table, job, machine),
+        match &self.trees {
+            Some(trees) => trees_have_of_job(trees, job, machine),
             None => has_of_job(self.list.as_slice(), job, machine),
         }
     }
@@ -86,8 +86,8 @@ impl Placed {
     pub fn tasks_on(&self, alloc: Global, machine: u64) -> Result<Tasks, NoMemory>
         ensures { IfOk result (λ tasks. tasks ≡ filter (is_on machine) self.now.tasks) }
     {
-        match &self.table {
-            Some(table) => table.tasks_on(alloc, machine),
+        match &self.trees {
+            Some(trees) => trees.tasks_on(alloc, machine),
             None => tasks_on(alloc, self.list.as_slice(), machine),
         }
     }
@@ -97,8 +97,8 @@ impl Placed {
     pub fn left_on(&self, machine: u64, prec: u8, amount: Need) -> Need
         ensures { result ≡ minus amount (staying_on prec self.now.tasks machine) }
     {
-        match &self.table {
-            Some(table) => table.left_on(machine, prec, amount),
+        match &self.trees {
+            Some(trees) => trees.left_on(machine, prec, amount),
             None => left_on(self.list.as_slice(), machine, prec, amount),
         }
     }
@@ -108,8 +108,8 @@ impl Placed {
         ensures tasks { self.new.tasks ≡ self.old.tasks }
         ensures room { OnOk result (n ≤ self.new.spare) }
     {
-        match &mut self.table {
-            Some(table) => reserve(table, alloc, n),
+        match &mut self.trees {
+            Some(trees) => reserve(trees, alloc, n),
             None => Ok(self.list.reserve(n)?),
         }
     }
@@ -121,44 +121,45 @@ impl Placed {
         ensures tasks { self.new.tasks ≡ with_task task self.old.tasks }
         ensures spare { self.new.spare + 1 ≡ self.old.spare }
     {
-        match &mut self.table {
-            Some(table) => table.insert_reserved(task),
+        match &mut self.trees {
+            Some(trees) => trees.insert_reserved(task),
             None => put_in(&mut self.list, task),
         }
     }
 
-    /// Takes out the task of this key, where there is one. In a list, takes the time of all tasks.
+    /// Takes out the task of this key, where there is one. In a list, takes the time of all tasks; a plan takes
+    /// none out of a list, since its victims stand in trees.
     pub fn remove(&mut self, key: TaskKey)
         ensures tasks { self.new.tasks ≡ without (key ∷ []) self.old.tasks }
         ensures spare { self.old.spare ≤ self.new.spare }
     {
-        match &mut self.table {
-            Some(table) => {
-                let _ = table.remove(key);
+        match &mut self.trees {
+            Some(trees) => {
+                let _ = trees.remove(key);
             }
             None => take_out(&mut self.list, key),
         }
     }
 
-    /// Puts the tasks into a table, where they stand in a list. They stay as they are, also where memory
+    /// Puts the tasks into trees, where they stand in a list. They stay as they are, also where memory
     /// runs out; room for more has to be made again.
-    pub fn index(&mut self, alloc: Global) -> Result<(), NoMemory>
+    pub fn plant(&mut self, alloc: Global) -> Result<(), NoMemory>
         ensures { self.new.tasks ≡ self.old.tasks }
     {
-        if self.table.is_some() {
+        if self.trees.is_some() {
             return Ok(());
         }
-        *self = indexed(alloc, self.list.as_slice())?;
+        *self = planted(alloc, self.list.as_slice())?;
         Ok(())
     }
 }
 
-/// Tasks in order of key, in a table.
-fn indexed(alloc: Global, tasks: &[Task]) -> Result<Placed, NoMemory>
+/// Tasks in order of key, in trees.
+fn planted(alloc: Global, tasks: &[Task]) -> Result<Placed, NoMemory>
     requires { KeysRise tasks.now }
     ensures { IfOk result (λ placed. placed.tasks ≡ tasks.now) }
 {
-    let mut placed = Placed::in_table(alloc);
+    let mut placed = Placed::in_trees(alloc);
     placed.reserve(alloc, tasks.len())?;
     put_all(&mut placed, tasks);
     Ok(placed)
@@ -175,13 +176,13 @@ pub(crate) fn put_all(placed: &mut Placed, tasks: &[Task])
     }
 }
 
-/// Makes room for at least `n` more tasks in a table of few, which stand in one tree. They stay as they are.
-fn reserve(table: &mut Running, alloc: Global, n: usize) -> Result<(), NoMemory>
-    ensures tasks { table.new.tasks ≡ table.old.tasks }
-    ensures room { OnOk result (n ≤ table.new.spare) }
+/// Makes room for at least `n` more tasks in trees of few, one of each kind. They stay as they are.
+fn reserve(trees: &mut Running, alloc: Global, n: usize) -> Result<(), NoMemory>
+    ensures tasks { trees.new.tasks ≡ trees.old.tasks }
+    ensures room { OnOk result (n ≤ trees.new.spare) }
 {
-    table.keep_small(alloc)?;
-    table.reserve(alloc, n)
+    trees.keep_small(alloc)?;
+    trees.reserve(alloc, n)
 }
 
 /// Whether there is a task of this key among tasks in order of key. The last one is looked at first.
@@ -292,11 +293,11 @@ fn has_other_key(task: &Task, key: TaskKey) -> bool
     !is_among(task.key, &[key])
 }
 
-/// Whether there is a task of this job on a machine, in a table.
-fn table_has_of_job(table: &Running, job: u64, machine: u64) -> bool
-    ensures { result ≡ list_any (stays_of_job job machine []) table.now.tasks }
+/// Whether there is a task of this job on a machine, in trees.
+fn trees_have_of_job(trees: &Running, job: u64, machine: u64) -> bool
+    ensures { result ≡ list_any (stays_of_job job machine []) trees.now.tasks }
 {
-    table.other_of_job(job, machine, &[]).is_some()
+    trees.other_of_job(job, machine, &[]).is_some()
 }
 
 /// Whether there is a task of this job on a machine, in a list.

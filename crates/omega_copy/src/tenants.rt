@@ -24,7 +24,7 @@ use std::collections::BTreeSet;
 /// was evicted, which are whole: of what runs there the board has no say. A board's other machines keep
 /// its tasks.
 ///
-/// A question by machine passes over all tasks here until `index` readies them, or something is evicted.
+/// A question by machine passes over all tasks here until `plant` readies them, or something is evicted.
 #[derive(Drop)]
 pub(crate) struct Tenants {
     pub own: Placed,
@@ -117,10 +117,10 @@ impl Tenants {
     /// Readies the tasks for questions by machine: from now on each costs a look-up and what the machine has,
     /// and no pass over all of them. What runs stays the same, also where memory runs out. Costs the tasks,
     /// the first time.
-    pub fn index(&mut self, alloc: Global) -> Result<(), NoMemory>
+    pub fn plant(&mut self, alloc: Global) -> Result<(), NoMemory>
         ensures { (board tasks : List Task) → AreBeside self.old board tasks → AreBeside self.new board tasks }
     {
-        self.own.index(alloc)
+        self.own.plant(alloc)
     }
 
     /// Takes over the board's tasks on a machine, unless it is whole already; then it is, and all tasks are
@@ -135,7 +135,7 @@ impl Tenants {
             return Ok(());
         }
         let tasks = board.tasks_on(alloc, machine)?;
-        self.own.index(alloc)?;
+        self.own.plant(alloc)?;
         self.own.reserve(alloc, tasks.len())?;
         self.whole.insert(machine)?;
         put_all(&mut self.own, tasks.as_slice());

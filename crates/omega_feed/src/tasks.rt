@@ -56,10 +56,11 @@ impl Model for WantedTasks {
 
 impl WantedTasks {
     /// No tasks, and for each of these jobs, each of which stands there once, a place with a slot for each of its
-    /// tasks that these rows submit or schedule. Costs a look at each row, the logarithm of the number of jobs for
-    /// each job and each row of another job than the row before it, and the tasks of each job, times the logarithm
-    /// of their number where they don't come in order; takes the memory of the slots, and while it runs that of
-    /// the tasks' keys.
+    /// tasks that these rows submit or schedule. Each row's job is one of them. Costs a look at each row, the
+    /// logarithm of the number of jobs for each job and each row of another job than the row before it, and the
+    /// tasks of each job, times the logarithm of their number where they don't come in order. Takes the memory of
+    /// the slots, and while it runs that of a list for each job with the tasks' keys; where a job's keys don't
+    /// rise, one of them may stand there once for each of its rows.
     pub fn of_rows(
         alloc: Global,
         rows: &[TaskRow],
@@ -73,6 +74,7 @@ impl WantedTasks {
         for (job, mut own) in jobs.into_iter().zip(keys) {
             if !own.is_sorted() {
                 own.sort_unstable();
+                own.dedup();
             }
             tasks.make_place(job, TaskList::of_keys(alloc, &own)?)?;
         }
@@ -294,9 +296,9 @@ fn put_place(
     }
 }
 
-/// The keys of the tasks that these rows submit or schedule, for each of these jobs, which rise, a list in the
-/// order of the rows. Rows that follow one another are mostly of one job; then the job is looked for once. Where
-/// keys come in order, each stands in its list once.
+/// The keys of the tasks that these rows submit or schedule: a list in the order of the rows for each of these
+/// jobs, which rise and among which each row's job stands. Rows that follow one another are mostly of one job;
+/// then the job is looked for once. Where keys come in order, each stands in its list once.
 fn keys_by_place(
     alloc: Global,
     rows: &[TaskRow],

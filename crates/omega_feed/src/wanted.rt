@@ -66,8 +66,8 @@ impl Model for Wanted {
 impl Wanted {
     /// What a trace with these events asks for before its first row, where the tables have its other rows, of
     /// which the constraints are taken over: no task is wanted. Costs a look-up for each task row and one for each
-    /// task, whose keys are sorted job by job, five more for each job, two for each constraint, and one for each row
-    /// of disks and of activities. Takes the memory of a slot for each task.
+    /// task, five more for each job, two for each constraint, and one for each row of disks and of activities; the
+    /// keys of a job's tasks are sorted where they don't come in order. Takes the memory of a slot for each task.
     pub fn new(
         alloc: Global,
         tables: TraceTables,

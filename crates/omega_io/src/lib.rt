@@ -2,7 +2,8 @@
 //!
 //! The three traits say what a read, a write and a gate may do. The objects in memory serve
 //! tests, the steady tables never fail, and the real objects read a folder and write to standard
-//! output. Of the gates one returns at once, and one holds schedulers in an order.
+//! output. Of the gates one returns at once, and one holds schedulers in an order. `pieces_on` says in how many
+//! pieces work is cut that is done at the same time.
 #![tactic(auto)]
 
 mod by_table;

@@ -10,10 +10,9 @@ ghost use Rattle.omega_tables.specs.Reading.{Stands};
 use crate::columns::{
     BadColumn, activity_row, attr_row, constraint_row, disk_row, machine_row, task_row,
 };
-use crate::pieces::read_pieces;
+use crate::pieces::read_text;
 use crate::refusal::ReadRefusal;
 use csv::{ByteRecord, ReaderBuilder};
-use omega_io::pieces_on;
 use omega_model::{
     ActivityRow, AttrRow, ConstraintRow, DiskRow, MachineRow, NoMemory, Seq, Table, TaskRow,
     TraceTables,
@@ -162,7 +161,7 @@ fn append_rows<P: Threads + Sync, R: FromRecord + Drop + Send>(
     ensures refusal { IfErr result (λ refusal. Stands (bad_row table (rows_in R.row_of text.now)) refusal) }
     ensures stays { OnErr result (into.new ≡ into.old) }
 {
-    let mut rows = read_pieces(rt, alloc, table, text, pieces_on(rt))?;
+    let mut rows = read_text(rt, alloc, table, text)?;
     if into.is_empty() {
         *into = Seq::of(rows);
         return Ok(());
@@ -180,9 +179,10 @@ fn append_rows<P: Threads + Sync, R: FromRecord + Drop + Send>(
 /// columns. After any refusal `into` is as before. Takes time linear in the text and in the list that
 /// grows.
 ///
-/// A text of a mebibyte or more without quotes is read in pieces at the same time, as many as there are
-/// processors and at most eight. Its rows but those of the first piece are held twice for a moment. The call
-/// waits only for the threads that it has begun.
+/// A text of a mebibyte or more is read in pieces at the same time, at most as many as there are processors, and
+/// eight; one with a quote in its first half in one piece. A bad row in one piece doesn't stop the others. While two
+/// pieces are joined the rows of the second one are held twice, and those of the first one too where their list
+/// has to move. The call waits only for the threads that it has begun.
 pub fn parse_table<P: Threads + Sync>(
     rt: &P,
     alloc: Global,

@@ -10,6 +10,7 @@ ghost use Rattle.omega_tables.specs.Reading.{Stands};
 use crate::parsing::{FromRecord, read_rows};
 use crate::refusal::ReadRefusal;
 use memchr::memchr;
+use omega_io::pieces_on;
 use omega_model::Table;
 use std::alloc::Global;
 use std::thread::{Threads, join};
@@ -17,9 +18,10 @@ use std::thread::{Threads, join};
 /// A text of fewer bytes is read in one piece: to begin a thread for it would cost more than it saves.
 const SHORTEST_CUT: usize = 1 << 20;
 
-/// A front that is made of whole lines, and the back behind it, which begins with the first line that
-/// starts in the second half. `None` where no line ends there or where the text may not be cut there: a
-/// field between quotes may have commas and ends of lines, so a front with a quote is no front.
+/// A front that is made of whole lines, and the back behind it, which begins behind the first end of a line in
+/// the second half. `None` where no line ends there or where the text may not be cut there: a field between
+/// quotes may have commas and ends of lines, so a front with a quote is no front. A clause says that the text may
+/// be cut where it is cut; whether and where it is costs time alone.
 fn cut(text: &[u8]) -> Option<(&[u8], &[u8])>
     ensures { IfSome result (λ parts. (text.now ≡ parts.0.now ++ parts.1.now) × MayCut parts.0.now parts.1.now) }
 {
@@ -83,11 +85,30 @@ fn together<R: FromRecord + Drop>(
     }
 }
 
-/// The rows of a table's text, or the first bad record, as `read_rows` answers them. A long text is cut
-/// in at most so many pieces, which are read at the same time, each on a thread of its own where one can
-/// be made. It is read in one piece where it has quotes. Waits only for the threads that it has begun; they
-/// wait for nobody. While two pieces are joined the rows of the second one are held twice.
-pub(crate) fn read_pieces<P: Threads + Sync, R: FromRecord + Drop + Send>(
+/// The rows of a table's text, or the first bad record, as `read_rows` answers them. A long text is cut in at
+/// most as many pieces as there are processors, and eight, which are read at the same time, as `read_pieces` does.
+pub(crate) fn read_text<P: Threads + Sync, R: FromRecord + Drop + Send>(
+    rt: &P,
+    alloc: Global,
+    table: Table,
+    text: &[u8],
+) -> Result<Vec<R>, ReadRefusal>
+    requires sync { IsSync P.row }
+    ensures rows { IfOk result (λ rows. rows_in R.row_of text.now ≡ Ok rows.items) }
+    ensures refusal { IfErr result (λ refusal. Stands (bad_row table (rows_in R.row_of text.now)) refusal) }
+{
+    if text.len() < SHORTEST_CUT {
+        return read_rows(alloc, table, text);
+    }
+    read_pieces(rt, alloc, table, text, pieces_on(rt))
+}
+
+/// The same, in at most so many pieces, each on a thread of its own where one can be made. A text with a quote in
+/// its first half is read in one piece; where quotes stand only behind that, the front is cut off. A bad row in
+/// one piece doesn't stop the others. Waits only for the threads that it has begun; they wait for nobody. While
+/// two pieces are joined the rows of the second one are held twice, and those of the first one too where their
+/// list has to move.
+fn read_pieces<P: Threads + Sync, R: FromRecord + Drop + Send>(
     rt: &P,
     alloc: Global,
     table: Table,

@@ -10,12 +10,12 @@ pub returns-clause-kept : goal.returns-clause-kept
 returns-clause-kept c = λ tasks beside.
     let next : Tenants = record { own = c.put_all.new.placed; whole = c.insert.new.self } in
     let put : c.put_all.new.placed.tasks ≡ put_all c.args.self.now.own.tasks (filter (is_on c.args.machine) c.args.board.now.tasks) =
-    c.put_all.ensures ∙ ap₂ put_all (c.reserve.ensures.tasks ∙ c.index.ensures) (c.as_slice.ensures ∙ c.in_ok-tasks.ensures) in
+    c.put_all.ensures ∙ ap₂ put_all (c.reserve.ensures.tasks ∙ c.plant.ensures) (c.as_slice.ensures ∙ c.in_ok-tasks.ensures) in
     taken_over c.args.self.now next c.args.board.now.tasks c.args.machine c.requires (sym c.is_whole.ensures ∙ c.if-is_whole.false) put c.in_ok-insert.ensures.updates tasks beside
 
 pub returns-clause-whole : goal.returns-clause-whole
 returns-clause-whole c =
     let next : Tenants = record { own = c.put_all.new.placed; whole = c.insert.new.self } in
     let put : c.put_all.new.placed.tasks ≡ put_all c.args.self.now.own.tasks (filter (is_on c.args.machine) c.args.board.now.tasks) =
-    c.put_all.ensures ∙ ap₂ put_all (c.reserve.ensures.tasks ∙ c.index.ensures) (c.as_slice.ensures ∙ c.in_ok-tasks.ensures) in
+    c.put_all.ensures ∙ ap₂ put_all (c.reserve.ensures.tasks ∙ c.plant.ensures) (c.as_slice.ensures ∙ c.in_ok-tasks.ensures) in
     is_whole_now c.args.self.now next c.args.board.now.tasks c.args.machine c.requires (sym c.is_whole.ensures ∙ c.if-is_whole.false) put c.in_ok-insert.ensures.updates
