@@ -9,7 +9,8 @@ const MOST_PIECES: usize = 8;
 /// In how many pieces work is cut: in as many as there are processors, up to `MOST_PIECES`, and in one where
 /// their number isn't known.
 pub fn pieces_on<R: Threads>(rt: &R) -> usize
-    ensures { 1 ≤ result }
+    ensures some { 1 ≤ result }
+    ensures few { result ≤ 8 }
 {
     match available_parallelism(rt) {
         Ok(count) => count.get().min(MOST_PIECES),
