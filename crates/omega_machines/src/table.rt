@@ -24,9 +24,9 @@ use std::marker::Model;
 /// a machine than its capacity, nothing where it is down.
 ///
 /// A call on a machine costs one or two look-ups of its number, and takes no memory, unless its own
-/// text says more. A look-up mostly finds the machine at the place that is noted for its number; where
-/// another number shares the note and has taken it, it costs the logarithm of the number of machines
-/// besides.
+/// text says more. A look-up mostly finds the machine at a place that is noted for its number, of which there
+/// are two; where other numbers share both notes and have taken them, it costs the logarithm of the number of
+/// machines besides.
 #[derive(Drop)]
 pub struct MachineTable {
     states: Vec<MachineState>,
@@ -60,22 +60,40 @@ fn set_cap(state: &mut MachineState, cap: Need)
 /// How many notes there are, each of one place.
 const NOTES: usize = 65_536;
 
-/// Which note is that of a number. Other numbers may share it.
-fn note_of(id: u64) -> usize {
-    (id.wrapping_mul(0x9E37_79B9_7F4A_7C15) >> 48) as usize
+/// Which two notes are those of a number. Other numbers may share them.
+fn notes_of(id: u64) -> [usize; 2] {
+    let spread = id.wrapping_mul(0x9E37_79B9_7F4A_7C15);
+    [(spread >> 48) as usize, (spread >> 32) as usize % NOTES]
 }
 
-/// The place that is noted for a number; `None` where its machine doesn't stand there.
-fn noted(states: &[MachineState], notes: &[u16], id: u64) -> Option<usize>
+/// The place that is noted in a note; `None` where nothing is.
+fn place_in(notes: &[u16], note: usize) -> Option<usize> {
+    usize::from(*notes.get(note)?).checked_sub(1)
+}
+
+/// The place that a note has for a number; `None` where its machine doesn't stand there.
+fn noted_in(states: &[MachineState], notes: &[u16], note: usize, id: u64) -> Option<usize>
     ensures { IfSome result (λ place. slice_get (numbers_of (machines_of states.now)) place ≡ Some id) }
 {
-    let place = *notes.get(note_of(id))? as usize;
+    let place = place_in(notes, note)?;
     let state = states.get(place)?;
     if state.machine.id == id {
         Some(place)
     } else {
         None
     }
+}
+
+/// The place that is noted for a number; `None` where its machine doesn't stand there.
+fn noted(states: &[MachineState], notes: &[u16], id: u64) -> Option<usize>
+    ensures { IfSome result (λ place. slice_get (numbers_of (machines_of states.now)) place ≡ Some id) }
+{
+    let [first, second] = notes_of(id);
+    let place = noted_in(states, notes, first, id);
+    if place.is_some() {
+        return place;
+    }
+    noted_in(states, notes, second, id)
 }
 
 /// The place of a number's machine, by the note or else by the map; `None` where it isn't in the table.
@@ -94,14 +112,20 @@ fn find(
     places.get(&id).copied()
 }
 
-/// Notes the place of a number; another number that shares the note loses it. The first call takes the
-/// memory of all notes.
+/// Notes the place of a number: in its first note, or in its second one where only the first is taken. Where both
+/// are, the number that has the first loses it. The first call takes the memory of all notes.
 fn note(notes: &mut Vec<u16>, id: u64, place: usize) -> Result<(), NoMemory> {
     if notes.is_empty() {
         notes.resize(NOTES, 0)?;
     }
-    if let (Some(note), Ok(place)) = (notes.get_mut(note_of(id)), u16::try_from(place)) {
-        *note = place;
+    let [first, second] = notes_of(id);
+    let own = if place_in(notes, first).is_some() && place_in(notes, second).is_none() {
+        second
+    } else {
+        first
+    };
+    if let (Some(note), Ok(next)) = (notes.get_mut(own), u16::try_from(place.saturating_add(1))) {
+        *note = next;
     }
     Ok(())
 }
