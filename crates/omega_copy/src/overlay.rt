@@ -86,16 +86,16 @@ impl<'a> Overlay<'a> {
         self.tenants.runs(self.running, key)
     }
 
-    /// Whether a task of this job runs on a machine after the claims. Costs three look-ups and, unless the
-    /// claims are ready for machines, a pass over them.
+    /// Whether a task of this job runs on a machine after the claims. Costs a look-up, a way down of each of the
+    /// machine's trees and, unless the claims are ready for machines, a pass over them.
     pub fn has_of_job(&self, job: u64, machine: u64) -> bool
         ensures { result ≡ list_any (stays_of_job job machine []) (tasks_claimed self.now) }
     {
         self.tenants.has_of_job(self.running, job, machine)
     }
 
-    /// The tasks on a machine after the claims, in any order. Takes the time of what the machine has and,
-    /// unless the claims are ready for machines, a pass over them.
+    /// The tasks on a machine after the claims, in any order. With k tasks on the machine, takes time k log k and,
+    /// unless the claims are ready for machines, that of a pass over them.
     pub fn tasks_on(&self, alloc: Global, machine: u64) -> Result<Tasks, NoMemory>
         ensures tasks { IfOk result (λ tasks. IsPermutation (filter (is_on machine) (tasks_claimed self.now)) tasks) }
         ensures ordered { KeysRise (tasks_claimed self.now) }
@@ -112,7 +112,7 @@ impl<'a> Overlay<'a> {
         self.tenants.freed_at(self.board, prec, position)
     }
 
-    /// Readies the claims for many questions that name a machine: each costs a look-up from now on, and no pass
+    /// Readies the claims for many questions that name a machine: each costs eight look-ups from now on, and no pass
     /// over the claims. Does nothing while they are few, so it is called again as they grow. All stays as it is,
     /// also where memory runs out. Costs the claims, the first time that they aren't few.
     pub fn ready_for_machines(&mut self, alloc: Global) -> Result<(), NoMemory>

@@ -13,7 +13,7 @@ ghost use Rattle.omega_running.specs.declared.orders.Order.TheVariants.{ByKey};
 ghost use Rattle.omega_copy.specs.Tenants.{MayPutAll, put_all};
 
 use omega_model::{Need, NoMemory, Task, TaskKey, Tasks};
-use omega_running::{Running, is_among, key_lt};
+use omega_running::{Running, halves, is_among, key_lt, task_in};
 use std::alloc::Global;
 use std::marker::Model;
 
@@ -176,7 +176,7 @@ pub(crate) fn put_all(placed: &mut Placed, tasks: &[Task])
     }
 }
 
-/// Makes room for at least `n` more tasks in trees of few, one of each kind. They stay as they are.
+/// Makes room for at least `n` more tasks in trees of few. They stay as they are.
 fn reserve(trees: &mut Running, alloc: Global, n: usize) -> Result<(), NoMemory>
     ensures tasks { trees.new.tasks ≡ trees.old.tasks }
     ensures room { OnOk result (n ≤ trees.new.spare) }
@@ -196,37 +196,7 @@ fn has_key(tasks: &[Task], key: TaskKey) -> bool
     if key_lt(last.key, key) {
         return false;
     }
-    has_within(tasks, key)
-}
-
-/// The same, by halves.
-fn has_within(tasks: &[Task], key: TaskKey) -> bool
-    requires { KeysRise tasks.now }
-    ensures { result ≡ is_some (task_at tasks.now key) }
-{
-    if tasks.is_empty() {
-        return false;
-    }
-    let (before, task, behind) = parted(tasks);
-    if key_lt(key, task.key) {
-        return has_within(before, key);
-    }
-    if key_lt(task.key, key) {
-        return has_within(behind, key);
-    }
-    true
-}
-
-/// The tasks before the one in the middle, that one, and those behind it.
-fn parted(tasks: &[Task]) -> (&[Task], &Task, &[Task])
-    requires { 0 < length tasks.now }
-    ensures { tasks.now ≡ result.0.now ++ result.1.now ∷ result.2.now }
-{
-    let (before, rest) = tasks.split_at(tasks.len() / 2);
-    let Some((task, behind)) = rest.split_first() else {
-        unreachable!()
-    };
-    (before, task, behind)
+    task_in(tasks, key).is_some()
 }
 
 /// Where a task of this key would stand among tasks in order of key. The end is looked at first.
@@ -253,7 +223,7 @@ fn place_within(tasks: &[Task], key: TaskKey) -> usize
     if tasks.is_empty() {
         return 0;
     }
-    let (before, task, behind) = parted(tasks);
+    let (before, task, behind) = halves(tasks);
     if key_lt(key, task.key) {
         return place_within(before, key);
     }

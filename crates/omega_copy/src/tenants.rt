@@ -63,8 +63,8 @@ impl Tenants {
         }
     }
 
-    /// Whether a task of this job runs on a machine. Costs three look-ups, or a pass over the tasks here and
-    /// two.
+    /// Whether a task of this job runs on a machine. Costs a look-up, and a way down of each of the machine's trees,
+    /// here too or in place of that a pass over the tasks here.
     pub fn has_of_job(&self, board: &Running, job: u64, machine: u64) -> bool
         ensures { (tasks : List Task) → AreBeside self.now board.now.tasks tasks → result ≡ list_any (stays_of_job job machine []) tasks }
     {
@@ -77,7 +77,8 @@ impl Tenants {
         board.other_of_job(job, machine, &[]).is_some()
     }
 
-    /// The tasks on a machine, in any order. Takes the time of what the machine has, or of all tasks here too.
+    /// The tasks on a machine, in any order. With k tasks on the machine, takes time k log k, or that of all tasks
+    /// here too.
     pub fn tasks_on(&self, alloc: Global, board: &Running, machine: u64) -> Result<Tasks, NoMemory>
         ensures { IfOk result (λ found. (tasks : List Task) → AreBeside self.now board.now.tasks tasks → IsPermutation (filter (is_on machine) tasks) found) }
     {
@@ -114,7 +115,7 @@ impl Tenants {
         Some(self.left_on(board.running(), machine.id, prec, machine.cap))
     }
 
-    /// Readies the tasks for questions by machine: from now on each costs a look-up and what the machine has,
+    /// Readies the tasks for questions by machine: from now on each costs eight look-ups and what the machine has,
     /// and no pass over all of them. What runs stays the same, also where memory runs out. Costs the tasks,
     /// the first time.
     pub fn plant(&mut self, alloc: Global) -> Result<(), NoMemory>

@@ -1,14 +1,15 @@
 -- What is known of a tree in order, once it is a fork: d are its tasks, l and r those at the sides of x.
-use Rattle.std.proofs.Common.{◌≡◌, ℕ, ◌<◌, ◌≤◌, Bool, true, false, ◌&&◌, not, eqb, ltb, List, [], ◌∷◌, ◌++◌, Option, Some, None, Box, refl, ap, sym, ◌∙◌, subst, append_assoc, arith, inl, inr}
-use Rattle.std.specs.List.{find}
+use Rattle.std.proofs.Common.{◌≡◌, ℕ, ◌+◌, ◌<◌, ◌≤◌, Bool, true, false, ◌&&◌, not, eqb, ltb, List, [], ◌∷◌, ◌++◌, length, Option, Some, None, Box, refl, ap, sym, ◌∙◌, subst, append_assoc, arith, inl, inr}
+use Rattle.std.specs.List.{filter, find}
 use Rattle.std.specs.Option.{option_map, option_or, is_some}
 use Rattle.std.specs.declared.alloc.Global.{Global}
-use Rattle.std.proofs.lemmas.Bool.{ne_eqb, eq-eqb, ltb-true, and_parts, or_cases, or_left, or_right, or_from, and_left, and_right, not_from_true, not-false, not-true}
+use Rattle.std.proofs.lemmas.Bool.{ne_eqb, eq-eqb, ltb-true, and_parts, or_cases, or_left, or_right, or_from, and_left, and_right, not-false, not-true}
+use Rattle.std.proofs.lemmas.List.{length-append}
 use Rattle.std.proofs.lemmas.List.Elements.{filter-append}
 use Rattle.std.proofs.lemmas.List.Folds.{find-append}
 use Rattle.omega_model.specs.Keys.{key_lt, same_key, is_among}
 use Rattle.omega_model.specs.Cell.{task_at, stays_on}
-use Rattle.omega_model.specs.Jobs.{is_of_job, other_of_job, stays_of_job}
+use Rattle.omega_model.specs.Jobs.{is_of_job, stays_of_job}
 use Rattle.omega_model.specs.declared.cells.TaskKey.{TaskKey}
 use Rattle.omega_model.specs.declared.cells.Task.{Task}
 use Rattle.omega_running.specs.declared.orders.Order.{Order}
@@ -16,9 +17,10 @@ use Rattle.omega_running.specs.declared.orders.Order.TheVariants.{ByKey, ByMachi
 use Rattle.omega_running.specs.declared.nodes.Tree.{Tree}
 use Rattle.omega_running.specs.declared.nodes.Node.{Node}
 use Rattle.omega_running.specs.declared.nodes.Tree.TheVariants.{Fork}
-use Rattle.omega_running.specs.Order.{Each, IsInOrder, precedes, lead, put_in, taken_out, has_place, led_by, is_before, is_behind}
+use Rattle.omega_running.specs.Order.{Each, IsInOrder, precedes, lead, put_in, taken_out, has_place, in_share, led_by, is_before, is_behind}
+use Rattle.omega_running.specs.Others.{stays_in_share, other_in_share}
 use Rattle.omega_running.specs.Tree.{tasks_of}
-use Rattle.omega_running.proofs.Lists.{each_map, each_append, find_left, find_right, filter_left, filter_right}
+use Rattle.omega_running.proofs.Lists.{each_map, each_append, find_left, find_right, filter_left, filter_right, filter_fewer}
 use Rattle.omega_running.proofs.Strict.{sides, trans, behind, put_left, put_right, keep_left, keep_right, keep_here, has_left, has_right}
 use Rattle.omega_running.proofs.InOrder.{strict, key_strict, lead_rises, key_apart}
 use Rattle.omega_running.proofs.Lex.{lex_trans, lex_apart, lt_trans, trans_lt, lt_apart}
@@ -100,23 +102,48 @@ led_at_right {order} {d} {l} {x} {r} n f p =
     let earlier : Each (λ y. eqb (lead order y) n ≡ false) l = each_map (λ y. precedes order y x ≡ true) (λ y. eqb (lead order y) n ≡ false) (λ y q. let h : lead order y ≤ lead order x = lead_rises order y x q in ne_eqb _ _ (omega arith)) l f.before in
     rw f.is (filter_right (λ y. eqb (lead order y) n) l (x ∷ r) earlier ∙ rw (ne_eqb (lead order x) n (omega arith)) refl)
 
-pub led_here : {order : Order} {d l : List Task} {x : Task} {r : List Task} (n : ℕ) → AtFork order d l x r → lead order x ≡ n → led_by order n d ≡ led_by order n l ++ x ∷ led_by order n r
+led_here : {order : Order} {d l : List Task} {x : Task} {r : List Task} (n : ℕ) → AtFork order d l x r → lead order x ≡ n → led_by order n d ≡ led_by order n l ++ x ∷ led_by order n r
 led_here {order} {d} {l} {x} {r} n f p =
     rw f.is (filter-append (λ y. eqb (lead order y) n) l (x ∷ r) ∙ rw (eq-eqb (lead order x) n p) refl)
 
-other_not_behind : (job machine : ℕ) (gone : List TaskKey) (y : Task) → is_behind y machine job ≡ true → stays_of_job job machine gone y ≡ false
-other_not_behind job machine gone y p =
-    elim (or_cases (ltb machine y.machine) (eqb machine y.machine && ltb job y.key.job) p) [
+pub picked_here : {order : Order} {d l : List Task} {x : Task} {r : List Task} (p : Task → Bool) (n : ℕ) → AtFork order d l x r → lead order x ≡ n → filter p (led_by order n d) ≡ filter p (led_by order n l) ++ filter p (x ∷ led_by order n r)
+picked_here {order} {d} {l} {x} {r} p n f here =
+    ap (filter p) (led_here n f here) ∙ filter-append p (led_by order n l) (x ∷ led_by order n r)
+
+-- the task and those at its sides are all tasks
+sides_count : {order : Order} {d l : List Task} {x : Task} {r : List Task} → AtFork order d l x r → length d ≡ length l + length r + 1
+sides_count {order} {d} {l} {x} {r} f =
+    let both : length (l ++ x ∷ r) ≡ length l + length (x ∷ r) = length-append l (x ∷ r) in
+    ap length f.is ∙ omega (arith, both)
+
+pub few_at_sides : {order : Order} {d l : List Task} {x : Task} {r : List Task} (limit : ℕ) → AtFork order d l x r → length d < limit → (length l < limit) × (length r < limit)
+few_at_sides {order} {d} {l} {x} {r} limit f few =
+    let all = sides_count f in
+    (omega (arith, all, few), omega (arith, all, few))
+
+-- those of a number that are picked at both sides, and one more, are no more than all tasks
+pub picked_few : {order : Order} {d l : List Task} {x : Task} {r : List Task} (p : Task → Bool) (n : ℕ) → AtFork order d l x r → length (filter p (led_by order n l)) + length (filter p (led_by order n r)) + 1 ≤ length d
+picked_few {order} {d} {l} {x} {r} p n f =
+    let all = sides_count f in
+    let left = filter_fewer p (led_by order n l) in
+    let right = filter_fewer p (led_by order n r) in
+    let led_left = filter_fewer (λ y. eqb (lead order y) n) l in
+    let led_right = filter_fewer (λ y. eqb (lead order y) n) r in
+    omega (arith, all, left, right, led_left, led_right)
+
+other_not_behind : (number job machine : ℕ) (gone : List TaskKey) (y : Task) → is_behind y machine job ≡ true → stays_in_share number job machine gone y ≡ false
+other_not_behind number job machine gone y p =
+    and_right (in_share number y) (stays_of_job job machine gone y) (elim (or_cases (ltb machine y.machine) (eqb machine y.machine && ltb job y.key.job) p) [
       | inl e ↦ let h : machine < y.machine = ltb-true machine y.machine e in and_right (is_of_job job y) _ (and_left _ _ (ne_eqb y.machine machine (omega arith)))
       | inr e ↦ let h : job < y.key.job = ltb-true job y.key.job (and_parts (eqb machine y.machine) (ltb job y.key.job) e).1 in and_left _ (stays_on machine gone y) (ne_eqb y.key.job job (omega arith))
-    ]
+    ])
 
-other_not_before : (job machine : ℕ) (gone : List TaskKey) (y : Task) → is_before y machine job ≡ true → stays_of_job job machine gone y ≡ false
-other_not_before job machine gone y p =
-    elim (or_cases (ltb y.machine machine) (eqb y.machine machine && ltb y.key.job job) p) [
+other_not_before : (number job machine : ℕ) (gone : List TaskKey) (y : Task) → is_before y machine job ≡ true → stays_in_share number job machine gone y ≡ false
+other_not_before number job machine gone y p =
+    and_right (in_share number y) (stays_of_job job machine gone y) (elim (or_cases (ltb y.machine machine) (eqb y.machine machine && ltb y.key.job job) p) [
       | inl e ↦ let h : y.machine < machine = ltb-true y.machine machine e in and_right (is_of_job job y) _ (and_left _ _ (ne_eqb y.machine machine (omega arith)))
       | inr e ↦ let h : y.key.job < job = ltb-true y.key.job job (and_parts (eqb y.machine machine) (ltb y.key.job job) e).1 in and_left _ (stays_on machine gone y) (ne_eqb y.key.job job (omega arith))
-    ]
+    ])
 
 behind_more : (job machine : ℕ) (x y : Task) → is_behind x machine job ≡ true → precedes ByMachine x y ≡ true → is_behind y machine job ≡ true
 behind_more job machine x y p q =
@@ -126,15 +153,15 @@ before_more : (job machine : ℕ) (x y : Task) → is_before x machine job ≡ t
 before_more job machine x y p q =
     lex_trans y.machine x.machine machine (key_lt y.key x.key) (ltb x.key.job job) (ltb y.key.job job) (trans_lt y.key.job x.key.job job (ltb y.key.index x.key.index)) q p
 
-pub other_at_left : {d l : List Task} {x : Task} {r : List Task} (job machine : ℕ) (gone : List TaskKey) → AtFork ByMachine d l x r → is_behind x machine job ≡ true → other_of_job d job machine gone ≡ other_of_job l job machine gone
-other_at_left {d} {l} {x} {r} job machine gone f p =
-    let later : Each (λ y. stays_of_job job machine gone y ≡ false) (x ∷ r) = (other_not_behind job machine gone x p, each_map (λ y. precedes ByMachine x y ≡ true) (λ y. stays_of_job job machine gone y ≡ false) (λ y q. other_not_behind job machine gone y (behind_more job machine x y p q)) r f.after) in
-    rw f.is (ap (option_map (λ (y : Task). y.key)) (find_left (stays_of_job job machine gone) l (x ∷ r) later))
+pub other_at_left : {d l : List Task} {x : Task} {r : List Task} (number job machine : ℕ) (gone : List TaskKey) → AtFork ByMachine d l x r → is_behind x machine job ≡ true → other_in_share number d job machine gone ≡ other_in_share number l job machine gone
+other_at_left {d} {l} {x} {r} number job machine gone f p =
+    let later : Each (λ y. stays_in_share number job machine gone y ≡ false) (x ∷ r) = (other_not_behind number job machine gone x p, each_map (λ y. precedes ByMachine x y ≡ true) (λ y. stays_in_share number job machine gone y ≡ false) (λ y q. other_not_behind number job machine gone y (behind_more job machine x y p q)) r f.after) in
+    rw f.is (ap (option_map (λ (y : Task). y.key)) (find_left (stays_in_share number job machine gone) l (x ∷ r) later))
 
-pub other_at_right : {d l : List Task} {x : Task} {r : List Task} (job machine : ℕ) (gone : List TaskKey) → AtFork ByMachine d l x r → is_before x machine job ≡ true → other_of_job d job machine gone ≡ other_of_job r job machine gone
-other_at_right {d} {l} {x} {r} job machine gone f p =
-    let earlier : Each (λ y. stays_of_job job machine gone y ≡ false) (l ++ x ∷ []) = each_append (λ y. stays_of_job job machine gone y ≡ false) l (x ∷ []) (each_map (λ y. precedes ByMachine y x ≡ true) (λ y. stays_of_job job machine gone y ≡ false) (λ y q. other_not_before job machine gone y (before_more job machine x y p q)) l f.before) (other_not_before job machine gone x p, tt) in
-    rw (f.is, ← append_assoc l (x ∷ []) r) (ap (option_map (λ (y : Task). y.key)) (find_right (stays_of_job job machine gone) (l ++ x ∷ []) r earlier))
+pub other_at_right : {d l : List Task} {x : Task} {r : List Task} (number job machine : ℕ) (gone : List TaskKey) → AtFork ByMachine d l x r → is_before x machine job ≡ true → other_in_share number d job machine gone ≡ other_in_share number r job machine gone
+other_at_right {d} {l} {x} {r} number job machine gone f p =
+    let earlier : Each (λ y. stays_in_share number job machine gone y ≡ false) (l ++ x ∷ []) = each_append (λ y. stays_in_share number job machine gone y ≡ false) l (x ∷ []) (each_map (λ y. precedes ByMachine y x ≡ true) (λ y. stays_in_share number job machine gone y ≡ false) (λ y q. other_not_before number job machine gone y (before_more job machine x y p q)) l f.before) (other_not_before number job machine gone x p, tt) in
+    rw (f.is, ← append_assoc l (x ∷ []) r) (ap (option_map (λ (y : Task). y.key)) (find_right (stays_in_share number job machine gone) (l ++ x ∷ []) r earlier))
 
 -- the first of two that there is
 or_first : (a b : Option Task) → is_some (option_map (λ (y : Task). y.key) a) ≡ true → option_map (λ (y : Task). y.key) (option_or a b) ≡ option_map (λ (y : Task). y.key) a
@@ -145,22 +172,29 @@ or_second : (a b : Option Task) → is_some (option_map (λ (y : Task). y.key) a
 or_second None b e = refl
 or_second (Some y) b e = absurd (cc)
 
-pub other_earlier : {d l : List Task} {x : Task} {r : List Task} (job machine : ℕ) (gone : List TaskKey) → AtFork ByMachine d l x r → is_some (other_of_job l job machine gone) ≡ true → other_of_job d job machine gone ≡ other_of_job l job machine gone
-other_earlier {d} {l} {x} {r} job machine gone f e =
-    rw (f.is, find-append (stays_of_job job machine gone) l (x ∷ r)) (or_first (find (stays_of_job job machine gone) l) (find (stays_of_job job machine gone) (x ∷ r)) e)
+pub other_earlier : {d l : List Task} {x : Task} {r : List Task} (number job machine : ℕ) (gone : List TaskKey) → AtFork ByMachine d l x r → is_some (other_in_share number l job machine gone) ≡ true → other_in_share number d job machine gone ≡ other_in_share number l job machine gone
+other_earlier {d} {l} {x} {r} number job machine gone f e =
+    rw (f.is, find-append (stays_in_share number job machine gone) l (x ∷ r)) (or_first (find (stays_in_share number job machine gone) l) (find (stays_in_share number job machine gone) (x ∷ r)) e)
 
 same_group : (job machine : ℕ) (x : Task) → is_before x machine job ≡ false → is_behind x machine job ≡ false → (eqb x.machine machine && eqb x.key.job job) ≡ true
 same_group job machine x p q =
     let e = lex_apart x.machine machine (ltb x.key.job job) (ltb job x.key.job) (eqb x.key.job job) (lt_apart x.key.job job) in
     not-false _ (sym e ∙ or_from _ _ p q)
 
-pub other_here : {d l : List Task} {x : Task} {r : List Task} (job machine : ℕ) (gone : List TaskKey) → AtFork ByMachine d l x r → is_before x machine job ≡ false → is_behind x machine job ≡ false → is_some (other_of_job l job machine gone) ≡ false → is_among x.key gone ≡ false → other_of_job d job machine gone ≡ Some x.key
-other_here {d} {l} {x} {r} job machine gone f p q none among =
+pub other_here : {d l : List Task} {x : Task} {r : List Task} (number job machine : ℕ) (gone : List TaskKey) → AtFork ByMachine d l x r → is_before x machine job ≡ false → is_behind x machine job ≡ false → is_some (other_in_share number l job machine gone) ≡ false → in_share number x ≡ true → is_among x.key gone ≡ false → other_in_share number d job machine gone ≡ Some x.key
+other_here {d} {l} {x} {r} number job machine gone f p q none inside among =
     let parts = and_parts (eqb x.machine machine) (eqb x.key.job job) (same_group job machine x p q) in
-    let is : stays_of_job job machine gone x ≡ true = rw (parts.0, parts.1, among) refl in
-    rw (f.is, find-append (stays_of_job job machine gone) l (x ∷ r)) (or_second (find (stays_of_job job machine gone) l) (find (stays_of_job job machine gone) (x ∷ r)) none ∙ rw is refl)
+    let is : stays_in_share number job machine gone x ≡ true = rw (inside, parts.0, parts.1, among) refl in
+    rw (f.is, find-append (stays_in_share number job machine gone) l (x ∷ r)) (or_second (find (stays_in_share number job machine gone) l) (find (stays_in_share number job machine gone) (x ∷ r)) none ∙ rw is refl)
 
-pub other_later : {d l : List Task} {x : Task} {r : List Task} (job machine : ℕ) (gone : List TaskKey) → AtFork ByMachine d l x r → is_some (other_of_job l job machine gone) ≡ false → is_among x.key gone ≡ true → other_of_job d job machine gone ≡ other_of_job r job machine gone
-other_later {d} {l} {x} {r} job machine gone f none among =
-    let is : stays_of_job job machine gone x ≡ false = and_right _ _ (and_right _ _ (not_from_true _ among)) in
-    rw (f.is, find-append (stays_of_job job machine gone) l (x ∷ r)) (or_second (find (stays_of_job job machine gone) l) (find (stays_of_job job machine gone) (x ∷ r)) none ∙ rw is refl)
+-- a task of another tree, or one that goes, is passed over
+pub passed_over : (number job machine : ℕ) (gone : List TaskKey) (x : Task) → (in_share number x && not (is_among x.key gone)) ≡ false → stays_in_share number job machine gone x ≡ false
+passed_over number job machine gone x e = go (in_share number x) refl e where
+  go : (b : Bool) → in_share number x ≡ b → (b && not (is_among x.key gone)) ≡ false → stays_in_share number job machine gone x ≡ false
+  go true h e = and_right (in_share number x) (stays_of_job job machine gone x) (and_right (is_of_job job x) (stays_on machine gone x) (and_right (eqb x.machine machine) (not (is_among x.key gone)) e))
+  go false h e = and_left (in_share number x) (stays_of_job job machine gone x) h
+
+pub other_later : {d l : List Task} {x : Task} {r : List Task} (number job machine : ℕ) (gone : List TaskKey) → AtFork ByMachine d l x r → is_some (other_in_share number l job machine gone) ≡ false → (in_share number x && not (is_among x.key gone)) ≡ false → other_in_share number d job machine gone ≡ other_in_share number r job machine gone
+other_later {d} {l} {x} {r} number job machine gone f none passed =
+    let is = passed_over number job machine gone x passed in
+    rw (f.is, find-append (stays_in_share number job machine gone) l (x ∷ r)) (or_second (find (stays_in_share number job machine gone) l) (find (stays_in_share number job machine gone) (x ∷ r)) none ∙ rw is refl)

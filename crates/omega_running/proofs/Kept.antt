@@ -145,7 +145,7 @@ or_no true = refl
 or_no false = refl
 
 -- on one machine both orders are that of the keys
-same_machine : (machine : ℕ) (a b : Task) → is_on machine a ≡ true → is_on machine b ≡ true → precedes ByMachine a b ≡ precedes ByKey a b
+pub same_machine : (machine : ℕ) (a b : Task) → is_on machine a ≡ true → is_on machine b ≡ true → precedes ByMachine a b ≡ precedes ByKey a b
 same_machine machine a b p q = lex_same a.machine b.machine (key_lt a.key b.key) (eqb-true _ _ p ∙ sym (eqb-true _ _ q))
 
 apart-sym : (order : Order) (a b : Task) → is_apart order a b ≡ is_apart order b a

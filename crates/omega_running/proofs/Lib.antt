@@ -7,3 +7,5 @@ pub mod Kept
 pub mod Ranked
 pub mod Spread
 pub mod Staying
+pub mod Shares
+pub mod Others

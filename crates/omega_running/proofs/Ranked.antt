@@ -1,4 +1,5 @@
--- A list of tasks that is sorted by rank is the list of its tasks in order of eviction.
+-- A list of tasks that is sorted by rank is the list of its tasks in order of eviction, and one that is sorted by key
+-- that of its tasks in order of key.
 use Rattle.std.proofs.Common.{◌≡◌, ℕ, ◌+◌, suc, Bool, true, false, ◌||◌, ◌&&◌, not, cond, eqb, ltb, List, [], ◌∷◌, get_or, refl, ap₂, sym, subst, ◌∙◌, ◌⊎◌, inl, inr, arith}
 use Rattle.std.specs.List.{AllByRecursion, IsDistinct}
 use Rattle.std.specs.List.Sorted.{IsPermutation, IsSortedBy}
@@ -12,11 +13,11 @@ use Rattle.omega_model.specs.Keys.{key_lt, same_key}
 use Rattle.omega_model.specs.Cell.{goes_before, put_by_rank, by_rank}
 use Rattle.omega_model.specs.declared.cells.Task.{Task}
 use Rattle.omega_running.specs.declared.orders.Order.TheVariants.{ByKey}
-use Rattle.omega_running.specs.Order.{Each, Rises, IsInOrder}
+use Rattle.omega_running.specs.Order.{Each, Rises, IsInOrder, precedes}
 use Rattle.omega_running.proofs.Lists.{each_map, each_both, each_of_all, all_of_each}
 use Rattle.omega_running.proofs.Strict.{IsStrict, trans, apart}
 use Rattle.omega_running.proofs.Lex.{lex_apart}
-use Rattle.omega_running.proofs.InOrder.{rank_strict, key_apart}
+use Rattle.omega_running.proofs.InOrder.{rank_strict, strict, key_apart, apart_by_key}
 
 -- an element of a list
 abbrev In : {X : Type 0} → X → List X → Type 0
@@ -132,27 +133,47 @@ distinct (x ∷ xs) u =
     by_recursion P [] e = tt
     by_recursion P (y ∷ ys) e = (e.0, by_recursion P ys e.1)
 
-rises_strictly : (xs : List Task) → Rises (λ x y. not (goes_before y x)) xs → IsDistinct (λ a b. same_key a.key b.key) xs → Rises goes_before xs
-rises_strictly [] u d = tt
-rises_strictly (x ∷ xs) u d =
+rises_strictly : (lt : Task → Task → Bool) → ((a b : Task) → same_key a.key b.key ≡ false → apart lt a b ≡ true) → (xs : List Task) → Rises (λ x y. not (lt y x)) xs → IsDistinct (λ a b. same_key a.key b.key) xs → Rises lt xs
+rises_strictly lt differ [] u d = tt
+rises_strictly lt differ (x ∷ xs) u d =
     let head = from_recursion (λ y. same_key x.key y.key ≡ false) xs (IsDistinct-head (λ a b. same_key a.key b.key) x xs d) in
-    let later = each_both (λ y. not (goes_before y x) ≡ true) (λ y. same_key x.key y.key ≡ false) (λ y. goes_before x y ≡ true)
-    (λ y p q. elim (or_cases (goes_before x y) (goes_before y x) (ranks_apart x y q)) [ inl e ↦ e | inr e ↦ absurd (both_ways _ (not-true _ p) e) ]) xs u.0 head in
-    (later, rises_strictly xs u.1 (IsDistinct-tail (λ a b. same_key a.key b.key) x xs d))
+    let later = each_both (λ y. not (lt y x) ≡ true) (λ y. same_key x.key y.key ≡ false) (λ y. lt x y ≡ true)
+    (λ y p q. elim (or_cases (lt x y) (lt y x) (differ x y q)) [ inl e ↦ e | inr e ↦ absurd (both_ways _ (not-true _ p) e) ]) xs u.0 head in
+    (later, rises_strictly lt differ xs u.1 (IsDistinct-tail (λ a b. same_key a.key b.key) x xs d))
   where
     from_recursion : (P : Task → Type 0) (ys : List Task) → AllByRecursion P ys → Each P ys
     from_recursion P [] e = tt
     from_recursion P (y ∷ ys) e = (e.0, from_recursion P ys e.1)
 
+sorted_rises : (lt : Task → Task → Bool) → IsStrict lt → ((a b : Task) → same_key a.key b.key ≡ false → apart lt a b ≡ true) → (xs ys : List Task) → IsInOrder ByKey xs → IsPermutation xs ys → IsSortedBy lt ys → Rises lt ys
+sorted_rises lt s differ xs ys u moved up =
+    rises_strictly lt differ ys (rises_from_sorted lt s ys up) (IsDistinct-IsPermutation (λ a b. same_key a.key b.key) same_flips xs ys moved (distinct xs u))
+
 pub by_rank_is : (xs ys : List Task) → IsInOrder ByKey xs → IsPermutation xs ys → IsSortedBy goes_before ys → by_rank xs ≡ ys
 by_rank_is xs ys u moved up =
-    let d = IsDistinct-IsPermutation (λ a b. same_key a.key b.key) same_flips xs ys moved (distinct xs u) in
-    let v = rises_strictly ys (rises_from_sorted goes_before rank_strict ys up) d in
-    only_one goes_before rank_strict (by_rank xs) ys (ranked_rises xs u) v
+    only_one goes_before rank_strict (by_rank xs) ys (ranked_rises xs u) (sorted_rises goes_before rank_strict ranks_apart xs ys u moved up)
     (each_ranked (λ z. In z ys) xs (each_moved (λ z. In z ys) ys xs (IsPermutation-sym xs ys moved) (each_itself ys)))
     (each_moved (λ z. In z (by_rank xs)) xs ys moved (each_unranked (λ z. In z (by_rank xs)) xs (each_itself (by_rank xs))))
 
--- the order of the key that is sorted by
+-- a list in order of key is the only one of its tasks that is sorted by key
+pub by_key_is : (xs ys : List Task) → IsInOrder ByKey xs → IsPermutation xs ys → IsSortedBy (precedes ByKey) ys → xs ≡ ys
+by_key_is xs ys u moved up =
+    only_one (precedes ByKey) (strict ByKey) xs ys u
+    (sorted_rises (precedes ByKey) (strict ByKey) (λ a b e. apart_by_key a b ∙ not_from_false _ e) xs ys u moved up)
+    (each_moved (λ z. In z ys) ys xs (IsPermutation-sym xs ys moved) (each_itself ys))
+    (each_moved (λ z. In z xs) xs ys moved (each_itself xs))
+
+-- the orders of the keys that are sorted by
+two : (a b c d : Bool) → is_lt (ordering_then (cond a Less (cond b Equal Greater)) (cond c Less (cond d Equal Greater))) ≡ (a || (b && c))
+two true b c d = refl
+two false false c d = refl
+two false true true d = refl
+two false true false true = refl
+two false true false false = refl
+
+pub goes_by_key : (x y : Task) → is_lt (ordering_then (nat_cmp x.key.job y.key.job) (nat_cmp x.key.index y.key.index)) ≡ precedes ByKey x y
+goes_by_key x y = two (ltb x.key.job y.key.job) (eqb x.key.job y.key.job) (ltb x.key.index y.key.index) (eqb x.key.index y.key.index)
+
 three : (a b c d e f : Bool) → is_lt (ordering_then (ordering_then (cond a Less (cond b Equal Greater)) (cond c Less (cond d Equal Greater))) (cond e Less (cond f Equal Greater))) ≡ (a || (b && (c || (d && e))))
 three true b c d e f = refl
 three false false c d e f = refl

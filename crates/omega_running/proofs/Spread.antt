@@ -1,25 +1,23 @@
 -- Tasks that are spread over several trees: what is put into one tree, taken out of it or looked up in it is so for all of them.
-use Rattle.std.proofs.Common.{◌≡◌, ℕ, ◌<◌, ◌≤◌, ◌+◌, ◌%◌, Bool, true, false, ◌||◌, not, eqb, cond, List, [], ◌∷◌, ◌++◌, length, length-append, length-set, map, get_or, set, zero, suc, nat_le, nat_lt, refl, ap, sym, subst, ◌∙◌, arith}
+use Rattle.std.proofs.Common.{◌≡◌, ℕ, ◌<◌, ◌≤◌, ◌+◌, ◌%◌, Bool, true, false, ◌||◌, not, eqb, cond, List, [], ◌∷◌, ◌++◌, length, length-append, length-set, map, get_or, set, zero, suc, nat_le, nat_lt, refl, ap, ap₂, sym, subst, ◌∙◌, arith}
 use Rattle.std.specs.List.{filter, list_any}
 use Rattle.std.proofs.lemmas.Bool.{both_ways, eqb-true, false_from_ne_true, leb-true, ltb-true, eq-eqb, ne_eqb, and_parts, or_left, or_right, or_from, not_from_true, not-false}
 use Rattle.std.proofs.lemmas.List.{length-map, get_or-map, get_or-set_same, get_or-set_other, map-set}
 use Rattle.std.proofs.lemmas.List.Elements.{filter-append}
 use Rattle.std.proofs.lemmas.List.Filters.{length-filter_both}
-use Rattle.std.specs.Option.{option_map}
 use Rattle.omega_model.specs.ExtraTasks.{first_extra, is_extra_of}
 use Rattle.omega_model.specs.Keys.{same_key}
 use Rattle.omega_model.specs.Cell.{task_at}
-use Rattle.omega_model.specs.Jobs.{other_of_job, stays_of_job}
 use Rattle.omega_model.specs.declared.cells.TaskKey.{TaskKey}
 use Rattle.omega_model.specs.declared.cells.Task.{Task}
 use Rattle.omega_running.specs.declared.orders.Order.{Order}
 use Rattle.omega_running.specs.declared.orders.Order.TheVariants.{ByKey, ByMachine}
 use Rattle.omega_running.specs.declared.nodes.Tree.{Tree}
 use Rattle.omega_running.specs.declared.nodes.Tree.TheVariants.{Leaf}
-use Rattle.omega_running.specs.Order.{Each, IsInOrder, precedes, is_apart, lead, spread, spread_key, put_in, taken_out, has_place, led_by}
+use Rattle.omega_running.specs.Order.{Each, IsInOrder, precedes, is_apart, lead, share, share_of, in_share, spread, spread_key, spread_machine, put_in, taken_out, has_place, led_by}
 use Rattle.omega_running.specs.Tree.{tasks_of}
 use Rattle.omega_running.specs.Forest.{is_at, with_tree, gathered, IsSpread}
-use Rattle.omega_running.proofs.Lists.{each_map, each_append, filter_none, filter_every}
+use Rattle.omega_running.proofs.Lists.{each_map, each_both, each_append, filter_none, filter_every}
 use Rattle.omega_running.proofs.Strict.{trans, ahead}
 use Rattle.omega_running.proofs.InOrder.{strict, apart_by_key, apart_by_machine}
 use Rattle.omega_running.proofs.Kept.{each_passes, each_filter, filter_both, irreflexive, rises_filter, rises_put, skip_put, find_in_filter}
@@ -28,12 +26,23 @@ use Rattle.omega_running.proofs.Kept.{each_passes, each_filter, filter_both, irr
 key_spread : (a b : TaskKey) → a.job ≡ b.job → a.index ≡ b.index → spread_key a ≡ spread_key b
 key_spread a b job index = rw (job, index) refl
 
+-- a machine's tree is named by the machine and by the share
+machine_spread : (a : Task) (machine number : ℕ) → a.machine ≡ machine → share a ≡ number → spread ByMachine a ≡ spread_machine machine number
+machine_spread a machine number on own = ap₂ spread_machine on own
+
+-- and the share by the key
+key_share : (a b : TaskKey) → a.job ≡ b.job → a.index ≡ b.index → share_of a ≡ share_of b
+key_share a b job index = rw (job, index) refl
+
 -- tasks at the same place of an order have the same tree
 spread_same : (order : Order) (a b : Task) → is_apart order a b ≡ false → spread order a ≡ spread order b
 spread_same ByKey a b e =
     let parts = and_parts (eqb a.key.job b.key.job) (eqb a.key.index b.key.index) (not-false _ (sym (apart_by_key a b) ∙ e)) in
     key_spread a.key b.key (eqb-true _ _ parts.0) (eqb-true _ _ parts.1)
-spread_same ByMachine a b e = eqb-true _ _ (and_parts _ _ (not-false _ (sym (apart_by_machine a b) ∙ e))).0
+spread_same ByMachine a b e =
+    let parts = and_parts (eqb a.machine b.machine) (same_key a.key b.key) (not-false _ (sym (apart_by_machine a b) ∙ e)) in
+    let keys = and_parts (eqb a.key.job b.key.job) (eqb a.key.index b.key.index) parts.1 in
+    machine_spread a b.machine (share b) (eqb-true _ _ parts.0) (key_share a.key b.key (eqb-true _ _ keys.0) (eqb-true _ _ keys.1))
 
 pub other_tree : (order : Order) (trees place : ℕ) (a b : Task) → is_at order trees place a ≡ true → is_at order trees place b ≡ false → is_apart order a b ≡ true
 other_tree order trees place a b h k = go (is_apart order a b) refl where
@@ -341,12 +350,20 @@ found_in_tree trees key xs =
     (λ y q. let parts = and_parts (eqb y.key.job key.job) (eqb y.key.index key.index) q in
     same_place ByKey trees (spread_key key) y (key_spread y.key key (eqb-true _ _ parts.0) (eqb-true _ _ parts.1)))
 
-pub led_in_tree : (trees machine : ℕ) (xs : List Task) → led_by ByMachine machine (filter (is_at ByMachine trees (machine % trees)) xs) ≡ led_by ByMachine machine xs
-led_in_tree trees machine xs =
+pub led_in_tree : (trees machine number : ℕ) (xs : List Task)
+    → filter (in_share number) (led_by ByMachine machine (filter (is_at ByMachine trees (spread_machine machine number % trees)) xs))
+    ≡ filter (in_share number) (led_by ByMachine machine xs)
+led_in_tree trees machine number xs =
     let led : Task → Bool = λ y. eqb (lead ByMachine y) machine in
-    filter_both led (is_at ByMachine trees (machine % trees)) xs
-    ∙ filter_every (is_at ByMachine trees (machine % trees)) (filter led xs)
-    (each_map (λ y. led y ≡ true) (λ y. is_at ByMachine trees (machine % trees) y ≡ true) (λ y q. same_place ByMachine trees machine y (eqb-true _ _ q)) (filter led xs) (each_passes led xs))
+    let there : Task → Bool = is_at ByMachine trees (spread_machine machine number % trees) in
+    let all = filter led xs in
+    let own = filter (in_share number) all in
+    ap (filter (in_share number)) (filter_both led there xs)
+    ∙ filter_both (in_share number) there all
+    ∙ filter_every there own
+    (each_both (λ y. in_share number y ≡ true) (λ y. led y ≡ true) (λ y. there y ≡ true)
+    (λ y p q. same_place ByMachine trees (spread_machine machine number) y (machine_spread y machine number (eqb-true _ _ q) (eqb-true _ _ p)))
+    own (each_passes (in_share number) all) (each_filter (λ y. led y ≡ true) (in_share number) all (each_passes led xs)))
 
 -- the extra tasks of a job stand in the tree that the job names
 extra_spread : (job : ℕ) (x : Task) → is_extra_of job x ≡ true → spread ByKey x ≡ job
@@ -375,12 +392,6 @@ extras_in_tree trees job xs =
     ∙ filter_both (is_extra_of job) (is_at ByKey trees (job % trees)) xs
     ∙ filter_every (is_at ByKey trees (job % trees)) (filter (is_extra_of job) xs)
     (each_map (λ y. is_extra_of job y ≡ true) (λ y. is_at ByKey trees (job % trees) y ≡ true) (λ y q. same_place ByKey trees job y (extra_spread job y q)) (filter (is_extra_of job) xs) (each_passes (is_extra_of job) xs))
-
-pub other_in_tree : (trees job machine : ℕ) (gone : List TaskKey) (xs : List Task) → other_of_job (filter (is_at ByMachine trees (machine % trees)) xs) job machine gone ≡ other_of_job xs job machine gone
-other_in_tree trees job machine gone xs =
-    ap (option_map (λ (y : Task). y.key))
-    (find_in_filter (stays_of_job job machine gone) (is_at ByMachine trees (machine % trees)) xs
-    (λ y q. same_place ByMachine trees machine y (eqb-true _ _ (and_parts _ _ (and_parts _ _ q).1).0)))
 
 pub place_at : (order : Order) (ts : List Tree) (i : ℕ) (t : Task) (tree : Tree) → i ≡ spread order t % length ts → i < length ts → IsSpread order (length ts) 0 (map tasks_of ts) → has_place order t (gathered order (map tasks_of ts)) ≡ true → tree ≡ get_or ts i tree → has_place order t (tasks_of tree) ≡ true
 place_at order ts i t tree named less s has old =

@@ -4,3 +4,4 @@ pub mod Forest
 pub mod Kept
 pub mod Standing
 pub mod Staying
+pub mod Others

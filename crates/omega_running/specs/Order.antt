@@ -1,5 +1,5 @@
 -- The two orders in which the running tasks are kept.
-use Rattle.std.specs.Prelude.{◌≡◌, ℕ, ◌+◌, ◌%◌, ◌^◌, Bool, true, List, [], ◌∷◌, ◌++◌, ◌==◌, ◌&&◌, ◌||◌, not, nat_lt, if◌then◌else◌}
+use Rattle.std.specs.Prelude.{◌≡◌, ℕ, ◌+◌, ◌*◌, ◌%◌, ◌^◌, Bool, true, List, [], ◌∷◌, ◌++◌, ◌==◌, ◌&&◌, ◌||◌, not, nat_le, nat_lt, if◌then◌else◌}
 use Rattle.std.specs.List.{filter, list_any}
 use Rattle.omega_model.specs.Keys.{key_lt}
 use Rattle.omega_model.specs.ExtraTasks.{first_extra}
@@ -7,6 +7,8 @@ use Rattle.omega_model.specs.declared.cells.Task.{Task}
 use Rattle.omega_model.specs.declared.cells.TaskKey.{TaskKey}
 use Rattle.omega_running.specs.declared.orders.Order.{Order}
 use Rattle.omega_running.specs.declared.orders.Order.TheVariants.{ByKey, ByMachine}
+use Rattle.omega_running.specs.declared.orders.Pick.{Pick}
+use Rattle.omega_running.specs.declared.orders.Pick.TheVariants.{Share, Extras}
 
 -- whether the first task stands before the second: by key, or by machine and then by key
 abbrev pub precedes : Order → Task → Task → Bool
@@ -27,10 +29,32 @@ lead ByMachine task = task.machine
 abbrev pub spread_key : TaskKey → ℕ
 spread_key key = if nat_lt key.index first_extra then (key.job + key.index) % 2 ^ 64 else key.job
 
--- the number that names the tree of a task: by its key, or by its machine
+-- which of the trees of a machine has the task of a key, of eight
+abbrev pub share_of : TaskKey → ℕ
+share_of key = (key.job + key.index) % 2 ^ 64 % 8
+
+-- which of the trees of its machine has a task: by its job and its index together, so that the tasks of a job stand
+-- in several
+abbrev pub share : Task → ℕ
+share task = share_of task.key
+
+-- whether a task stands in this one of the trees of its machine
+abbrev pub in_share : ℕ → Task → Bool
+in_share number task = share task == number
+
+-- the number that names one of a machine's trees
+abbrev pub spread_machine : ℕ → ℕ → ℕ
+spread_machine machine number = (machine * 8 + number) % 2 ^ 64
+
+-- the number that names the tree of a task: by its key, or by its machine and its share
 abbrev pub spread : Order → Task → ℕ
 spread ByKey task = spread_key task.key
-spread ByMachine task = task.machine
+spread ByMachine task = spread_machine task.machine (share task)
+
+-- which tasks are picked: those of a share, or extra tasks
+abbrev pub picks : Pick → Task → Bool
+picks (Share number) task = in_share number task
+picks Extras task = nat_le first_extra task.key.index
 
 -- whether a task stands before all of a job's tasks on a machine, by machine and key
 abbrev pub is_before : Task → ℕ → ℕ → Bool

@@ -1,5 +1,5 @@
 //! Several balanced trees of tasks in one of the two orders.
-ghost use Rattle.std.specs.Prelude.{◌≡◌, ◌<◌, ◌≤◌, ◌%◌, ◌++◌, [], true, length, option_map, IfOk, IfSome, OnOk, IsTrue, None};
+ghost use Rattle.std.specs.Prelude.{◌≡◌, ◌<◌, ◌≤◌, ◌%◌, ◌^◌, ◌++◌, [], true, length, option_map, IfOk, IfSome, OnOk, IsTrue, None};
 ghost use Rattle.std.specs.List.{filter};
 ghost use Rattle.omega_model.specs.Cell.{task_at};
 ghost use Rattle.omega_model.specs.Jobs.{other_of_job};
@@ -7,24 +7,28 @@ ghost use Rattle.omega_model.specs.Need.{minus};
 ghost use Rattle.omega_running.specs.declared.orders.Order.TheVariants.{ByKey, ByMachine};
 ghost use Rattle.omega_running.specs.declared.nodes.Tree.TheVariants.{Leaf};
 ghost use Rattle.omega_running.specs.Forest.{is_at};
-ghost use Rattle.omega_running.specs.Staying.{staying_on};
-ghost use Rattle.omega_running.specs.Order.{Each, IsInOrder, has_place, is_apart, led_by, put_in, taken_out};
+ghost use Rattle.omega_running.specs.Others.{first_of, other_in_share};
+ghost use Rattle.omega_running.specs.Staying.{staying_on, staying_of_share};
+ghost use Rattle.omega_model.specs.ExtraTasks.{is_extra_of};
+ghost use Rattle.std.specs.List.Sorted.{IsPermutation};
+ghost use Rattle.omega_running.specs.Order.{Each, IsInOrder, has_place, in_share, is_apart, led_by, put_in, taken_out};
 ghost use Rattle.omega_running.specs.Tree.{tasks_of};
 
 use crate::nodes::{Node, Tree};
-use crate::orders::{Order, spread_key};
+use crate::orders::{Order, Pick, SHARES, key_lt, spread_key, spread_machine};
 use omega_model::{Need, NoMemory, Task, TaskKey};
 use std::alloc::Global;
 use std::marker::Model;
 
-/// How many trees each of a board's two forests has: as many as there may be machines, so that few machines,
-/// or jobs, share one. A tree takes 16 bytes beside its nodes, so the two forests of a board take 2 MiB.
-pub(crate) const TREES: usize = 65_536;
+/// How many trees each of a board's two forests has: so many that a tree mostly has one task or two also where
+/// 100,000 run, since each further node on a way down is one that isn't in a processor's cache. A tree takes
+/// 16 bytes beside its nodes, so the two forests of a board take 8 MiB.
+pub(crate) const TREES: usize = 262_144;
 
-/// Tasks in one of the two orders. By machine, the tasks of a machine stand in one tree, which its number
-/// names. By key, a task of the trace stands in a tree that its job and its index name together, and the
-/// extra tasks of a job in one that the job names. So a way down is short however many tasks there are. A
-/// contract sees the list of the tasks, and how many trees there are: none until `plant`.
+/// Tasks in one of the two orders. By machine, the tasks of a machine stand in up to `SHARES` trees, which its number and
+/// the key of the task name together. By key, a task of the trace stands in a tree that its job and its index name
+/// together, and the extra tasks of a job in one that the job names. So a way down is short however many tasks there
+/// are. A contract sees the list of the tasks, and how many trees there are: none until `plant`.
 #[derive(Debug, Drop)]
 pub struct Forest {
     order: Order,
@@ -134,49 +138,116 @@ impl Forest {
         room
     }
 
-    /// Appends the tasks of a machine. Costs these, and one way down of one tree.
+    /// Appends the tasks of a machine, in any order. Costs these, and one way down of each of the machine's trees.
     pub fn collect(&self, machine: u64, found: &mut Vec<Task>) -> Result<(), NoMemory>
         requires { self.now.order ≡ ByMachine }
-        ensures { OnOk result (found.new.items ≡ found.old.items ++ led_by ByMachine machine self.now.tasks) }
+        ensures { OnOk result (IsPermutation (found.old.items ++ led_by ByMachine machine self.now.tasks) found.new.items) }
     {
-        match self.tree(machine) {
-            Some(tree) => tree.collect(self.order, machine, found),
+        for share in 0..SHARES {
+            self.collect_share(machine, share, found)?;
+        }
+        Ok(())
+    }
+
+    /// Appends the tasks of a machine that stand in one of its trees.
+    fn collect_share(&self, machine: u64, share: u64, found: &mut Vec<Task>) -> Result<(), NoMemory>
+        requires { self.now.order ≡ ByMachine }
+        ensures { OnOk result (found.new.items ≡ found.old.items ++ filter (in_share share) (led_by ByMachine machine self.now.tasks)) }
+    {
+        match self.tree(spread_machine(machine, share)) {
+            Some(tree) => tree.collect(self.order, machine, Pick::Share(share), found),
             None => Ok(()),
         }
     }
 
-    /// Appends the tasks of a job that stand in the tree with its extra tasks: these, and few others. Costs these,
-    /// and one way down of one tree.
-    pub fn collect_beside_extras(&self, job: u64, found: &mut Vec<Task>) -> Result<(), NoMemory>
+    /// Appends the extra tasks of a job, by index. Costs these and few others of the job's tasks, and one way
+    /// down of one tree.
+    pub fn collect_extras(&self, job: u64, found: &mut Vec<Task>) -> Result<(), NoMemory>
         requires { self.now.order ≡ ByKey }
-        ensures { OnOk result (found.new.items ≡ found.old.items
-            ++ led_by ByKey job (filter (is_at ByKey self.now.trees (job % self.now.trees)) self.now.tasks)) }
+        ensures { OnOk result (found.new.items ≡ found.old.items ++ filter (is_extra_of job) self.now.tasks) }
     {
         match self.tree(job) {
-            Some(tree) => tree.collect(self.order, job, found),
+            Some(tree) => tree.collect(self.order, job, Pick::Extras, found),
             None => Ok(()),
+        }
+    }
+
+    /// How many extra tasks of a job there are. Costs these and few others of the job's tasks, and one way down
+    /// of one tree.
+    pub fn count_extras(&self, job: u64) -> usize
+        requires by_key { self.now.order ≡ ByKey }
+        requires few { length self.now.tasks < 2 ^ 64 }
+        ensures { result ≡ length (filter (is_extra_of job) self.now.tasks) }
+    {
+        match self.tree(job) {
+            Some(tree) => tree.count(self.order, job, Pick::Extras),
+            None => 0,
         }
     }
 
     /// What is left of an amount when each task of at least this precedence on the machine has taken
-    /// its need; a component stops at 0. Costs the tasks on the machine, and one way down of one tree.
+    /// its need; a component stops at 0. Costs the tasks on the machine, and one way down of each of the machine's
+    /// trees.
     pub fn left_on(&self, machine: u64, prec: u8, amount: Need) -> Need
         requires { self.now.order ≡ ByMachine }
         ensures { result ≡ minus amount (staying_on prec self.now.tasks machine) }
     {
-        match self.tree(machine) {
-            Some(tree) => tree.left_on(machine, prec, amount),
+        let mut left = amount;
+        for share in 0..SHARES {
+            left = self.left_in_share(machine, share, prec, left);
+        }
+        left
+    }
+
+    /// What is left of an amount when each such task that stands in one of the machine's trees has taken its need.
+    fn left_in_share(&self, machine: u64, share: u64, prec: u8, amount: Need) -> Need
+        requires { self.now.order ≡ ByMachine }
+        ensures { result ≡ minus amount (staying_of_share prec self.now.tasks machine share) }
+    {
+        match self.tree(spread_machine(machine, share)) {
+            Some(tree) => tree.left_on(machine, share, prec, amount),
             None => amount,
         }
     }
 
-    /// The first of the job's tasks on the machine that isn't in `gone`. Costs those up to it, each
-    /// looked up in `gone`, and one way down of one tree.
+    /// The first of the job's tasks on the machine that isn't in `gone`. Costs those of the job on the machine, each
+    /// looked up in `gone`, and one way down of each of the machine's trees.
     pub fn other_of_job(&self, job: u64, machine: u64, gone: &[TaskKey]) -> Option<TaskKey>
-        requires { self.now.order ≡ ByMachine }
+        requires by_machine { self.now.order ≡ ByMachine }
+        requires ordered { IsInOrder ByMachine self.now.tasks }
         ensures { result ≡ other_of_job self.now.tasks job machine gone.now }
     {
-        self.tree(machine)?.other_of_job(job, machine, gone)
+        let mut first = None;
+        for share in 0..SHARES {
+            first = first_of(first, self.other_in_share(job, machine, share, gone));
+        }
+        first
+    }
+
+    /// The first of those that stand in one of the machine's trees.
+    fn other_in_share(
+        &self,
+        job: u64,
+        machine: u64,
+        share: u64,
+        gone: &[TaskKey],
+    ) -> Option<TaskKey>
+        requires { self.now.order ≡ ByMachine }
+        ensures { result ≡ other_in_share share self.now.tasks job machine gone.now }
+    {
+        self.tree(spread_machine(machine, share))?
+            .other_of_job(job, machine, share, gone)
+    }
+}
+
+/// The first of two keys, where both are there.
+fn first_of(one: Option<TaskKey>, other: Option<TaskKey>) -> Option<TaskKey>
+    ensures { result ≡ first_of one other }
+{
+    match (one, other) {
+        (Some(a), Some(b)) if key_lt(b, a) => Some(b),
+        (None, other) => other,
+        (one, _) => one,
     }
 }
 

@@ -2,7 +2,7 @@
 //!
 //! A caller sees them as a list in order of key, and a number: for how many more there is room.
 //! They are kept twice, in order of key and in order of machine and key, each time in many small
-//! balanced trees: the key or the machine says in which one. The nodes of all trees are made by
+//! balanced trees: the key says in which one, or the machine and the key together. The nodes of all trees are made by
 //! `reserve` and come back with `remove`, so that a task is put in and taken out without memory.
 #![tactic(auto)]
 
@@ -13,5 +13,5 @@ mod standing;
 mod table;
 
 pub use orders::{FIRST_EXTRA, is_among, key_lt};
-pub use standing::stands_in;
+pub use standing::{halves, stands_in, task_in};
 pub use table::{Running, keys_of};

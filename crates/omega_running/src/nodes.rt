@@ -1,14 +1,15 @@
 //! A balanced tree of tasks, in one of the two orders. It takes its nodes ready made.
-ghost use Rattle.std.specs.Prelude.{◌≡◌, ◌∷◌, ◌++◌, [], option_map, IfOk, OnOk, IsTrue, if◌then◌else◌};
+ghost use Rattle.std.specs.Prelude.{◌≡◌, ◌∷◌, ◌++◌, ◌&&◌, ◌<◌, ◌^◌, [], length, option_map, IfOk, OnOk, IsTrue, if◌then◌else◌};
+ghost use Rattle.std.specs.List.{filter};
 ghost use Rattle.omega_model.specs.Cell.{task_at};
-ghost use Rattle.omega_model.specs.Jobs.{other_of_job};
+ghost use Rattle.omega_running.specs.Others.{other_in_share};
 ghost use Rattle.omega_model.specs.Need.{minus};
 ghost use Rattle.omega_running.specs.declared.orders.Order.TheVariants.{ByKey, ByMachine};
-ghost use Rattle.omega_running.specs.Staying.{staying_on, stays_against};
-ghost use Rattle.omega_running.specs.Order.{IsInOrder, put_in, taken_out, has_place, led_by};
+ghost use Rattle.omega_running.specs.Staying.{staying_of_share, stays_against};
+ghost use Rattle.omega_running.specs.Order.{IsInOrder, in_share, put_in, taken_out, has_place, led_by, picks};
 ghost use Rattle.omega_running.specs.Tree.{tasks_of, tasks_at};
 
-use crate::orders::{Order, is_among, is_before, is_behind, key_lt};
+use crate::orders::{Order, Pick, is_among, is_before, is_behind, key_lt, share_of};
 use omega_model::{Need, NoMemory, Spec, Task, TaskKey};
 use std::alloc::Global;
 use std::mem;
@@ -156,79 +157,120 @@ impl Tree {
         None
     }
 
-    /// Appends, in order, the tasks of which the order's first number is this one. Costs what they
-    /// are, and one way down.
-    pub fn collect(&self, order: Order, number: u64, found: &mut Vec<Task>) -> Result<(), NoMemory>
+    /// Appends, in order, those of the tasks that are picked of which the order's first number is this one.
+    /// Costs the tasks of this number, and one way down.
+    pub fn collect(
+        &self,
+        order: Order,
+        number: u64,
+        pick: Pick,
+        found: &mut Vec<Task>,
+    ) -> Result<(), NoMemory>
         requires { IsInOrder order (tasks_of self.now) }
-        ensures { OnOk result (found.new.items ≡ found.old.items ++ led_by order number (tasks_of self.now)) }
+        ensures { OnOk result (found.new.items ≡ found.old.items ++ filter (picks pick) (led_by order number (tasks_of self.now))) }
     {
         let Tree::Fork(_height, node) = self else {
             return Ok(());
         };
         let here = order.lead(&node.task);
         if here < number {
-            return node.right.collect(order, number, found);
+            return node.right.collect(order, number, pick, found);
         }
         if number < here {
-            return node.left.collect(order, number, found);
+            return node.left.collect(order, number, pick, found);
         }
-        node.left.collect(order, number, found)?;
-        found.push(node.task)?;
-        node.right.collect(order, number, found)
+        node.left.collect(order, number, pick, found)?;
+        if pick.picks(&node.task) {
+            found.push(node.task)?;
+        }
+        node.right.collect(order, number, pick, found)
     }
 
-    /// What is left of an amount when each task of at least this precedence on the machine has taken
-    /// its need; a component stops at 0. Costs the tasks on the machine, and one way down.
-    pub fn left_on(&self, machine: u64, prec: u8, amount: Need) -> Need
+    /// How many of the tasks are picked of which the order's first number is this one. Costs the tasks of this
+    /// number, and one way down.
+    pub fn count(&self, order: Order, number: u64, pick: Pick) -> usize
+        requires ordered { IsInOrder order (tasks_of self.now) }
+        requires few { length (tasks_of self.now) < 2 ^ 64 }
+        ensures { result ≡ length (filter (picks pick) (led_by order number (tasks_of self.now))) }
+    {
+        let Tree::Fork(_height, node) = self else {
+            return 0;
+        };
+        let here = order.lead(&node.task);
+        if here < number {
+            return node.right.count(order, number, pick);
+        }
+        if number < here {
+            return node.left.count(order, number, pick);
+        }
+        let beside = node.left.count(order, number, pick) + node.right.count(order, number, pick);
+        if pick.picks(&node.task) {
+            beside + 1
+        } else {
+            beside
+        }
+    }
+
+    /// What is left of an amount when each task of at least this precedence on the machine that stands in this
+    /// one of its trees has taken its need; a component stops at 0. Costs the tasks on the machine, and one way
+    /// down.
+    pub fn left_on(&self, machine: u64, share: u64, prec: u8, amount: Need) -> Need
         requires { IsInOrder ByMachine (tasks_of self.now) }
-        ensures { result ≡ minus amount (staying_on prec (tasks_of self.now) machine) }
+        ensures { result ≡ minus amount (staying_of_share prec (tasks_of self.now) machine share) }
     {
         let Tree::Fork(_height, node) = self else {
             return amount;
         };
         let here = node.task.machine;
         if here < machine {
-            return node.right.left_on(machine, prec, amount);
+            return node.right.left_on(machine, share, prec, amount);
         }
         if machine < here {
-            return node.left.left_on(machine, prec, amount);
+            return node.left.left_on(machine, share, prec, amount);
         }
-        let before = node.left.left_on(machine, prec, amount);
-        let beside = left_beside(&node.task, prec, before);
-        node.right.left_on(machine, prec, beside)
+        let before = node.left.left_on(machine, share, prec, amount);
+        let beside = left_beside(&node.task, share, prec, before);
+        node.right.left_on(machine, share, prec, beside)
     }
 
-    /// The first of the job's tasks on the machine that isn't in `gone`. Costs those up to it, each
-    /// looked up in `gone`, and one way down.
-    pub fn other_of_job(&self, job: u64, machine: u64, gone: &[TaskKey]) -> Option<TaskKey>
+    /// The first of the job's tasks on the machine that stands in this one of its trees and isn't in `gone`. Costs
+    /// those of the job up to it, each looked up in `gone`, and one way down.
+    pub fn other_of_job(
+        &self,
+        job: u64,
+        machine: u64,
+        share: u64,
+        gone: &[TaskKey],
+    ) -> Option<TaskKey>
         requires { IsInOrder ByMachine (tasks_of self.now) }
-        ensures { result ≡ other_of_job (tasks_of self.now) job machine gone.now }
+        ensures { result ≡ other_in_share share (tasks_of self.now) job machine gone.now }
     {
         let Tree::Fork(_height, node) = self else {
             return None;
         };
         if is_before(&node.task, machine, job) {
-            return node.right.other_of_job(job, machine, gone);
+            return node.right.other_of_job(job, machine, share, gone);
         }
         if is_behind(&node.task, machine, job) {
-            return node.left.other_of_job(job, machine, gone);
+            return node.left.other_of_job(job, machine, share, gone);
         }
-        let earlier = node.left.other_of_job(job, machine, gone);
+        let earlier = node.left.other_of_job(job, machine, share, gone);
         if earlier.is_some() {
             return earlier;
         }
-        if !is_among(node.task.key, gone) {
+        if share_of(node.task.key) == share && !is_among(node.task.key, gone) {
             return Some(node.task.key);
         }
-        node.right.other_of_job(job, machine, gone)
+        node.right.other_of_job(job, machine, share, gone)
     }
 }
 
-/// What is left of an amount when a task of at least this precedence has taken its need.
-fn left_beside(task: &Task, prec: u8, amount: Need) -> Need
-    ensures { result ≡ (if stays_against prec task.now then minus amount task.now.spec.need else amount) }
+/// What is left of an amount when a task of at least this precedence has taken its need, if it stands in this one
+/// of the trees of its machine.
+fn left_beside(task: &Task, share: u64, prec: u8, amount: Need) -> Need
+    ensures { result ≡ (if in_share share task.now && stays_against prec task.now then minus amount task.now.spec.need else amount) }
 {
-    if prec <= task.spec.prec {
+    if share_of(task.key) == share && prec <= task.spec.prec {
         return amount.minus(task.spec.need);
     }
     amount

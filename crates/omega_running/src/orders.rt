@@ -1,12 +1,36 @@
 //! The two orders in which the running tasks are kept.
-ghost use Rattle.std.specs.Prelude.{◌≡◌};
+ghost use Rattle.std.specs.Prelude.{◌≡◌, ◌<◌};
 ghost use Rattle.omega_model.specs.Keys.{key_lt, is_among};
-ghost use Rattle.omega_running.specs.Order.{precedes, lead, spread, spread_key, is_before, is_behind};
+ghost use Rattle.omega_running.specs.Order.{precedes, lead, picks, share_of, spread, spread_key, spread_machine, is_before, is_behind};
 
 use omega_model::{Task, TaskKey};
 
 /// The least index of an extra task; the tasks of the trace have lower ones.
 pub const FIRST_EXTRA: u32 = 2_147_483_648;
+
+/// Among how many trees the tasks of a machine are spread, so that each has few of them.
+pub const SHARES: u64 = 8;
+
+/// Which tasks are picked.
+#[derive(Clone, Copy, Debug)]
+pub enum Pick {
+    /// Those of a machine that stand in this one of its trees, from 0 and below `SHARES`.
+    Share(u64),
+    /// Extra tasks.
+    Extras,
+}
+
+impl Pick {
+    /// Whether a task is picked.
+    pub fn picks(self, task: &Task) -> bool
+        ensures { result ≡ picks self task.now }
+    {
+        match self {
+            Pick::Share(share) => share_of(task.key) == share,
+            Pick::Extras => task.key.index >= FIRST_EXTRA,
+        }
+    }
+}
 
 /// An order of tasks: by key, or by machine and then by key.
 #[derive(Clone, Copy, Debug)]
@@ -44,7 +68,7 @@ impl Order {
     {
         match self {
             Order::ByKey => spread_key(task.key),
-            Order::ByMachine => task.machine,
+            Order::ByMachine => spread_machine(task.machine, share_of(task.key)),
         }
     }
 }
@@ -59,6 +83,21 @@ pub fn spread_key(key: TaskKey) -> u64
     } else {
         key.job
     }
+}
+
+/// Which of the trees of a machine has the task of a key, counted from 0. They are below `SHARES`.
+pub fn share_of(key: TaskKey) -> u64
+    ensures share { result ≡ share_of key }
+    ensures below { result < 8 }
+{
+    key.job.wrapping_add(u64::from(key.index)) % SHARES
+}
+
+/// The number that names one of a machine's trees; the share is below `SHARES`.
+pub fn spread_machine(machine: u64, share: u64) -> u64
+    ensures { result ≡ spread_machine machine share }
+{
+    machine.wrapping_mul(SHARES).wrapping_add(share)
 }
 
 /// Whether the first key stands before the second.

@@ -19,15 +19,15 @@ pub fn stands_in(tasks: &[Task], task: &Task) -> bool
     }
 }
 
-/// The task of this key among tasks in order of key.
-fn task_in(tasks: &[Task], key: TaskKey) -> Option<&Task>
+/// The task of this key among tasks in order of key. Takes time logarithmic in their number.
+pub fn task_in(tasks: &[Task], key: TaskKey) -> Option<&Task>
     requires { KeysRise tasks.now }
     ensures { option_map (λ task. task.now) result ≡ task_at tasks.now key }
 {
     if tasks.is_empty() {
         return None;
     }
-    let (before, task, behind) = parted(tasks);
+    let (before, task, behind) = halves(tasks);
     if key_lt(key, task.key) {
         return task_in(before, key);
     }
@@ -37,8 +37,8 @@ fn task_in(tasks: &[Task], key: TaskKey) -> Option<&Task>
     Some(task)
 }
 
-/// The tasks before the one in the middle, that one, and those behind it.
-fn parted(tasks: &[Task]) -> (&[Task], &Task, &[Task])
+/// The tasks before the one in the middle, that one, and those behind it. There is at least one.
+pub fn halves(tasks: &[Task]) -> (&[Task], &Task, &[Task])
     requires { 0 < length tasks.now }
     ensures { tasks.now ≡ result.0.now ++ result.1.now ∷ result.2.now }
 {

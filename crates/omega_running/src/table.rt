@@ -1,8 +1,8 @@
 //! The running tasks.
-ghost use Rattle.std.specs.Prelude.{◌≡◌, ◌+◌, ◌≤◌, ◌<◌, [], ◌∷◌, max, length, nat_le, option_map, IsOk, IfOk, OnOk, is_some, None, Some, vec_len, vec_capacity, if◌then◌else◌};
+ghost use Rattle.std.specs.Prelude.{◌≡◌, ◌+◌, ◌≤◌, ◌<◌, [], ◌∷◌, max, length, option_map, IsOk, IfOk, OnOk, is_some, None, Some, vec_len, vec_capacity, if◌then◌else◌};
 ghost use Rattle.std.specs.List.{filter};
 ghost use Rattle.omega_model.specs.Cell.{task_at, with_task, without, is_on, by_rank, keys_of};
-ghost use Rattle.omega_model.specs.ExtraTasks.{first_extra, is_extra_of};
+ghost use Rattle.omega_model.specs.ExtraTasks.{is_extra_of};
 ghost use Rattle.omega_model.specs.Jobs.{other_of_job};
 ghost use Rattle.omega_model.specs.Need.{minus};
 ghost use Rattle.omega_running.specs.Staying.{staying_on};
@@ -11,7 +11,7 @@ ghost use Rattle.omega_running.specs.Standing.{stands_in};
 
 use crate::forest::{Forest, TREES};
 use crate::nodes::Node;
-use crate::orders::{FIRST_EXTRA, Order};
+use crate::orders::{Order, SHARES};
 use crate::standing::same_task;
 use omega_model::{Keys, Need, NoMemory, Seq, Task, TaskKey, Tasks};
 use std::alloc::Global;
@@ -98,14 +98,14 @@ impl Running {
         fill(&mut self.pool, alloc, n)
     }
 
-    /// Makes one tree for all tasks in each order, where there are no trees yet: for a table of few tasks,
-    /// of which a program may have many. The tasks and the room stay as they are.
+    /// Makes one tree for all tasks by key and one for each share by machine, where there are no trees yet: for a
+    /// table of few tasks, of which a program may have many. The tasks and the room stay as they are.
     pub fn keep_small(&mut self, alloc: Global) -> Result<(), NoMemory>
         ensures tasks { self.new.tasks ≡ self.old.tasks }
         ensures spare { self.new.spare ≡ self.old.spare }
     {
         self.by_key.plant(alloc, 1)?;
-        self.by_machine.plant(alloc, 1)?;
+        self.by_machine.plant(alloc, SHARES as usize)?;
         Ok(())
     }
 
@@ -159,13 +159,14 @@ impl Running {
         keys_of(alloc, &found)
     }
 
-    /// The tasks on a machine in order of key. Takes the time of what the machine has, and
+    /// The tasks on a machine in order of key. With k tasks on the machine, takes time k log k, and
     /// logarithmic in the number of tasks.
     pub fn tasks_on(&self, alloc: Global, machine: u64) -> Result<Tasks, NoMemory>
         ensures { IfOk result (λ tasks. tasks ≡ filter (is_on machine) self.now.tasks) }
     {
         let mut found = Vec::new(alloc);
         self.by_machine.collect(machine, &mut found)?;
+        found.sort_unstable_by_key(|task| (task.key.job, task.key.index));
         Ok(Seq::of(found))
     }
 
@@ -194,8 +195,16 @@ impl Running {
         ensures { IfOk result (λ tasks. tasks ≡ filter (is_extra_of job) self.now.tasks) }
     {
         let mut found = Vec::new(alloc);
-        self.by_key.collect_beside_extras(job, &mut found)?;
-        extras_among(alloc, &found)
+        self.by_key.collect_extras(job, &mut found)?;
+        Ok(Seq::of(found))
+    }
+
+    /// How many extra tasks of a job run. Takes the time of these and of few others of the job's tasks, and
+    /// logarithmic in the number of tasks.
+    pub fn count_extras(&self, job: u64) -> usize
+        ensures { result ≡ length (filter (is_extra_of job) self.now.tasks) }
+    {
+        self.by_key.count_extras(job)
     }
 
     /// The key of the job's task on the machine with the least index that isn't in `gone`; `None`
@@ -235,17 +244,4 @@ pub fn keys_of(alloc: Global, tasks: &[Task]) -> Result<Keys, NoMemory>
         keys.push(task.key)?;
     }
     Ok(Seq::of(keys))
-}
-
-/// Those of some tasks that have the index of an extra task.
-fn extras_among(alloc: Global, tasks: &[Task]) -> Result<Tasks, NoMemory>
-    ensures { IfOk result (λ found. found ≡ filter (λ task. nat_le first_extra task.key.index) tasks.now) }
-{
-    let mut found = Tasks::new(alloc);
-    for task in tasks {
-        if task.key.index >= FIRST_EXTRA {
-            found.push(*task)?;
-        }
-    }
-    Ok(found)
 }

@@ -1,18 +1,18 @@
-use Rattle.std.proofs.Common.{◌≡◌, ◌%◌, ap, ◌∙◌}
-use Rattle.std.specs.List.{filter}
-use Rattle.omega_running.specs.Forest.{is_at}
-use Rattle.omega_running.specs.Order.{led_by}
-use Rattle.omega_running.specs.Tree.{tasks_of}
+use Rattle.std.proofs.Common.{◌≡◌, rules}
 use Rattle.omega_running.specs.declared.orders.Order.TheVariants.{ByMachine}
-use Rattle.omega_running.proofs.Spread.{led_in_tree}
+use Rattle.omega_running.specs.Order.{led_by}
+use Rattle.omega_running.proofs.Shares.{found_none, found_more, found_all}
 use Rattle.omega_running.proofs.forest.Forest.collect.Goals as goal
 
-pub returns-in-Some : goal.returns-in-Some
-returns-in-Some c =
-    let forest = c.args.self.now in
-    let machine = c.args.machine in
-    let led : led_by ByMachine machine (tasks_of c.in-Some.tree.now) ≡ led_by ByMachine machine forest.tasks =
-    ap (led_by ByMachine machine) (c.in-Some.ensures.part ∙ ap (λ order. filter (is_at order forest.trees (machine % forest.trees)) forest.tasks) c.requires)
-    ∙ led_in_tree forest.trees machine forest.tasks in
-    let by : c.self.inside.order ≡ ByMachine = rw (← c.self.view_is) at c.requires in
-    rw (← led, ← by) c.collect.ensures
+pub loop-share-init : goal.loop-share-init
+loop-share-init c = found_none c.args.found.now.items (led_by ByMachine c.args.machine c.args.self.now.tasks)
+
+pub loop-share-preserved : goal.loop-share-preserved
+loop-share-preserved c =
+    found_more c.loop-share.share c.args.found.now.items c.loop-share.found.items c.collect_share.new.found.items (led_by ByMachine c.args.machine c.args.self.now.tasks)
+    c.loop-share.invariant c.in_ok-collect_share.ensures
+
+pub returns : goal.returns
+returns c =
+    let last : c.loop-share.share ≡ 8 = search rules in
+    found_all c.args.found.now.items c.loop-share.found.items (led_by ByMachine c.args.machine c.args.self.now.tasks) (rw last at c.loop-share.invariant)

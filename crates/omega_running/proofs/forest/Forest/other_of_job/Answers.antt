@@ -1,14 +1,21 @@
-use Rattle.std.proofs.Common.{◌≡◌, ◌%◌, ap, ◌∙◌}
-use Rattle.std.specs.List.{filter}
-use Rattle.omega_model.specs.Jobs.{other_of_job}
-use Rattle.omega_running.specs.declared.orders.Order.TheVariants.{ByMachine}
-use Rattle.omega_running.specs.Forest.{is_at}
-use Rattle.omega_running.specs.Tree.{tasks_of}
-use Rattle.omega_running.proofs.Spread.{other_in_tree}
+use Rattle.std.proofs.Common.{◌≡◌, sym, ap, ap₂, ◌∙◌, arith}
+use Rattle.omega_running.specs.Others.{first_of}
+use Rattle.omega_running.proofs.Others.{no_other_below, other_of_all, one_more_share, other_below}
 use Rattle.omega_running.proofs.forest.Forest.other_of_job.Goals as goal
+
+pub loop-share-init : goal.loop-share-init
+loop-share-init c = sym (no_other_below c.args.job c.args.machine c.args.gone.now c.args.self.now.tasks)
+
+pub loop-share-preserved : goal.loop-share-preserved
+loop-share-preserved c =
+    let now = c.args.self.now in
+    c.first_of-first.ensures
+    ∙ ap₂ first_of c.loop-share.invariant c.other_in_share.ensures
+    ∙ one_more_share c.loop-share.share c.args.job c.args.machine c.args.gone.now now.tasks c.requires.ordered
 
 pub returns : goal.returns
 returns c =
-    let now = c.args.self.now in
-    let part : tasks_of c.in_ok-tree.field-0.now ≡ filter (is_at ByMachine now.trees (c.args.machine % now.trees)) now.tasks = rw c.requires at c.in_ok-tree.ensures.part in
-    c.other_of_job.ensures ∙ ap (λ tasks. other_of_job tasks c.args.job c.args.machine c.args.gone.now) part ∙ other_in_tree now.trees c.args.job c.args.machine c.args.gone.now now.tasks
+    let all : c.loop-share.share ≡ 8 = omega (arith, c.loop-share-test.false, c.loop-share.auto.share-end) in
+    c.loop-share.invariant
+    ∙ ap (λ n. other_below n c.args.self.now.tasks c.args.job c.args.machine c.args.gone.now) all
+    ∙ other_of_all c.args.job c.args.machine c.args.gone.now c.args.self.now.tasks
