@@ -31,7 +31,7 @@ const SPEC: Spec = Spec {
 ///
 /// `count` answers how many there are; `on_machine MACHINE` the names of a machine's tasks in order of
 /// eviction, `tasks_on MACHINE` the tasks in order of name; `extras_of_job JOB` a job's tasks whose
-/// index is that of an extra task, 2^31 or more; `left_on MACHINE PRECEDENCE AMOUNT` what a machine's tasks of at least
+/// index is that of an extra task, 2^31 or more, and `count_extras JOB` how many these are; `left_on MACHINE PRECEDENCE AMOUNT` what a machine's tasks of at least
 /// this precedence leave of an amount; `has TASK` whether just this task is there, equal in all parts; and
 /// `other_of_job JOB MACHINE NAMES` the first of a job's tasks on a machine that isn't among these.
 /// Names are parted by commas, tasks by blanks, and `-` stands for none.
@@ -108,9 +108,9 @@ fn show_removed(running: &mut Running, key: TaskKey, answers: &mut String) -> Re
     show_found(answers, removed.as_ref())
 }
 
-/// Appends how many tasks there are.
-fn show_count(running: &Running, answers: &mut String) -> Result<(), Fault> {
-    write!(answers, "{}", running.count())?;
+/// Appends a number of tasks.
+fn show_count(count: usize, answers: &mut String) -> Result<(), Fault> {
+    write!(answers, "{}", count)?;
     Ok(())
 }
 
@@ -123,7 +123,8 @@ fn ask(
     answers: &mut String,
 ) -> Result<(), Fault> {
     match (call, words) {
-        ("count", []) => show_count(running, answers),
+        ("count", []) => show_count(running.count(), answers),
+        ("count_extras", [job]) => show_count(running.count_extras(number(job)?), answers),
         ("get", [name]) => show_found(answers, running.get(task(name)?)),
         ("has", _) => show_has(running, &running_task(words)?, answers),
         ("left_on", [machine, prec, amount]) => {
