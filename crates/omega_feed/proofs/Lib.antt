@@ -16,3 +16,4 @@ pub mod ExtraIndexes
 pub mod HeldExtras
 pub mod Parts
 pub mod Slots
+pub mod Marking

@@ -2,8 +2,10 @@
 ghost use Rattle.std.specs.Prelude.{◌≡◌, ◌≤◌, IfOk, IfSome};
 ghost use Rattle.omega_model.specs.Fields.{most_activities};
 ghost use Rattle.omega_feed.specs.Asked.{activities_in};
+ghost use Rattle.omega_feed.specs.Marks.{AreMarkedJobs};
 
 use crate::last::last_of;
+use crate::marks::Marks;
 use omega_model::{ActivityRow, NoMemory, Seq};
 use std::alloc::Global;
 use std::collections::BTreeMap;
@@ -15,6 +17,8 @@ use std::snapshot::Snapshot;
 pub struct JobActivities {
     rows: Snapshot<Seq<ActivityRow>>,
     last: BTreeMap<u64, u64>,
+    /// The jobs that have any are marked.
+    marks: Marks,
 }
 
 impl Model for JobActivities {
@@ -26,7 +30,9 @@ impl Model for JobActivities {
 
     ghost view = { λ activities. activities.rows.value };
 
-    ghost invariant = { λ activities. AreLastActivities activities.last activities.rows.value };
+    ghost use Rattle.omega_feed.specs.Marks.{AreMarkedJobs};
+
+    ghost invariant = { λ activities. AreLastActivities activities.last activities.rows.value × AreMarkedJobs activities.marks activities.rows.value };
 }
 
 impl JobActivities {
@@ -35,19 +41,36 @@ impl JobActivities {
         ensures { IfOk result (λ activities. activities ≡ rows.now) }
     {
         let last = last_of(alloc, rows.as_slice())?;
+        let marks = marked(alloc, rows.as_slice())?;
         Ok(JobActivities {
             rows: Snapshot::of(rows),
             last,
+            marks,
         })
     }
 
     /// The activities of a job: those of the last row for it. `None` exactly where it has none, and
-    /// so is no MapReduce job. Costs the logarithm of the number of jobs that have any.
+    /// so is no MapReduce job. Costs the logarithm of the number of jobs that have any, and for a job without,
+    /// while few have any, mostly a look at its mark.
     pub fn of(&self, job: u64) -> Option<u32>
         ensures activities { result ≡ activities_in self.now job }
         ensures range { IfSome result (λ activities. activities ≤ most_activities) }
     {
+        if !self.marks.has(job) {
+            return None;
+        }
         let activities = self.last.get(&job)?;
         Some(*activities as u32)
     }
+}
+
+/// Marks of the jobs that these rows name.
+fn marked(alloc: Global, rows: &[ActivityRow]) -> Result<Marks, NoMemory>
+    ensures { IfOk result (λ marks. AreMarkedJobs marks rows.now) }
+{
+    let mut marks = Marks::none(alloc);
+    for row in rows {
+        marks.mark(row.job)?;
+    }
+    Ok(marks)
 }

@@ -3,7 +3,9 @@ ghost use Rattle.std.specs.Prelude.{◌≡◌, ◌++◌, map, slice_get, IfOk, O
 ghost use Rattle.std.specs.List.{filter_map};
 ghost use Rattle.omega_feed.specs.Asked.{constraints_for};
 ghost use Rattle.omega_feed.specs.Listed.{AreListed};
+ghost use Rattle.omega_feed.specs.Marks.{AreMarkedTasks, mark_of};
 
+use crate::marks::Marks;
 use omega_model::{ConstraintRow, Constraints, Copied, NoMemory, Seq, TaskKey};
 use std::alloc::Global;
 use std::collections::BTreeMap;
@@ -14,6 +16,8 @@ use std::marker::Model;
 pub struct TaskConstraints {
     rows: Seq<ConstraintRow>,
     places: BTreeMap<TaskKey, Seq<usize>>,
+    /// The tasks that have any are marked.
+    marks: Marks,
 }
 
 impl Model for TaskConstraints {
@@ -26,7 +30,9 @@ impl Model for TaskConstraints {
 
     ghost view = { λ constraints. constraints.rows };
 
-    ghost invariant = { λ constraints. AreListed constraints.places constraints.rows };
+    ghost use Rattle.omega_feed.specs.Marks.{AreMarkedTasks};
+
+    ghost invariant = { λ constraints. AreListed constraints.places constraints.rows × AreMarkedTasks constraints.marks constraints.rows };
 }
 
 impl TaskConstraints {
@@ -35,19 +41,45 @@ impl TaskConstraints {
         ensures { IfOk result (λ constraints. constraints ≡ rows) }
     {
         let places = places_of(alloc, rows.as_slice())?;
-        Ok(TaskConstraints { rows, places })
+        let marks = marked(alloc, rows.as_slice())?;
+        Ok(TaskConstraints {
+            rows,
+            places,
+            marks,
+        })
     }
 
     /// The constraints of a task in the order of the file. Costs what they are, and the logarithm of
-    /// the number of tasks that have any.
+    /// the number of tasks that have any; for a task without, while few have any, mostly a look at its mark.
     pub fn of(&self, alloc: Global, key: TaskKey) -> Result<Constraints, NoMemory>
         ensures { IfOk result (λ constraints. constraints ≡ constraints_for self.now key) }
     {
+        if !self.marks.has(mark_of(key)) {
+            return Ok(Constraints::new(alloc));
+        }
         match self.places.get(&key) {
             Some(places) => copied(alloc, &self.rows, places.as_slice()),
             None => Ok(Constraints::new(alloc)),
         }
     }
+}
+
+/// The number by which a task is marked.
+fn mark_of(key: TaskKey) -> u64
+    ensures { result ≡ mark_of key }
+{
+    key.job.wrapping_add(u64::from(key.index))
+}
+
+/// Marks of the tasks that these rows name.
+fn marked(alloc: Global, rows: &[ConstraintRow]) -> Result<Marks, NoMemory>
+    ensures { IfOk result (λ marks. AreMarkedTasks marks rows.now) }
+{
+    let mut marks = Marks::none(alloc);
+    for row in rows {
+        marks.mark(mark_of(row.key))?;
+    }
+    Ok(marks)
 }
 
 /// The constraints of the rows at these places.

@@ -12,15 +12,6 @@ use omega_model::{Extra, Need, NoMemory, TaskKey};
 use omega_running::{FIRST_EXTRA, Running};
 use std::alloc::Global;
 
-/// How many extras of a job run. Costs these and few others of the job's running tasks, and the logarithm of the
-/// number of all.
-pub fn running_extra_count(alloc: Global, running: &Running, job: u64) -> Result<usize, NoMemory>
-    ensures { IfOk result (λ count. count ≡ length (filter (is_extra_of job) running.now.tasks)) }
-{
-    let extras = running.extras_of_job(alloc, job)?;
-    Ok(extras.len())
-}
-
 /// How many more extras a job with these activities gets on the cell of a board, where `wanted` of its
 /// tasks are wanted and `running` extras run. Each extra needs `need`. Takes the same time for any number
 /// of machines.

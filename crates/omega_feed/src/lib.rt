@@ -15,6 +15,7 @@ mod events;
 mod extras;
 mod jobs;
 mod last;
+mod marks;
 mod notes;
 mod open_jobs;
 mod rounds;

@@ -64,8 +64,7 @@ impl OpenJobs {
     /// waits, and that gets no extras, since it has no activities, no wanted task, or all its extras. A
     /// refused call leaves what is open. Costs the slots that are left of each open job, up to its first task
     /// that waits, and of each wanted task the logarithm of the number of those that run; of a job with
-    /// activities its running extras and few others of its running tasks, and the memory of these extras; and
-    /// memory for the jobs that stay open.
+    /// activities its running extras and few others of its running tasks; and memory for the jobs that stay open.
     pub fn settle(&mut self, alloc: Global, wanted: &Wanted, board: &Board) -> Result<(), NoMemory>
         requires { OthersAreQuiet self.old wanted.now board.now.tasks }
         ensures ok { OnOk result (OthersAreQuiet self.new wanted.now board.now.tasks) }
@@ -75,7 +74,7 @@ impl OpenJobs {
     {
         let mut places = BTreeSet::new(alloc);
         for place in self.places.iter() {
-            if !wanted.is_quiet_at(alloc, *place, board)? {
+            if !wanted.is_quiet_at(*place, board) {
                 places.insert(*place)?;
             }
         }

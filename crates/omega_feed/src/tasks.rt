@@ -10,6 +10,7 @@ ghost use Rattle.omega_feed.specs.Index.{changed_by, wanted_task};
 ghost use Rattle.omega_feed.specs.Open.{RunsIfOf};
 ghost use Rattle.omega_feed.specs.Parts.{AreParts, BelongsAt, NeverFall, StandsAt, joined, waiting_jobs};
 
+use crate::jobs::Jobs;
 use crate::notes::PlaceNotes;
 use crate::task_list::TaskList;
 use omega_model::{NoMemory, Spec, TaskKey, TaskRow};
@@ -55,28 +56,23 @@ impl Model for WantedTasks {
 }
 
 impl WantedTasks {
-    /// No tasks, and for each of these jobs, each of which stands there once, a place with a slot for each of its
-    /// tasks that these rows submit or schedule. Each row's job is one of them. Costs a look at each row, the
-    /// logarithm of the number of jobs for each job and each row of another job than the row before it, and the
-    /// tasks of each job, times the logarithm of their number where they don't come in order. Takes the memory of
-    /// the slots, and while it runs that of a list for each job with the tasks' keys; where a job's keys don't
-    /// rise, one of them may stand there once for each of its rows.
-    pub fn of_rows(
-        alloc: Global,
-        rows: &[TaskRow],
-        mut jobs: Vec<u64>,
-    ) -> Result<WantedTasks, NoMemory>
+    /// No tasks, and for each of these jobs a place with a slot for each of its tasks that these rows submit or
+    /// schedule. Each row's job is one of them. Costs a look-up of the job for each such row, a sort of the jobs,
+    /// and the tasks of each job, times the logarithm of their number where they don't come in order. Takes the
+    /// memory of the slots, and while it runs that of a list for each job with the tasks' keys; where a job's
+    /// keys don't rise, one of them may stand there once for each of its rows.
+    pub fn of_rows(alloc: Global, rows: &[TaskRow], jobs: &Jobs) -> Result<WantedTasks, NoMemory>
         ensures { IfOk result (λ tasks. tasks ≡ []) }
     {
-        jobs.sort_unstable();
-        let mut tasks = WantedTasks::for_count(alloc, jobs.len())?;
-        let keys = keys_by_place(alloc, rows, &jobs)?;
-        for (job, mut own) in jobs.into_iter().zip(keys) {
-            if !own.is_sorted() {
-                own.sort_unstable();
-                own.dedup();
+        let mut lists = keys_of_jobs(alloc, rows, jobs)?;
+        lists.sort_unstable_by_key(|list| list.job);
+        let mut tasks = WantedTasks::for_count(alloc, lists.len())?;
+        for JobKeys { job, mut keys } in lists {
+            if !keys.is_sorted() {
+                keys.sort_unstable();
+                keys.dedup();
             }
-            tasks.make_place(job, TaskList::of_keys(alloc, &own)?)?;
+            tasks.make_place(job, TaskList::of_keys(alloc, &keys)?)?;
         }
         Ok(tasks)
     }
@@ -296,42 +292,50 @@ fn put_place(
     }
 }
 
-/// The keys of the tasks that these rows submit or schedule: a list in the order of the rows for each of these
-/// jobs, which rise and among which each row's job stands. Rows that follow one another are mostly of one job;
-/// then the job is looked for once. Where keys come in order, each stands in its list once.
-fn keys_by_place(
-    alloc: Global,
-    rows: &[TaskRow],
-    jobs: &[u64],
-) -> Result<Vec<Vec<TaskKey>>, NoMemory> {
-    let mut lists = empty_lists(alloc, jobs.len())?;
-    let mut place = 0;
+/// The keys of tasks of a job.
+#[derive(Drop)]
+struct JobKeys {
+    job: u64,
+    keys: Vec<TaskKey>,
+}
+
+/// The keys of the tasks that these rows submit or schedule, in the order of the rows: a list for each of these
+/// jobs, in their order. Where a job's keys come in order, each stands in its list once.
+fn keys_of_jobs(alloc: Global, rows: &[TaskRow], jobs: &Jobs) -> Result<Vec<JobKeys>, NoMemory> {
+    let mut lists = empty_lists(alloc, jobs)?;
     for row in rows {
         if row.code > 1 {
             continue;
         }
-        if jobs.get(place) != Some(&row.key.job) {
-            place = jobs.partition_point(|job| *job < row.key.job);
-        }
+        let Some(place) = jobs.place(row.key.job) else {
+            continue;
+        };
         if let Some(list) = lists.get_mut(place) {
-            take_key(list, row.key)?;
+            take_key(&mut list.keys, row.key)?;
         }
     }
     Ok(lists)
 }
 
-/// So many empty lists.
-fn empty_lists(alloc: Global, count: usize) -> Result<Vec<Vec<TaskKey>>, NoMemory> {
-    let mut lists = Vec::with_capacity(alloc, count)?;
-    for _ in 0..count {
-        lists.push(Vec::new(alloc))?;
+/// An empty list for each of these jobs, in their order.
+fn empty_lists(alloc: Global, jobs: &Jobs) -> Result<Vec<JobKeys>, NoMemory> {
+    let numbers = jobs.numbers(alloc)?;
+    let mut lists = Vec::with_capacity(alloc, numbers.len())?;
+    for job in numbers {
+        lists.push(JobKeys {
+            job,
+            keys: Vec::new(alloc),
+        })?;
     }
     Ok(lists)
 }
 
 /// Appends a key, unless it is found among those that are there, which it is where they rise. Costs the logarithm
-/// of their number where it isn't greater than the last one.
+/// of their number where it neither stands at the place of its index nor is greater than the last one.
 fn take_key(keys: &mut Vec<TaskKey>, key: TaskKey) -> Result<(), NoMemory> {
+    if keys.get(key.index as usize) == Some(&key) {
+        return Ok(());
+    }
     if keys.last() < Some(&key) || keys.binary_search(&key).is_err() {
         keys.push(key)?;
     }

@@ -26,7 +26,7 @@ use crate::constraints::TaskConstraints;
 use crate::disks::MachineDisks;
 use crate::entries::entries_of;
 use crate::events::Events;
-use crate::extras::{extra_count, free_indexes, has_all, running_extra_count};
+use crate::extras::{extra_count, free_indexes, has_all};
 use crate::jobs::{Jobs, RoutedJob};
 use crate::open_jobs::OpenJobs;
 use crate::tasks::{TaskChange, WantedTasks};
@@ -65,7 +65,7 @@ impl Model for Wanted {
 
 impl Wanted {
     /// What a trace with these events asks for before its first row, where the tables have its other rows, of
-    /// which the constraints are taken over: no task is wanted. Costs a look-up for each task row and one for each
+    /// which the constraints are taken over: no task is wanted. Costs two look-ups for each task row and one for each
     /// task, five more for each job, two for each constraint, and one for each row of disks and of activities; the
     /// keys of a job's tasks are sorted where they don't come in order. Takes the memory of a slot for each task.
     pub fn new(
@@ -87,7 +87,7 @@ impl Wanted {
         let activities = JobActivities::new(alloc, &activities)?;
         let rows = events.tasks();
         let jobs = Jobs::of(alloc, rows, settings, &activities)?;
-        let tasks = WantedTasks::of_rows(alloc, rows, jobs.numbers(alloc)?)?;
+        let tasks = WantedTasks::of_rows(alloc, rows, &jobs)?;
         Ok(Wanted {
             jobs,
             constraints: TaskConstraints::new(alloc, constraints)?,
@@ -203,39 +203,34 @@ impl Wanted {
     /// Whether the job at a place is quiet on the cell of a board: none of its wanted tasks waits, and
     /// it gets no extras. Costs the slots that are left of the job, up to its first task that waits, and of
     /// each wanted task the logarithm of the number of those that run; of a job with activities besides its
-    /// running extras and few others of its running tasks, and the memory of these extras.
-    pub(crate) fn is_quiet_at(
-        &self,
-        alloc: Global,
-        place: usize,
-        board: &Board,
-    ) -> Result<bool, NoMemory>
-        ensures { IfOk result (λ quiet. IsTrue quiet ↔ IsQuietAt self.now board.now.tasks place) }
+    /// running extras and few others of its running tasks.
+    pub(crate) fn is_quiet_at(&self, place: usize, board: &Board) -> bool
+        ensures { IsTrue result ↔ IsQuietAt self.now board.now.tasks place }
     {
         let Some(RoutedJob { job, .. }) = self.jobs.at(place) else {
-            return Ok(true);
+            return true;
         };
         if !self.tasks.all_run(job, board.running()) {
-            return Ok(false);
+            return false;
         }
-        self.gets_no_extras(alloc, job, board.running())
+        self.gets_no_extras(job, board.running())
     }
 
     /// Whether a job gets no extras while these tasks run: it has no activities, no task of it is wanted,
     /// or it has all that it should have.
-    fn gets_no_extras(&self, alloc: Global, job: u64, running: &Running) -> Result<bool, NoMemory>
+    fn gets_no_extras(&self, job: u64, running: &Running) -> bool
         requires { KeysRise running.now.tasks }
-        ensures { IfOk result (λ none. IsTrue none ↔ GetsNoExtras self.now running.now.tasks job) }
+        ensures { IsTrue result ↔ GetsNoExtras self.now running.now.tasks job }
     {
         let Some(activities) = self.activities.of(job) else {
-            return Ok(true);
+            return true;
         };
         let wanted = self.tasks.count_of(job);
         if wanted == 0 {
-            return Ok(true);
+            return true;
         }
-        let held = running_extra_count(alloc, running, job)?;
-        Ok(has_all(self.extra, activities, wanted, held))
+        let held = running.count_extras(job);
+        has_all(self.extra, activities, wanted, held)
     }
 
     /// The entries of the row that was taken last, on the cell of a board. Costs the logarithm of the
@@ -369,7 +364,7 @@ impl Wanted {
         let Some(model) = wanted.first() else {
             return Ok(wishes);
         };
-        let held = running_extra_count(alloc, board.running(), job)?;
+        let held = board.running().count_extras(job);
         let need = model.1.need;
         let count = extra_count(self.extra, activities, wanted.len(), held, need, board);
         if count == 0 {

@@ -11,7 +11,7 @@ loop-place-preserved c =
     let all = c.into_iter-place-iterator.result in
     let left = c.loop-place.places in
     let P : List ℕ → Type 0 = λ rest. AreSettled asked tasks all rest left in
-    settled_closes asked tasks all c.in-Some.place.now c.next.new.self left (subst P c.in-Some.ensures.steps c.loop-place.invariant) (c.in_ok-is_quiet_at.ensures.0 c.if-not-branch.false)
+    settled_closes asked tasks all c.in-Some.place.now c.next.new.self left (subst P c.in-Some.ensures.steps c.loop-place.invariant) (c.is_quiet_at.ensures.0 c.if-not-is_quiet_at.false)
 
 pub loop-place-preserved-in_ok-insert : goal.loop-place-preserved-in_ok-insert
 loop-place-preserved-in_ok-insert c =
@@ -21,7 +21,7 @@ loop-place-preserved-in_ok-insert c =
     let left = c.loop-place.places in
     let P : List ℕ → Type 0 = λ rest. AreSettled asked tasks all rest left in
     settled_stays asked tasks all c.in-Some.place.now c.next.new.self left (subst P c.in-Some.ensures.steps c.loop-place.invariant)
-    c.insert.new.self c.in_ok-insert.ensures.updates (λ quiet. both_ways _ c.if-not-branch.true (c.in_ok-is_quiet_at.ensures.1 quiet))
+    c.insert.new.self c.in_ok-insert.ensures.updates (λ quiet. both_ways _ c.if-not-is_quiet_at.true (c.is_quiet_at.ensures.1 quiet))
 
 pub returns-clause-ok : goal.returns-clause-ok
 returns-clause-ok c =

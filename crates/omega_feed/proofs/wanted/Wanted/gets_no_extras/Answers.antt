@@ -25,7 +25,7 @@ returns c =
     let job = c.args.job in
     let tasks = c.args.running.now.tasks in
     let own : c.count_of-wanted.result ≡ length (wanted_of job kept.tasks) = c.count_of-wanted.ensures in
-    let held : c.in_ok-held.held ≡ length (filter (is_extra_of job) tasks) = c.in_ok-held.ensures in
+    let held : c.count_extras-held.result ≡ length (filter (is_extra_of job) tasks) = c.count_extras-held.ensures in
     let test : c.has_all.result ≡ nat_le (target kept.extra c.in-Some.activities (length (wanted_of job kept.tasks))) (length (wanted_of job kept.tasks) + length (filter (is_extra_of job) tasks)) =
     c.has_all.ensures ∙ (λ i. nat_le (target kept.extra c.in-Some.activities (own i)) (own i + held i)) in
     let has : activities_in kept.activities job ≡ Some c.in-Some.activities = sym c.in-Some.ensures.activities in
