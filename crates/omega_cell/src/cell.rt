@@ -114,10 +114,11 @@ impl Cell {
         Seq::of(entries)
     }
 
-    /// The history itself, and what its entries did.
-    pub fn into_run(self) -> (Entries, Effects)
+    /// The history itself, what its entries did, and the board after it.
+    pub fn into_run(self) -> (Entries, Effects, Board)
         ensures history { result.0 ≡ self.history }
         ensures effects { AreEffects self.history result.1 }
+        ensures current { cell_of result.2 ≡ state self.history }
         ensures legal { Legal self.history }
         ensures applied { EachMayApply self.history }
         ensures sound { (n : ℕ) → Sound (state (take n self.history)) }
@@ -128,7 +129,7 @@ impl Cell {
             notes,
         } = self;
         let last = Usage::of(&board);
-        (Seq::of(entries), notes.into_effects(last))
+        (Seq::of(entries), notes.into_effects(last), board)
     }
 
     /// Appends an entry that is no commit, and applies it to the board. Where memory runs out the

@@ -42,12 +42,22 @@ impl Crew {
     pub fn into_cell(self) -> Cell
         ensures { result ≡ self.cell }
     {
+        let (cell, _workers, _indexes) = self.into_parts();
+        cell
+    }
+
+    /// The cell itself, the workers, and what their plans need beside the cell's board.
+    pub fn into_parts(self) -> (Cell, Vec<Worker>, PieceIndexes)
+        ensures cell { result.0 ≡ self.cell }
+        ensures workers { result.1 ≡ self.workers }
+        ensures indexes { result.2 ≡ self.indexes }
+    {
         let Crew {
             cell,
-            workers: _,
-            indexes: _,
+            workers,
+            indexes,
         } = self;
-        cell
+        (cell, workers, indexes)
     }
 
     /// Lets the schedulers work until nothing is left at any desk, each on a thread of its own. A history

@@ -16,6 +16,7 @@ mod opening;
 mod planned;
 mod plans;
 mod player;
+mod remains;
 mod reopening;
 mod resume;
 mod steps;
@@ -28,6 +29,7 @@ mod worth;
 
 pub use clock::in_time;
 pub use kept::ResumeRefusal;
+pub use remains::Remains;
 pub use resume::resume_turns;
 pub use steps::{RoundStep, Stepped};
 pub use threads::on_threads;

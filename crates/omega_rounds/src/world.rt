@@ -26,6 +26,7 @@ use crate::course::Course;
 use crate::crew::Crew;
 use crate::forked::{PieceIndexes, sync_pieces};
 use crate::opening::{Demand, first_at_work, open_round};
+use crate::remains::Remains;
 use crate::reopening::reopen_since;
 use crate::steps::{RoundStep, Stepped};
 use crate::worker::Worker;
@@ -142,8 +143,8 @@ impl World {
         crew.into_cell().into_history()
     }
 
-    /// The history itself, and what its entries did.
-    pub fn into_run(self) -> (Entries, Effects)
+    /// The history itself, what its entries did, and what is left of the world.
+    pub fn into_run(self) -> (Entries, Effects, Remains)
         ensures history { result.0 ≡ self.history }
         ensures effects { AreEffects self.history result.1 }
         ensures lawful { (trace : TraceTables) → IsInRunOf self.stage trace
@@ -152,8 +153,16 @@ impl World {
         ensures applied { EachMayApply self.history }
         ensures sound { (n : ℕ) → Sound (state (take n self.history)) }
     {
-        let World { crew, .. } = self;
-        crew.into_cell().into_run()
+        let World { course, crew, .. } = self;
+        let (cell, workers, indexes) = crew.into_parts();
+        let (history, effects, board) = cell.into_run();
+        let remains = Remains {
+            board,
+            course,
+            workers,
+            indexes,
+        };
+        (history, effects, remains)
     }
 
     /// Goes on to the next round, if nobody has work: appends the entries of its rows, and hands each

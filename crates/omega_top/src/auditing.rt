@@ -34,7 +34,8 @@ pub fn audit_kept<P: Keeper>(alloc: Global, format: Format, keeper: &mut P) -> R
 {
     let lines = load(keeper)?;
     let cell = replay_lines(alloc, &lines)?;
-    let (history, effects) = cell.into_run();
+    let (history, effects, board) = cell.into_run();
+    drop(board);
     match audit_report(alloc, format, history.as_slice(), effects.last) {
         Ok(report) => Ok(Audit { history, report }),
         Err(_) => Err(Status::NoMemory),

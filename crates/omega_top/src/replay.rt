@@ -23,14 +23,14 @@ use omega_cell::Effects;
 use omega_feed::WaitingTasks;
 use omega_io::Gate;
 use omega_model::{ActivityRow, Bytes, Command, Entries, NoMemory, Settings, TraceTables};
-use omega_rounds::{World, in_time, in_turns, on_threads};
+use omega_rounds::{Remains, World, in_time, in_turns, on_threads};
 use omega_sim::{Arrivals, Timed, Times, time_lines};
 use std::alloc::Global;
 use std::sync::Wait;
 use std::thread::Threads;
 
-/// The history of a whole run, what its entries did, what waits at its end, and on `simulate` the lines of
-/// time.
+/// The history of a whole run, what its entries did, what waits at its end, on `simulate` the lines of time, and
+/// what is left of the world.
 #[derive(Drop)]
 pub struct WholeRun {
     /// The history.
@@ -42,6 +42,8 @@ pub struct WholeRun {
     /// The lines that say how long its schedulers decided and how long its jobs waited, as text, on
     /// `simulate`; else `None`.
     pub time: Option<Bytes>,
+    /// What is left of the world in which it ran.
+    pub remains: Remains,
 }
 
 /// What a run depends on: the settings, and the tables of the trace.
@@ -80,7 +82,8 @@ pub fn replayed<R: Threads + Wait + Sync, G: Gate + Sync>(
     Ok(whole_run(world, time)?)
 }
 
-/// The history of a world whose rounds are all over, what its entries did, and what waits at its end.
+/// The history of a world whose rounds are all over, what its entries did, what waits at its end, and what is left of
+/// it.
 pub fn whole_run(world: World, time: Option<Bytes>) -> Result<WholeRun, NoMemory>
     ensures history { IfOk result (λ run. run.history ≡ world.history) }
     ensures time { IfOk result (λ run. run.time ≡ time) }
@@ -90,12 +93,13 @@ pub fn whole_run(world: World, time: Option<Bytes>) -> Result<WholeRun, NoMemory
         → IfOk result (λ run. IsLeft trace (state run.history) run.left) }
 {
     let left = world.waiting()?;
-    let (history, effects) = world.into_run();
+    let (history, effects, remains) = world.into_run();
     Ok(WholeRun {
         history,
         effects,
         left,
         time,
+        remains,
     })
 }
 

@@ -23,8 +23,8 @@ ghost use Rattle.omega_words.specs.Built.{built_words};
 ghost use Rattle.omega_words.specs.Taken.{settings_in};
 
 use crate::auditing::audit_kept;
-use crate::replay::RunInput;
-use crate::report::report_of_run;
+use crate::replay::{RunInput, WholeRun};
+use crate::report::{ReportInput, report_beside};
 use crate::resuming::run_of;
 use crate::trace::trace_of_run;
 use omega_io::{Gate, Sink, Tables, write_all};
@@ -268,14 +268,27 @@ fn replay_and_write<R: Threads + Wait + Sync, K: Sink, G: Gate + Sync, P: Keeper
         Ok(whole) => whole,
         Err(status) => return refused(alloc, status, Some(settings)),
     };
-    let Ok(bytes) = report_of_run(alloc, &settings, &whole) else {
+    let WholeRun {
+        history,
+        effects,
+        left,
+        time,
+        remains,
+    } = whole;
+    let run = ReportInput {
+        history,
+        effects,
+        left,
+        time,
+    };
+    let Ok(bytes) = report_beside(rt, alloc, &settings, &run, remains) else {
         return refused(alloc, Status::NoMemory, Some(settings));
     };
     let status = write(out, bytes.as_slice());
     Done {
         status,
         settings: Some(settings),
-        history: whole.history,
+        history: run.history,
     }
 }
 

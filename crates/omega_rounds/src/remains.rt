@@ -1,0 +1,29 @@
+//! What is left of a world whose run is over.
+
+use crate::course::Course;
+use crate::forked::PieceIndexes;
+use crate::worker::Worker;
+use omega_board::Board;
+
+/// What is left of a world once its history is taken: nobody looks at it any more. To let it go costs the trees of
+/// the running tasks and these, the rows of the events and the tasks of the trace, so whoever has something else to
+/// do may leave it to another thread.
+///
+/// It writes its `Drop` out, so that whoever lets it go cites one function.
+pub struct Remains {
+    pub(crate) board: Board,
+    pub(crate) course: Course,
+    pub(crate) workers: Vec<Worker>,
+    pub(crate) indexes: PieceIndexes,
+}
+
+impl Drop for Remains {
+    fn drop(self) {
+        let Remains {
+            board: _,
+            course: _,
+            workers: _,
+            indexes: _,
+        } = self;
+    }
+}
