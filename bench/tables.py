@@ -380,11 +380,11 @@ def taking_over(files, size):
 
 
 def same_tree(files, size):
-    """Jobs of one task whose numbers are equal modulo 65,536, on 2,000 machines"""
+    """Jobs of one task whose numbers are equal modulo 262,144, on 2,000 machines"""
     for number in range(1, 2001):
         files.machine(number)
     for job in range(size):
-        files.task(0, job * 65_536, 0, 0, 0)
+        files.task(0, job * 262_144, 0, 0, 0)
 
 
 def other_trees(files, size):

@@ -1,8 +1,8 @@
 //! The machines of a cell, with what is free on each and how often it was touched.
 //!
 //! The states stand in a list in order of first mention, and contracts speak of that list alone. A
-//! look-up by number looks at the place that is noted for the number, one of 65,536 notes, and where
-//! another machine stands there it goes through a balanced tree from numbers to places. So it is mostly
+//! look-up by number looks at the two notes of the number, of 65,536, and where neither has its place
+//! it goes through a balanced tree from numbers to places. So it is mostly
 //! as quick as a hash table, and for no choice of numbers slower than the tree. What is in use on
 //! all machines that are up, and their capacity, are kept as running sums.
 #![tactic(auto)]

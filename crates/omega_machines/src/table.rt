@@ -24,9 +24,8 @@ use std::marker::Model;
 /// a machine than its capacity, nothing where it is down.
 ///
 /// A call on a machine costs one or two look-ups of its number, and takes no memory, unless its own
-/// text says more. A look-up mostly finds the machine at a place that is noted for its number, of which there
-/// are two; where other numbers share both notes and have taken them, it costs the logarithm of the number of
-/// machines besides.
+/// text says more. A look-up mostly finds the machine's place in one of the two notes of its number; where
+/// another number has taken its note, it costs the logarithm of the number of machines besides.
 #[derive(Drop)]
 pub struct MachineTable {
     states: Vec<MachineState>,
