@@ -1,13 +1,12 @@
 -- What is known of a tree in order, once it is a fork: d are its tasks, l and r those at the sides of x.
-use Rattle.std.proofs.Common.{◌≡◌, ℕ, ◌+◌, ◌<◌, ◌≤◌, Bool, true, false, ◌&&◌, not, eqb, ltb, List, [], ◌∷◌, ◌++◌, length, Option, Some, None, Box, refl, ap, sym, ◌∙◌, subst, append_assoc, arith, inl, inr}
+use Rattle.std.proofs.Common.{◌≡◌, ℕ, ◌<◌, ◌≤◌, Bool, true, false, ◌&&◌, not, eqb, ltb, List, [], ◌∷◌, ◌++◌, Option, Some, None, Box, refl, ap, sym, ◌∙◌, subst, append_assoc, arith, inl, inr}
 use Rattle.std.specs.List.{filter, find}
 use Rattle.std.specs.Option.{option_map, option_or, is_some}
 use Rattle.std.specs.declared.alloc.Global.{Global}
-use Rattle.std.proofs.lemmas.Bool.{ne_eqb, eq-eqb, ltb-true, and_parts, or_cases, or_left, or_right, or_from, and_left, and_right, not-false, not-true}
-use Rattle.std.proofs.lemmas.List.{length-append}
+use Rattle.std.proofs.lemmas.Bool.{ne_eqb, eq-eqb, ltb-true, and_parts, or_cases, or_from, and_left, and_right, not-false}
 use Rattle.std.proofs.lemmas.List.Elements.{filter-append}
 use Rattle.std.proofs.lemmas.List.Folds.{find-append}
-use Rattle.omega_model.specs.Keys.{key_lt, same_key, is_among}
+use Rattle.omega_model.specs.Keys.{key_lt, is_among}
 use Rattle.omega_model.specs.Cell.{task_at, stays_on}
 use Rattle.omega_model.specs.Jobs.{is_of_job, stays_of_job}
 use Rattle.omega_model.specs.declared.cells.TaskKey.{TaskKey}
@@ -17,12 +16,12 @@ use Rattle.omega_running.specs.declared.orders.Order.TheVariants.{ByKey, ByMachi
 use Rattle.omega_running.specs.declared.nodes.Tree.{Tree}
 use Rattle.omega_running.specs.declared.nodes.Node.{Node}
 use Rattle.omega_running.specs.declared.nodes.Tree.TheVariants.{Fork}
-use Rattle.omega_running.specs.Order.{Each, IsInOrder, precedes, lead, put_in, taken_out, has_place, in_share, led_by, is_before, is_behind}
+use Rattle.omega_running.specs.Order.{Each, IsInOrder, precedes, lead, put_in, taken_out, at_place, in_share, led_by, is_before, is_behind}
 use Rattle.omega_running.specs.Others.{stays_in_share, other_in_share}
-use Rattle.omega_running.specs.Tree.{tasks_of}
-use Rattle.omega_running.proofs.Lists.{each_map, each_append, find_left, find_right, filter_left, filter_right, filter_fewer}
-use Rattle.omega_running.proofs.Strict.{sides, trans, behind, put_left, put_right, keep_left, keep_right, keep_here, has_left, has_right}
-use Rattle.omega_running.proofs.InOrder.{strict, key_strict, lead_rises, key_apart}
+use Rattle.omega_running.specs.Tree.{IsTallied, tasks_of}
+use Rattle.omega_running.proofs.Lists.{each_map, each_append, find_left, find_right, filter_left, filter_right}
+use Rattle.omega_running.proofs.Strict.{sides, put_left, put_right, keep_left, keep_right, keep_here, look_left, look_right, look_here}
+use Rattle.omega_running.proofs.InOrder.{strict, lead_rises, place_of_key}
 use Rattle.omega_running.proofs.Lex.{lex_trans, lex_apart, lt_trans, trans_lt, lt_apart}
 
 pub record AtFork (order : Order) (d l : List Task) (x : Task) (r : List Task) : Type 0 where
@@ -40,11 +39,15 @@ at_middle {order} {d} {l} {x} {r} rises is =
     let s = sides (precedes order) l x r u in
     record { is = is; rises = u; before = s.before; after = s.after; left = s.left; right = s.right }
 
-pub at_fork : {order : Order} {tree : Tree} {height : ℕ} {node : Box Node Global} → IsInOrder order (tasks_of tree) → tree ≡ Fork height node → AtFork order (tasks_of tree) (tasks_of node.value.left) node.value.task (tasks_of node.value.right)
-at_fork {order} {tree} {height} {node} rises is =
+pub at_fork : {order : Order} {tree : Tree} {height extras : ℕ} {node : Box Node Global} → IsInOrder order (tasks_of tree) → tree ≡ Fork height extras node → AtFork order (tasks_of tree) (tasks_of node.value.left) node.value.task (tasks_of node.value.right)
+at_fork {order} {tree} {height} {extras} {node} rises is =
     let u : IsInOrder order (tasks_of node.value.left ++ node.value.task ∷ tasks_of node.value.right) = subst (λ z. IsInOrder order (tasks_of z)) is rises in
     let s = sides (precedes order) (tasks_of node.value.left) node.value.task (tasks_of node.value.right) u in
     record { is = ap tasks_of is; rises = u; before = s.before; after = s.after; left = s.left; right = s.right }
+
+-- the numbers that a fork and its sides keep
+pub tallied_at : {tree : Tree} {height extras : ℕ} {node : Box Node Global} → IsTallied tree → tree ≡ Fork height extras node → IsTallied (Fork height extras node)
+tallied_at tallied is = subst IsTallied is tallied
 
 pub put_at_left : {order : Order} {d l : List Task} {x : Task} {r : List Task} (t : Task) → AtFork order d l x r → precedes order t x ≡ true → put_in order t d ≡ put_in order t l ++ x ∷ r
 put_at_left {order} {d} {l} {x} {r} t f p = rw f.is (put_left (precedes order) (strict order) t l x r f.rises p)
@@ -61,36 +64,30 @@ taken_at_right {order} {d} {l} {x} {r} t f p = rw f.is (keep_right (precedes ord
 pub taken_here : {order : Order} {d l : List Task} {x : Task} {r : List Task} (t : Task) → AtFork order d l x r → precedes order t x ≡ false → precedes order x t ≡ false → taken_out order t d ≡ l ++ r
 taken_here {order} {d} {l} {x} {r} t f p q = rw f.is (keep_here (precedes order) (strict order) t l x r f.rises p q)
 
-pub place_at_left : {order : Order} {d l : List Task} {x : Task} {r : List Task} (t : Task) → AtFork order d l x r → precedes order t x ≡ true → has_place order t d ≡ true → has_place order t l ≡ true
-place_at_left {order} {d} {l} {x} {r} t f p has = has_left (precedes order) (strict order) t l x r f.rises p (rw f.is at has)
+pub place_at_left : {order : Order} {d l : List Task} {x : Task} {r : List Task} (t : Task) → AtFork order d l x r → precedes order t x ≡ true → at_place order t d ≡ at_place order t l
+place_at_left {order} {d} {l} {x} {r} t f p = rw f.is (look_left (precedes order) (strict order) t l x r f.rises p)
 
-pub place_at_right : {order : Order} {d l : List Task} {x : Task} {r : List Task} (t : Task) → AtFork order d l x r → precedes order x t ≡ true → has_place order t d ≡ true → has_place order t r ≡ true
-place_at_right {order} {d} {l} {x} {r} t f p has = has_right (precedes order) (strict order) t l x r f.rises p (rw f.is at has)
+pub place_at_right : {order : Order} {d l : List Task} {x : Task} {r : List Task} (t : Task) → AtFork order d l x r → precedes order x t ≡ true → at_place order t d ≡ at_place order t r
+place_at_right {order} {d} {l} {x} {r} t f p = rw f.is (look_right (precedes order) (strict order) t l x r f.rises p)
 
--- keys that differ by their order
-key_lt-same : (a b : TaskKey) → key_lt a b ≡ true → (same_key a b ≡ false) × (same_key b a ≡ false)
-key_lt-same a b p =
-    (not-true _ (sym (key_apart a b) ∙ or_left _ _ p), not-true _ (sym (key_apart b a) ∙ or_right _ _ p))
+pub place_here : {order : Order} {d l : List Task} {x : Task} {r : List Task} (t : Task) → AtFork order d l x r → precedes order t x ≡ false → precedes order x t ≡ false → at_place order t d ≡ Some x
+place_here {order} {d} {l} {x} {r} t f p q = rw f.is (look_here (precedes order) (strict order) t l x r f.rises p q)
 
-not-true-true : (a b : TaskKey) → key_lt a b ≡ false → key_lt b a ≡ false → same_key a b ≡ true
-not-true-true a b p q = not_flips (same_key a b) (sym (key_apart a b) ∙ rw (p, q) refl) where
-  not_flips : (t : Bool) → not t ≡ false → t ≡ true
-  not_flips true e = refl
-  not_flips false e = absurd (cc)
-
+-- a search for a key is one for the place of any task of that key
 pub found_at_left : {d l : List Task} {x : Task} {r : List Task} (key : TaskKey) → AtFork ByKey d l x r → key_lt key x.key ≡ true → task_at d key ≡ task_at l key
 found_at_left {d} {l} {x} {r} key f p =
-    rw f.is (find_left (λ y. same_key y.key key) l (x ∷ r) ((key_lt-same key x.key p).1, each_map (λ y. key_lt x.key y.key ≡ true) (λ y. same_key y.key key ≡ false) (λ y q. (key_lt-same key y.key (trans key_lt key_strict key x.key y.key p q)).1) r f.after))
+    let t : Task = record x { key = key } in
+    sym (place_of_key t d) ∙ place_at_left t f p ∙ place_of_key t l
 
 pub found_at_right : {d l : List Task} {x : Task} {r : List Task} (key : TaskKey) → AtFork ByKey d l x r → key_lt x.key key ≡ true → task_at d key ≡ task_at r key
 found_at_right {d} {l} {x} {r} key f p =
-    let earlier = each_map (λ y. key_lt y.key x.key ≡ true) (λ y. same_key y.key key ≡ false) (λ y q. (key_lt-same y.key key (trans key_lt key_strict y.key x.key key q p)).0) l f.before in
-    rw f.is (find_right (λ y. same_key y.key key) l (x ∷ r) earlier ∙ rw (key_lt-same x.key key p).0 refl)
+    let t : Task = record x { key = key } in
+    sym (place_of_key t d) ∙ place_at_right t f p ∙ place_of_key t r
 
 pub found_here : {d l : List Task} {x : Task} {r : List Task} (key : TaskKey) → AtFork ByKey d l x r → key_lt key x.key ≡ false → key_lt x.key key ≡ false → task_at d key ≡ Some x
 found_here {d} {l} {x} {r} key f p q =
-    let earlier = each_map (λ y. key_lt y.key x.key ≡ true) (λ y. same_key y.key key ≡ false) (λ y e. (key_lt-same y.key key (behind key_lt key_strict y.key x.key key e p)).0) l f.before in
-    rw f.is (find_right (λ y. same_key y.key key) l (x ∷ r) earlier ∙ rw (not-true-true x.key key q p) refl)
+    let t : Task = record x { key = key } in
+    sym (place_of_key t d) ∙ place_here t f p q
 
 pub led_at_left : {order : Order} {d l : List Task} {x : Task} {r : List Task} (n : ℕ) → AtFork order d l x r → n < lead order x → led_by order n d ≡ led_by order n l
 led_at_left {order} {d} {l} {x} {r} n f p =
@@ -109,27 +106,6 @@ led_here {order} {d} {l} {x} {r} n f p =
 pub picked_here : {order : Order} {d l : List Task} {x : Task} {r : List Task} (p : Task → Bool) (n : ℕ) → AtFork order d l x r → lead order x ≡ n → filter p (led_by order n d) ≡ filter p (led_by order n l) ++ filter p (x ∷ led_by order n r)
 picked_here {order} {d} {l} {x} {r} p n f here =
     ap (filter p) (led_here n f here) ∙ filter-append p (led_by order n l) (x ∷ led_by order n r)
-
--- the task and those at its sides are all tasks
-sides_count : {order : Order} {d l : List Task} {x : Task} {r : List Task} → AtFork order d l x r → length d ≡ length l + length r + 1
-sides_count {order} {d} {l} {x} {r} f =
-    let both : length (l ++ x ∷ r) ≡ length l + length (x ∷ r) = length-append l (x ∷ r) in
-    ap length f.is ∙ omega (arith, both)
-
-pub few_at_sides : {order : Order} {d l : List Task} {x : Task} {r : List Task} (limit : ℕ) → AtFork order d l x r → length d < limit → (length l < limit) × (length r < limit)
-few_at_sides {order} {d} {l} {x} {r} limit f few =
-    let all = sides_count f in
-    (omega (arith, all, few), omega (arith, all, few))
-
--- those of a number that are picked at both sides, and one more, are no more than all tasks
-pub picked_few : {order : Order} {d l : List Task} {x : Task} {r : List Task} (p : Task → Bool) (n : ℕ) → AtFork order d l x r → length (filter p (led_by order n l)) + length (filter p (led_by order n r)) + 1 ≤ length d
-picked_few {order} {d} {l} {x} {r} p n f =
-    let all = sides_count f in
-    let left = filter_fewer p (led_by order n l) in
-    let right = filter_fewer p (led_by order n r) in
-    let led_left = filter_fewer (λ y. eqb (lead order y) n) l in
-    let led_right = filter_fewer (λ y. eqb (lead order y) n) r in
-    omega (arith, all, left, right, led_left, led_right)
 
 other_not_behind : (number job machine : ℕ) (gone : List TaskKey) (y : Task) → is_behind y machine job ≡ true → stays_in_share number job machine gone y ≡ false
 other_not_behind number job machine gone y p =

@@ -1,8 +1,8 @@
 -- What keeps the two lists of tasks the same when one is put in or taken out.
 use Rattle.std.proofs.Common.{◌≡◌, ℕ, Bool, true, false, ◌||◌, not, cond, eqb, List, [], ◌∷◌, ◌++◌, Some, None, refl, ap, ap₂, sym, ◌∙◌, ◌⊎◌, inl, inr}
-use Rattle.std.specs.List.{filter, find, list_any}
+use Rattle.std.specs.List.{filter, find}
 use Rattle.std.specs.Option.{option_map}
-use Rattle.std.proofs.lemmas.Bool.{both_ways, eqb-true, eq-eqb, and_parts, or_cases, or_left, or_right, or_from, not_from_true, not_from_false, not-false, false_from_ne_true}
+use Rattle.std.proofs.lemmas.Bool.{both_ways, eqb-true, eq-eqb, and_parts, or_cases, or_left, or_right, or_from, not_from_true, not_from_false, not-false, not-true, false_from_ne_true}
 use Rattle.std.proofs.lemmas.List.Elements.{filter-append, filter_agree}
 use Rattle.omega_model.specs.Keys.{key_lt, same_key, is_among}
 use Rattle.omega_model.specs.Cell.{task_at, with_task, without, is_on}
@@ -11,10 +11,10 @@ use Rattle.omega_model.specs.declared.cells.TaskKey.{TaskKey}
 use Rattle.omega_model.specs.declared.cells.Task.{Task}
 use Rattle.omega_running.specs.declared.orders.Order.{Order}
 use Rattle.omega_running.specs.declared.orders.Order.TheVariants.{ByKey, ByMachine}
-use Rattle.omega_running.specs.Order.{Each, Rises, IsInOrder, precedes, is_apart, put_in, taken_out, has_place}
+use Rattle.omega_running.specs.Order.{Each, Rises, IsInOrder, precedes, is_apart, at_place, put_in, taken_out}
 use Rattle.omega_running.proofs.Lists.{each_map, each_both, each_append, each_of, filter_every, filter_none, filter_where}
 use Rattle.omega_running.proofs.Strict.{IsStrict, trans, put, apart}
-use Rattle.omega_running.proofs.InOrder.{strict, key_apart, apart_by_machine}
+use Rattle.omega_running.proofs.InOrder.{strict, key_apart, apart-sym, apart_by_machine, place_of_key}
 use Rattle.omega_running.proofs.Lex.{lex_same}
 use Rattle.omega_model.proofs.InOrder.{key_asym}
 
@@ -74,21 +74,15 @@ find_in_filter q s (x ∷ xs) f = go (s x) (q x) refl refl (find_in_filter q s x
   go false true h k rest = absurd (both_ways _ h (f x k))
   go false false h k rest = rest
 
-any_found : {X : Type 0} (p s q : X → Bool) (xs : List X) (y : X) → find p xs ≡ Some y → s y ≡ true → q y ≡ true → list_any q (filter s xs) ≡ true
-any_found p s q [] y e h k = absurd (cc)
-any_found p s q (x ∷ xs) y e h k = go (p x) (s x) refl refl (λ d. any_found p s q xs y d h k) e where
-  go : (b a : Bool) → p x ≡ b → s x ≡ a → (find p xs ≡ Some y → list_any q (filter s xs) ≡ true) → cond b (Some x) (find p xs) ≡ Some y → list_any q (cond a (x ∷ filter s xs) (filter s xs)) ≡ true
-  go true true g i rest e = let same : x ≡ y = cc in or_left (q x) (list_any q (filter s xs)) (rw same k)
-  go true false g i rest e = let same : x ≡ y = cc in absurd (both_ways (s x) i (rw same h))
-  go false true g i rest e = or_right _ _ (rest e)
-  go false false g i rest e = rest e
-
-pub any_unfilter : {X : Type 0} (s q : X → Bool) (xs : List X) → list_any q (filter s xs) ≡ true → list_any q xs ≡ true
-any_unfilter s q [] e = e
-any_unfilter s q (x ∷ xs) e = go (s x) (any_unfilter s q xs) e where
-  go : (a : Bool) → (list_any q (filter s xs) ≡ true → list_any q xs ≡ true) → list_any q (cond a (x ∷ filter s xs) (filter s xs)) ≡ true → (q x || list_any q xs) ≡ true
-  go true rest e = elim (or_cases (q x) (list_any q (filter s xs)) e) [ inl h ↦ or_left _ _ h | inr h ↦ or_right _ _ (rest h) ]
-  go false rest e = or_right _ _ (rest e)
+-- the first that passes a test is the first that passes a narrower one, if it passes that too
+find_narrow : {X : Type 0} (p q : X → Bool) (xs : List X) (y : X) → find p xs ≡ Some y → ((x : X) → q x ≡ true → p x ≡ true) → q y ≡ true → find q xs ≡ Some y
+find_narrow p q [] y e f h = absurd (cc)
+find_narrow p q (x ∷ xs) y e f h = go (p x) (q x) refl refl (λ d. find_narrow p q xs y d f h) e where
+  go : (a b : Bool) → p x ≡ a → q x ≡ b → (find p xs ≡ Some y → find q xs ≡ Some y) → cond a (Some x) (find p xs) ≡ Some y → cond b (Some x) (find q xs) ≡ Some y
+  go true true i k rest e = e
+  go true false i k rest e = let same : x ≡ y = cc in absurd (both_ways (q x) k (rw same h))
+  go false true i k rest e = absurd (both_ways _ i (f x k))
+  go false false i k rest e = rest e
 
 each_found : {X : Type 0} (P : X → Type 0) (p : X → Bool) (xs : List X) (y : X) → Each P xs → find p xs ≡ Some y → P y × (p y ≡ true)
 each_found P p [] y a e = absurd (cc)
@@ -134,12 +128,6 @@ rises_put {X} lt s t xs u a =
 pub irreflexive : {X : Type 0} (lt : X → X → Bool) → IsStrict lt → (a : X) → lt a a ≡ false
 irreflexive lt s a = false_from_ne_true _ (λ e. both_ways _ (s.asym a a e) e)
 
-or_comm : (a b : Bool) → (a || b) ≡ (b || a)
-or_comm true true = refl
-or_comm true false = refl
-or_comm false true = refl
-or_comm false false = refl
-
 pub or_no : (a : Bool) → (a || false) ≡ a
 or_no true = refl
 or_no false = refl
@@ -147,9 +135,6 @@ or_no false = refl
 -- on one machine both orders are that of the keys
 pub same_machine : (machine : ℕ) (a b : Task) → is_on machine a ≡ true → is_on machine b ≡ true → precedes ByMachine a b ≡ precedes ByKey a b
 same_machine machine a b p q = lex_same a.machine b.machine (key_lt a.key b.key) (eqb-true _ _ p ∙ sym (eqb-true _ _ q))
-
-apart-sym : (order : Order) (a b : Task) → is_apart order a b ≡ is_apart order b a
-apart-sym order a b = or_comm (precedes order a b) (precedes order b a)
 
 -- putting a task in whose key is absent
 pub apart_absent : (t : Task) (tasks : List Task) → task_at tasks t.key ≡ None → Each (λ y. is_apart ByKey t y ≡ true) tasks
@@ -219,17 +204,46 @@ taken_is t tasks =
 pub taken_rises : (order : Order) (t : Task) (tasks : List Task) → IsInOrder order tasks → IsInOrder order (taken_out order t tasks)
 taken_rises order t tasks u = rises_filter (precedes order) (is_apart order t) tasks u
 
-pub there : (t : Task) (tasks : List Task) → task_at tasks t.key ≡ Some t → has_place ByKey t tasks ≡ true
-there t tasks e =
-    any_unfilter (λ y. true) (λ y. not (is_apart ByKey t y)) tasks
-    (any_found (λ y. same_key y.key t.key) (λ y. true) (λ y. not (is_apart ByKey t y)) tasks t e refl
-    (not_from_false _ (or_from _ _ (irreflexive (precedes ByKey) (strict ByKey) t) (irreflexive (precedes ByKey) (strict ByKey) t))))
+-- what stands by machine at the place of a task has its machine and its key
+place_parts : (t y : Task) → not (is_apart ByMachine t y) ≡ true → (is_on t.machine y ≡ true) × (same_key y.key t.key ≡ true)
+place_parts t y q = and_parts (is_on t.machine y) (same_key y.key t.key) (not-false _ (sym (apart_by_machine y t) ∙ apart-sym ByMachine y t ∙ not-true _ q))
 
-pub there_too : (t : Task) (by_key by_machine : List Task) → task_at by_key t.key ≡ Some t → filter (is_on t.machine) by_machine ≡ filter (is_on t.machine) by_key → has_place ByMachine t by_machine ≡ true
+-- a task that stands in one list by its key stands by its machine in the other
+pub there_too : (t : Task) (by_key by_machine : List Task) → task_at by_key t.key ≡ Some t → filter (is_on t.machine) by_machine ≡ filter (is_on t.machine) by_key → at_place ByMachine t by_machine ≡ Some t
 there_too t by_key by_machine e same =
-    any_unfilter (is_on t.machine) (λ y. not (is_apart ByMachine t y)) by_machine
-    (rw same (any_found (λ y. same_key y.key t.key) (is_on t.machine) (λ y. not (is_apart ByMachine t y)) by_key t e (eq-eqb _ _ refl)
-    (not_from_false _ (or_from _ _ (irreflexive (precedes ByMachine) (strict ByMachine) t) (irreflexive (precedes ByMachine) (strict ByMachine) t)))))
+    let here : Task → Bool = λ y. not (is_apart ByMachine t y) in
+    let on : (y : Task) → here y ≡ true → is_on t.machine y ≡ true = λ y q. (place_parts t y q).0 in
+    let own = irreflexive (precedes ByMachine) (strict ByMachine) t in
+    sym (find_in_filter here (is_on t.machine) by_machine on)
+    ∙ ap (find here) same
+    ∙ find_in_filter here (is_on t.machine) by_key on
+    ∙ find_narrow (λ y. same_key y.key t.key) here by_key t e (λ y q. (place_parts t y q).1) (not_from_false _ (or_from _ _ own own))
+
+-- a key that is there
+pub found_key : (key : TaskKey) (tasks : List Task) (task : Task) → task_at tasks key ≡ Some task → task.key ≡ key
+found_key key tasks task e =
+    let same = (each_found (λ y. Unit {0}) (λ y. same_key y.key key) tasks task (each_of (λ y. Unit {0}) (λ y. tt) tasks) e).1 in
+    let parts = and_parts (eqb task.key.job key.job) (eqb task.key.index key.index) same in
+    let job : task.key.job ≡ key.job = eqb-true _ _ parts.0 in
+    let index : task.key.index ≡ key.index = eqb-true _ _ parts.1 in
+    ap₂ (λ (j i : ℕ). record { job = j; index = i }) job index
+
+-- a task that stands at the place of another by key, and in the other list by machine
+pub record StandsAt (other t : Task) (by_key by_machine : List Task) : Type 0 where
+  pub runs : task_at by_key t.key ≡ Some t
+  pub taken : taken_out ByKey other by_key ≡ taken_out ByKey t by_key
+  pub too : at_place ByMachine t by_machine ≡ Some t
+
+pub stands : (other t : Task) (by_key by_machine : List Task) → Some t ≡ at_place ByKey other by_key → ((machine : ℕ) → filter (is_on machine) by_machine ≡ filter (is_on machine) by_key) → StandsAt other t by_key by_machine
+stands other t by_key by_machine e same =
+    let at : task_at by_key other.key ≡ Some t = sym (place_of_key other by_key) ∙ sym e in
+    let keyed : t.key ≡ other.key = found_key other.key by_key t at in
+    let runs : task_at by_key t.key ≡ Some t = ap (task_at by_key) keyed ∙ at in
+    record {
+      runs = runs;
+      taken = ap (λ (key : TaskKey). filter (λ y. key_lt key y.key || key_lt y.key key) by_key) (sym keyed);
+      too = there_too t by_key by_machine runs (same t.machine);
+    }
 
 -- each task of a list in order is t or stands elsewhere
 elsewhere : (t : Task) (tasks : List Task) → IsInOrder ByKey tasks → task_at tasks t.key ≡ Some t → Each (λ y. (is_apart ByKey t y ≡ true) ⊎ (y ≡ t)) tasks
@@ -266,16 +280,8 @@ other_same by_key by_machine same job machine gone =
     let on : (task : Task) → test task ≡ true → is_on machine task ≡ true = λ task h. (and_parts _ _ (and_parts _ _ h).1).0 in
     ap (option_map (λ (task : Task). task.key)) (sym (find_in_filter test (is_on machine) by_machine on) ∙ ap (find test) (same machine) ∙ find_in_filter test (is_on machine) by_key on)
 
--- a key that is absent, and one that is there
+-- a key that is absent
 pub without_absent : (key : TaskKey) (tasks : List Task) → task_at tasks key ≡ None → without (key ∷ []) tasks ≡ tasks
 without_absent key tasks e =
     filter_every (λ y. not (is_among y.key (key ∷ []))) tasks
     (each_map (λ y. same_key y.key key ≡ false) (λ y. not (is_among y.key (key ∷ [])) ≡ true) (λ y h. not_from_false _ (or_from _ _ h refl)) tasks (absent_each (λ y. same_key y.key key) tasks e))
-
-pub found_key : (key : TaskKey) (tasks : List Task) (task : Task) → task_at tasks key ≡ Some task → task.key ≡ key
-found_key key tasks task e =
-    let same = (each_found (λ y. Unit {0}) (λ y. same_key y.key key) tasks task (each_of (λ y. Unit {0}) (λ y. tt) tasks) e).1 in
-    let parts = and_parts (eqb task.key.job key.job) (eqb task.key.index key.index) same in
-    let job : task.key.job ≡ key.job = eqb-true _ _ parts.0 in
-    let index : task.key.index ≡ key.index = eqb-true _ _ parts.1 in
-    ap₂ (λ (j i : ℕ). record { job = j; index = i }) job index

@@ -47,9 +47,6 @@ lex_apart a b r s q f =
       | inr (inr more) ↦ rw (lex_gt a b r more, lex_lt b a s more, ne_eqb a b (omega arith)) refl
     ]
 
-pub lt_asym : (a b : ℕ) → ltb a b ≡ true → ltb b a ≡ false
-lt_asym a b p = let h : a < b = ltb-true a b p in le-ltb b a (omega arith)
-
 pub lt_link : (a b c : ℕ) → ltb a b ≡ true → (ltb a c || ltb c b) ≡ true
 lt_link a b c p =
     let h : a < b = ltb-true a b p in

@@ -3,6 +3,7 @@ pub mod Strict
 pub mod Lex
 pub mod InOrder
 pub mod AtFork
+pub mod Tally
 pub mod Kept
 pub mod Ranked
 pub mod Spread

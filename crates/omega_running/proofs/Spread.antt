@@ -1,9 +1,9 @@
 -- Tasks that are spread over several trees: what is put into one tree, taken out of it or looked up in it is so for all of them.
-use Rattle.std.proofs.Common.{◌≡◌, ℕ, ◌<◌, ◌≤◌, ◌+◌, ◌%◌, Bool, true, false, ◌||◌, not, eqb, cond, List, [], ◌∷◌, ◌++◌, length, length-append, length-set, map, get_or, set, zero, suc, nat_le, nat_lt, refl, ap, ap₂, sym, subst, ◌∙◌, arith}
-use Rattle.std.specs.List.{filter, list_any}
-use Rattle.std.proofs.lemmas.Bool.{both_ways, eqb-true, false_from_ne_true, leb-true, ltb-true, eq-eqb, ne_eqb, and_parts, or_left, or_right, or_from, not_from_true, not-false}
+use Rattle.std.proofs.Common.{◌≡◌, ℕ, ◌<◌, ◌≤◌, ◌+◌, ◌%◌, Bool, true, false, ◌||◌, not, eqb, cond, List, [], ◌∷◌, ◌++◌, length, length-append, length-set, map, get_or, set, zero, suc, nat_le, nat_lt, Some, refl, ap, ap₂, sym, subst, ◌∙◌, arith}
+use Rattle.std.specs.List.{All, filter}
+use Rattle.std.proofs.lemmas.Bool.{both_ways, eqb-true, false_from_ne_true, leb-true, ltb-true, eq-eqb, ne_eqb, and_parts, or_left, or_from, not_from_true, not-false, not-true}
 use Rattle.std.proofs.lemmas.List.{length-map, get_or-map, get_or-set_same, get_or-set_other, map-set}
-use Rattle.std.proofs.lemmas.List.Elements.{filter-append}
+use Rattle.std.proofs.lemmas.List.Elements.{All-get_or, All-set, filter-append}
 use Rattle.std.proofs.lemmas.List.Filters.{length-filter_both}
 use Rattle.omega_model.specs.ExtraTasks.{first_extra, is_extra_of}
 use Rattle.omega_model.specs.Keys.{same_key}
@@ -14,10 +14,11 @@ use Rattle.omega_running.specs.declared.orders.Order.{Order}
 use Rattle.omega_running.specs.declared.orders.Order.TheVariants.{ByKey, ByMachine}
 use Rattle.omega_running.specs.declared.nodes.Tree.{Tree}
 use Rattle.omega_running.specs.declared.nodes.Tree.TheVariants.{Leaf}
-use Rattle.omega_running.specs.Order.{Each, IsInOrder, precedes, is_apart, lead, share, share_of, in_share, spread, spread_key, spread_machine, put_in, taken_out, has_place, led_by}
-use Rattle.omega_running.specs.Tree.{tasks_of}
-use Rattle.omega_running.specs.Forest.{is_at, with_tree, gathered, IsSpread}
-use Rattle.omega_running.proofs.Lists.{each_map, each_both, each_append, filter_none, filter_every}
+use Rattle.omega_running.specs.Order.{Each, IsInOrder, precedes, is_apart, is_extra, lead, share, share_of, in_share, spread, spread_key, spread_machine, put_in, taken_out, at_place, led_by}
+use Rattle.omega_running.specs.Tree.{IsTallied, tasks_of}
+use Rattle.omega_running.specs.Forest.{AreTrees, is_at, with_tree, gathered, IsSpread}
+use Rattle.omega_model.proofs.Lists.{by_answer}
+use Rattle.omega_running.proofs.Lists.{all_of_each, each_map, each_both, each_append, filter_none, filter_every}
 use Rattle.omega_running.proofs.Strict.{trans, ahead}
 use Rattle.omega_running.proofs.InOrder.{strict, apart_by_key, apart_by_machine}
 use Rattle.omega_running.proofs.Kept.{each_passes, each_filter, filter_both, irreflexive, rises_filter, rises_put, skip_put, find_in_filter}
@@ -263,82 +264,83 @@ taken_from_tree order trees ls t s less =
     (λ y q. let e : spread order y % trees ≡ j = eqb-true _ _ q in other_tree order trees i t y (here order trees t) (ne_eqb _ _ (λ d. differs (sym e ∙ d))))
     (filter (is_at order trees j) all) (each_passes (is_at order trees j) all)))
 
-any_filter : (q s : Task → Bool) (xs : List Task) → ((x : Task) → q x ≡ true → s x ≡ true) → list_any q xs ≡ true → list_any q (filter s xs) ≡ true
-any_filter q s [] f e = e
-any_filter q s (x ∷ xs) f e = go (q x) (s x) refl refl (any_filter q s xs f) e where
-  go : (a b : Bool) → q x ≡ a → s x ≡ b → (list_any q xs ≡ true → list_any q (filter s xs) ≡ true) → (q x || list_any q xs) ≡ true → list_any q (cond b (x ∷ filter s xs) (filter s xs)) ≡ true
-  go true true h k rest e = or_left _ _ h
-  go true false h k rest e = absurd (both_ways _ k (f x h))
-  go false true h k rest e = or_right _ _ (rest (rw h at e))
-  go false false h k rest e = rest (rw h at e)
-
-pub place_in_tree : (order : Order) (trees : ℕ) (ls : List (List Task)) (t : Task) → IsSpread order trees 0 ls → has_place order t (gathered order ls) ≡ true → has_place order t (get_or ls (spread order t % trees) []) ≡ true
-place_in_tree order trees ls t s has =
+-- who stands at a place stands there in the tree of the place
+place_in_tree : (order : Order) (trees : ℕ) (ls : List (List Task)) (t : Task) → IsSpread order trees 0 ls → at_place order t (get_or ls (spread order t % trees) []) ≡ at_place order t (gathered order ls)
+place_in_tree order trees ls t s =
     let i : ℕ = spread order t % trees in
-    subst (λ zs. has_place order t zs ≡ true) (all_trees order trees ls s i)
-    (any_filter (λ y. not (is_apart order t y)) (is_at order trees i) (gathered order ls)
-    (λ y q. eq-eqb _ _ (ap (λ n. n % trees) (sym (spread_same order t y (not_true_false _ q))))) has) where
-      not_true_false : (b : Bool) → not b ≡ true → b ≡ false
-      not_true_false true e = absurd (cc)
-      not_true_false false e = refl
+    ap (at_place order t) (sym (all_trees order trees ls s i))
+    ∙ find_in_filter (λ y. not (is_apart order t y)) (is_at order trees i) (gathered order ls)
+    (λ y q. eq-eqb _ _ (ap (λ n. n % trees) (sym (spread_same order t y (not-true _ q)))))
 
 -- one task less
-pub length-taken : (order : Order) (t : Task) (xs : List Task) → IsInOrder order xs → has_place order t xs ≡ true → length (taken_out order t xs) + 1 ≡ length xs
-length-taken order t [] u e = absurd (cc)
-length-taken order t (x ∷ xs) u e = go (is_apart order t x) refl (length-taken order t xs u.1) e where
+pub length-taken : (order : Order) (t : Task) (xs : List Task) (y : Task) → IsInOrder order xs → at_place order t xs ≡ Some y → length (taken_out order t xs) + 1 ≡ length xs
+length-taken order t [] y u e = absurd (cc)
+length-taken order t (x ∷ xs) y u e = go (is_apart order t x) refl (length-taken order t xs y u.1) e where
   or_none : (a b : Bool) → (a || b) ≡ false → b ≡ false
   or_none true b e = absurd (cc)
   or_none false b e = e
 
-  go : (b : Bool) → is_apart order t x ≡ b → (has_place order t xs ≡ true → length (taken_out order t xs) + 1 ≡ length xs) → (not (is_apart order t x) || has_place order t xs) ≡ true → length (cond b (x ∷ taken_out order t xs) (taken_out order t xs)) + 1 ≡ length (x ∷ xs)
-  go true h rest e = let less = rest (rw h at e) in omega (arith, less)
+  go : (b : Bool) → is_apart order t x ≡ b → (at_place order t xs ≡ Some y → length (taken_out order t xs) + 1 ≡ length xs) → cond (not b) (Some x) (at_place order t xs) ≡ Some y → length (cond b (x ∷ taken_out order t xs) (taken_out order t xs)) + 1 ≡ length (x ∷ xs)
+  go true h rest e = let less = rest e in omega (arith, less)
   go false h rest e =
       let no = or_none (precedes order t x) (precedes order x t) h in
       let all = filter_every (is_apart order t) xs (each_map (λ y. precedes order x y ≡ true) (λ y. is_apart order t y ≡ true) (λ y q. or_left _ _ (ahead (precedes order) (strict order) x y t q no)) xs u.0) in
       rw all (omega arith)
 
 -- trees of no task
-pub leaves_are : (order : Order) (trees place : ℕ) (ts : List Tree) → Each (λ tree. tree ≡ Leaf) ts → IsSpread order trees place (map tasks_of ts) × (gathered order (map tasks_of ts) ≡ [])
-leaves_are order trees place [] e = (tt, refl)
-leaves_are order trees place (t ∷ ts) e =
-    let rest = leaves_are order trees (place + 1) ts e.1 in
+none_in_leaves : (order : Order) (trees place : ℕ) (ts : List Tree) → Each (λ tree. tree ≡ Leaf) ts → IsSpread order trees place (map tasks_of ts) × (gathered order (map tasks_of ts) ≡ [])
+none_in_leaves order trees place [] e = (tt, refl)
+none_in_leaves order trees place (t ∷ ts) e =
+    let rest = none_in_leaves order trees (place + 1) ts e.1 in
     rw e.0 ((tt, tt, rest.0), rest.1)
 
 -- the tree at a place
 pub tree_at : (ts : List Tree) (i : ℕ) (tree : Tree) → i < length ts → tree ≡ get_or ts i tree → get_or (map tasks_of ts) i [] ≡ tasks_of tree
 tree_at ts i tree less e = get_or-map tasks_of ts i tree [] less ∙ ap tasks_of (sym e)
 
+pub one_tree : (order : Order) (ts : List Tree) (i : ℕ) (tree : Tree) → AreTrees order ts → i < length ts → tree ≡ get_or ts i tree → IsInOrder order (tasks_of tree) × IsTallied tree
+one_tree order ts i tree s less old = (
+  subst (IsInOrder order) (tree_at ts i tree less old) (part order (length ts) (map tasks_of ts) i s.spread).rises,
+  subst IsTallied (sym old) (All-get_or IsTallied ts i tree less s.tallied),
+)
+
 -- a tree is replaced by one with other tasks: what all trees stand for then
 pub record AreNow (order : Order) (ts : List Tree) (xs : List Task) : Type 0 where
-  pub spread : IsSpread order (length ts) 0 (map tasks_of ts)
+  pub trees : AreTrees order ts
   pub is : gathered order (map tasks_of ts) ≡ xs
 
-replaced : (order : Order) (ts : List Tree) (i : ℕ) (tree : Tree) (tasks xs : List Task) → IsChanged order (length ts) (map tasks_of ts) i tasks xs → tasks_of tree ≡ tasks → AreNow order (set ts i tree) xs
-replaced order ts i tree tasks xs c e =
+pub leaves_are : (order : Order) (ts : List Tree) → Each (λ tree. tree ≡ Leaf) ts → AreNow order ts []
+leaves_are order ts e =
+    let none = none_in_leaves order (length ts) 0 ts e in
+    let tallied = each_map (λ tree. tree ≡ Leaf) IsTallied (λ tree leaf. rw leaf tt) ts e in
+    record { trees = record { spread = none.0; tallied = all_of_each IsTallied ts tallied }; is = none.1 }
+
+replaced : (order : Order) (ts : List Tree) (i : ℕ) (tree : Tree) (tasks xs : List Task) → All IsTallied ts → IsChanged order (length ts) (map tasks_of ts) i tasks xs → tasks_of tree ≡ tasks → IsTallied tree → AreNow order (set ts i tree) xs
+replaced order ts i tree tasks xs others c e tallied =
     let same : map tasks_of (set ts i tree) ≡ set (map tasks_of ts) i tasks = map-set tasks_of ts i tree ∙ ap (set (map tasks_of ts) i) e in
     let many : length (set ts i tree) ≡ length ts = length-set ts i tree in
     record {
-      spread = rw (same, many) c.spread;
+      trees = record { spread = rw (same, many) c.spread; tallied = All-set IsTallied ts i tree tallied others };
       is = rw same c.is;
     }
 
-pub put_at : (order : Order) (ts : List Tree) (i : ℕ) (t : Task) (tree new : Tree) → i ≡ spread order t % length ts → i < length ts → IsSpread order (length ts) 0 (map tasks_of ts) → Each (λ y. is_apart order t y ≡ true) (gathered order (map tasks_of ts)) → tree ≡ get_or ts i tree → tasks_of new ≡ put_in order t (tasks_of tree) → AreNow order (set ts i new) (put_in order t (gathered order (map tasks_of ts)))
-put_at order ts i t tree new named less s apart old e =
+pub put_at : (order : Order) (ts : List Tree) (i : ℕ) (t : Task) (tree new : Tree) → i ≡ spread order t % length ts → i < length ts → AreTrees order ts → Each (λ y. is_apart order t y ≡ true) (gathered order (map tasks_of ts)) → tree ≡ get_or ts i tree → tasks_of new ≡ put_in order t (tasks_of tree) → IsTallied new → AreNow order (set ts i new) (put_in order t (gathered order (map tasks_of ts)))
+put_at order ts i t tree new named less s apart old e tallied =
     let ls : List (List Task) = map tasks_of ts in
     let within : spread order t % length ts < length ls = rw (← named, length-map ts tasks_of) less in
-    let changes = put_in_tree order (length ts) ls t s within apart in
+    let changes = put_in_tree order (length ts) ls t s.spread within apart in
     let here : IsChanged order (length ts) ls i (put_in order t (get_or ls i [])) (put_in order t (gathered order ls)) = rw named changes in
-    replaced order ts i new (put_in order t (get_or ls i [])) (put_in order t (gathered order ls)) here
-    (e ∙ ap (put_in order t) (sym (tree_at ts i tree less old)))
+    replaced order ts i new (put_in order t (get_or ls i [])) (put_in order t (gathered order ls)) s.tallied here
+    (e ∙ ap (put_in order t) (sym (tree_at ts i tree less old))) tallied
 
-pub taken_at : (order : Order) (ts : List Tree) (i : ℕ) (t : Task) (tree new : Tree) → i ≡ spread order t % length ts → i < length ts → IsSpread order (length ts) 0 (map tasks_of ts) → tree ≡ get_or ts i tree → tasks_of new ≡ taken_out order t (tasks_of tree) → AreNow order (set ts i new) (taken_out order t (gathered order (map tasks_of ts)))
-taken_at order ts i t tree new named less s old e =
+pub taken_at : (order : Order) (ts : List Tree) (i : ℕ) (t : Task) (tree new : Tree) → i ≡ spread order t % length ts → i < length ts → AreTrees order ts → tree ≡ get_or ts i tree → tasks_of new ≡ taken_out order t (tasks_of tree) → IsTallied new → AreNow order (set ts i new) (taken_out order t (gathered order (map tasks_of ts)))
+taken_at order ts i t tree new named less s old e tallied =
     let ls : List (List Task) = map tasks_of ts in
     let within : spread order t % length ts < length ls = rw (← named, length-map ts tasks_of) less in
-    let changes = taken_from_tree order (length ts) ls t s within in
+    let changes = taken_from_tree order (length ts) ls t s.spread within in
     let here : IsChanged order (length ts) ls i (taken_out order t (get_or ls i [])) (taken_out order t (gathered order ls)) = rw named changes in
-    replaced order ts i new (taken_out order t (get_or ls i [])) (taken_out order t (gathered order ls)) here
-    (e ∙ ap (taken_out order t) (sym (tree_at ts i tree less old)))
+    replaced order ts i new (taken_out order t (get_or ls i [])) (taken_out order t (gathered order ls)) s.tallied here
+    (e ∙ ap (taken_out order t) (sym (tree_at ts i tree less old))) tallied
 
 -- what is looked for in one tree is so looked for in all
 same_place : (order : Order) (trees number : ℕ) (x : Task) → spread order x ≡ number → is_at order trees (number % trees) x ≡ true
@@ -373,27 +375,22 @@ extra_spread job x e =
     false_from_ne_true _ (λ low. let less = ltb-true _ _ low in let above = leb-true _ _ parts.1 in omega (arith, less, above)) in
     rw high (eqb-true _ _ parts.0)
 
--- and are those of high index that it leads there
-extras_led : (job : ℕ) (xs : List Task) → filter (λ task. nat_le first_extra task.key.index) (led_by ByKey job xs) ≡ filter (is_extra_of job) xs
-extras_led job [] = refl
-extras_led job (x ∷ xs) = go (eqb x.key.job job) (nat_le first_extra x.key.index) refl refl (extras_led job xs) where
-  high : Task → Bool
-  high task = nat_le first_extra task.key.index
-
-  go : (a b : Bool) → eqb x.key.job job ≡ a → nat_le first_extra x.key.index ≡ b → filter high (led_by ByKey job xs) ≡ filter (is_extra_of job) xs
-      → filter high (led_by ByKey job (x ∷ xs)) ≡ filter (is_extra_of job) (x ∷ xs)
-  go true true own above rest = rw (own, above) (ap (λ z. x ∷ z) rest)
-  go true false own below rest = rw (own, below) rest
-  go false b other e rest = rw other rest
-
-pub extras_in_tree : (trees job : ℕ) (xs : List Task) → filter (λ task. nat_le first_extra task.key.index) (led_by ByKey job (filter (is_at ByKey trees (job % trees)) xs)) ≡ filter (is_extra_of job) xs
-extras_in_tree trees job xs =
-    extras_led job (filter (is_at ByKey trees (job % trees)) xs)
-    ∙ filter_both (is_extra_of job) (is_at ByKey trees (job % trees)) xs
+pub extras_here : (trees job : ℕ) (xs : List Task) → filter (is_extra_of job) (filter (is_at ByKey trees (job % trees)) xs) ≡ filter (is_extra_of job) xs
+extras_here trees job xs =
+    filter_both (is_extra_of job) (is_at ByKey trees (job % trees)) xs
     ∙ filter_every (is_at ByKey trees (job % trees)) (filter (is_extra_of job) xs)
     (each_map (λ y. is_extra_of job y ≡ true) (λ y. is_at ByKey trees (job % trees) y ≡ true) (λ y q. same_place ByKey trees job y (extra_spread job y q)) (filter (is_extra_of job) xs) (each_passes (is_extra_of job) xs))
 
-pub place_at : (order : Order) (ts : List Tree) (i : ℕ) (t : Task) (tree : Tree) → i ≡ spread order t % length ts → i < length ts → IsSpread order (length ts) 0 (map tasks_of ts) → has_place order t (gathered order (map tasks_of ts)) ≡ true → tree ≡ get_or ts i tree → has_place order t (tasks_of tree) ≡ true
-place_at order ts i t tree named less s has old =
-    let there : has_place order t (get_or (map tasks_of ts) i []) ≡ true = rw named (place_in_tree order (length ts) (map tasks_of ts) t s has) in
-    subst (λ zs. has_place order t zs ≡ true) (tree_at ts i tree less old) there
+-- and are those of the job's that are extra ones
+pub extras_led : (job : ℕ) (xs : List Task) → filter is_extra (led_by ByKey job xs) ≡ filter (is_extra_of job) xs
+extras_led job [] = refl
+extras_led job (x ∷ xs) =
+    let rest = extras_led job xs in
+    by_answer (eqb x.key.job job)
+    (λ own. by_answer (is_extra x) (λ high. rw (own, high) (ap (λ z. x ∷ z) rest)) (λ low. rw (own, low) rest))
+    (λ other. rw other rest)
+
+pub place_at : (order : Order) (ts : List Tree) (i : ℕ) (t : Task) (tree : Tree) → i ≡ spread order t % length ts → i < length ts → AreTrees order ts → tree ≡ get_or ts i tree → at_place order t (tasks_of tree) ≡ at_place order t (gathered order (map tasks_of ts))
+place_at order ts i t tree named less s old =
+    ap (at_place order t) (sym (tree_at ts i tree less old) ∙ ap (λ n. get_or (map tasks_of ts) n []) named)
+    ∙ place_in_tree order (length ts) (map tasks_of ts) t s.spread

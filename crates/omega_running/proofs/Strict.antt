@@ -1,11 +1,10 @@
 -- Lists that rise in a strict order, round an element in their middle.
-use Rattle.std.proofs.Common.{◌≡◌, Bool, true, false, ◌||◌, not, List, [], ◌∷◌, ◌++◌, refl, ap, sym, ◌∙◌, append_assoc, append-nil, inl, inr}
-use Rattle.std.specs.List.{filter, list_any}
+use Rattle.std.proofs.Common.{◌≡◌, Bool, true, false, ◌||◌, not, List, [], ◌∷◌, ◌++◌, refl, ap, sym, ◌∙◌, append_assoc, append-nil, Some, inl, inr}
+use Rattle.std.specs.List.{filter, find}
 use Rattle.std.proofs.lemmas.Bool.{both_ways, or_cases, or_left, or_right, or_from, not_from_true, not_from_false, false_from_ne_true}
 use Rattle.std.proofs.lemmas.List.Elements.{filter-append}
-use Rattle.std.proofs.lemmas.List.Folds.{list_any-append}
 use Rattle.omega_running.specs.Order.{Each, Rises}
-use Rattle.omega_running.proofs.Lists.{each_front, each_back, each_map, filter_none, filter_every, any_none}
+use Rattle.omega_running.proofs.Lists.{each_front, each_back, each_map, filter_none, filter_every, find_left, find_right}
 
 -- an order in which each element stands on one side at least of two that differ
 pub record IsStrict {X : Type 0} (lt : X → X → Bool) : Type 0 where
@@ -91,18 +90,23 @@ keep_here lt s t l x r u p q =
     let here : apart lt t x ≡ false = or_from _ _ p q in
     filter-append _ l (x ∷ r) ∙ rw (earlier, here, later) refl
 
--- where the place of t is, if it stands in the list
-pub has_left : {X : Type 0} (lt : X → X → Bool) → IsStrict lt → (t : X) (l : List X) (x : X) (r : List X) → Rises lt (l ++ x ∷ r) → lt t x ≡ true → list_any (λ y. not (apart lt t y)) (l ++ x ∷ r) ≡ true → list_any (λ y. not (apart lt t y)) l ≡ true
-has_left lt s t l x r u p has =
+-- who stands at the place of t
+pub look_left : {X : Type 0} (lt : X → X → Bool) → IsStrict lt → (t : X) (l : List X) (x : X) (r : List X) → Rises lt (l ++ x ∷ r) → lt t x ≡ true → find (λ y. not (apart lt t y)) (l ++ x ∷ r) ≡ find (λ y. not (apart lt t y)) l
+look_left lt s t l x r u p =
     let at = sides lt l x r u in
-    let later : Each (λ y. not (apart lt t y) ≡ false) (x ∷ r) = (not_from_true _ (or_left _ _ p), each_map (λ y. lt x y ≡ true) (λ y. not (apart lt t y) ≡ false) (λ y q. not_from_true _ (or_left _ _ (trans lt s t x y p q))) r at.after) in
-    let parts = or_cases _ _ (sym (list_any-append (λ y. not (apart lt t y)) l (x ∷ r)) ∙ has) in
-    elim parts [ inl e ↦ e | inr e ↦ absurd (both_ways _ (any_none _ (x ∷ r) later) e) ]
+    find_left (λ y. not (apart lt t y)) l (x ∷ r)
+    (not_from_true _ (or_left _ _ p), each_map (λ y. lt x y ≡ true) (λ y. not (apart lt t y) ≡ false) (λ y q. not_from_true _ (or_left _ _ (trans lt s t x y p q))) r at.after)
 
-pub has_right : {X : Type 0} (lt : X → X → Bool) → IsStrict lt → (t : X) (l : List X) (x : X) (r : List X) → Rises lt (l ++ x ∷ r) → lt x t ≡ true → list_any (λ y. not (apart lt t y)) (l ++ x ∷ r) ≡ true → list_any (λ y. not (apart lt t y)) r ≡ true
-has_right lt s t l x r u p has =
+pub look_right : {X : Type 0} (lt : X → X → Bool) → IsStrict lt → (t : X) (l : List X) (x : X) (r : List X) → Rises lt (l ++ x ∷ r) → lt x t ≡ true → find (λ y. not (apart lt t y)) (l ++ x ∷ r) ≡ find (λ y. not (apart lt t y)) r
+look_right lt s t l x r u p =
     let at = sides lt l x r u in
     let earlier : Each (λ y. not (apart lt t y) ≡ false) l = each_map (λ y. lt y x ≡ true) (λ y. not (apart lt t y) ≡ false) (λ y q. not_from_true _ (or_right _ _ (trans lt s y x t q p))) l at.before in
     let here : not (apart lt t x) ≡ false = not_from_true _ (or_right _ _ p) in
-    let parts = or_cases _ _ (sym (list_any-append (λ y. not (apart lt t y)) l (x ∷ r)) ∙ has) in
-    elim parts [ inl e ↦ absurd (both_ways _ (any_none _ l earlier) e) | inr e ↦ rw here at e ]
+    find_right (λ y. not (apart lt t y)) l (x ∷ r) earlier ∙ rw here refl
+
+pub look_here : {X : Type 0} (lt : X → X → Bool) → IsStrict lt → (t : X) (l : List X) (x : X) (r : List X) → Rises lt (l ++ x ∷ r) → lt t x ≡ false → lt x t ≡ false → find (λ y. not (apart lt t y)) (l ++ x ∷ r) ≡ Some x
+look_here lt s t l x r u p q =
+    let at = sides lt l x r u in
+    let earlier : Each (λ y. not (apart lt t y) ≡ false) l = each_map (λ y. lt y x ≡ true) (λ y. not (apart lt t y) ≡ false) (λ y e. not_from_true _ (or_right _ _ (behind lt s y x t e p))) l at.before in
+    let here : not (apart lt t x) ≡ true = not_from_false _ (or_from _ _ p q) in
+    find_right (λ y. not (apart lt t y)) l (x ∷ r) earlier ∙ rw here refl

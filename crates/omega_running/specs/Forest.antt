@@ -1,8 +1,11 @@
 -- What several trees of tasks in one order stand for.
-use Rattle.std.specs.Prelude.{◌≡◌, ◌+◌, ◌%◌, ◌==◌, ℕ, Bool, true, List, [], ◌∷◌}
+use Rattle.std.specs.Prelude.{◌≡◌, ◌+◌, ◌%◌, ◌==◌, ℕ, Bool, true, List, [], ◌∷◌, length, map}
+use Rattle.std.specs.List.{All}
 use Rattle.omega_model.specs.declared.cells.Task.{Task}
 use Rattle.omega_running.specs.declared.orders.Order.{Order}
+use Rattle.omega_running.specs.declared.nodes.Tree.{Tree}
 use Rattle.omega_running.specs.Order.{Each, IsInOrder, put_in, spread}
+use Rattle.omega_running.specs.Tree.{IsTallied, tasks_of}
 
 -- tasks in an order, and among how many trees they are spread
 pub record SpreadTasks : Type 0 where
@@ -29,3 +32,8 @@ abbrev pub IsSpread : Order → ℕ → ℕ → List (List Task) → Type 0
 IsSpread order trees place [] = Unit {0}
 IsSpread order trees place (tasks ∷ rest) =
     IsInOrder order tasks × Each (λ task. is_at order trees place task ≡ true) tasks × IsSpread order trees (place + 1) rest
+
+-- each tree is in order and has tasks of its place alone, and keeps how many extra tasks it has
+pub record AreTrees (order : Order) (trees : List Tree) : Type 0 where
+  pub spread : IsSpread order (length trees) 0 (map tasks_of trees)
+  pub tallied : All IsTallied trees

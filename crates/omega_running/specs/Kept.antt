@@ -1,5 +1,5 @@
 -- The running tasks as a caller sees them, and what holds of the two forests that keep them.
-use Rattle.std.specs.Prelude.{◌≡◌, ◌<◌, ◌≤◌, ◌+◌, ℕ, List, length}
+use Rattle.std.specs.Prelude.{◌≡◌, ◌<◌, ◌≤◌, ◌+◌, ◌^◌, ℕ, List, length}
 use Rattle.std.specs.List.{filter}
 use Rattle.omega_model.specs.Keys.{key_lt}
 use Rattle.omega_model.specs.Cell.{is_on}
@@ -18,7 +18,7 @@ pub record RunningTasks : Type 0 where
   pub spare : ℕ
 
 -- the two forests have the same tasks on each machine, trees once there is a task or room for one, and the
--- pool has room for the nodes of all tasks
+-- pool has room for the nodes of all tasks; the tasks and those for which there is room are fewer than 2 ^ 32
 pub record AreKept (by_key by_machine : SpreadTasks) (count spare capacity : ℕ) : Type 0 where
   pub key_order : by_key.order ≡ ByKey
   pub machine_order : by_machine.order ≡ ByMachine
@@ -28,3 +28,4 @@ pub record AreKept (by_key by_machine : SpreadTasks) (count spare capacity : ℕ
   pub planted : 0 < count + spare → (0 < by_key.trees) × (0 < by_machine.trees)
   pub counted : count ≡ length by_key.tasks
   pub room : count + spare ≤ capacity
+  pub few : count + spare < 2 ^ 32

@@ -1,6 +1,6 @@
 -- The two orders in which the running tasks are kept.
-use Rattle.std.specs.Prelude.{◌≡◌, ℕ, ◌+◌, ◌*◌, ◌%◌, ◌^◌, Bool, true, List, [], ◌∷◌, ◌++◌, ◌==◌, ◌&&◌, ◌||◌, not, nat_le, nat_lt, if◌then◌else◌}
-use Rattle.std.specs.List.{filter, list_any}
+use Rattle.std.specs.Prelude.{◌≡◌, ℕ, ◌+◌, ◌*◌, ◌%◌, ◌^◌, Bool, true, List, [], ◌∷◌, ◌++◌, Option, ◌==◌, ◌&&◌, ◌||◌, not, nat_le, nat_lt, if◌then◌else◌}
+use Rattle.std.specs.List.{filter, find}
 use Rattle.omega_model.specs.Keys.{key_lt}
 use Rattle.omega_model.specs.ExtraTasks.{first_extra}
 use Rattle.omega_model.specs.declared.cells.Task.{Task}
@@ -24,14 +24,22 @@ abbrev pub lead : Order → Task → ℕ
 lead ByKey task = task.key.job
 lead ByMachine task = task.machine
 
+-- the sum of a key's job and index, which goes round at 2 ^ 64
+abbrev pub job_and_index : TaskKey → ℕ
+job_and_index key = (key.job + key.index) % 2 ^ 64
+
+-- whether a task is an extra one, of any job
+abbrev pub is_extra : Task → Bool
+is_extra task = nat_le first_extra task.key.index
+
 -- the number that names the tree of a key: of the trace's tasks that of the job and the index together, so that
 -- the tasks of a job stand in many trees, and of its extra tasks that of the job, so that they stand in one
 abbrev pub spread_key : TaskKey → ℕ
-spread_key key = if nat_lt key.index first_extra then (key.job + key.index) % 2 ^ 64 else key.job
+spread_key key = if nat_lt key.index first_extra then job_and_index key else key.job
 
 -- which of the trees of a machine has the task of a key, of eight
 abbrev pub share_of : TaskKey → ℕ
-share_of key = (key.job + key.index) % 2 ^ 64 % 8
+share_of key = job_and_index key % 8
 
 -- which of the trees of its machine has a task: by its job and its index together, so that the tasks of a job stand
 -- in several
@@ -54,7 +62,11 @@ spread ByMachine task = spread_machine task.machine (share task)
 -- which tasks are picked: those of a share, or extra tasks
 abbrev pub picks : Pick → Task → Bool
 picks (Share number) task = in_share number task
-picks Extras task = nat_le first_extra task.key.index
+picks Extras task = is_extra task
+
+-- whether a task is of a job with a lower number, or, where `own` is true, of this job
+abbrev pub is_until : ℕ → Bool → Task → Bool
+is_until job own task = if own then nat_le task.key.job job else nat_lt task.key.job job
 
 -- whether a task stands before all of a job's tasks on a machine, by machine and key
 abbrev pub is_before : Task → ℕ → ℕ → Bool
@@ -87,9 +99,9 @@ put_in order task tasks =
 abbrev pub taken_out : Order → Task → List Task → List Task
 taken_out order task tasks = filter (λ other. is_apart order task other) tasks
 
--- whether a task stands at this task's place
-abbrev pub has_place : Order → Task → List Task → Bool
-has_place order task tasks = list_any (λ other. not (is_apart order task other)) tasks
+-- the task that stands at this task's place
+abbrev pub at_place : Order → Task → List Task → Option Task
+at_place order task tasks = find (λ other. not (is_apart order task other)) tasks
 
 -- the tasks that an order's first number puts together
 abbrev pub led_by : Order → ℕ → List Task → List Task

@@ -1,5 +1,5 @@
 //! Several balanced trees of tasks in one of the two orders.
-ghost use Rattle.std.specs.Prelude.{◌≡◌, ◌<◌, ◌≤◌, ◌%◌, ◌^◌, ◌++◌, [], true, length, option_map, IfOk, IfSome, OnOk, IsTrue, None};
+ghost use Rattle.std.specs.Prelude.{◌≡◌, ◌<◌, ◌≤◌, ◌%◌, ◌^◌, ◌++◌, [], true, length, option_map, IfOk, IfSome, OnOk, None};
 ghost use Rattle.std.specs.List.{filter};
 ghost use Rattle.omega_model.specs.Cell.{task_at};
 ghost use Rattle.omega_model.specs.Jobs.{other_of_job};
@@ -11,8 +11,8 @@ ghost use Rattle.omega_running.specs.Others.{first_of, other_in_share};
 ghost use Rattle.omega_running.specs.Staying.{staying_on, staying_of_share};
 ghost use Rattle.omega_model.specs.ExtraTasks.{is_extra_of};
 ghost use Rattle.std.specs.List.Sorted.{IsPermutation};
-ghost use Rattle.omega_running.specs.Order.{Each, IsInOrder, has_place, in_share, is_apart, led_by, put_in, taken_out};
-ghost use Rattle.omega_running.specs.Tree.{tasks_of};
+ghost use Rattle.omega_running.specs.Order.{Each, IsInOrder, at_place, in_share, is_apart, led_by, put_in, taken_out};
+ghost use Rattle.omega_running.specs.Tree.{IsTallied, tasks_of};
 
 use crate::nodes::{Node, Tree};
 use crate::orders::{Order, Pick, SHARES, key_lt, spread_key, spread_machine};
@@ -28,7 +28,8 @@ pub(crate) const TREES: usize = 262_144;
 /// Tasks in one of the two orders. By machine, the tasks of a machine stand in up to `SHARES` trees, which its number and
 /// the key of the task name together. By key, a task of the trace stands in a tree that its job and its index name
 /// together, and the extra tasks of a job in one that the job names. So a way down is short however many tasks there
-/// are. A contract sees the list of the tasks, and how many trees there are: none until `plant`.
+/// are. Each tree keeps how many extra tasks it has and each part of it has, by which those of a job are counted. A
+/// contract sees the list of the tasks, and how many trees there are: none until `plant`.
 #[derive(Debug, Drop)]
 pub struct Forest {
     order: Order,
@@ -37,14 +38,14 @@ pub struct Forest {
 
 impl Model for Forest {
     ghost use Rattle.std.specs.Prelude.{length, map};
-    ghost use Rattle.omega_running.specs.Forest.{SpreadTasks, IsSpread, gathered};
+    ghost use Rattle.omega_running.specs.Forest.{AreTrees, SpreadTasks, gathered};
     ghost use Rattle.omega_running.specs.Tree.{tasks_of};
 
     ghost Value = { SpreadTasks };
 
     ghost view = { λ f. record { order = f.order; tasks = gathered f.order (map tasks_of f.trees.items); trees = length f.trees.items } };
 
-    ghost invariant = { λ f. IsSpread f.order (length f.trees.items) 0 (map tasks_of f.trees.items) };
+    ghost invariant = { λ f. AreTrees f.order f.trees.items };
 }
 
 impl Forest {
@@ -92,6 +93,7 @@ impl Forest {
     fn tree(&self, number: u64) -> Option<&Tree>
         ensures none { result ≡ None → self.now.tasks ≡ [] }
         ensures ordered { IfSome result (λ tree. IsInOrder self.now.order (tasks_of tree.now)) }
+        ensures tallied { IfSome result (λ tree. IsTallied tree.now) }
         ensures part { IfSome result (λ tree. tasks_of tree.now ≡ filter (is_at self.now.order self.now.trees (number % self.now.trees)) self.now.tasks) }
     {
         let place = self.place(number)?;
@@ -121,21 +123,19 @@ impl Forest {
         *tree = tree.take().insert(self.order, task, room);
     }
 
-    /// Takes out the task at this task's place, and gives its node back. Goes down one way of one
-    /// tree.
-    pub fn remove(&mut self, task: &Task) -> Box<Node>
-        requires { IsTrue (has_place self.old.order task.now self.old.tasks) }
+    /// Takes out the task at this task's place, and gives its node back, if there is one. Goes down one way of
+    /// one tree.
+    pub fn remove(&mut self, task: &Task) -> Option<Box<Node>>
         ensures order { self.new.order ≡ self.old.order }
         ensures tasks { self.new.tasks ≡ taken_out self.old.order task.now self.old.tasks }
         ensures trees { self.new.trees ≡ self.old.trees }
+        ensures out { option_map (λ node. node.value.task) result ≡ at_place self.old.order task.now self.old.tasks }
     {
-        let Some(place) = self.place(self.order.spread(task)) else {
-            unreachable!()
-        };
+        let place = self.place(self.order.spread(task))?;
         let tree = &mut self.trees[place];
-        let (rest, room) = tree.take().remove(self.order, task);
+        let (rest, out) = tree.take().remove(self.order, task);
         *tree = rest;
-        room
+        out
     }
 
     /// Appends the tasks of a machine, in any order. Costs these, and one way down of each of the machine's trees.
@@ -172,15 +172,14 @@ impl Forest {
         }
     }
 
-    /// How many extra tasks of a job there are. Costs these and few others of the job's tasks, and one way down
-    /// of one tree.
+    /// How many extra tasks of a job there are. Goes down two ways of one tree.
     pub fn count_extras(&self, job: u64) -> usize
         requires by_key { self.now.order ≡ ByKey }
-        requires few { length self.now.tasks < 2 ^ 64 }
+        requires few { length self.now.tasks < 2 ^ 32 }
         ensures { result ≡ length (filter (is_extra_of job) self.now.tasks) }
     {
         match self.tree(job) {
-            Some(tree) => tree.count(self.order, job, Pick::Extras),
+            Some(tree) => tree.count_extras(job),
             None => 0,
         }
     }

@@ -1,7 +1,7 @@
 //! The two orders in which the running tasks are kept.
 ghost use Rattle.std.specs.Prelude.{◌≡◌, ◌<◌};
 ghost use Rattle.omega_model.specs.Keys.{key_lt, is_among};
-ghost use Rattle.omega_running.specs.Order.{precedes, lead, picks, share_of, spread, spread_key, spread_machine, is_before, is_behind};
+ghost use Rattle.omega_running.specs.Order.{precedes, lead, picks, is_extra, is_until, job_and_index, share_of, spread, spread_key, spread_machine, is_before, is_behind};
 
 use omega_model::{Task, TaskKey};
 
@@ -27,7 +27,7 @@ impl Pick {
     {
         match self {
             Pick::Share(share) => share_of(task.key) == share,
-            Pick::Extras => task.key.index >= FIRST_EXTRA,
+            Pick::Extras => is_extra(task),
         }
     }
 }
@@ -73,13 +73,38 @@ impl Order {
     }
 }
 
+/// Whether a task is an extra one, of any job.
+pub fn is_extra(task: &Task) -> bool
+    ensures { result ≡ is_extra task.now }
+{
+    task.key.index >= FIRST_EXTRA
+}
+
+/// Whether a task is of a job with a lower number, or, where `own` is true, of this job.
+pub fn is_until(task: &Task, job: u64, own: bool) -> bool
+    ensures { result ≡ is_until job own task.now }
+{
+    if own {
+        task.key.job <= job
+    } else {
+        task.key.job < job
+    }
+}
+
+/// The sum of a key's job and index, modulo 2^64.
+pub fn job_and_index(key: TaskKey) -> u64
+    ensures { result ≡ job_and_index key }
+{
+    key.job.wrapping_add(u64::from(key.index))
+}
+
 /// The number that names the tree of a key. The tasks of the trace that a job has stand in many trees, and its
 /// extra tasks in one.
 pub fn spread_key(key: TaskKey) -> u64
     ensures { result ≡ spread_key key }
 {
     if key.index < FIRST_EXTRA {
-        key.job.wrapping_add(u64::from(key.index))
+        job_and_index(key)
     } else {
         key.job
     }
@@ -90,7 +115,7 @@ pub fn share_of(key: TaskKey) -> u64
     ensures share { result ≡ share_of key }
     ensures below { result < 8 }
 {
-    key.job.wrapping_add(u64::from(key.index)) % SHARES
+    job_and_index(key) % SHARES
 }
 
 /// The number that names one of a machine's trees; the share is below `SHARES`.

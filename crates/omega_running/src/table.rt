@@ -1,5 +1,5 @@
 //! The running tasks.
-ghost use Rattle.std.specs.Prelude.{◌≡◌, ◌+◌, ◌≤◌, ◌<◌, [], ◌∷◌, max, length, option_map, IsOk, IfOk, OnOk, is_some, None, Some, vec_len, vec_capacity, if◌then◌else◌};
+ghost use Rattle.std.specs.Prelude.{◌≡◌, ◌+◌, ◌≤◌, ◌<◌, [], ◌∷◌, max, length, option_map, IsOk, IfOk, OnOk, is_some, None, vec_len, vec_capacity, if◌then◌else◌};
 ghost use Rattle.std.specs.List.{filter};
 ghost use Rattle.omega_model.specs.Cell.{task_at, with_task, without, is_on, by_rank, keys_of};
 ghost use Rattle.omega_model.specs.ExtraTasks.{is_extra_of};
@@ -10,12 +10,16 @@ ghost use Rattle.omega_running.specs.Kept.{KeysRise};
 ghost use Rattle.omega_running.specs.Standing.{stands_in};
 
 use crate::forest::{Forest, TREES};
-use crate::nodes::Node;
+use crate::nodes::{Node, task_of_key};
 use crate::orders::{Order, SHARES};
 use crate::standing::same_task;
 use omega_model::{Keys, Need, NoMemory, Seq, Task, TaskKey, Tasks};
 use std::alloc::Global;
 use std::marker::Model;
+
+/// How many tasks run and have room together at most, so that a number of 32 bits counts them. So many would take
+/// several hundred GiB.
+const MOST_TASKS: usize = 4_294_967_295;
 
 /// The nodes that one more task takes.
 #[derive(Debug, Drop)]
@@ -78,7 +82,8 @@ impl Running {
 
     /// Makes room for at least `n` more tasks. The tasks stay as they are, also where memory runs
     /// out, and no room is lost then. Takes the memory and time of the room that is missing, the
-    /// first time those of the trees too, and none where there is enough.
+    /// first time those of the trees too, and none where there is enough. Where more than 2^32 - 1 tasks would run or
+    /// have room it answers as where memory runs out.
     pub fn reserve(&mut self, alloc: Global, n: usize) -> Result<(), NoMemory>
         ensures tasks { self.new.tasks ≡ self.old.tasks }
         ensures spare { OnOk result (self.new.spare ≡ max self.old.spare n) }
@@ -89,12 +94,13 @@ impl Running {
         if n <= spare {
             return Ok(());
         }
-        let Some(room) = self.count.checked_add(n - spare) else {
+        let all = self.count.saturating_add(n);
+        if all > MOST_TASKS {
             return Err(NoMemory);
-        };
+        }
         self.by_key.plant(alloc, TREES)?;
         self.by_machine.plant(alloc, TREES)?;
-        self.pool.reserve(room)?;
+        self.pool.reserve(all - spare)?;
         fill(&mut self.pool, alloc, n)
     }
 
@@ -131,21 +137,14 @@ impl Running {
         ensures tasks { self.new.tasks ≡ without (key ∷ []) self.old.tasks }
         ensures spare { self.new.spare ≡ self.old.spare + (if is_some result then 1 else 0) }
     {
-        let task = *self.by_key.find(key)?;
-        self.take_out(&task);
-        Some(task)
-    }
-
-    /// Takes out a task that runs.
-    fn take_out(&mut self, task: &Task)
-        requires { task_at self.old.tasks task.now.key ≡ Some task.now }
-        ensures tasks { self.new.tasks ≡ without (task.now.key ∷ []) self.old.tasks }
-        ensures spare { self.new.spare ≡ self.old.spare + 1 }
-    {
-        let by_key = self.by_key.remove(task);
-        let by_machine = self.by_machine.remove(task);
+        let by_key = self.by_key.remove(&task_of_key(key))?;
+        let task = by_key.task;
+        let Some(by_machine) = self.by_machine.remove(&task) else {
+            unreachable!()
+        };
         self.count -= 1;
         self.pool.push_reserved(Pair { by_key, by_machine });
+        Some(task)
     }
 
     /// The keys of the tasks on a machine in order of eviction: by precedence, job and index.
@@ -199,8 +198,7 @@ impl Running {
         Ok(Seq::of(found))
     }
 
-    /// How many extra tasks of a job run. Takes the time of these and of few others of the job's tasks, and
-    /// logarithmic in the number of tasks.
+    /// How many extra tasks of a job run. Takes time logarithmic in the number of tasks.
     pub fn count_extras(&self, job: u64) -> usize
         ensures { result ≡ length (filter (is_extra_of job) self.now.tasks) }
     {

@@ -37,6 +37,7 @@ invariant_of-self c =
       planted = λ some. (rw c.insert.ensures.trees planted.0, rw c.insert-2.ensures.trees planted.1);
       counted = rw by_key (omega (arith, more, kept.counted));
       room = omega (arith, c.in-Some.ensures.cases);
+      few = omega (arith, c.in-Some.ensures.cases, kept.few);
     }
 
 pub returns-clause-tasks : goal.returns-clause-tasks
