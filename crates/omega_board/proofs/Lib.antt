@@ -15,6 +15,7 @@ pub mod Lacking
 pub mod Rewritten
 pub mod Reaching
 pub mod Standing
+pub mod Gathered
 pub mod Evicted
 pub mod Placed
 pub mod Needing

@@ -41,7 +41,7 @@ module _ (board : BoardState) (kept : IsBoard board.table board.tasks) (claim : 
   standing : List TaskKey
   standing = standing_victims board.tasks claim
 
-  pub walk_up : is_some (free_at board.table claim.machine) ≡ true
+  walk_up : is_some (free_at board.table claim.machine) ≡ true
   walk_up = some_free board.table claim.machine known.up
 
   tested : (n : ℕ) (free : Need) → Walking board claim standing n free → enough claim standing n free ≡ makes_room (cell_of board) claim (take n standing)

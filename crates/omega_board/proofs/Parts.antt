@@ -1,10 +1,11 @@
 -- What the parts of a verdict come to on a board.
-use Rattle.std.proofs.Common.{◌≡◌, ℕ, ◌+◌, ◌<◌, Bool, true, false, not, ◌&&◌, nat_le, List, [], ◌∷◌, ◌++◌, length, get_or, take, position, slice_get, ap₂, Option, Some, None, is_some, IsTrue, refl, sym, ap, ◌∙◌, arith, ◌==◌}
-use Rattle.std.specs.Option.{option_map, option_map_or}
+use Rattle.std.proofs.Common.{◌≡◌, ℕ, ◌+◌, ◌<◌, Bool, true, false, not, ◌&&◌, nat_le, List, [], ◌∷◌, ◌++◌, length, get_or, take, position, slice_get, if◌then◌else◌, ap₂, Option, Some, None, is_some, IsTrue, refl, sym, ap, ◌∙◌, arith, ◌==◌}
+use Rattle.std.specs.List.{find}
+use Rattle.std.specs.Option.{option_map, option_map_or, option_or}
 use Rattle.std.proofs.Math.Bool.{and_comm}
 use Rattle.std.proofs.lemmas.Bool.{both_ways, eqb-true, eq-eqb}
 use Rattle.std.proofs.lemmas.List.{take_more}
-use Rattle.std.proofs.lemmas.List.Folds.{find_at}
+use Rattle.std.proofs.lemmas.List.Folds.{find_at, find-append}
 use Rattle.std.proofs.lemmas.Option.{none-some, same_Some, cond_some, slice_get-get_or}
 use Rattle.omega_model.specs.Fields.{greatest}
 use Rattle.omega_model.specs.Need.{Fits, nothing, plus, minus}
@@ -56,6 +57,15 @@ pub withstands_is : (tasks : List Task) (prec : ℕ) (key : TaskKey) → IsInOrd
 withstands_is tasks prec key order =
     any_at (λ task. same_key task.key key && nat_le prec task.spec.prec) (λ task. nat_le prec task.spec.prec) key (λ t. refl) tasks order
 
+-- the first of some names whose precedence is too high, with one more name
+pub withstands_push : (tasks : List Task) (prec : ℕ) (keys : List TaskKey) (key : TaskKey) (t : Task) → IsInOrder ByKey tasks → task_at tasks key ≡ Some t
+    → option_or (find (withstands tasks prec) keys) (if nat_le prec t.spec.prec then Some t.key else None) ≡ find (withstands tasks prec) (keys ++ key ∷ [])
+withstands_push tasks prec keys key t order found =
+    let test : withstands tasks prec key ≡ nat_le prec t.spec.prec = withstands_is tasks prec key order ∙ ap (λ o. option_map_or (λ (x : Task). nat_le prec x.spec.prec) o false) found in
+    ap (λ k. option_or (find (withstands tasks prec) keys) (if nat_le prec t.spec.prec then Some k else None)) (found_key key tasks t found)
+    ∙ ap (λ b. option_or (find (withstands tasks prec) keys) (if b then Some key else None)) (sym test)
+    ∙ sym (find-append (withstands tasks prec) keys (key ∷ []))
+
 -- a task that runs on a machine is found
 pub found_on : (tasks : List Task) (id : ℕ) (key : TaskKey) → IsInOrder ByKey tasks → runs_on tasks id key ≡ true → (t : Task) × (task_at tasks key ≡ Some t) × (t.machine ≡ id)
 found_on tasks id key order runs = by (task_at tasks key) refl (sym (runs_on_is tasks id key order) ∙ runs)
@@ -94,17 +104,25 @@ module _ (board : BoardState) (kept : IsBoard board.table board.tasks) (id : ℕ
       ∙ ap (λ n. plus n (use_on board.tasks id)) (sym known.3) ∙ counted ∙ sym (state_cap known.0 known.1)
 
   -- with one more victim off the machine, as much more as it needs
+  pub freed_push : (gone : List TaskKey) (key : TaskKey) (t : Task) → runs_on board.tasks id key ≡ true → task_at board.tasks key ≡ Some t → is_among key gone ≡ false
+      → (free : Need) → IsFreed board id gone free → IsFreed board id (gone ++ key ∷ []) (plus free t.spec.need)
+  freed_push gone key t runs found apart free freed =
+      let task = found_on board.tasks id key kept.ordered runs in
+      let on : t.machine ≡ id = ap (λ (x : Task). x.machine) (same_Some _ _ (sym found ∙ task.1)) ∙ task.2 in
+      plus-assoc free t.spec.need (rest_on board.tasks id (gone ++ key ∷ []))
+      ∙ ap (plus free) (sym (rest_more board.tasks id gone key t kept.ordered found on apart))
+      ∙ freed
+
+  -- the same at a place of those that go
   pub freed_more : (gone : List TaskKey) → Stand board.tasks id gone → (i : ℕ) (key : TaskKey) → i < length gone → get_or gone i key ≡ key
       → (free need : Need) → Some need ≡ option_map (λ t. t.spec.need) (task_at board.tasks key) → IsFreed board id (take i gone) free → IsFreed board id (take (i + 1) gone) (plus free need)
   freed_more gone there i key below is free need needs freed =
       let known = there i key (slice_get-get_or gone i key below ∙ ap Some is) in
       let task = found_on board.tasks id key kept.ordered known.0 in
       let amount : need ≡ task.0.spec.need = same_Some _ _ (needs ∙ ap (option_map (λ (t : Task). t.spec.need)) task.1) in
-      let split = rest_more board.tasks id (take i gone) key task.0 kept.ordered task.1 task.2 known.1 in
       let front : take (i + 1) gone ≡ take i gone ++ key ∷ [] = take_more gone i key below ∙ ap (λ k. take i gone ++ k ∷ []) is in
-      plus-assoc free need (rest_on board.tasks id (take (i + 1) gone))
-      ∙ ap (plus free) (ap₂ plus amount (ap (rest_on board.tasks id) front) ∙ sym split)
-      ∙ freed
+      ap₂ (λ n ks. plus (plus free n) (rest_on board.tasks id ks)) amount front
+      ∙ freed_push (take i gone) key task.0 known.0 task.1 known.1 free freed
 
   -- which stays within what a number holds
   pub freed_bounded : (gone : List TaskKey) (free : Need) → is_some (free_at board.table id) ≡ true → IsFreed board id gone free → Fits free greatest

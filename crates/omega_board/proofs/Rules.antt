@@ -1,14 +1,15 @@
 -- What is answered on a board is what the rule answers on the history, and replies as what a board may apply.
-use Rattle.std.proofs.Common.{◌≡◌, ℕ, zero, suc, ◌+◌, Bool, true, false, cond, not, ◌||◌, List, [], ◌∷◌, length, map, take, drop, Option, IsTrue, refl, sym, ap, ap₂, ◌∙◌, arith, ◌==◌}
+use Rattle.std.proofs.Common.{◌≡◌, ℕ, zero, suc, ◌+◌, Bool, true, false, cond, not, ◌||◌, List, [], ◌∷◌, length, map, take, drop, Option, Some, IsTrue, refl, sym, ap, ap₂, ◌∙◌, arith, ◌==◌}
 use Rattle.std.specs.List.{list_any, count_by, zip}
 use Rattle.std.proofs.lemmas.Bool.{both_ways, eq-eqb, eqb-true, ne_eqb}
 use Rattle.std.proofs.lemmas.List.Sums.{sum_by-cons}
 use Rattle.omega_model.specs.Applying.{MayPlaceAll}
 use Rattle.omega_model.specs.Cell.{Cell}
-use Rattle.omega_model.specs.Judge.{refusal_if, changed, known_of, judged_given, verdict_given, with_evicted, judge, judge_fine}
+use Rattle.omega_model.specs.Judge.{refusal_if, first_that_applies, no_machine, already_running, victim_rank, same_job, full, changed, known_of, judged_given, verdict_given, with_evicted, judge, judge_fine}
 use Rattle.omega_board.specs.Judging.{changed_on, judge_on}
 use Rattle.omega_model.specs.Reply.{admits, after_claim, judgements, withdrawn_for, first_refused, by_mode, reply_on}
 use Rattle.omega_model.specs.Touches.{is_placed, touches, seq}
+use Rattle.omega_model.specs.declared.cells.TaskKey.{TaskKey}
 use Rattle.omega_model.specs.declared.claims.Claim.{Claim}
 use Rattle.omega_model.specs.declared.claims.Judgement.{Judgement}
 use Rattle.omega_model.specs.declared.claims.Mode.{Mode}
@@ -17,7 +18,7 @@ use Rattle.omega_model.specs.declared.claims.Rule.{Rule}
 use Rattle.omega_model.specs.declared.claims.Rule.TheVariants.{Fine, Coarse}
 use Rattle.omega_model.specs.declared.claims.Txn.{Txn}
 use Rattle.omega_model.specs.declared.claims.Verdict.{Verdict}
-use Rattle.omega_model.specs.declared.claims.Verdict.TheVariants.{Placed, Changed}
+use Rattle.omega_model.specs.declared.claims.Verdict.TheVariants.{Placed, NoMachine, Changed}
 use Rattle.omega_model.specs.declared.entries.Entry.{Entry}
 use Rattle.omega_board.proofs.Placed.{refuses_change, is_placed-Placed, placed_without}
 use Rattle.omega_model.proofs.Lists.{by_answer}
@@ -64,6 +65,13 @@ pub judged_on : (history : List Entry) (seen : ℕ) (cell : Cell) (rule : Rule) 
     → now ≡ seq history claim.machine → copy ≡ known_of history seen rule claim.machine → judge history seen cell rule claim ≡ judge_on cell now copy claim
 judged_on history seen cell rule claim now copy numbered known =
     ap (λ change. judged_given change cell claim) (sym (ap₂ changed_on numbered known ∙ change_is history seen rule claim))
+
+-- what is answered where the machine isn't up
+pub refused_down : (change : Option Verdict) (cell : Cell) (claim : Claim) (evicted : List TaskKey) → evicted ≡ [] → Some NoMachine ≡ no_machine cell claim
+    → judged_given change cell claim ≡ record { verdict = NoMachine; evicted = evicted }
+refused_down change cell claim evicted none down =
+    ap (λ part. with_evicted cell claim (first_that_applies (part ∷ already_running cell claim ∷ change ∷ victim_rank cell claim ∷ same_job cell claim ∷ full cell claim ∷ []))) (sym down)
+    ∙ (λ i. record { verdict = NoMachine; evicted = sym none i })
 
 -- a claim that is placed in spite of a change is answered the same without it
 fine_given : (change : Option Verdict) (cell : Cell) (claim : Claim) → Refuses change → is_placed (verdict_given change cell claim) ≡ true → judge_fine cell claim ≡ judged_given change cell claim

@@ -1,21 +1,32 @@
 //! What is answered to a claim, part by part.
-ghost use Rattle.std.specs.Prelude.{◌≡◌, ◌≤◌, ◌&&◌, ◌==◌, ℕ, List, [], None, Some, not, take, length, option_map, is_some, vec_capacity, IfSome, IsTrue, ◌++◌, ◌∷◌, if◌then◌else◌};
-ghost use Rattle.std.specs.List.{list_any};
-ghost use Rattle.omega_machines.specs.Table.{seq_at};
+ghost use Rattle.std.specs.Prelude.{◌≡◌, ◌≤◌, ◌&&◌, ◌==◌, ℕ, List, [], None, Some, not, nat_le, take, length, option_map, is_some, vec_capacity, IfSome, IsTrue, ◌++◌, ◌∷◌, if◌then◌else◌};
+ghost use Rattle.std.specs.List.{find, list_any};
+ghost use Rattle.std.specs.Option.{option_or};
+ghost use Rattle.omega_machines.specs.Table.{free_at, seq_at};
 ghost use Rattle.omega_model.specs.Cell.{goes_before, task_at};
-ghost use Rattle.omega_model.specs.Judge.{known_of, no_machine, already_running, victim_rank, same_job, full, free_without, runs_on, withstands, standing_victims, evicted_for, verdict_given, would_be_placed, judge};
+ghost use Rattle.omega_model.specs.Judge.{known_of, refusal_if, no_machine, already_running, same_job, free_without, runs_on, withstands, standing_victims, evicted_for, verdict_given, would_be_placed, judge};
 ghost use Rattle.omega_board.specs.Judging.{changed_on, comes_behind, ComesLast, judge_on};
 ghost use Rattle.omega_model.specs.Keys.{is_among};
-ghost use Rattle.omega_model.specs.Need.{fits};
+ghost use Rattle.omega_model.specs.Need.{Fits, fits, plus};
+ghost use Rattle.omega_model.specs.Fields.{greatest};
 ghost use Rattle.omega_model.specs.Touches.{is_placed, seq};
 ghost use Rattle.omega_model.specs.declared.entries.Entry.{Entry};
 ghost use Rattle.omega_model.specs.declared.claims.Rule.{Rule};
+ghost use Rattle.omega_model.specs.declared.claims.Verdict.TheVariants.{VictimRank, Full};
 ghost use Rattle.omega_running.specs.Kept.{KeysRise};
-ghost use Rattle.omega_board.specs.Board.{cell_of, Stand};
+ghost use Rattle.omega_board.specs.Board.{cell_of, IsBoard};
 
 use crate::Board;
 use omega_model::{Claim, Need, Task, TaskKey, Verdict};
 use omega_running::{is_among, key_lt};
+
+/// What is asked of victims that stand: the first of them that withstands the claim, since its
+/// precedence isn't lower, and what is free on the machine once they are off it.
+#[derive(Clone, Copy)]
+struct StandingVictims {
+    withstands: Option<TaskKey>,
+    free: Need,
+}
 
 impl Board {
     /// The verdict on a claim, never `Withdrawn`, and in `evicted` the victims that the claim evicts, in
@@ -24,10 +35,12 @@ impl Board {
     /// planned, or `None` where changes don't matter. Where the machine has another one now, is up, and
     /// the task doesn't run, the verdict is `Changed`.
     ///
-    /// Costs the claim's victims, each of them looked up; one that doesn't come behind all those before
-    /// it, in order of eviction, is looked for among them too. With the different-machines flag it
-    /// costs besides the tasks of the job on the machine, each looked for among the victims, and at
-    /// worst the square of the victims that stand.
+    /// Costs a look at the machine, a second one where `copy_seq` is a number, a look-up of the claim's
+    /// task, and, where none of these refuses, the claim's victims, each of them looked up once; one
+    /// that doesn't come behind all those before it, in order of eviction, is looked for among them too.
+    /// Where the claim is placed, those that it evicts are looked up once more. With the different-machines flag it costs besides the tasks of the job on
+    /// the machine, each looked for among the victims, and at worst the square of the victims that
+    /// stand.
     pub fn judge(&self, claim: &Claim, copy_seq: Option<u64>, evicted: &mut Vec<TaskKey>) -> Verdict
         requires empty { evicted.old.items ≡ [] }
         requires room { length claim.now.victims ≤ vec_capacity evicted.old }
@@ -36,50 +49,49 @@ impl Board {
         ensures capacity { vec_capacity evicted.new ≡ vec_capacity evicted.old }
         ensures ordered { KeysRise self.now.tasks }
     {
-        let verdict = self.verdict(claim, copy_seq, evicted);
-        self.keep_evicted(claim, verdict, evicted);
+        let Some(free) = self.table.free(claim.machine) else {
+            return Verdict::NoMachine;
+        };
+        let verdict = self.verdict(claim, free, copy_seq, evicted);
+        self.keep_evicted(claim, verdict, free, evicted);
         verdict
     }
 
-    /// The verdict, and in `standing`, where the claim is placed, its victims that stand.
-    fn verdict(&self, claim: &Claim, copy_seq: Option<u64>, standing: &mut Vec<TaskKey>) -> Verdict
+    /// The verdict where the machine is up and has so much free, and in `standing`, where the claim is
+    /// placed, its victims that stand.
+    fn verdict(
+        &self,
+        claim: &Claim,
+        free: Need,
+        copy_seq: Option<u64>,
+        standing: &mut Vec<TaskKey>,
+    ) -> Verdict
+        requires kept { IsBoard self.now.table self.now.tasks }
+        requires up { no_machine (cell_of self.now) claim.now ≡ None }
+        requires free { free_at self.now.table claim.now.machine ≡ Some free }
         requires empty { standing.old.items ≡ [] }
         requires room { length claim.now.victims ≤ vec_capacity standing.old }
         ensures verdict { result ≡ verdict_given (changed_on (seq_at self.now.table claim.now.machine) copy_seq) (cell_of self.now) claim.now }
         ensures standing { IsTrue (is_placed result) → standing.new.items ≡ standing_victims self.now.tasks claim.now }
         ensures capacity { vec_capacity standing.new ≡ vec_capacity standing.old }
-        ensures ordered { KeysRise self.now.tasks }
     {
-        if let Some(verdict) = self.no_machine(claim) {
-            return verdict;
-        }
         if let Some(verdict) = self.already_running(claim) {
             return verdict;
         }
         if let Some(verdict) = self.changed(claim.machine, copy_seq) {
             return verdict;
         }
-        self.gather_standing(claim, standing);
-        if let Some(verdict) = self.victim_rank(claim, standing.as_slice()) {
+        let found = self.gather_standing(claim, free, standing);
+        if let Some(verdict) = found.victim_rank() {
             return verdict;
         }
         if let Some(verdict) = self.same_job(claim) {
             return verdict;
         }
-        if let Some(verdict) = self.full(claim, standing.as_slice()) {
+        if let Some(verdict) = found.full(claim.spec.need) {
             return verdict;
         }
         Verdict::Placed
-    }
-
-    fn no_machine(&self, claim: &Claim) -> Option<Verdict>
-        ensures verdict { result ≡ no_machine (cell_of self.now) claim.now }
-        ensures ordered { KeysRise self.now.tasks }
-    {
-        match self.table.free(claim.machine) {
-            Some(_) => None,
-            None => Some(Verdict::NoMachine),
-        }
     }
 
     fn already_running(&self, claim: &Claim) -> Option<Verdict>
@@ -101,43 +113,67 @@ impl Board {
         Some(Verdict::Changed { now, copy })
     }
 
-    /// Puts the victims that stand behind each other, for which there is room.
-    fn gather_standing(&self, claim: &Claim, standing: &mut Vec<TaskKey>)
+    /// Puts the victims that stand behind each other, for which there is room, and answers what is
+    /// asked of them. `free` is what is free on the machine before.
+    fn gather_standing(
+        &self,
+        claim: &Claim,
+        free: Need,
+        standing: &mut Vec<TaskKey>,
+    ) -> StandingVictims
+        requires kept { IsBoard self.now.table self.now.tasks }
+        requires free { free_at self.now.table claim.now.machine ≡ Some free }
         requires empty { standing.old.items ≡ [] }
         requires room { length claim.now.victims ≤ vec_capacity standing.old }
         ensures standing { standing.new.items ≡ standing_victims self.now.tasks claim.now }
+        ensures withstands { result.withstands ≡ find (withstands self.now.tasks claim.now.spec.prec) (standing_victims self.now.tasks claim.now) }
+        ensures free { result.free ≡ free_without (cell_of self.now) claim.now (standing_victims self.now.tasks claim.now) }
         ensures capacity { vec_capacity standing.new ≡ vec_capacity standing.old }
     {
         let mut last = None;
+        let mut found = StandingVictims {
+            withstands: None,
+            free,
+        };
         for key in claim.victims.as_slice() {
-            if self.stands(claim.machine, *key, standing.as_slice(), &mut last) {
+            if let Some(task) = self.standing_task(
+                claim.machine,
+                *key,
+                standing.as_slice(),
+                &mut last,
+            ) {
+                found = found.and_victim(claim.spec.prec, &task);
                 standing.push_reserved(*key);
             }
         }
+        found
     }
 
-    /// Whether a victim runs on the machine and isn't among those before it. `last` is which of those
-    /// comes last in order of eviction, and then which of those and the victim, where it stands. A
-    /// victim behind it in this order isn't among them, and costs no look at each.
-    fn stands(
+    /// The task of a victim, where it runs on the machine and isn't among those before it. `last` is
+    /// which of those comes last in order of eviction, and then which of those and the victim, where it
+    /// stands. A victim behind it in this order isn't among them, and costs no look at each.
+    fn standing_task(
         &self,
         machine: u64,
         key: TaskKey,
         before: &[TaskKey],
         last: &mut Option<Task>,
-    ) -> bool
+    ) -> Option<Task>
         requires { ComesLast self.now.tasks before.now last.old }
-        ensures stands { result ≡ (runs_on self.now.tasks machine key && not (is_among key before.now)) }
-        ensures last { ComesLast self.now.tasks (if result then before.now ++ key ∷ [] else before.now) last.new }
+        ensures stands { is_some result ≡ (runs_on self.now.tasks machine key && not (is_among key before.now)) }
+        ensures task { IfSome result (λ task. task_at self.now.tasks key ≡ Some task) }
+        ensures last { ComesLast self.now.tasks (if is_some result then before.now ++ key ∷ [] else before.now) last.new }
     {
-        let Some(task) = self.task_on(machine, key) else {
-            return false;
-        };
+        let task = self.task_on(machine, key)?;
         if comes_behind(*last, &task) {
             *last = Some(task);
-            return true;
+            return Some(task);
         }
-        !is_among(key, before)
+        if is_among(key, before) {
+            None
+        } else {
+            Some(task)
+        }
     }
 
     /// The task of this key, where it runs on the machine.
@@ -150,26 +186,6 @@ impl Board {
             Some(task)
         } else {
             None
-        }
-    }
-
-    fn victim_rank(&self, claim: &Claim, standing: &[TaskKey]) -> Option<Verdict>
-        requires { standing.now ≡ standing_victims self.now.tasks claim.now }
-        ensures { result ≡ victim_rank (cell_of self.now) claim.now }
-    {
-        let prec = claim.spec.prec;
-        standing
-            .iter()
-            .find(|key| self.withstands(prec, **key))
-            .map(|key| Verdict::VictimRank(*key))
-    }
-
-    fn withstands(&self, prec: u8, key: TaskKey) -> bool
-        ensures { result ≡ withstands self.now.tasks prec key }
-    {
-        match self.running.get(key) {
-            Some(task) => prec <= task.spec.prec,
-            None => false,
         }
     }
 
@@ -187,32 +203,6 @@ impl Board {
             .map(Verdict::SameJob)
     }
 
-    fn full(&self, claim: &Claim, standing: &[TaskKey]) -> Option<Verdict>
-        requires up { no_machine (cell_of self.now) claim.now ≡ None }
-        requires standing { standing.now ≡ standing_victims self.now.tasks claim.now }
-        ensures { result ≡ full (cell_of self.now) claim.now }
-    {
-        let free = self.free_without(claim, standing);
-        if claim.spec.need.fits(free) {
-            None
-        } else {
-            Some(Verdict::Full(free))
-        }
-    }
-
-    /// What is free on the machine once these tasks are off it.
-    fn free_without(&self, claim: &Claim, gone: &[TaskKey]) -> Need
-        requires up { no_machine (cell_of self.now) claim.now ≡ None }
-        requires gone { Stand self.now.tasks claim.now.machine gone.now }
-        ensures { result ≡ free_without (cell_of self.now) claim.now gone.now }
-    {
-        let mut free = self.table.free(claim.machine).unwrap();
-        for key in gone {
-            free = free.plus(self.need_of(*key));
-        }
-        free
-    }
-
     /// What a running task needs.
     pub(crate) fn need_of(&self, key: TaskKey) -> Need
         requires { IsTrue (is_some (task_at self.now.tasks key)) }
@@ -221,15 +211,18 @@ impl Board {
         self.running.get(key).unwrap().spec.need
     }
 
-    /// Keeps of the victims that stand those that a claim with this verdict evicts.
-    fn keep_evicted(&self, claim: &Claim, verdict: Verdict, evicted: &mut Vec<TaskKey>)
+    /// Keeps of the victims that stand those that a claim with this verdict evicts. `free` is what is
+    /// free on its machine before.
+    fn keep_evicted(&self, claim: &Claim, verdict: Verdict, free: Need, evicted: &mut Vec<TaskKey>)
+        requires kept { IsBoard self.now.table self.now.tasks }
+        requires free { free_at self.now.table claim.now.machine ≡ Some free }
         requires placed { IsTrue (is_placed verdict) → IsTrue (would_be_placed (cell_of self.now) claim.now) }
         requires standing { IsTrue (is_placed verdict) → evicted.old.items ≡ standing_victims self.now.tasks claim.now }
         ensures evicted { evicted.new.items ≡ (if is_placed verdict then evicted_for (cell_of self.now) claim.now else []) }
         ensures capacity { vec_capacity evicted.new ≡ vec_capacity evicted.old }
     {
         if verdict.is_placed() {
-            let needed = self.needed(claim, evicted.as_slice());
+            let needed = self.needed(claim, free, evicted.as_slice());
             evicted.truncate(needed);
         } else {
             evicted.clear();
@@ -237,12 +230,15 @@ impl Board {
     }
 
     /// How many of the victims that stand have to stop, in their order, for a claim that is placed.
-    fn needed(&self, claim: &Claim, standing: &[TaskKey]) -> usize
+    /// `free` is what is free on its machine before. Where none stand nothing is looked up.
+    fn needed(&self, claim: &Claim, free: Need, standing: &[TaskKey]) -> usize
+        requires kept { IsBoard self.now.table self.now.tasks }
+        requires free { free_at self.now.table claim.now.machine ≡ Some free }
         requires placed { IsTrue (would_be_placed (cell_of self.now) claim.now) }
         requires standing { standing.now ≡ standing_victims self.now.tasks claim.now }
         ensures { take result standing.now ≡ evicted_for (cell_of self.now) claim.now }
     {
-        let mut free = self.table.free(claim.machine).unwrap();
+        let mut free = free;
         for (n, key) in standing.iter().enumerate() {
             if makes_room(claim, free, &standing[n..]) {
                 return n;
@@ -250,6 +246,38 @@ impl Board {
             free = free.plus(self.need_of(*key));
         }
         standing.len()
+    }
+}
+
+impl StandingVictims {
+    /// The same with one more victim behind them, for a claim of this precedence.
+    fn and_victim(self, prec: u8, task: &Task) -> StandingVictims
+        requires { Fits (plus self.free task.now.spec.need) greatest }
+        ensures withstands { result.withstands ≡ option_or self.withstands (if nat_le prec task.now.spec.prec then Some task.now.key else None) }
+        ensures free { result.free ≡ plus self.free task.now.spec.need }
+    {
+        let withstands = prec <= task.spec.prec;
+        StandingVictims {
+            withstands: self.withstands.or(withstands.then_some(task.key)),
+            free: self.free.plus(task.spec.need),
+        }
+    }
+
+    fn victim_rank(&self) -> Option<Verdict>
+        ensures { result ≡ option_map VictimRank self.now.withstands }
+    {
+        self.withstands.map(Verdict::VictimRank)
+    }
+
+    /// Refused where a claim needs more than is free.
+    fn full(&self, need: Need) -> Option<Verdict>
+        ensures { result ≡ refusal_if (not (fits need self.now.free)) (Full self.now.free) }
+    {
+        if need.fits(self.free) {
+            None
+        } else {
+            Some(Verdict::Full(self.free))
+        }
     }
 }
 
