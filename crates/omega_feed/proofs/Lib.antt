@@ -16,4 +16,5 @@ pub mod ExtraIndexes
 pub mod HeldExtras
 pub mod Parts
 pub mod Slots
+pub mod Blocks
 pub mod Marking

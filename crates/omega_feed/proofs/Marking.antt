@@ -6,9 +6,10 @@ use Rattle.omega_model.specs.Fields.{ActivityFields, ConstraintFields}
 use Rattle.omega_model.specs.Keys.{same_key}
 use Rattle.omega_model.specs.declared.cells.TaskKey.{TaskKey}
 use Rattle.omega_model.proofs.InOrder.{key_same}
+use Rattle.omega_running.specs.Order.{job_and_index}
 use Rattle.omega_running.proofs.Lists.{each_map, filter_none}
 use Rattle.omega_feed.specs.Asked.{activities_in, constraints_for}
-use Rattle.omega_feed.specs.Marks.{AreMarkedJobs, AreMarkedTasks, is_marked, mark_of}
+use Rattle.omega_feed.specs.Marks.{AreMarkedJobs, AreMarkedTasks, is_marked}
 
 -- what holds at a place of a list holds where the list goes on
 longer : (marks more : List Bool) (place : ℕ) → get_or marks place false ≡ true → get_or (marks ++ more) place false ≡ true
@@ -37,9 +38,9 @@ unmarked_job marks rows job named without =
 
 -- a task without a mark has no constraints
 pub unmarked_task : (marks : List Bool) (rows : List ConstraintFields) (key : TaskKey)
-    → AreMarkedTasks marks rows → is_marked marks (mark_of key) ≡ false → constraints_for rows key ≡ []
+    → AreMarkedTasks marks rows → is_marked marks (job_and_index key) ≡ false → constraints_for rows key ≡ []
 unmarked_task marks rows key named without =
     ap (map (λ (row : ConstraintFields). row.constraint))
     (filter_none (λ row. same_key row.key key) rows
     (each_map _ (λ (row : ConstraintFields). same_key row.key key ≡ false)
-    (λ row has. false_from_ne_true _ (λ same. differs marks (mark_of row.key) (mark_of key) without has (ap mark_of (key_same row.key key same)))) rows named))
+    (λ row has. false_from_ne_true _ (λ same. differs marks (job_and_index row.key) (job_and_index key) without has (ap job_and_index (key_same row.key key same)))) rows named))

@@ -298,7 +298,7 @@ run_in_part job running (t ∷ ts) all = by_cases (is_task_of job t) refl (run_i
   by_cases false e rest all = All-cons (RunsIfOf job running) t ts (λ is. absurd (both_ways _ e is)) (rest all)
 
 -- the jobs of the tasks that don't run, part by part
-waiting_both : (running : List Task) (ts others : List WantedTask) → waiting_jobs running (ts ++ others) ≡ waiting_jobs running ts ++ waiting_jobs running others
+pub waiting_both : (running : List Task) (ts others : List WantedTask) → waiting_jobs running (ts ++ others) ≡ waiting_jobs running ts ++ waiting_jobs running others
 waiting_both running [] others = refl
 waiting_both running (t ∷ ts) others =
     by_answer (not (is_some (task_at running t.key)))

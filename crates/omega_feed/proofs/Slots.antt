@@ -1,5 +1,5 @@
 -- The slots of one job's tasks: what is found there, and what changes at the place of one.
-use Rattle.std.proofs.Common.{◌≡◌, ◌<◌, ◌≤◌, ◌+◌, ℕ, Bool, true, false, cond, not, ◌&&◌, ◌||◌, ◌==◌, List, [], ◌∷◌, ◌++◌, Option, Some, None, map, length, get_or, set, take, drop, zero, suc, refl, ap, sym, subst, ◌∙◌, arith, append-nil}
+use Rattle.std.proofs.Common.{◌≡◌, ◌<◌, ◌≤◌, ℕ, Bool, true, false, cond, not, ◌&&◌, ◌||◌, ◌==◌, List, [], ◌∷◌, ◌++◌, Option, Some, None, map, length, get_or, set, take, drop, zero, suc, refl, ap, sym, subst, ◌∙◌, arith, append-nil}
 use Rattle.std.specs.Prelude.{Result, Ok, Err, MatchResult, is_some}
 use Rattle.std.specs.List.{All, cons_option, filter, filter_map, insert, list_any}
 use Rattle.std.specs.List.Sorted.{IsBinarySearchResult, IsNonDecreasingBy, IsSearchInRange}
@@ -7,7 +7,7 @@ use Rattle.std.specs.Ordering.{ordering_index}
 use Rattle.std.specs.declared.cmp.Ordering.{Ordering}
 use Rattle.std.specs.declared.cmp.Ordering.TheVariants.{Less, Equal, Greater}
 use Rattle.std.proofs.lemmas.Bool.{lt-ltb, ne_eqb}
-use Rattle.std.proofs.lemmas.List.{length-append, length-set, take-append-drop}
+use Rattle.std.proofs.lemmas.List.{take-append-drop}
 use Rattle.std.proofs.lemmas.List.Elements.{All-cons, All-head, All-nil, All-tail, filter-append, filter_map-append}
 use Rattle.std.proofs.lemmas.List.Folds.{list_any-append}
 use Rattle.omega_model.proofs.InOrder.{key_asym, key_differs, key_itself, key_trans, same_key-sym}
@@ -26,7 +26,7 @@ use Rattle.omega_feed.specs.Asked.{is_task_of}
 use Rattle.omega_feed.specs.Index.{key_cmp, wanted_task}
 use Rattle.omega_feed.specs.Open.{RunsIfOf}
 use Rattle.omega_feed.specs.Parts.{waiting_jobs}
-use Rattle.omega_feed.specs.Slots.{AreEmptyBefore, GetsSlotAt, HasEmptySlotAt, HasSlotAt, IsEmpty, SlotsRise, entry_of, is_idle, is_idle_of, task_in, tasks_in}
+use Rattle.omega_feed.specs.Slots.{GetsSlotAt, HasSlotAt, SlotsRise, entry_of, is_idle, is_idle_of, task_in, tasks_in}
 use Rattle.omega_feed.specs.declared.task_list.Slot.{Slot}
 use Rattle.omega_feed.proofs.KeyOrder.{Facts, as_facts, facts, greater, key_irrefl}
 use Rattle.omega_feed.proofs.Parts.{each_at}
@@ -133,7 +133,7 @@ put_there (s ∷ ss) key zero within = refl
 put_there (s ∷ ss) key (suc i) within = put_there ss key i (omega (arith, within))
 
 -- the tasks from a slot on
-abbrev from_slot : TaskKey → Option Spec → List WantedTask → List WantedTask
+abbrev pub from_slot : TaskKey → Option Spec → List WantedTask → List WantedTask
 from_slot key spec tasks = cons_option (task_in (slot_of key spec)) tasks
 
 -- tasks before and behind the slot of one
@@ -192,10 +192,6 @@ module _ (key : TaskKey) (lower greater : List WantedTask) (before : Each (λ ta
       here : (spec : Option Spec) → list_any (is_named key) (from_slot key spec greater) ≡ is_some spec
       here None = any_none (is_named key) greater (each_map (λ task. key_lt key task.key ≡ true) (λ task. is_named key task ≡ false) (λ task h. same_key-sym key task.key (key_differs key task.key h)) greater behind)
       here (Some spec) = rw (key_itself key) refl
-
-counted : (key : TaskKey) (lower greater : List WantedTask) (spec : Option Spec) → length (lower ++ from_slot key spec greater) ≡ length lower + length greater + cond (is_some spec) 1 0
-counted key lower greater None = let long = length-append lower greater in omega (arith, long)
-counted key lower greater (Some spec) = let long = length-append lower (from_slot key (Some spec) greater) in omega (arith, long)
 
 -- the slots before and behind the slot at a place, and what becomes of all where another comes in its place
 record Around (slots : List Slot) (key : TaskKey) (place : ℕ) : Type 0 where
@@ -288,13 +284,6 @@ module _ (slots : List Slot) (key : TaskKey) (place : ℕ) (rise : SlotsRise slo
     set_cleared =
         as_own (λ s. tasks_in (set slots place s) ≡ filter (λ task. not (is_named key task)) (tasks_in slots)) None
         (are None ∙ cleared key (tasks_in a.before) (tasks_in a.behind) lower_tasks greater_tasks a.slot.spec ∙ ap (filter (λ task. not (is_named key task))) (sym were))
-
-    pub set_counted : (spec : Option Spec) → length (tasks_in (set slots place (slot_of slot.key spec))) + cond (is_some slot.spec) 1 0 ≡ length (tasks_in slots) + cond (is_some spec) 1 0
-    set_counted spec =
-        as_own (λ s. length (tasks_in (set slots place s)) + cond (is_some slot.spec) 1 0 ≡ length (tasks_in slots) + cond (is_some spec) 1 0) spec (
-        let before = ap length were ∙ counted key (tasks_in a.before) (tasks_in a.behind) a.slot.spec ∙ ap (λ (z : Option Spec). length (tasks_in a.before) + length (tasks_in a.behind) + cond (is_some z) 1 0) same_spec in
-        let now = ap length (are spec) ∙ counted key (tasks_in a.before) (tasks_in a.behind) spec in
-        omega (arith, before, now))
 
 -- where a task has no slot
 module _ (slots : List Slot) (key : TaskKey) (place : ℕ) (gets : GetsSlotAt slots key place) where
@@ -391,113 +380,3 @@ none_idle job running (s ∷ ss) all = by_spec s.spec all (none_idle job running
       let first = All-head (RunsIfOf job running) task (tasks_in ss) own in
       let rest = later (All-tail (RunsIfOf job running) task (tasks_in ss) own) in
       by_answer (s.key.job == job) (λ yes. rw (yes, first yes) rest) (λ no. rw no rest)
-
--- one task more is wanted where its slot was empty, and one less where it was full
-pub one_more : (after before : ℕ) (was is first : Bool) → after + cond was 1 0 ≡ before + cond is 1 0 → is ≡ true → was ≡ not first → after ≡ before + cond first 1 0
-one_more after before true true true e full same = absurd (cc)
-one_more after before true true false e full same = omega (arith, e)
-one_more after before false true true e full same = omega (arith, e)
-one_more after before false true false e full same = absurd (cc)
-one_more after before was false first e full same = absurd (cc)
-
-pub one_less : (after before : ℕ) (was is ended : Bool) → after + cond was 1 0 ≡ before + cond is 1 0 → is ≡ false → ended ≡ was → after + cond ended 1 0 ≡ before
-one_less after before true false true e empty same = omega (arith, e)
-one_less after before true false false e empty same = absurd (cc)
-one_less after before false false true e empty same = absurd (cc)
-one_less after before false false false e empty same = omega (arith, e)
-one_less after before was true ended e empty same = absurd (cc)
-
--- what holds of each slot before a place, where fewer are before it, where one is put in or changed, and where one more is passed
-each_fewer : {X : Type 0} (P : X → Type 0) (xs : List X) (m n : ℕ) → m ≤ n → Each P (take n xs) → Each P (take m xs)
-each_fewer P [] zero n le e = tt
-each_fewer P [] (suc m) n le e = tt
-each_fewer P (x ∷ xs) zero n le e = tt
-each_fewer P (x ∷ xs) (suc m) zero le e = absurd (omega (arith, le))
-each_fewer P (x ∷ xs) (suc m) (suc n) le e = (e.0, each_fewer P xs m n (omega (arith, le)) e.1)
-
-each_put : {X : Type 0} (P : X → Type 0) (xs : List X) (n i : ℕ) (y : X) → P y → Each P (take n xs) → Each P (take n (insert xs i y))
-each_put P [] zero zero y p e = tt
-each_put P [] zero (suc i) y p e = tt
-each_put P [] (suc zero) zero y p e = (p, tt)
-each_put P [] (suc zero) (suc i) y p e = (p, tt)
-each_put P [] (suc (suc n)) zero y p e = (p, tt)
-each_put P [] (suc (suc n)) (suc i) y p e = (p, tt)
-each_put P (x ∷ xs) zero zero y p e = tt
-each_put P (x ∷ xs) zero (suc i) y p e = tt
-each_put P (x ∷ xs) (suc n) zero y p e = (p, each_fewer P (x ∷ xs) n (suc n) (omega arith) e)
-each_put P (x ∷ xs) (suc n) (suc i) y p e = (e.0, each_put P xs n i y p e.1)
-
-each_set : {X : Type 0} (P : X → Type 0) (xs : List X) (n i : ℕ) (y : X) → P y → Each P (take n xs) → Each P (take n (set xs i y))
-each_set P [] zero i y p e = tt
-each_set P [] (suc n) i y p e = tt
-each_set P (x ∷ xs) zero zero y p e = tt
-each_set P (x ∷ xs) zero (suc i) y p e = tt
-each_set P (x ∷ xs) (suc n) zero y p e = (p, e.1)
-each_set P (x ∷ xs) (suc n) (suc i) y p e = (e.0, each_set P xs n i y p e.1)
-
-each_more : {X : Type 0} (P : X → Type 0) (xs : List X) (n : ℕ) → ((d : X) → P (get_or xs n d)) → Each P (take n xs) → Each P (take (suc n) xs)
-each_more P [] zero p e = tt
-each_more P [] (suc n) p e = tt
-each_more P (x ∷ xs) zero p e = (p x, tt)
-each_more P (x ∷ xs) (suc n) p e = (e.0, each_more P xs n p e.1)
-
-pub empty_fewer : (slots : List Slot) (m n : ℕ) → m ≤ n → AreEmptyBefore slots n → AreEmptyBefore slots m
-empty_fewer slots m n le before = record {
-  within = let within = before.within in omega (arith, within, le);
-  empty = each_fewer IsEmpty slots m n le before.empty;
-}
-
-pub empty_put : (slots : List Slot) (key : TaskKey) (place first : ℕ) → AreEmptyBefore slots first → AreEmptyBefore (insert slots place (slot_of key None)) first
-empty_put slots key place first before =
-    let s : Slot = slot_of key None in
-    let long = length-append (take place slots) (s ∷ drop place slots) in
-    let both = length-append (take place slots) (drop place slots) in
-    let all = ap length (take-append-drop place slots) in
-    let within = before.within in
-    record { within = omega (arith, long, both, all, within); empty = each_put IsEmpty slots first place s refl before.empty }
-
-pub empty_cleared : (slots : List Slot) (place first : ℕ) (slot : Slot) → IsEmpty slot → AreEmptyBefore slots first → AreEmptyBefore (set slots place slot) first
-empty_cleared slots place first slot empty before =
-    let long = length-set slots place slot in
-    let within = before.within in
-    record { within = omega (arith, long, within); empty = each_set IsEmpty slots first place slot empty before.empty }
-
-pub empty_filled : (slots : List Slot) (place first : ℕ) (slot : Slot) → first ≤ place → AreEmptyBefore slots first → AreEmptyBefore (set slots place slot) first
-empty_filled slots place first slot le before =
-    let long = length-set slots place slot in
-    let within = before.within in
-    record { within = omega (arith, long, within); empty = each_set_behind IsEmpty slots first place slot le before.empty }
-  where
-    each_set_behind : {X : Type 0} (P : X → Type 0) (xs : List X) (n i : ℕ) (y : X) → n ≤ i → Each P (take n xs) → Each P (take n (set xs i y))
-    each_set_behind P [] zero i y le e = tt
-    each_set_behind P [] (suc n) i y le e = tt
-    each_set_behind P (x ∷ xs) zero zero y le e = tt
-    each_set_behind P (x ∷ xs) zero (suc i) y le e = tt
-    each_set_behind P (x ∷ xs) (suc n) zero y le e = absurd (omega (arith, le))
-    each_set_behind P (x ∷ xs) (suc n) (suc i) y le e = (e.0, each_set_behind P xs n i y (omega (arith, le)) e.1)
-
-pub empty_more : (slots : List Slot) (place : ℕ) → HasEmptySlotAt slots place → AreEmptyBefore slots place → AreEmptyBefore slots (place + 1)
-empty_more slots place at before =
-    let found = found_empty slots place at in
-    let less = found.0 in
-    let next : suc place ≡ place + 1 = omega arith in
-    record { within = omega (arith, less); empty = subst (λ (n : ℕ). Each IsEmpty (take n slots)) next (each_more IsEmpty slots place found.1 before.empty) }
-  where
-    found_empty : (slots : List Slot) (place : ℕ) → HasEmptySlotAt slots place → (place < length slots) × ((d : Slot) → IsEmpty (get_or slots place d))
-    found_empty [] place at = absurd (cc)
-    found_empty (s ∷ ss) zero at = (omega arith, λ d. own_spec s at)
-      where
-        own_spec : (slot : Slot) → Some slot.spec ≡ Some None → slot.spec ≡ None
-        own_spec slot at = cc
-    found_empty (s ∷ ss) (suc i) at = let r = found_empty ss i at in let less = r.0 in (omega (arith, less), r.1)
-
--- nothing is wanted of empty slots, so what is left has all
-empty_tasks : (slots : List Slot) → Each IsEmpty slots → tasks_in slots ≡ []
-empty_tasks [] e = refl
-empty_tasks (s ∷ ss) e = ap (λ (spec : Option Spec). cons_option (task_in (slot_of s.key spec)) (tasks_in ss)) e.0 ∙ empty_tasks ss e.1
-
-pub left_is : (slots : List Slot) (first : ℕ) → AreEmptyBefore slots first → tasks_in (drop first slots) ≡ tasks_in slots
-left_is slots first before =
-    sym (ap tasks_in (sym (take-append-drop first slots))
-    ∙ filter_map-append task_in (take first slots) (drop first slots)
-    ∙ ap (λ (tasks : List WantedTask). tasks ++ tasks_in (drop first slots)) (empty_tasks (take first slots) before.empty))

@@ -1,8 +1,7 @@
 -- Marks of numbers.
-use Rattle.std.specs.Prelude.{◌≡◌, ℕ, ◌%◌, ◌+◌, ◌^◌, Bool, true, false, List, get_or}
+use Rattle.std.specs.Prelude.{◌≡◌, ℕ, ◌%◌, Bool, true, false, List, get_or}
 use Rattle.omega_model.specs.Fields.{ActivityFields, ConstraintFields}
-use Rattle.omega_model.specs.declared.cells.TaskKey.{TaskKey}
-use Rattle.omega_running.specs.Order.{Each}
+use Rattle.omega_running.specs.Order.{Each, job_and_index}
 
 -- whether a number has a mark
 abbrev pub is_marked : List Bool → ℕ → Bool
@@ -12,10 +11,6 @@ is_marked marks number = get_or marks (number % 65536) false
 abbrev pub AreMarkedJobs : List Bool → List ActivityFields → Type 0
 AreMarkedJobs marks rows = Each (λ row. is_marked marks row.job ≡ true) rows
 
--- the number by which a task is marked
-abbrev pub mark_of : TaskKey → ℕ
-mark_of key = (key.job + key.index) % 2 ^ 64
-
--- each task that these rows name is marked
+-- each task that these rows name is marked, by its job and index together
 abbrev pub AreMarkedTasks : List Bool → List ConstraintFields → Type 0
-AreMarkedTasks marks rows = Each (λ row. is_marked marks (mark_of row.key) ≡ true) rows
+AreMarkedTasks marks rows = Each (λ row. is_marked marks (job_and_index row.key) ≡ true) rows

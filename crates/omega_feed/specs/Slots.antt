@@ -1,5 +1,5 @@
 -- The wanted tasks of one job, each in its slot.
-use Rattle.std.specs.Prelude.{◌≡◌, ◌≤◌, ◌&&◌, ◌==◌, ℕ, Bool, true, List, Option, None, Some, drop, is_some, length, not, option_map, slice_get, take, if◌then◌else◌}
+use Rattle.std.specs.Prelude.{◌≡◌, ◌≤◌, ◌&&◌, ◌==◌, ℕ, Bool, true, List, [], ◌∷◌, Option, None, Some, drop, is_some, length, not, option_map, slice_get, take, if◌then◌else◌}
 use Rattle.std.specs.List.{filter_map}
 use Rattle.omega_model.specs.Cell.{task_at}
 use Rattle.omega_model.specs.ExtraTasks.{HasLowIndex}
@@ -35,25 +35,21 @@ entry_of job slot = if slot.key.job == job then option_map (λ spec. (slot.key, 
 abbrev pub SlotsRise : List Slot → Type 0
 SlotsRise slots = Rises (λ a b. key_lt a.key b.key) slots
 
--- a slot's task isn't wanted
-abbrev pub IsEmpty : Slot → Type 0
-IsEmpty slot = slot.spec ≡ None
+-- how many slots stand in a block
+abbrev pub block : ℕ
+block = 64
 
--- the slots before this place are empty
-pub record AreEmptyBefore (slots : List Slot) (place : ℕ) : Type 0 where
-  pub within : place ≤ length slots
-  pub empty : Each IsEmpty (take place slots)
+-- each count is that of the wanted tasks in its block of slots, and no slot stands behind these blocks
+abbrev pub AreCounted : List ℕ → List Slot → Type 0
+AreCounted [] slots = slots ≡ []
+AreCounted (count ∷ counts) slots = (count ≡ length (tasks_in (take block slots))) × AreCounted counts (drop block slots)
 
--- an empty slot stands at this place
-abbrev pub HasEmptySlotAt : List Slot → ℕ → Type 0
-HasEmptySlotAt slots place = option_map (λ slot. slot.spec) (slice_get slots place) ≡ Some None
-
--- the keys of the slots rise; the wanted tasks are none of the extras, their number is `count`, and none stands
--- before the place `first`
-pub record AreSlots (slots : List Slot) (first count : ℕ) : Type 0 where
+-- the keys of the slots rise; the wanted tasks are none of the extras, their number is `count`, and in the blocks
+-- they are as many as `wanted` says
+pub record AreSlots (slots : List Slot) (wanted : List ℕ) (count : ℕ) : Type 0 where
   pub rise : SlotsRise slots
   pub low : Each HasLowIndex (tasks_in slots)
-  pub passed : AreEmptyBefore slots first
+  pub blocks : AreCounted wanted slots
   pub counted : count ≡ length (tasks_in slots)
 
 -- a task's slot stands at this place

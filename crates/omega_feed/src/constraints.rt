@@ -1,12 +1,13 @@
 //! The constraints of all tasks.
-ghost use Rattle.std.specs.Prelude.{◌≡◌, ◌++◌, map, slice_get, IfOk, OnOk};
+ghost use Rattle.std.specs.Prelude.{◌≡◌, map, slice_get, IfOk};
 ghost use Rattle.std.specs.List.{filter_map};
 ghost use Rattle.omega_feed.specs.Asked.{constraints_for};
 ghost use Rattle.omega_feed.specs.Listed.{AreListed};
-ghost use Rattle.omega_feed.specs.Marks.{AreMarkedTasks, mark_of};
+ghost use Rattle.omega_feed.specs.Marks.{AreMarkedTasks};
 
 use crate::marks::Marks;
 use omega_model::{ConstraintRow, Constraints, Copied, NoMemory, Seq, TaskKey};
+use omega_running::job_and_index;
 use std::alloc::Global;
 use std::collections::BTreeMap;
 use std::marker::Model;
@@ -16,7 +17,7 @@ use std::marker::Model;
 pub struct TaskConstraints {
     rows: Seq<ConstraintRow>,
     places: BTreeMap<TaskKey, Seq<usize>>,
-    /// The tasks that have any are marked.
+    /// The tasks that have any are marked, by their job and index together.
     marks: Marks,
 }
 
@@ -54,7 +55,7 @@ impl TaskConstraints {
     pub fn of(&self, alloc: Global, key: TaskKey) -> Result<Constraints, NoMemory>
         ensures { IfOk result (λ constraints. constraints ≡ constraints_for self.now key) }
     {
-        if !self.marks.has(mark_of(key)) {
+        if !self.marks.has(job_and_index(key)) {
             return Ok(Constraints::new(alloc));
         }
         match self.places.get(&key) {
@@ -64,20 +65,13 @@ impl TaskConstraints {
     }
 }
 
-/// The number by which a task is marked.
-fn mark_of(key: TaskKey) -> u64
-    ensures { result ≡ mark_of key }
-{
-    key.job.wrapping_add(u64::from(key.index))
-}
-
 /// Marks of the tasks that these rows name.
 fn marked(alloc: Global, rows: &[ConstraintRow]) -> Result<Marks, NoMemory>
     ensures { IfOk result (λ marks. AreMarkedTasks marks rows.now) }
 {
     let mut marks = Marks::none(alloc);
     for row in rows {
-        marks.mark(mark_of(row.key))?;
+        marks.mark(job_and_index(row.key))?;
     }
     Ok(marks)
 }

@@ -62,9 +62,9 @@ impl OpenJobs {
 
     /// Closes each job that is quiet on the cell of a board, and no other: one of which no wanted task
     /// waits, and that gets no extras, since it has no activities, no wanted task, or all its extras. A
-    /// refused call leaves what is open. Costs the slots that are left of each open job, up to its first task
-    /// that waits, and of each wanted task the logarithm of the number of those that run; of a job with
-    /// activities its running extras and few others of its running tasks; and memory for the jobs that stay open.
+    /// refused call leaves what is open. Costs of each open job its blocks of slots and in those with a wanted
+    /// task the slots, up to its first task that waits, and of each wanted task the logarithm of the number of
+    /// those that run; of a job with activities this logarithm once more; and memory for the jobs that stay open.
     pub fn settle(&mut self, alloc: Global, wanted: &Wanted, board: &Board) -> Result<(), NoMemory>
         requires { OthersAreQuiet self.old wanted.now board.now.tasks }
         ensures ok { OnOk result (OthersAreQuiet self.new wanted.now board.now.tasks) }

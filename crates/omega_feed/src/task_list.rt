@@ -1,13 +1,13 @@
 //! The wanted tasks of one job.
-ghost use Rattle.std.specs.Prelude.{◌≡◌, ◌↔◌, ◌++◌, ◌+◌, ℕ, [], true, All, not, map, ◌<◌, ◌≤◌, IfOk, IsTrue, MatchResult, OnOk, OnErr, Some, is_some, length, cond};
-ghost use Rattle.std.specs.List.{filter, list_any};
+ghost use Rattle.std.specs.Prelude.{◌≡◌, ◌↔◌, ◌++◌, ◌+◌, ◌*◌, ℕ, [], true, All, not, map, ◌<◌, ◌≤◌, IfOk, IsTrue, MatchResult, OnOk, OnErr, is_some, length, cond};
+ghost use Rattle.std.specs.List.{count_by, filter, list_any};
 ghost use Rattle.omega_model.specs.ExtraTasks.{HasLowIndex, first_extra, is_wanted, wanted_of};
 ghost use Rattle.omega_model.specs.Wanted.{with_wanted, is_named};
 ghost use Rattle.omega_feed.specs.Asked.{is_task_of};
 ghost use Rattle.omega_feed.specs.Index.{wanted_task};
 ghost use Rattle.omega_feed.specs.Open.{RunsIfOf};
 ghost use Rattle.omega_feed.specs.Parts.{waiting_jobs};
-ghost use Rattle.omega_feed.specs.Slots.{AreEmptyBefore, GetsSlotAt, HasEmptySlotAt, HasSlotAt, SlotsRise, entry_of, is_idle, is_idle_of, tasks_in};
+ghost use Rattle.omega_feed.specs.Slots.{AreCounted, GetsSlotAt, HasSlotAt, SlotsRise, block, entry_of, is_idle, is_idle_of, tasks_in};
 ghost use Rattle.omega_running.specs.Order.{Each};
 
 use omega_model::{NoMemory, Spec, TaskKey};
@@ -15,9 +15,8 @@ use omega_running::Running;
 use std::alloc::Global;
 use std::marker::Model;
 
-/// How many empty slots are passed at most when a task ends, so that this takes the same time for any
-/// number of slots.
-const MOST_PASSED: usize = 8;
+/// How many slots stand in a block, so few that their number fits in a byte.
+const BLOCK: usize = 64;
 
 /// The place of a task in the list of its job.
 #[derive(Clone, Copy, Debug)]
@@ -31,14 +30,17 @@ pub struct Slot {
 /// whose indexes are below those of extras.
 ///
 /// The tasks of a job mostly have the indexes 0, 1, 2 and so on, and then a task's slot stands at the
-/// place that its index says. Else it is searched for by halves. What goes over all tasks begins behind
-/// the slots that are known to be empty, so that a job whose tasks end in about their order costs what is
-/// left of it.
+/// place that its index says. Else it is searched for by halves.
+///
+/// The slots stand in blocks, and of each block the list knows how many of its tasks are wanted. What
+/// goes over all tasks passes the blocks without a wanted one: of these it reads the count, a byte, and no
+/// slot. So a job costs a byte for each of its blocks, and at most a block of slots for each task that is
+/// still wanted.
 #[derive(Drop)]
 pub struct TaskList {
     slots: Vec<Slot>,
-    /// The slots before this place are empty.
-    first: usize,
+    /// How many tasks of each block of slots are wanted.
+    wanted: Vec<u8>,
     /// How many tasks are wanted.
     count: usize,
 }
@@ -53,7 +55,7 @@ impl Model for TaskList {
 
     ghost view = { λ tasks. tasks_in tasks.slots.items };
 
-    ghost invariant = { λ tasks. AreSlots tasks.slots.items tasks.first tasks.count };
+    ghost invariant = { λ tasks. AreSlots tasks.slots.items tasks.wanted.items tasks.count };
 }
 
 impl TaskList {
@@ -63,7 +65,7 @@ impl TaskList {
     {
         TaskList {
             slots: Vec::new(alloc),
-            first: 0,
+            wanted: Vec::new(alloc),
             count: 0,
         }
     }
@@ -75,27 +77,29 @@ impl TaskList {
     {
         let mut slots = Vec::with_capacity(alloc, keys.len())?;
         for key in keys {
-            place_for(&mut slots, *key)?;
+            if let Err(place) = place_of(&slots, *key) {
+                put_slot(&mut slots, place, *key)?;
+            }
         }
+        let wanted = none_wanted(alloc, &slots)?;
         Ok(TaskList {
             slots,
-            first: 0,
+            wanted,
             count: 0,
         })
     }
 
     /// Puts a task in, or replaces what it asks for. A refused call leaves the tasks. Takes the same time
     /// for any number of them where the slot stands at the place of the task's index, else the logarithm
-    /// of the number of slots; a task without a slot costs besides those of greater keys.
+    /// of the number of slots; a task without a slot costs besides all slots.
     pub fn insert(&mut self, key: TaskKey, spec: Spec) -> Result<(), NoMemory>
         requires { key.index < first_extra }
         ensures ok { OnOk result (self.new ≡ with_wanted key spec self.old) }
         ensures err { OnErr result (self.new ≡ self.old) }
         ensures low { All HasLowIndex self.new }
     {
-        let place = place_for(&mut self.slots, key)?;
-        self.first = self.first.min(place);
-        if fill(&mut self.slots, place, key, spec) {
+        let place = place_for(&mut self.slots, &mut self.wanted, key)?;
+        if fill(&mut self.slots, &mut self.wanted, place, key, spec) {
             self.count += 1;
         }
         Ok(())
@@ -107,9 +111,7 @@ impl TaskList {
         ensures tasks { self.new ≡ filter (λ task. not (is_named key task)) self.old }
         ensures low { All HasLowIndex self.new }
     {
-        let ended = clear(&mut self.slots, key);
-        self.first = past_empty(&self.slots, self.first);
-        if ended {
+        if clear(&mut self.slots, &mut self.wanted, key) {
             self.count -= 1;
         }
     }
@@ -140,42 +142,42 @@ impl TaskList {
         self.count
     }
 
-    /// The slots that are left: all but those at the front that are known to be empty.
-    fn left(&self) -> &[Slot]
-        ensures { tasks_in result.now ≡ self.now }
-    {
-        &self.slots[self.first..]
-    }
-
-    /// Appends the job of each task that doesn't run, in order of the tasks' keys. Costs the slots that are
-    /// left, and of each wanted task the logarithm of the number of those that run.
+    /// Appends the job of each task that doesn't run, in order of the tasks' keys. Costs the blocks, of those
+    /// with a wanted task the slots, and of each wanted task the logarithm of the number of those that run.
     pub fn push_waiting(&self, running: &Running, jobs: &mut Vec<u64>) -> Result<(), NoMemory>
         ensures { OnOk result (jobs.new.items ≡ jobs.old.items ++ waiting_jobs running.now.tasks self.now) }
     {
-        for slot in self.left() {
-            if slot.is_idle(running) {
-                jobs.push(slot.key.job)?;
+        for (count, block) in self.wanted.iter().zip(self.slots.chunks(BLOCK)) {
+            if *count > 0 {
+                push_idle(block, running, jobs)?;
             }
         }
         Ok(())
     }
 
-    /// Whether each wanted task of a job runs. Costs the slots that are left, up to the first task that is
-    /// wanted and doesn't run, and of each wanted task the logarithm of the number of those that run.
+    /// Whether each wanted task of a job runs. Costs the blocks and of those with a wanted task the slots, up
+    /// to the first task that is wanted and doesn't run, and of each wanted task the logarithm of the number of
+    /// those that run.
     pub fn all_run(&self, job: u64, running: &Running) -> bool
         ensures { IsTrue result ↔ All (RunsIfOf job running.now.tasks) self.now }
     {
-        !has_idle(self.left(), job, running)
+        for (count, block) in self.wanted.iter().zip(self.slots.chunks(BLOCK)) {
+            if *count > 0 && has_idle(block, job, running) {
+                return false;
+            }
+        }
+        true
     }
 
-    /// The wanted tasks of a job, by index. Costs the slots that are left, and the memory of these tasks.
+    /// The wanted tasks of a job, by index. Costs the blocks, of those with a wanted task the slots, and the
+    /// memory of the wanted tasks.
     pub fn of_job(&self, alloc: Global, job: u64) -> Result<Vec<(TaskKey, Spec)>, NoMemory>
         ensures { IfOk result (λ found. map wanted_task found.items ≡ wanted_of job self.now) }
     {
         let mut found = Vec::with_capacity(alloc, self.count)?;
-        for slot in self.left() {
-            if let Some(entry) = slot.entry_of(job) {
-                found.push(entry)?;
+        for (count, block) in self.wanted.iter().zip(self.slots.chunks(BLOCK)) {
+            if *count > 0 {
+                push_entries(block, job, &mut found)?;
             }
         }
         Ok(found)
@@ -201,6 +203,18 @@ impl Slot {
     }
 }
 
+/// Appends the job of each task of these slots that is wanted and doesn't run.
+fn push_idle(slots: &[Slot], running: &Running, jobs: &mut Vec<u64>) -> Result<(), NoMemory>
+    ensures { OnOk result (jobs.new.items ≡ jobs.old.items ++ waiting_jobs running.now.tasks (tasks_in slots.now)) }
+{
+    for slot in slots {
+        if slot.is_idle(running) {
+            jobs.push(slot.key.job)?;
+        }
+    }
+    Ok(())
+}
+
 /// Whether a task of a job is wanted in these slots and doesn't run.
 fn has_idle(slots: &[Slot], job: u64, running: &Running) -> bool
     ensures { result ≡ list_any (is_idle_of job running.now.tasks) slots.now }
@@ -208,6 +222,18 @@ fn has_idle(slots: &[Slot], job: u64, running: &Running) -> bool
     slots
         .iter()
         .any(|slot| slot.key.job == job && slot.is_idle(running))
+}
+
+/// Appends the wanted tasks of a job in these slots.
+fn push_entries(slots: &[Slot], job: u64, found: &mut Vec<(TaskKey, Spec)>) -> Result<(), NoMemory>
+    ensures { OnOk result (map wanted_task found.new.items ≡ map wanted_task found.old.items ++ wanted_of job (tasks_in slots.now)) }
+{
+    for slot in slots {
+        if let Some(entry) = slot.entry_of(job) {
+            found.push(entry)?;
+        }
+    }
+    Ok(())
 }
 
 /// Where a task's slot stands among these, which rise, or else where it would stand. The place of the
@@ -224,71 +250,132 @@ fn place_of(slots: &[Slot], key: TaskKey) -> Result<usize, usize>
 }
 
 /// Where a task's slot stands among these, after an empty one was made where there was none. A refused
-/// call leaves the slots. Costs as much as to look for it, and for a new slot those of greater keys.
-fn place_for(slots: &mut Vec<Slot>, key: TaskKey) -> Result<usize, NoMemory>
-    requires { SlotsRise slots.old.items }
+/// call leaves the tasks. Costs as much as to look for it, and for a new slot all slots.
+fn place_for(slots: &mut Vec<Slot>, wanted: &mut Vec<u8>, key: TaskKey) -> Result<usize, NoMemory>
+    requires rise { SlotsRise slots.old.items }
+    requires counted { AreCounted wanted.old.items slots.old.items }
     ensures rise { SlotsRise slots.new.items }
     ensures same { tasks_in slots.new.items ≡ tasks_in slots.old.items }
+    ensures counted { AreCounted wanted.new.items slots.new.items }
     ensures place { IfOk result (HasSlotAt slots.new.items key) }
-    ensures empty { (first : ℕ) → AreEmptyBefore slots.old.items first → AreEmptyBefore slots.new.items first }
 {
     match place_of(slots, key) {
         Ok(place) => Ok(place),
         Err(place) => {
-            slots.insert(place, Slot { key, spec: None })?;
+            make_slot(slots, wanted, place, key)?;
             Ok(place)
         }
     }
 }
 
-/// Notes what the task of the slot at a place asks for, and answers whether it wasn't wanted before.
-fn fill(slots: &mut Vec<Slot>, place: usize, key: TaskKey, spec: Spec) -> bool
+/// Makes an empty slot for a task where it belongs, and counts the blocks anew, since the slots behind it
+/// move on by one. A refused call leaves the tasks. Costs all slots.
+fn make_slot(
+    slots: &mut Vec<Slot>,
+    wanted: &mut Vec<u8>,
+    place: usize,
+    key: TaskKey,
+) -> Result<(), NoMemory>
+    requires rise { SlotsRise slots.old.items }
+    requires gets { GetsSlotAt slots.old.items key place }
+    requires counted { AreCounted wanted.old.items slots.old.items }
+    ensures rise { SlotsRise slots.new.items }
+    ensures same { tasks_in slots.new.items ≡ tasks_in slots.old.items }
+    ensures counted { AreCounted wanted.new.items slots.new.items }
+    ensures place { OnOk result (HasSlotAt slots.new.items key place) }
+{
+    make_room(wanted, slots)?;
+    put_slot(slots, place, key)?;
+    count_anew(wanted, slots);
+    Ok(())
+}
+
+/// Puts an empty slot for a task where it belongs. A refused call leaves the slots. Costs those of greater
+/// keys.
+fn put_slot(slots: &mut Vec<Slot>, place: usize, key: TaskKey) -> Result<(), NoMemory>
+    requires rise { SlotsRise slots.old.items }
+    requires gets { GetsSlotAt slots.old.items key place }
+    ensures rise { SlotsRise slots.new.items }
+    ensures same { tasks_in slots.new.items ≡ tasks_in slots.old.items }
+    ensures longer { OnOk result (length slots.new.items ≡ length slots.old.items + 1) }
+    ensures place { OnOk result (HasSlotAt slots.new.items key place) }
+    ensures err { OnErr result (slots.new.items ≡ slots.old.items) }
+{
+    slots.insert(place, Slot { key, spec: None })?;
+    Ok(())
+}
+
+/// Makes one more count, of no tasks, if the blocks are full. A refused call leaves the counts.
+fn make_room(wanted: &mut Vec<u8>, slots: &[Slot]) -> Result<(), NoMemory>
+    requires { AreCounted wanted.old.items slots.now }
+    ensures counted { AreCounted wanted.new.items slots.now }
+    ensures room { OnOk result (length slots.now < length wanted.new.items * block) }
+{
+    if slots.len() / BLOCK >= wanted.len() {
+        wanted.push(0)?;
+    }
+    Ok(())
+}
+
+/// Counts the wanted tasks of each block. Costs the slots, and no memory.
+fn count_anew(wanted: &mut Vec<u8>, slots: &[Slot])
+    requires { length slots.now ≤ length wanted.old.items * block }
+    ensures { AreCounted wanted.new.items slots.now }
+{
+    let mut left = slots;
+    for place in 0..wanted.len() {
+        let (block, later) = left.split_at(BLOCK.min(left.len()));
+        wanted[place] = wanted_in(block);
+        left = later;
+    }
+}
+
+/// How many tasks of a block are wanted.
+fn wanted_in(slots: &[Slot]) -> u8
+    requires { length slots.now ≤ block }
+    ensures { result ≡ count_by (λ slot. is_some slot.spec) slots.now }
+{
+    slots.iter().filter(|slot| slot.spec.is_some()).count() as u8
+}
+
+/// The counts of slots of which none is filled.
+fn none_wanted(alloc: Global, slots: &[Slot]) -> Result<Vec<u8>, NoMemory>
+    requires { tasks_in slots.now ≡ [] }
+    ensures { IfOk result (λ wanted. AreCounted wanted.items slots.now) }
+{
+    Ok(vec![in alloc; 0; slots.len().div_ceil(BLOCK)]?)
+}
+
+/// Notes what the task of the slot at a place asks for, and answers whether it wasn't wanted before, and
+/// so is counted now.
+fn fill(slots: &mut Vec<Slot>, wanted: &mut Vec<u8>, place: usize, key: TaskKey, spec: Spec) -> bool
     requires rise { SlotsRise slots.old.items }
     requires place { HasSlotAt slots.old.items key place }
+    requires counted { AreCounted wanted.old.items slots.old.items }
     ensures rise { SlotsRise slots.new.items }
     ensures tasks { tasks_in slots.new.items ≡ with_wanted key spec (tasks_in slots.old.items) }
+    ensures counted { AreCounted wanted.new.items slots.new.items }
     ensures count { length (tasks_in slots.new.items) ≡ length (tasks_in slots.old.items) + cond result 1 0 }
-    ensures empty { (first : ℕ) → first ≤ place → AreEmptyBefore slots.old.items first → AreEmptyBefore slots.new.items first }
 {
-    slots[place].spec.replace(spec).is_none()
+    let added = slots[place].spec.replace(spec).is_none();
+    wanted[place / BLOCK] += u8::from(added);
+    added
 }
 
-/// Empties the slot of a task, if it has one, and answers whether the task was wanted.
-fn clear(slots: &mut Vec<Slot>, key: TaskKey) -> bool
-    requires { SlotsRise slots.old.items }
+/// Empties the slot of a task, if it has one, and answers whether the task was wanted, and so isn't counted
+/// any more.
+fn clear(slots: &mut Vec<Slot>, wanted: &mut Vec<u8>, key: TaskKey) -> bool
+    requires rise { SlotsRise slots.old.items }
+    requires counted { AreCounted wanted.old.items slots.old.items }
     ensures rise { SlotsRise slots.new.items }
     ensures tasks { tasks_in slots.new.items ≡ filter (λ task. not (is_named key task)) (tasks_in slots.old.items) }
+    ensures counted { AreCounted wanted.new.items slots.new.items }
     ensures count { length (tasks_in slots.new.items) + cond result 1 0 ≡ length (tasks_in slots.old.items) }
-    ensures empty { (first : ℕ) → AreEmptyBefore slots.old.items first → AreEmptyBefore slots.new.items first }
 {
-    match place_of(slots, key) {
-        Ok(place) => slots[place].spec.take().is_some(),
-        Err(_gap) => false,
-    }
-}
-
-/// A place before which the slots are empty, as they are before the place `first`: that place, or one
-/// behind it, at most `MOST_PASSED` further on.
-fn past_empty(slots: &[Slot], first: usize) -> usize
-    requires { AreEmptyBefore slots.now first }
-    ensures { AreEmptyBefore slots.now result }
-{
-    let mut place = first;
-    for _ in 0..MOST_PASSED {
-        if !is_empty_at(slots, place) {
-            return place;
-        }
-        place += 1;
-    }
-    place
-}
-
-/// Whether an empty slot stands at a place.
-fn is_empty_at(slots: &[Slot], place: usize) -> bool
-    ensures { IsTrue result → HasEmptySlotAt slots.now place }
-{
-    match slots.get(place) {
-        Some(slot) => slot.spec.is_none(),
-        None => false,
-    }
+    let Ok(place) = place_of(slots, key) else {
+        return false;
+    };
+    let ended = slots[place].spec.take().is_some();
+    wanted[place / BLOCK] -= u8::from(ended);
+    ended
 }

@@ -35,6 +35,8 @@ pub enum TaskChange {
 /// Those of each job stand in a list of slots of their own, and the lists in order of job. A job's list is
 /// mostly found at the place that is noted for its number, and a task's slot at the place of its index.
 /// The slots of all tasks of a trace are made when its run begins, so that wanting one takes no memory.
+/// They stand in blocks of 64, of each of which the number of wanted tasks is known: what goes over a job's
+/// tasks reads one byte of a block without any.
 #[derive(Drop)]
 pub struct WantedTasks {
     alloc: Global,
@@ -115,7 +117,7 @@ impl WantedTasks {
 
     /// Puts a task in, or replaces what it asks for. A refused call leaves the tasks. Costs the
     /// logarithms of the number of jobs and of the job's slots at most; a job without a place costs besides
-    /// the jobs of a greater number, and a task without a slot the job's slots of greater indexes.
+    /// the jobs of a greater number, and a task without a slot all slots of the job.
     pub fn insert(&mut self, key: TaskKey, spec: Spec) -> Result<(), NoMemory>
         requires { key.index < first_extra }
         ensures ok { OnOk result (self.new ≡ with_wanted key spec self.old) }
@@ -189,17 +191,18 @@ impl WantedTasks {
         }
     }
 
-    /// The job of each task that doesn't run, in order of the tasks' keys. Costs the slots that are left of
-    /// all jobs, and of each wanted task the logarithm of the number of those that run.
+    /// The job of each task that doesn't run, in order of the tasks' keys. Costs the jobs, of each its blocks of
+    /// slots and in those with a wanted task the slots, and of each wanted task the logarithm of the number of
+    /// those that run.
     pub fn waiting_jobs(&self, alloc: Global, running: &Running) -> Result<Vec<u64>, NoMemory>
         ensures { IfOk result (λ jobs. (machines : List Machine) → jobs.items ≡ map (λ task. task.key.job) (filter (waits (record { machines = machines; tasks = running.now.tasks })) self.now)) }
     {
         waiting_in(alloc, &self.parts, running)
     }
 
-    /// Whether each wanted task of a job runs. Costs the slots that are left of the job, up to the first
-    /// task that is wanted and doesn't run, and of each wanted task the logarithm of the number of those that
-    /// run.
+    /// Whether each wanted task of a job runs. Costs the logarithm of the number of jobs; of the job the blocks
+    /// of slots and in those with a wanted task the slots, up to the first task that is wanted and doesn't run;
+    /// and of each wanted task the logarithm of the number of those that run.
     pub fn all_run(&self, job: u64, running: &Running) -> bool
         ensures { IsTrue result ↔ All (RunsIfOf job running.now.tasks) self.now }
     {
@@ -209,8 +212,8 @@ impl WantedTasks {
         }
     }
 
-    /// The wanted tasks of a job, by index. Costs the slots that are left of it, and the logarithm of the
-    /// number of jobs.
+    /// The wanted tasks of a job, by index. Costs the logarithm of the number of jobs, of the job the blocks of
+    /// slots and in those with a wanted task the slots, and the memory of the wanted tasks.
     pub fn of_job(&self, alloc: Global, job: u64) -> Result<Vec<(TaskKey, Spec)>, NoMemory>
         ensures { IfOk result (λ found. map wanted_task found.items ≡ wanted_of job self.now) }
     {

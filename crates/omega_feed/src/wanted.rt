@@ -201,9 +201,9 @@ impl Wanted {
     }
 
     /// Whether the job at a place is quiet on the cell of a board: none of its wanted tasks waits, and
-    /// it gets no extras. Costs the slots that are left of the job, up to its first task that waits, and of
-    /// each wanted task the logarithm of the number of those that run; of a job with activities besides its
-    /// running extras and few others of its running tasks.
+    /// it gets no extras. Costs the job's blocks of slots and in those with a wanted task the slots, up to its
+    /// first task that waits, and of each wanted task the logarithm of the number of those that run; of a job
+    /// with activities this logarithm once more.
     pub(crate) fn is_quiet_at(&self, place: usize, board: &Board) -> bool
         ensures { IsTrue result ↔ IsQuietAt self.now board.now.tasks place }
     {
@@ -248,10 +248,11 @@ impl Wanted {
     /// task row, each with its wanted tasks that don't run, by index, and then its extras. A job of which
     /// nothing is to be placed is left out; a job that is given up is not.
     ///
-    /// Only open jobs are looked at. Costs their number, and of those that are the scheduler's the slots that
-    /// are left, and of each wanted task the logarithm of the number of those that run. A job with activities
-    /// costs besides its running extras, few others of its running tasks, and the extras that it gets, each
-    /// times the same logarithm. Each wish costs a copy of its constraints. The number of machines costs nothing.
+    /// Only open jobs are looked at. Costs their number, and of those that are the scheduler's the blocks of
+    /// slots, in those with a wanted task the slots, and of each wanted task the logarithm of the number of those
+    /// that run. A job with activities costs this logarithm once more and, where it gets extras, for each of these
+    /// and of its running ones. Each wish costs a copy of its constraints. The number
+    /// of machines costs nothing.
     pub fn requests(
         &self,
         alloc: Global,

@@ -1,10 +1,10 @@
-use Rattle.std.proofs.Common.{◌≡◌, ◌+◌, ◌≤◌, ◌∙◌, ℕ, ap, arith, cond, length, subst, sym}
+use Rattle.std.proofs.Common.{◌≡◌, ◌+◌, ◌∙◌, ℕ, ap, arith, cond, length, subst, sym}
 use Rattle.omega_model.specs.ExtraTasks.{HasLowIndex}
 use Rattle.omega_model.specs.Wanted.{with_wanted}
 use Rattle.omega_running.specs.Order.{Each}
 use Rattle.omega_running.proofs.Lists.{all_of_each}
 use Rattle.omega_feed.specs.Slots.{tasks_in}
-use Rattle.omega_feed.proofs.Slots.{empty_fewer, low_with, no_more}
+use Rattle.omega_feed.proofs.Slots.{low_with, no_more}
 use Rattle.omega_feed.proofs.task_list.TaskList.insert.Goals as goal
 
 pub overflow_add-self : goal.overflow_add-self
@@ -20,14 +20,10 @@ pub invariant_of-self-then-fill : goal.invariant_of-self-then-fill
 invariant_of-self-then-fill c =
     let grown : length (tasks_in c.fill.new.slots.items) ≡ c.self.inside.count + 1 =
     c.fill.ensures.count ∙ (λ i. length (c.place_for.ensures.same i) + cond (c.if-fill.true i) 1 0) ∙ ap (λ (n : ℕ). n + 1) (sym c.self.invariant.counted) in
-    let first = c.min-self-inside.result in
-    let least = c.min-self-inside.ensures in
-    let before : first ≤ c.self.inside.first = omega (arith, least) in
-    let behind : first ≤ c.in_ok-place.place = omega (arith, least) in
     record {
       rise = c.fill.ensures.rise;
       low = subst (Each HasLowIndex) (sym (c.fill.ensures.tasks ∙ ap (with_wanted c.args.key c.args.spec) c.place_for.ensures.same)) (low_with c.args.key c.args.spec (tasks_in c.self.inside.slots.items) c.requires c.self.invariant.low);
-      passed = c.fill.ensures.empty first behind (c.place_for.ensures.empty first (empty_fewer c.self.inside.slots.items first c.self.inside.first before c.self.invariant.passed));
+      blocks = c.fill.ensures.counted;
       counted = sym grown;
     }
 
@@ -35,14 +31,10 @@ pub invariant_of-self-else-fill : goal.invariant_of-self-else-fill
 invariant_of-self-else-fill c =
     let same : length (tasks_in c.fill.new.slots.items) ≡ c.self.inside.count + 0 =
     c.fill.ensures.count ∙ (λ i. length (c.place_for.ensures.same i) + cond (c.if-fill.false i) 1 0) ∙ ap (λ (n : ℕ). n + 0) (sym c.self.invariant.counted) in
-    let first = c.min-self-inside.result in
-    let least = c.min-self-inside.ensures in
-    let before : first ≤ c.self.inside.first = omega (arith, least) in
-    let behind : first ≤ c.in_ok-place.place = omega (arith, least) in
     record {
       rise = c.fill.ensures.rise;
       low = subst (Each HasLowIndex) (sym (c.fill.ensures.tasks ∙ ap (with_wanted c.args.key c.args.spec) c.place_for.ensures.same)) (low_with c.args.key c.args.spec (tasks_in c.self.inside.slots.items) c.requires c.self.invariant.low);
-      passed = c.fill.ensures.empty first behind (c.place_for.ensures.empty first (empty_fewer c.self.inside.slots.items first c.self.inside.first before c.self.invariant.passed));
+      blocks = c.fill.ensures.counted;
       counted = omega (arith, same);
     }
 

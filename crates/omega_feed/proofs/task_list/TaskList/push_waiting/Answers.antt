@@ -1,17 +1,27 @@
-use Rattle.std.proofs.Common.{◌++◌, ◌∙◌, List, ap, append-nil, map, sym}
-use Rattle.std.specs.List.{filter}
-use Rattle.std.proofs.lemmas.List.{drop_all}
+use Rattle.std.proofs.Common.{◌++◌, ◌∙◌, List, ap, sym}
+use Rattle.omega_model.specs.Wanted.{WantedTask}
 use Rattle.omega_feed.specs.Parts.{waiting_jobs}
-use Rattle.omega_feed.specs.Slots.{is_idle}
-use Rattle.omega_feed.specs.declared.task_list.Slot.{Slot}
-use Rattle.omega_feed.proofs.Slots.{idle_are}
+use Rattle.omega_feed.specs.Slots.{tasks_in}
+use Rattle.omega_feed.proofs.Blocks.{done_on, passed, turn}
+use Rattle.omega_feed.proofs.Parts.{waiting_both}
 use Rattle.omega_feed.proofs.task_list.TaskList.push_waiting.Goals as goal
 
-pub returns : goal.returns
-returns c =
+pub loop-count-preserved-in-Continue-1 : goal.loop-count-preserved-in-Continue-1
+loop-count-preserved-in-Continue-1 c =
     let running = c.args.running.now.tasks in
-    let all = idle_are running c.left-slot-items.result.now ∙ ap (waiting_jobs running) c.left-slot-items.ensures in
-    sym (append-nil c.loop-slot.jobs.items)
-    ∙ ap (λ (slots : List Slot). c.loop-slot.jobs.items ++ map (λ (slot : Slot). slot.key.job) (filter (is_idle running) slots)) (sym (drop_all c.loop-slot.slot-index c.left-slot-items.result.now c.loop-slot-test.false))
-    ∙ c.loop-slot.invariant
-    ∙ ap (λ jobs. c.args.jobs.now.items ++ jobs) all
+    let steps = c.in-Some.ensures.steps in
+    let t = turn _ _ _ _ _ _ _ c.loop-count.invariant.0 c.loop-count.invariant.1 steps.0 steps.1.1.0 steps.1.1.1 in (
+      t.left,
+      steps.1.0 ∙ c.loop-count.invariant.1,
+      done_on _ _ _ _ c.in_ok-push_idle.ensures (ap (waiting_jobs running) t.tasks ∙ waiting_both running (tasks_in c.in-Some.block.now) _) c.loop-count.invariant.2,
+    )
+
+pub loop-count-preserved : goal.loop-count-preserved
+loop-count-preserved c =
+    let running = c.args.running.now.tasks in
+    let steps = c.in-Some.ensures.steps in
+    let t = turn _ _ _ _ _ _ _ c.loop-count.invariant.0 c.loop-count.invariant.1 steps.0 steps.1.1.0 steps.1.1.1 in (
+      t.left,
+      steps.1.0 ∙ c.loop-count.invariant.1,
+      ap (λ (tasks : List WantedTask). c.loop-count.jobs.items ++ waiting_jobs running tasks) (sym (passed t c.if-count-gt0.false)) ∙ c.loop-count.invariant.2,
+    )
