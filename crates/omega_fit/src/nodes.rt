@@ -78,7 +78,8 @@ fn tell(slot: &mut Slot, left: &[Slot], right: &[Slot]) -> bool
 }
 
 /// Writes what is free at a position, and tells the nodes above it, from below up to the first whose
-/// greatest stays. Answers whether that of the whole tree is another than before.
+/// greatest stays: none where the same was free before. Answers whether that of the whole tree is another than
+/// before.
 #[tactic(auto, using(crate::proofs::Trees::tree_fork, crate::proofs::Trees::tree_parts, crate::proofs::Trees::tree_nil))]
 pub(crate) fn put_in(slots: &mut [Slot], position: usize, free: Option<Need>) -> bool
     requires position { position < length slots.old }
@@ -95,8 +96,9 @@ pub(crate) fn put_in(slots: &mut [Slot], position: usize, free: Option<Need>) ->
     let changes = if position < half {
         put_in(left, position, free)
     } else if position == half {
+        let changes = slot.free != free;
         slot.free = free;
-        true
+        changes
     } else {
         put_in(right, position - half - 1, free)
     };
