@@ -236,6 +236,8 @@ chosen() {
     shape large_job 500000 replay
     shape one_waits 2000 replay
     shape restarts 2000 replay
+    shape most_ended 50000 replay
+    shape left_apart 50000 replay
     shape short_rounds 100000 replay --window 1
     shape short_rounds 5000 run --window 1
     shape extras 10 replay --extra max

@@ -520,6 +520,30 @@ def restarts(files, size):
         files.task(number * ROUND, 10, size - 1, 0, 0)
 
 
+def last_restarts(files, size, each):
+    """A job of which each task but one of so many has ended, and the last one ends and is submitted anew in a round
+    for each 20 tasks"""
+    files.machine(1)
+    for index in range(size):
+        files.task(0, 10, index, 0, 0)
+    for index in range(1, size - 1):
+        if index % each:
+            files.task(ROUND, 10, index, 4, 0)
+    for number in range(2, size // 20):
+        files.task(number * ROUND, 10, size - 1, 4, 0)
+        files.task(number * ROUND, 10, size - 1, 0, 0)
+
+
+def most_ended(files, size):
+    """One job of which the first task is left and the last is submitted anew, in a round for each 20 tasks"""
+    last_restarts(files, size, size)
+
+
+def left_apart(files, size):
+    """One job of which each 64th task is left and the last is submitted anew, in a round for each 20 tasks"""
+    last_restarts(files, size, 64)
+
+
 def short_rounds(files, size):
     """Jobs of one task, each in a round of its own of a microsecond, on 100 machines"""
     for number in range(1, 101):
@@ -615,7 +639,7 @@ SHAPES = {shape.__name__: shape for shape in (
     too_little, victims, one_by_one, updates, shrinking, crowded, taking_over, same_tree, other_trees,
     one_note, machines_apart, machines_in_row, constraints, matched, unset_in_order, unset_backwards, set_in_turn,
     nowhere, lopsided, many_rounds, given_up, large_job,
-    one_waits, restarts, short_rounds, extras, extras_alike, commas, quotes, long_text)}
+    one_waits, restarts, most_ended, left_apart, short_rounds, extras, extras_alike, commas, quotes, long_text)}
 
 
 def are_numbers(words):
