@@ -22,6 +22,7 @@ use Rattle.omega_running.proofs.Kept.{irreflexive}
 use Rattle.omega_board.specs.Board.{Stand}
 use Rattle.omega_board.specs.Judging.{comes_behind, ComesLast}
 use Rattle.omega_board.proofs.Tasks.{each_filter, each_passes, filter_and, filter_alike}
+use Rattle.omega_model.proofs.Fewer.{filter_fewer}
 use Rattle.omega_model.proofs.InOrder.{key_itself, key_same}
 use Rattle.omega_model.proofs.Lists.{by_answer}
 
@@ -166,23 +167,17 @@ later_apart (suc n) (k ∷ keys) once =
     each_both (λ key. same_key key k ≡ false) (λ key. is_among key (take n keys) ≡ false) (λ key. is_among key (k ∷ take n keys) ≡ false)
     (λ key differ rest. or_from _ _ differ rest) (drop n keys) (each_drop (λ key. same_key key k ≡ false) n keys once.0) (later_apart n keys once.1)
 
-fewer : {X : Type 0} (p : X → Bool) (xs : List X) → length (filter p xs) ≤ length xs
-fewer p [] = omega arith
-fewer p (x ∷ xs) =
-    let rest = fewer p xs in
-    by_answer (p x) (λ t. rw t (omega (arith, rest))) (λ f. rw f (omega (arith, rest)))
-
 -- they are no more than the claim lists
 pub standing_fewer : (tasks : List Task) (claim : Claim) → length (standing_victims tasks claim) ≤ length claim.victims
 standing_fewer tasks claim =
-    let some = fewer (runs_on tasks claim.machine) (first_mentions claim.victims) in
+    let some = filter_fewer (runs_on tasks claim.machine) (first_mentions claim.victims) in
     let first = mentions claim.victims in
     omega (arith, some, first)
   where
     mentions : (keys : List TaskKey) → length (first_mentions keys) ≤ length keys
     mentions [] = omega arith
     mentions (k ∷ keys) =
-        let some = fewer (λ other. not (same_key other k)) (first_mentions keys) in
+        let some = filter_fewer (λ other. not (same_key other k)) (first_mentions keys) in
         let rest = mentions keys in
         omega (arith, some, rest)
 

@@ -1,15 +1,13 @@
 -- No table that is generated is refused.
-use Rattle.std.proofs.Common.{◌≡◌, ℕ, ◌*◌, ◌≤◌, Bool, false, List, [], ◌∷◌, length, Option, None, Ok, map, refl, sym, ap, ◌∙◌, arith, ltb, length-append}
-use Rattle.std.specs.Prelude.{filter, not, ◌==◌}
+use Rattle.std.proofs.Common.{◌≡◌, ℕ, ◌*◌, ◌≤◌, false, List, [], ◌∷◌, length, Option, None, Ok, map, refl, sym, ap, ◌∙◌, arith, ltb, length-append}
 use Rattle.std.specs.List.{flat_map, range_with_len}
 use Rattle.std.proofs.lemmas.Bool.{le-ltb}
 use Rattle.std.proofs.lemmas.List.{length-map}
-use Rattle.std.proofs.lemmas.List.Sums.{count_by-le-length, length-filter}
 use Rattle.csv.specs.Machine.{next_record}
 use Rattle.csv.specs.Reading.{records_from, strip_bom}
+use Rattle.omega_model.proofs.Fewer.{once_fewer}
 use Rattle.omega_model.proofs.FirstRefusal.{rows_last}
 use Rattle.omega_model.specs.Columns.{machine_row, task_row}
-use Rattle.omega_model.specs.Feed.{each_once}
 use Rattle.omega_model.specs.Fields.{MachineFields, TaskFields}
 use Rattle.omega_model.specs.Generated.{job_at, machine_text, made_of}
 use Rattle.omega_model.specs.Limits.{machine_count, named_machines, row_count}
@@ -22,17 +20,6 @@ use Rattle.omega_model.specs.declared.rows.TraceTables.{TraceTables}
 use Rattle.omega_model.specs.declared.rows.Table.TheVariants.{MachineEvents, MachineAttributes, TaskEvents, TaskConstraints, MapreduceJobs, MachineDisk}
 use Rattle.omega_gen.proofs.MadeRows.{jobs_are_rows, machines_are_rows}
 use Rattle.omega_gen.proofs.RowTexts.{text_length, typed_rows}
-
-filter_shorter : (p : ℕ → Bool) (numbers : List ℕ) → length (filter p numbers) ≤ length numbers
-filter_shorter p numbers = omega (arith, length-filter p numbers, count_by-le-length p numbers)
-
--- numbers without repetitions are no more
-once_shorter : (numbers : List ℕ) → length (each_once numbers) ≤ length numbers
-once_shorter [] = omega arith
-once_shorter (number ∷ numbers) =
-    let others = filter_shorter (λ other. not (other == number)) (each_once numbers) in
-    let rest = once_shorter numbers in
-    omega (arith, others, rest)
 
 not_long : (table : Table) (text : List ℕ) → length text ≤ 268435456 → length_refusal table text ≡ None
 not_long table text short =
@@ -73,7 +60,7 @@ few_rows machines tasks some more =
     let trace = of_rows machines tasks in
     let named = length-append (map (λ row. row.machine) machines) [] in
     let mapped = length-map machines (λ (row : MachineFields). row.machine) in
-    let once = once_shorter (named_machines trace) in
+    let once = once_fewer (named_machines trace) in
     within_limits trace (omega arith) (omega arith)
 
 -- the bytes of tables with rows of machines and of tasks alone

@@ -1,4 +1,5 @@
 pub mod Lists
+pub mod Fewer
 pub mod Places
 pub mod Amounts
 pub mod InOrder

@@ -1,7 +1,6 @@
 -- Lists of which each element has a property, and what a filter or a search makes of them.
-use Rattle.std.proofs.Common.{◌≡◌, ◌≤◌, Bool, true, false, cond, List, [], ◌∷◌, ◌++◌, length, Some, None, refl, ap}
+use Rattle.std.proofs.Common.{◌≡◌, Bool, true, false, cond, List, [], ◌∷◌, ◌++◌, Some, None, refl, ap}
 use Rattle.std.specs.List.{All, filter, find, list_any}
-use Rattle.std.proofs.lemmas.List.Sums.{length-filter, count_by-le-length}
 use Rattle.std.proofs.lemmas.List.Elements.{All-head, All-tail, All-cons, All-nil}
 use Rattle.omega_running.specs.Order.{Each}
 
@@ -87,7 +86,3 @@ filter_left p (x ∷ l) r e = rw (filter_left p l r e) refl
 pub filter_right : {X : Type 0} (p : X → Bool) (l r : List X) → Each (λ y. p y ≡ false) l → filter p (l ++ r) ≡ filter p r
 filter_right p [] r e = refl
 filter_right p (x ∷ l) r e = rw e.0 (filter_right p l r e.1)
-
--- a filter leaves no more than all
-pub filter_fewer : {X : Type 0} (p : X → Bool) (xs : List X) → length (filter p xs) ≤ length xs
-filter_fewer p xs = rw (length-filter p xs) (count_by-le-length p xs)

@@ -6,6 +6,7 @@ use Rattle.std.specs.List.{cons_option, filter, filter_map, list_any, range_with
 use Rattle.std.proofs.lemmas.Bool.{eq-eqb, or_right}
 use Rattle.std.proofs.lemmas.Bool.{cases_lt}
 use Rattle.omega_feed.proofs.ExtraIndexes.{extras_room}
+use Rattle.omega_model.proofs.Fewer.{filter_fewer}
 use Rattle.omega_model.proofs.Lists.{each_filter, each_map}
 use Rattle.omega_model.specs.Cell.{Cell}
 use Rattle.omega_model.specs.ExtraTasks.{activities_of, extra_count, extra_wish, running_extras, wanted_of, wishes_after, wishes_for_extras, first_extra, used_in, capacity_in_all}
@@ -21,7 +22,7 @@ use Rattle.omega_model.specs.declared.rows.TraceTables.{TraceTables}
 use Rattle.omega_model.specs.declared.settings.Settings.{Settings}
 use Rattle.omega_model.specs.declared.wishes.Request.{Request}
 use Rattle.omega_model.specs.declared.wishes.Wish.{Wish}
-use Rattle.omega_sim.proofs.Shorter.{filter_fewer, some_fewer, wanted_few}
+use Rattle.omega_sim.proofs.Shorter.{some_fewer, wanted_few}
 
 -- ---- extra tasks
 

@@ -1,9 +1,9 @@
 -- How long lists are that are made of a trace.
 use Rattle.std.proofs.Common.{◌≡◌, ℕ, ◌+◌, ◌≤◌, Bool, true, false, ◌&&◌, List, [], ◌∷◌, ◌++◌, map, length, Option, Some, None, refl, arith, length-append}
 use Rattle.std.proofs.lemmas.List.{length-map}
-use Rattle.std.specs.Prelude.{◌==◌, not, nat_lt}
+use Rattle.std.specs.Prelude.{not, nat_lt}
 use Rattle.std.specs.List.{cons_option, filter, filter_map, fold, list_any}
-use Rattle.std.proofs.lemmas.List.Sums.{count_by-le-length, length-filter}
+use Rattle.omega_model.proofs.Fewer.{filter_fewer, once_fewer}
 use Rattle.omega_model.proofs.InOrder.{key_asym}
 use Rattle.omega_model.proofs.Lists.{by_answer}
 use Rattle.omega_model.specs.Feed.{by_time, each_once, event_rows, feed, put_by_time, round_at, round_number, rounds, time_of}
@@ -18,22 +18,12 @@ use Rattle.omega_model.specs.declared.rows.Row.{Row}
 use Rattle.omega_model.specs.declared.rows.Row.TheVariants.{Machine, Attr, Task}
 use Rattle.omega_model.specs.declared.rows.TraceTables.{TraceTables}
 
-pub filter_fewer : {X : Type 0} (test : X → Bool) (xs : List X) → length (filter test xs) ≤ length xs
-filter_fewer test xs = omega (arith, length-filter test xs, count_by-le-length test xs)
-
 pub some_fewer : {X Y : Type 0} (f : X → Option Y) (xs : List X) → length (filter_map f xs) ≤ length xs
 some_fewer f [] = omega arith
 some_fewer f (x ∷ xs) = let rest = some_fewer f xs in by_item (f x) rest where
   by_item : (item : Option _) → length (filter_map f xs) ≤ length xs → length (cons_option item (filter_map f xs)) ≤ length (x ∷ xs)
   by_item None rest = omega arith
   by_item (Some y) rest = omega arith
-
-pub once_fewer : (ns : List ℕ) → length (each_once ns) ≤ length ns
-once_fewer [] = omega arith
-once_fewer (n ∷ ns) =
-    let rest = once_fewer ns in
-    let fewer = filter_fewer (λ m. not (m == n)) (each_once ns) in
-    omega arith
 
 -- two tests that nothing passes both keep no more than there is
 apart_fewer : {X : Type 0} (one other : X → Bool) → ((x : X) → one x ≡ true → other x ≡ false) → (xs : List X)

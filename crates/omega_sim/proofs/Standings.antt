@@ -6,7 +6,7 @@ use Rattle.omega_model.specs.declared.claims.Outcome.{Outcome}
 use Rattle.omega_model.specs.declared.settings.Settings.{Settings}
 use Rattle.omega_model.specs.declared.wishes.Request.{Request}
 use Rattle.omega_sim.proofs.Asked.{IsAsked}
-use Rattle.omega_sim.proofs.Shorter.{filter_fewer}
+use Rattle.omega_model.proofs.Fewer.{filter_fewer}
 
 -- what is left of a request that is asked for is asked for, too
 pub rest_asked : (jobs : List ℕ) (most taken failing : ℕ) (settings : Settings) (request : Request) (outcomes : List Outcome) → IsAsked jobs most request

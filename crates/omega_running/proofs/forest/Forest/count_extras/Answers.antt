@@ -5,7 +5,7 @@ use Rattle.omega_running.specs.Forest.{SpreadTasks, is_at}
 use Rattle.omega_running.specs.declared.nodes.Tree.{Tree}
 use Rattle.omega_running.specs.Tree.{tasks_of}
 use Rattle.omega_running.specs.declared.orders.Order.TheVariants.{ByKey}
-use Rattle.omega_running.proofs.Lists.{filter_fewer}
+use Rattle.omega_model.proofs.Fewer.{filter_fewer}
 use Rattle.omega_running.proofs.Spread.{extras_here}
 use Rattle.omega_running.proofs.forest.Forest.count_extras.Goals as goal
 
