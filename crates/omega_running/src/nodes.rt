@@ -27,7 +27,11 @@ use std::mem;
 #[derive(Debug, Drop)]
 pub enum Tree {
     Leaf,
-    Fork(u8, u32, Box<Node>),
+    Fork {
+        height: u8,
+        extras: u32,
+        node: Box<Node>,
+    },
 }
 
 /// A task and the trees at its two sides.
@@ -77,7 +81,7 @@ impl Tree {
     fn height(&self) -> u8 {
         match self {
             Tree::Leaf => 0,
-            Tree::Fork(height, _extras, _node) => *height,
+            Tree::Fork { height, .. } => *height,
         }
     }
 
@@ -88,7 +92,7 @@ impl Tree {
     {
         match self {
             Tree::Leaf => 0,
-            Tree::Fork(_height, extras, _node) => *extras,
+            Tree::Fork { extras, .. } => *extras,
         }
     }
 
@@ -125,7 +129,11 @@ impl Tree {
                 room.right = Tree::Leaf;
                 fork(room)
             }
-            Tree::Fork(height, _extras, mut node) => {
+            Tree::Fork {
+                height,
+                mut node,
+                ..
+            } => {
                 if order.precedes(&room.task, &node.task) {
                     let before = node.left.height();
                     node.left = node.left.take().put(order, room);
@@ -148,7 +156,12 @@ impl Tree {
         ensures tallied { IsTallied result.0 }
         ensures out { option_map (λ node. node.value.task) result.1 ≡ at_place order task.now (tasks_of self) }
     {
-        let Tree::Fork(height, _extras, mut node) = self else {
+        let Tree::Fork {
+            height,
+            mut node,
+            ..
+        } = self
+        else {
             return (Tree::Leaf, None);
         };
         if order.precedes(task, &node.task) {
@@ -175,7 +188,7 @@ impl Tree {
         ensures { option_map (λ task. task.now) result ≡ task_at (tasks_of self.now) key }
     {
         let mut tree = self;
-        'down: while let Tree::Fork(_height, _extras, node) = tree {
+        'down: while let Tree::Fork { node, .. } = tree {
             if key_lt(key, node.task.key) {
                 tree = &node.left;
             } else if key_lt(node.task.key, key) {
@@ -199,7 +212,7 @@ impl Tree {
         requires { IsInOrder order (tasks_of self.now) }
         ensures { OnOk result (found.new.items ≡ found.old.items ++ filter (picks pick) (led_by order number (tasks_of self.now))) }
     {
-        let Tree::Fork(_height, _extras, node) = self else {
+        let Tree::Fork { node, .. } = self else {
             return Ok(());
         };
         let here = order.lead(&node.task);
@@ -235,7 +248,7 @@ impl Tree {
         requires tallied { IsTallied self.now }
         ensures { result ≡ extras_in (filter (is_until job own) (tasks_of self.now)) % 2 ^ 32 }
     {
-        let Tree::Fork(_height, _extras, node) = self else {
+        let Tree::Fork { node, .. } = self else {
             return 0;
         };
         if !is_until(&node.task, job, own) {
@@ -252,7 +265,7 @@ impl Tree {
         requires { IsInOrder ByMachine (tasks_of self.now) }
         ensures { result ≡ minus amount (staying_of_share prec (tasks_of self.now) machine share) }
     {
-        let Tree::Fork(_height, _extras, node) = self else {
+        let Tree::Fork { node, .. } = self else {
             return amount;
         };
         let here = node.task.machine;
@@ -279,7 +292,7 @@ impl Tree {
         requires { IsInOrder ByMachine (tasks_of self.now) }
         ensures { result ≡ other_in_share share (tasks_of self.now) job machine gone.now }
     {
-        let Tree::Fork(_height, _extras, node) = self else {
+        let Tree::Fork { node, .. } = self else {
             return None;
         };
         if is_before(&node.task, machine, job) {
@@ -334,7 +347,11 @@ fn fork(node: Box<Node>) -> Tree
     ensures tallied { IsTallied result }
 {
     let height = node.left.height().max(node.right.height());
-    Tree::Fork(height.saturating_add(1), tally(&node), node)
+    Tree::Fork {
+        height: height.saturating_add(1),
+        extras: tally(&node),
+        node,
+    }
 }
 
 /// The tree of a node that had this height, and of which one side changed: that side's height was `before`
@@ -345,7 +362,12 @@ fn settled(height: u8, node: Box<Node>, before: u8, after: u8) -> Tree
     ensures tallied { IsTallied result }
 {
     if before == after {
-        return Tree::Fork(height, tally(&node), node);
+        let extras = tally(&node);
+        return Tree::Fork {
+            height,
+            extras,
+            node,
+        };
     }
     balanced(node)
 }
@@ -376,11 +398,19 @@ fn leaning_left(tree: Tree) -> Tree
 {
     match tree {
         Tree::Leaf => Tree::Leaf,
-        Tree::Fork(height, extras, node) => {
+        Tree::Fork {
+            height,
+            extras,
+            node,
+        } => {
             if node.left.height() < node.right.height() {
                 rotated_left(node)
             } else {
-                Tree::Fork(height, extras, node)
+                Tree::Fork {
+                    height,
+                    extras,
+                    node,
+                }
             }
         }
     }
@@ -394,11 +424,19 @@ fn leaning_right(tree: Tree) -> Tree
 {
     match tree {
         Tree::Leaf => Tree::Leaf,
-        Tree::Fork(height, extras, node) => {
+        Tree::Fork {
+            height,
+            extras,
+            node,
+        } => {
             if node.right.height() < node.left.height() {
                 rotated_right(node)
             } else {
-                Tree::Fork(height, extras, node)
+                Tree::Fork {
+                    height,
+                    extras,
+                    node,
+                }
             }
         }
     }
@@ -412,7 +450,7 @@ fn rotated_right(mut node: Box<Node>) -> Tree
 {
     match node.left.take() {
         Tree::Leaf => fork(node),
-        Tree::Fork(_height, _extras, mut top) => {
+        Tree::Fork { node: mut top, .. } => {
             node.left = top.right.take();
             top.right = fork(node);
             fork(top)
@@ -428,7 +466,7 @@ fn rotated_left(mut node: Box<Node>) -> Tree
 {
     match node.right.take() {
         Tree::Leaf => fork(node),
-        Tree::Fork(_height, _extras, mut top) => {
+        Tree::Fork { node: mut top, .. } => {
             node.right = top.left.take();
             top.left = fork(node);
             fork(top)
@@ -445,7 +483,7 @@ fn joined(left: Tree, right: Tree) -> Tree
 {
     match right {
         Tree::Leaf => left,
-        Tree::Fork(_height, _extras, node) => {
+        Tree::Fork { node, .. } => {
             let (mut first, rest) = without_first(node);
             first.left = left;
             first.right = rest;
@@ -465,7 +503,7 @@ fn without_first(mut node: Box<Node>) -> (Box<Node>, Tree)
             let rest = node.right.take();
             (node, rest)
         }
-        Tree::Fork(_height, _extras, left) => {
+        Tree::Fork { node: left, .. } => {
             let (first, rest) = without_first(left);
             node.left = rest;
             (first, balanced(node))

@@ -1,5 +1,5 @@
 //! The running tasks.
-ghost use Rattle.std.specs.Prelude.{◌≡◌, ◌+◌, ◌≤◌, ◌<◌, [], ◌∷◌, max, length, option_map, IsOk, IfOk, OnOk, is_some, None, vec_len, vec_capacity, if◌then◌else◌};
+ghost use Rattle.std.specs.Prelude.{◌≡◌, ◌+◌, ◌^◌, ◌≤◌, ◌<◌, [], ◌∷◌, max, length, option_map, IsOk, IfOk, OnOk, is_some, None, vec_len, vec_capacity, if◌then◌else◌};
 ghost use Rattle.std.specs.List.{filter};
 ghost use Rattle.omega_model.specs.Cell.{task_at, with_task, without, is_on, by_rank, keys_of};
 ghost use Rattle.omega_model.specs.ExtraTasks.{is_extra_of};
@@ -19,7 +19,7 @@ use std::marker::Model;
 
 /// How many tasks run and have room together at most, so that a number of 32 bits counts them. So many would take
 /// several hundred GiB.
-const MOST_TASKS: usize = 4_294_967_295;
+const MOST_TASKS: usize = u32::MAX as usize;
 
 /// The nodes that one more task takes.
 #[derive(Debug, Drop)]
@@ -83,12 +83,13 @@ impl Running {
     /// Makes room for at least `n` more tasks. The tasks stay as they are, also where memory runs
     /// out, and no room is lost then. Takes the memory and time of the room that is missing, the
     /// first time those of the trees too, and none where there is enough. Where more than 2^32 - 1 tasks would run or
-    /// have room it answers as where memory runs out.
+    /// have room, it answers as where memory runs out.
     pub fn reserve(&mut self, alloc: Global, n: usize) -> Result<(), NoMemory>
         ensures tasks { self.new.tasks ≡ self.old.tasks }
         ensures spare { OnOk result (self.new.spare ≡ max self.old.spare n) }
         ensures kept { self.old.spare ≤ self.new.spare }
         ensures enough { n ≤ self.old.spare → IsOk result }
+        ensures few { OnOk result (length self.new.tasks + n < 2 ^ 32) }
     {
         let spare = self.pool.len();
         if n <= spare {
