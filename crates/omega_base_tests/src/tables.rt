@@ -108,8 +108,8 @@ fn each_call_fails(rt: HostRuntime) -> Result<(), Fail> {
     Ok(())
 }
 
-/// So many rows are a text of more than a mebibyte, which is read in pieces where there are processors.
-const LONG: u64 = 80_000;
+/// So many rows are a text of some 400 KB, which is read in pieces where there are processors.
+const LONG: u64 = 20_000;
 
 /// `LONG` rows, whose machines are numbered from 0. The one of this number is no row.
 fn numbered(alloc: Global, bad: u64) -> Result<String, AllocError> {
@@ -160,9 +160,9 @@ fn bad_at(row: u64) -> ReadRefusal {
 #[test]
 fn a_text_that_is_cut_in_pieces(rt: HostRuntime) -> Result<(), Fail> {
     for (bad, refusal, rows) in [
-        (LONG, None, 80_000),
-        (70_000, Some(bad_at(70_001)), 0),
-        (30_000, Some(bad_at(30_001)), 0),
+        (LONG, None, 20_000),
+        (17_500, Some(bad_at(17_501)), 0),
+        (7_500, Some(bad_at(7_501)), 0),
     ] {
         let answer = read_numbered(&rt, rt.alloc(), bad)?;
         assert_eq!(rt; answer, (refusal, rows, true), "{bad}");

@@ -1,5 +1,5 @@
 //! The limits of a table and of all six.
-ghost use Rattle.std.specs.Prelude.{◌≡◌, ◌↔◌, ◌++◌, ℕ, List, map, None, IfOk, OnOk, IfErr};
+ghost use Rattle.std.specs.Prelude.{◌≡◌, ◌≤◌, ◌↔◌, ◌++◌, ℕ, List, map, None, IfOk, OnOk, IfErr};
 ghost use Rattle.omega_model.specs.Limits.{row_count, machine_count, limit_passed, IsWithinLimits};
 ghost use Rattle.omega_model.specs.Refusals.{trace_refusal};
 ghost use Rattle.omega_tables.specs.Checking.{Holds};
@@ -52,10 +52,17 @@ fn machine_count(alloc: Global, tables: &TraceTables) -> Result<usize, NoMemory>
     Ok(named.len())
 }
 
+/// The number of the rows that name a machine: there are no more different machines than these.
+fn naming_rows(tables: &TraceTables) -> usize
+    ensures { machine_count tables.now ≤ result }
+{
+    tables.machines.as_slice().len() + tables.attrs.as_slice().len()
+}
+
 /// The first number that passes its limit: the rows of all six tables above `MOST_ROWS`, then the
 /// different machines in the rows of machines and of attributes above `MOST_MACHINES`. `None`
-/// exactly where both limits are kept. Costs n log m for n rows of machines and attributes and m
-/// machines.
+/// exactly where both limits are kept. Where there are more rows of machines and of attributes than there
+/// may be machines, it costs n log m for n such rows and m machines.
 pub fn over_limit(alloc: Global, tables: &TraceTables) -> Result<Option<(Kind, u64)>, NoMemory>
     ensures number { IfOk result (λ number. number ≡ limit_passed tables.now) }
     ensures within { IfOk result (λ number. (number ≡ None) ↔ IsWithinLimits tables.now) }
@@ -63,6 +70,9 @@ pub fn over_limit(alloc: Global, tables: &TraceTables) -> Result<Option<(Kind, u
     let rows = row_count(tables);
     if rows > MOST_ROWS {
         return Ok(Some((Kind::Rows, rows as u64)));
+    }
+    if naming_rows(tables) <= MOST_MACHINES {
+        return Ok(None);
     }
     let machines = machine_count(alloc, tables)?;
     if machines > MOST_MACHINES {

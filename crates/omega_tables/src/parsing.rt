@@ -179,7 +179,7 @@ fn append_rows<P: Threads + Sync, R: FromRecord + Drop + Send>(
 /// columns. After any refusal `into` is as before. Takes time linear in the text and in the list that
 /// grows.
 ///
-/// A text of a mebibyte or more is read in pieces at the same time, at most as many as there are processors, and
+/// A text of 128 KiB or more is read in pieces at the same time, at most as many as there are processors, and
 /// eight; one with a quote in its first half in one piece. A bad row in one piece doesn't stop the others. While two
 /// pieces are joined the rows of the second one are held twice, and those of the first one too where their list
 /// has to move. The call waits only for the threads that it has begun.

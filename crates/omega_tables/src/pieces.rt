@@ -16,7 +16,7 @@ use std::alloc::Global;
 use std::thread::{Threads, join};
 
 /// A text of fewer bytes is read in one piece: to begin a thread for it would cost more than it saves.
-const SHORTEST_CUT: usize = 1 << 20;
+const SHORTEST_CUT: usize = 1 << 17;
 
 /// A front that is made of whole lines, and the back behind it, which begins behind the first end of a line in
 /// the second half. `None` where no line ends there or where the text may not be cut there: a field between
