@@ -38,9 +38,9 @@ impl Board {
     /// Costs a look at the machine, a second one where `copy_seq` is a number, a look-up of the claim's
     /// task, and, where none of these refuses, the claim's victims, each of them looked up once; one
     /// that doesn't come behind all those before it, in order of eviction, is looked for among them too.
-    /// Where the claim is placed, those that it evicts are looked up once more. With the different-machines flag it costs besides the tasks of the job on
-    /// the machine, each looked for among the victims, and at worst the square of the victims that
-    /// stand.
+    /// Where the claim is placed, those that it evicts are looked up once more. With the different-machines
+    /// flag it costs besides the tasks of the job on the machine, each looked for among the victims, and at
+    /// worst the square of the victims that stand.
     pub fn judge(&self, claim: &Claim, copy_seq: Option<u64>, evicted: &mut Vec<TaskKey>) -> Verdict
         requires empty { evicted.old.items ≡ [] }
         requires room { length claim.now.victims ≤ vec_capacity evicted.old }

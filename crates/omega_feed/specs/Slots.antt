@@ -45,11 +45,11 @@ AreCounted [] slots = slots ≡ []
 AreCounted (count ∷ counts) slots = (count ≡ length (tasks_in (take block slots))) × AreCounted counts (drop block slots)
 
 -- the keys of the slots rise; the wanted tasks are none of the extras, their number is `count`, and in the blocks
--- they are as many as `wanted` says
-pub record AreSlots (slots : List Slot) (wanted : List ℕ) (count : ℕ) : Type 0 where
+-- they are as many as `counts` says
+pub record AreSlots (slots : List Slot) (counts : List ℕ) (count : ℕ) : Type 0 where
   pub rise : SlotsRise slots
   pub low : Each HasLowIndex (tasks_in slots)
-  pub blocks : AreCounted wanted slots
+  pub blocks : AreCounted counts slots
   pub counted : count ≡ length (tasks_in slots)
 
 -- a task's slot stands at this place

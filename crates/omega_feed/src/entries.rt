@@ -13,7 +13,7 @@ ghost use Rattle.omega_feed.specs.Index.{HasLowTask};
 use crate::disks::MachineDisks;
 use crate::tasks::WantedTasks;
 use omega_model::{
-    AttrRow, Copied, Entries, Entry, MachineRow, Need, NoMemory, Row, Task, TaskKey, TaskRow,
+    AttrRow, Entries, Entry, MachineRow, Need, NoMemory, Row, Task, TaskKey, TaskRow,
 };
 use omega_running::Running;
 use std::alloc::Global;
@@ -23,21 +23,21 @@ use std::alloc::Global;
 /// extras and few others of its running tasks.
 pub fn entries_of(
     alloc: Global,
-    row: &Row,
+    row: Row,
     disks: &MachineDisks,
     left: &WantedTasks,
     running: &Running,
 ) -> Result<Entries, NoMemory>
     ensures entries { IfOk result (λ entries. (machines : List Machine)
-        → entries ≡ row_entries disks.now (record { machines = machines; tasks = running.now.tasks }) left.now row.now) }
+        → entries ≡ row_entries disks.now (record { machines = machines; tasks = running.now.tasks }) left.now row) }
     ensures range { IfOk result (λ entries. All CapacityIsInRange entries) }
-    ensures row { HasLowTask row.now }
+    ensures row { HasLowTask row }
 {
     let mut entries = Entries::new(alloc);
     match row {
-        Row::Machine(row) => entries.push(machine_entry(row, disks))?,
-        Row::Attr(row) => entries.push(attr_entry(alloc, row)?)?,
-        Row::Task(row) => return task_entries(alloc, row, left, running),
+        Row::Machine(row) => entries.push(machine_entry(&row, disks))?,
+        Row::Attr(row) => entries.push(attr_entry(row))?,
+        Row::Task(row) => return task_entries(alloc, &row, left, running),
     }
     Ok(entries)
 }
@@ -59,22 +59,26 @@ fn machine_entry(row: &MachineRow, disks: &MachineDisks) -> Entry
     }
 }
 
-/// The entry of an attribute row: the attribute is set, or deleted.
-fn attr_entry(alloc: Global, row: &AttrRow) -> Result<Entry, NoMemory>
-    ensures entry { IfOk result (λ entry. entry ≡ attr_entry row.now) }
-    ensures range { IfOk result CapacityIsInRange }
+/// The entry of an attribute row: the attribute is set, or deleted. Takes the row's text over.
+fn attr_entry(row: AttrRow) -> Entry
+    ensures entry { result ≡ attr_entry row }
+    ensures range { CapacityIsInRange result }
 {
-    let machine = row.machine;
-    let name = row.name.copy(alloc)?;
-    if row.deleted {
-        return Ok(Entry::AttrDelete { machine, name });
-    }
-    let value = row.value.copy(alloc)?;
-    Ok(Entry::AttrSet {
+    let AttrRow {
         machine,
         name,
         value,
-    })
+        deleted,
+        ..
+    } = row;
+    if deleted {
+        return Entry::AttrDelete { machine, name };
+    }
+    Entry::AttrSet {
+        machine,
+        name,
+        value,
+    }
 }
 
 /// The entries of a task row: the end of its task, if it runs, and then those of its job's running

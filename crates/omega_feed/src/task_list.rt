@@ -40,7 +40,7 @@ pub struct Slot {
 pub struct TaskList {
     slots: Vec<Slot>,
     /// How many tasks of each block of slots are wanted.
-    wanted: Vec<u8>,
+    counts: Vec<u8>,
     /// How many tasks are wanted.
     count: usize,
 }
@@ -55,7 +55,7 @@ impl Model for TaskList {
 
     ghost view = { λ tasks. tasks_in tasks.slots.items };
 
-    ghost invariant = { λ tasks. AreSlots tasks.slots.items tasks.wanted.items tasks.count };
+    ghost invariant = { λ tasks. AreSlots tasks.slots.items tasks.counts.items tasks.count };
 }
 
 impl TaskList {
@@ -65,7 +65,7 @@ impl TaskList {
     {
         TaskList {
             slots: Vec::new(alloc),
-            wanted: Vec::new(alloc),
+            counts: Vec::new(alloc),
             count: 0,
         }
     }
@@ -81,10 +81,10 @@ impl TaskList {
                 put_slot(&mut slots, place, *key)?;
             }
         }
-        let wanted = none_wanted(alloc, &slots)?;
+        let counts = none_wanted(alloc, &slots)?;
         Ok(TaskList {
             slots,
-            wanted,
+            counts,
             count: 0,
         })
     }
@@ -98,8 +98,8 @@ impl TaskList {
         ensures err { OnErr result (self.new ≡ self.old) }
         ensures low { All HasLowIndex self.new }
     {
-        let place = place_for(&mut self.slots, &mut self.wanted, key)?;
-        if fill(&mut self.slots, &mut self.wanted, place, key, spec) {
+        let place = place_for(&mut self.slots, &mut self.counts, key)?;
+        if fill(&mut self.slots, &mut self.counts, place, key, spec) {
             self.count += 1;
         }
         Ok(())
@@ -111,7 +111,7 @@ impl TaskList {
         ensures tasks { self.new ≡ filter (λ task. not (is_named key task)) self.old }
         ensures low { All HasLowIndex self.new }
     {
-        if clear(&mut self.slots, &mut self.wanted, key) {
+        if clear(&mut self.slots, &mut self.counts, key) {
             self.count -= 1;
         }
     }
@@ -147,7 +147,7 @@ impl TaskList {
     pub fn push_waiting(&self, running: &Running, jobs: &mut Vec<u64>) -> Result<(), NoMemory>
         ensures { OnOk result (jobs.new.items ≡ jobs.old.items ++ waiting_jobs running.now.tasks self.now) }
     {
-        for (count, block) in self.wanted.iter().zip(self.slots.chunks(BLOCK)) {
+        for (count, block) in self.counts.iter().zip(self.slots.chunks(BLOCK)) {
             if *count > 0 {
                 push_idle(block, running, jobs)?;
             }
@@ -161,7 +161,7 @@ impl TaskList {
     pub fn all_run(&self, job: u64, running: &Running) -> bool
         ensures { IsTrue result ↔ All (RunsIfOf job running.now.tasks) self.now }
     {
-        for (count, block) in self.wanted.iter().zip(self.slots.chunks(BLOCK)) {
+        for (count, block) in self.counts.iter().zip(self.slots.chunks(BLOCK)) {
             if *count > 0 && has_idle(block, job, running) {
                 return false;
             }
@@ -175,7 +175,7 @@ impl TaskList {
         ensures { IfOk result (λ found. map wanted_task found.items ≡ wanted_of job self.now) }
     {
         let mut found = Vec::with_capacity(alloc, self.count)?;
-        for (count, block) in self.wanted.iter().zip(self.slots.chunks(BLOCK)) {
+        for (count, block) in self.counts.iter().zip(self.slots.chunks(BLOCK)) {
             if *count > 0 {
                 push_entries(block, job, &mut found)?;
             }
@@ -251,18 +251,18 @@ fn place_of(slots: &[Slot], key: TaskKey) -> Result<usize, usize>
 
 /// Where a task's slot stands among these, after an empty one was made where there was none. A refused
 /// call leaves the tasks. Costs as much as to look for it, and for a new slot all slots.
-fn place_for(slots: &mut Vec<Slot>, wanted: &mut Vec<u8>, key: TaskKey) -> Result<usize, NoMemory>
+fn place_for(slots: &mut Vec<Slot>, counts: &mut Vec<u8>, key: TaskKey) -> Result<usize, NoMemory>
     requires rise { SlotsRise slots.old.items }
-    requires counted { AreCounted wanted.old.items slots.old.items }
+    requires counted { AreCounted counts.old.items slots.old.items }
     ensures rise { SlotsRise slots.new.items }
     ensures same { tasks_in slots.new.items ≡ tasks_in slots.old.items }
-    ensures counted { AreCounted wanted.new.items slots.new.items }
+    ensures counted { AreCounted counts.new.items slots.new.items }
     ensures place { IfOk result (HasSlotAt slots.new.items key) }
 {
     match place_of(slots, key) {
         Ok(place) => Ok(place),
         Err(place) => {
-            make_slot(slots, wanted, place, key)?;
+            make_slot(slots, counts, place, key)?;
             Ok(place)
         }
     }
@@ -272,21 +272,21 @@ fn place_for(slots: &mut Vec<Slot>, wanted: &mut Vec<u8>, key: TaskKey) -> Resul
 /// move on by one. A refused call leaves the tasks. Costs all slots.
 fn make_slot(
     slots: &mut Vec<Slot>,
-    wanted: &mut Vec<u8>,
+    counts: &mut Vec<u8>,
     place: usize,
     key: TaskKey,
 ) -> Result<(), NoMemory>
     requires rise { SlotsRise slots.old.items }
     requires gets { GetsSlotAt slots.old.items key place }
-    requires counted { AreCounted wanted.old.items slots.old.items }
+    requires counted { AreCounted counts.old.items slots.old.items }
     ensures rise { SlotsRise slots.new.items }
     ensures same { tasks_in slots.new.items ≡ tasks_in slots.old.items }
-    ensures counted { AreCounted wanted.new.items slots.new.items }
+    ensures counted { AreCounted counts.new.items slots.new.items }
     ensures place { OnOk result (HasSlotAt slots.new.items key place) }
 {
-    make_room(wanted, slots)?;
+    make_room(counts, slots)?;
     put_slot(slots, place, key)?;
-    count_anew(wanted, slots);
+    count_anew(counts, slots);
     Ok(())
 }
 
@@ -306,26 +306,26 @@ fn put_slot(slots: &mut Vec<Slot>, place: usize, key: TaskKey) -> Result<(), NoM
 }
 
 /// Makes one more count, of no tasks, if the blocks are full. A refused call leaves the counts.
-fn make_room(wanted: &mut Vec<u8>, slots: &[Slot]) -> Result<(), NoMemory>
-    requires { AreCounted wanted.old.items slots.now }
-    ensures counted { AreCounted wanted.new.items slots.now }
-    ensures room { OnOk result (length slots.now < length wanted.new.items * block) }
+fn make_room(counts: &mut Vec<u8>, slots: &[Slot]) -> Result<(), NoMemory>
+    requires { AreCounted counts.old.items slots.now }
+    ensures counted { AreCounted counts.new.items slots.now }
+    ensures room { OnOk result (length slots.now < length counts.new.items * block) }
 {
-    if slots.len() / BLOCK >= wanted.len() {
-        wanted.push(0)?;
+    if slots.len() / BLOCK >= counts.len() {
+        counts.push(0)?;
     }
     Ok(())
 }
 
 /// Counts the wanted tasks of each block. Costs the slots, and no memory.
-fn count_anew(wanted: &mut Vec<u8>, slots: &[Slot])
-    requires { length slots.now ≤ length wanted.old.items * block }
-    ensures { AreCounted wanted.new.items slots.now }
+fn count_anew(counts: &mut Vec<u8>, slots: &[Slot])
+    requires { length slots.now ≤ length counts.old.items * block }
+    ensures { AreCounted counts.new.items slots.now }
 {
     let mut left = slots;
-    for place in 0..wanted.len() {
+    for place in 0..counts.len() {
         let (block, later) = left.split_at(BLOCK.min(left.len()));
-        wanted[place] = wanted_in(block);
+        counts[place] = wanted_in(block);
         left = later;
     }
 }
@@ -341,41 +341,41 @@ fn wanted_in(slots: &[Slot]) -> u8
 /// The counts of slots of which none is filled.
 fn none_wanted(alloc: Global, slots: &[Slot]) -> Result<Vec<u8>, NoMemory>
     requires { tasks_in slots.now ≡ [] }
-    ensures { IfOk result (λ wanted. AreCounted wanted.items slots.now) }
+    ensures { IfOk result (λ counts. AreCounted counts.items slots.now) }
 {
     Ok(vec![in alloc; 0; slots.len().div_ceil(BLOCK)]?)
 }
 
 /// Notes what the task of the slot at a place asks for, and answers whether it wasn't wanted before, and
 /// so is counted now.
-fn fill(slots: &mut Vec<Slot>, wanted: &mut Vec<u8>, place: usize, key: TaskKey, spec: Spec) -> bool
+fn fill(slots: &mut Vec<Slot>, counts: &mut Vec<u8>, place: usize, key: TaskKey, spec: Spec) -> bool
     requires rise { SlotsRise slots.old.items }
     requires place { HasSlotAt slots.old.items key place }
-    requires counted { AreCounted wanted.old.items slots.old.items }
+    requires counted { AreCounted counts.old.items slots.old.items }
     ensures rise { SlotsRise slots.new.items }
     ensures tasks { tasks_in slots.new.items ≡ with_wanted key spec (tasks_in slots.old.items) }
-    ensures counted { AreCounted wanted.new.items slots.new.items }
+    ensures counted { AreCounted counts.new.items slots.new.items }
     ensures count { length (tasks_in slots.new.items) ≡ length (tasks_in slots.old.items) + cond result 1 0 }
 {
     let added = slots[place].spec.replace(spec).is_none();
-    wanted[place / BLOCK] += u8::from(added);
+    counts[place / BLOCK] += u8::from(added);
     added
 }
 
 /// Empties the slot of a task, if it has one, and answers whether the task was wanted, and so isn't counted
 /// any more.
-fn clear(slots: &mut Vec<Slot>, wanted: &mut Vec<u8>, key: TaskKey) -> bool
+fn clear(slots: &mut Vec<Slot>, counts: &mut Vec<u8>, key: TaskKey) -> bool
     requires rise { SlotsRise slots.old.items }
-    requires counted { AreCounted wanted.old.items slots.old.items }
+    requires counted { AreCounted counts.old.items slots.old.items }
     ensures rise { SlotsRise slots.new.items }
     ensures tasks { tasks_in slots.new.items ≡ filter (λ task. not (is_named key task)) (tasks_in slots.old.items) }
-    ensures counted { AreCounted wanted.new.items slots.new.items }
+    ensures counted { AreCounted counts.new.items slots.new.items }
     ensures count { length (tasks_in slots.new.items) + cond result 1 0 ≡ length (tasks_in slots.old.items) }
 {
     let Ok(place) = place_of(slots, key) else {
         return false;
     };
     let ended = slots[place].spec.take().is_some();
-    wanted[place / BLOCK] -= u8::from(ended);
+    counts[place / BLOCK] -= u8::from(ended);
     ended
 }

@@ -236,10 +236,10 @@ impl Wanted {
     /// The entries of the row that was taken last, on the cell of a board. Costs the logarithm of the
     /// number of tasks that are wanted or run, and of a job that the row leaves without a wanted task the
     /// running extras and few others of its running tasks.
-    pub fn entries(&self, alloc: Global, row: &Row, board: &Board) -> Result<Entries, NoMemory>
-        ensures entries { IfOk result (λ entries. entries ≡ row_entries self.now.disks (cell_of board.now) self.now.tasks row.now) }
+    pub fn entries(&self, alloc: Global, row: Row, board: &Board) -> Result<Entries, NoMemory>
+        ensures entries { IfOk result (λ entries. entries ≡ row_entries self.now.disks (cell_of board.now) self.now.tasks row) }
         ensures range { IfOk result (λ entries. All CapacityIsInRange entries) }
-        ensures row { HasLowTask row.now }
+        ensures row { HasLowTask row }
     {
         entries_of(alloc, row, &self.disks, &self.tasks, board.running())
     }
@@ -276,8 +276,9 @@ impl Wanted {
         Ok(requests)
     }
 
-    /// How many wanted tasks don't run on a board, and their jobs, each once. Costs a look at each task of
-    /// the trace, and for each wanted one the logarithm of the number of those that run or wait.
+    /// How many wanted tasks don't run on a board, and their jobs, each once. Costs of each job of the trace
+    /// its blocks of slots and in those with a wanted task the slots, and for each wanted task the logarithm of
+    /// the number of those that run or wait.
     pub fn left(&self, alloc: Global, board: &Board) -> Result<WaitingTasks, NoMemory>
         ensures { IfOk result (AreLeft self.now.tasks (cell_of board.now)) }
     {

@@ -444,7 +444,7 @@ fn show_taken(
     answers: &mut String,
 ) -> Result<(), Fault> {
     let rows = rows_of(alloc, &trace.tables)?;
-    show_taken_of(trace, board, alloc, &rows, answers)
+    show_taken_of(trace, board, alloc, rows, answers)
 }
 
 /// The same of these rows.
@@ -452,7 +452,7 @@ fn show_taken_of(
     trace: &Trace,
     board: &Board,
     alloc: Global,
-    rows: &[Row],
+    rows: Vec<Row>,
     answers: &mut String,
 ) -> Result<(), Fault> {
     let mut wanted = at_first(trace, alloc)?;
@@ -464,12 +464,12 @@ fn show_each_taken(
     wanted: &mut Wanted,
     board: &Board,
     alloc: Global,
-    rows: &[Row],
+    rows: Vec<Row>,
     answers: &mut String,
 ) -> Result<(), Fault> {
     let mut told = Shown::Nothing;
     for row in rows {
-        take_row(wanted, alloc, row)?;
+        take_row(wanted, alloc, &row)?;
         told = show_row(wanted, board, alloc, row, told, answers)?;
     }
     show_end(told, answers)
@@ -489,7 +489,7 @@ fn show_unwanted(
     answers: &mut String,
 ) -> Result<(), Fault> {
     let rows = rows_of(alloc, &trace.tables)?;
-    show_unwanted_of(trace, board, alloc, &rows, answers)
+    show_unwanted_of(trace, board, alloc, rows, answers)
 }
 
 /// The same of these rows.
@@ -497,7 +497,7 @@ fn show_unwanted_of(
     trace: &Trace,
     board: &Board,
     alloc: Global,
-    rows: &[Row],
+    rows: Vec<Row>,
     answers: &mut String,
 ) -> Result<(), Fault> {
     let wanted = at_first(trace, alloc)?;
@@ -509,7 +509,7 @@ fn show_each(
     wanted: &Wanted,
     board: &Board,
     alloc: Global,
-    rows: &[Row],
+    rows: Vec<Row>,
     answers: &mut String,
 ) -> Result<(), Fault> {
     let mut told = Shown::Nothing;
@@ -531,7 +531,7 @@ fn show_row(
     wanted: &Wanted,
     board: &Board,
     alloc: Global,
-    row: &Row,
+    row: Row,
     told: Shown,
     answers: &mut String,
 ) -> Result<Shown, Fault> {

@@ -1,5 +1,5 @@
 -- Rows that are applied one after the other.
-use Rattle.std.proofs.Common.{◌≡◌, List, [], ◌∷◌, ◌++◌, refl, sym, ap, ap₂, ◌∙◌, append_assoc, append-nil}
+use Rattle.std.proofs.Common.{◌≡◌, List, [], ◌∷◌, ◌++◌, refl, sym, ap, ap₂, ◌∙◌, append_assoc, append-nil, subst}
 use Rattle.std.specs.List.{fold}
 use Rattle.std.proofs.lemmas.List.Sums.{fold-append}
 use Rattle.omega_feed.specs.Asked.{Asked}
@@ -55,3 +55,31 @@ applied_more before middle after start history next some row are takes appends =
           ∙ ap (λ (now : Applied). with_row trace now row) (are.applied trace rows disks tasks)
           ∙ sym (fold-append (with_row trace) (applied_rows rows start) some (row ∷ []));
     }
+
+-- of some rows the first ones are applied, and these are left
+pub record AreAppliedBut (before after : Asked) (start history : List Entry) (left all : List Row) : Type 0 where
+  pub done : List Row
+  pub parts : done ++ left ≡ all
+  pub applied : AreApplied before after start history done
+
+-- all are left
+pub all_left : (before : Asked) (start : List Entry) (all : List Row) → AreAppliedBut before before start start all all
+all_left before start all = record { done = []; parts = refl; applied = applied_none before start }
+
+-- one fewer is
+pub one_fewer : (before middle after : Asked) (start history next : List Entry) (row : Row) (left all : List Row)
+    → AreAppliedBut before middle start history (row ∷ left) all
+    → after ≡ record middle { tasks = wanted_after middle.tasks row }
+    → next ≡ history ++ row_entries after.disks (state history) after.tasks row
+    → AreAppliedBut before after start next left all
+one_fewer before middle after start history next row left all are takes appends = record {
+  done = are.done ++ row ∷ [];
+  parts = append_assoc are.done (row ∷ []) left ∙ are.parts;
+  applied = applied_more before middle after start history next are.done row are.applied takes appends;
+}
+
+-- none is left
+pub none_left : (before after : Asked) (start history : List Entry) (all : List Row) → AreAppliedBut before after start history [] all
+    → AreApplied before after start history all
+none_left before after start history all are =
+    subst (λ (rows : List Row). AreApplied before after start history rows) (sym (append-nil are.done) ∙ are.parts) are.applied

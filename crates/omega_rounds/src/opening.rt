@@ -39,24 +39,24 @@ impl Drop for Demand {
 
 /// Opens a round: appends its entry and those of its rows to the cell, and hands each scheduler what it is
 /// asked to place then; none may have work before. Only jobs of which something may have to be placed are open
-/// afterwards. Costs the rows, what their entries change, the wanted tasks of the open jobs, and for each
-/// scheduler a look at the open jobs.
+/// afterwards. Costs the rows, what their entries change, of each open job its blocks of slots and in those with a
+/// wanted task the slots, and for each scheduler a look at the open jobs.
 pub(crate) fn open_round(
     alloc: Global,
-    round: &Round,
+    round: Round,
     demand: &mut Demand,
     cell: &mut Cell,
     workers: &mut Vec<Worker>,
 ) -> Result<(), NoMemory>
     requires quiet { OthersAreQuiet demand.old.open_jobs demand.old.wanted (state cell.old.history).tasks }
-    requires asked { IsAsked (record demand.old.wanted { tasks = fold wanted_after demand.old.wanted.tasks round.now.rows }) }
+    requires asked { IsAsked (record demand.old.wanted { tasks = fold wanted_after demand.old.wanted.tasks round.rows }) }
     requires few { length workers.old.items < 2 ^ 32 }
     requires no_work { HaveNoWork workers.old.items }
     ensures history { (trace : TraceTables) (rows : List Row) → demand.old.wanted.disks ≡ trace.disks
         → demand.old.wanted.tasks ≡ wanted_tasks rows
-        → OnOk result (cell.new.history ≡ (opened trace rows cell.old.history round.now).history) }
+        → OnOk result (cell.new.history ≡ (opened trace rows cell.old.history round).history) }
     ensures wanted { OnOk result (demand.new.wanted
-        ≡ record demand.old.wanted { tasks = fold wanted_after demand.old.wanted.tasks round.now.rows }) }
+        ≡ record demand.old.wanted { tasks = fold wanted_after demand.old.wanted.tasks round.rows }) }
     ensures quiet { OnOk result (OthersAreQuiet demand.new.open_jobs demand.new.wanted (state cell.new.history).tasks) }
     ensures workers { OnOk result (BeginAll demand.new.wanted cell.new.history workers.old.items workers.new.items) }
 {
@@ -82,25 +82,20 @@ fn open(
     cell: &mut Cell,
     wanted: &mut Wanted,
     open_jobs: &mut OpenJobs,
-    round: &Round,
+    round: Round,
 ) -> Result<(), NoMemory>
     requires quiet { OthersAreQuiet open_jobs.old wanted.old (state cell.old.history).tasks }
     ensures history { (trace : TraceTables) (rows : List Row) → wanted.old.disks ≡ trace.disks
         → wanted.old.tasks ≡ wanted_tasks rows
-        → OnOk result (cell.new.history ≡ (opened trace rows cell.old.history round.now).history) }
+        → OnOk result (cell.new.history ≡ (opened trace rows cell.old.history round).history) }
     ensures wanted { OnOk result (wanted.new
-        ≡ record wanted.old { tasks = fold wanted_after wanted.old.tasks round.now.rows }) }
+        ≡ record wanted.old { tasks = fold wanted_after wanted.old.tasks round.rows }) }
     ensures quiet { OnOk result (OthersAreQuiet open_jobs.new wanted.new (state cell.new.history).tasks) }
 {
-    feed(
-        alloc,
-        cell,
-        Entry::Round {
-            number: round.number,
-        },
-    )?;
-    for row in round.rows.as_slice() {
-        wanted.take(row, open_jobs)?;
+    let Round { number, rows } = round;
+    feed(alloc, cell, Entry::Round { number })?;
+    for row in rows.into_items() {
+        wanted.take(&row, open_jobs)?;
         apply_row(alloc, cell, wanted, open_jobs, row)?;
     }
     Ok(())
@@ -112,11 +107,11 @@ fn apply_row(
     cell: &mut Cell,
     wanted: &Wanted,
     open_jobs: &mut OpenJobs,
-    row: &Row,
+    row: Row,
 ) -> Result<(), NoMemory>
     requires quiet { OthersAreQuiet open_jobs.old wanted.now (state cell.old.history).tasks }
     ensures history { OnOk result (cell.new.history ≡ cell.old.history
-        ++ row_entries wanted.now.disks (state cell.old.history) wanted.now.tasks row.now) }
+        ++ row_entries wanted.now.disks (state cell.old.history) wanted.now.tasks row) }
     ensures quiet { OnOk result (OthersAreQuiet open_jobs.new wanted.now (state cell.new.history).tasks) }
 {
     let entries = wanted.entries(alloc, row, cell.board())?;
@@ -196,8 +191,8 @@ fn has_room_for(board: &Board, machine: u64) -> bool
     machines.len() < MOST_MACHINES || machines.position(machine).is_some()
 }
 
-/// Hands each scheduler what it is asked to place on the cell. Costs the wanted tasks of the open jobs,
-/// also those that run, the extra tasks, and for each scheduler a look at the open jobs.
+/// Hands each scheduler what it is asked to place on the cell. Costs of each open job its blocks of slots and in
+/// those with a wanted task the slots, the extra tasks, and for each scheduler a look at the open jobs.
 fn begin_all(
     alloc: Global,
     workers: &mut Vec<Worker>,

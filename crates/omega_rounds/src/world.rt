@@ -117,8 +117,8 @@ impl World {
 
     /// How many of the tasks that are wanted after the rows of the rounds that have begun don't run, and their
     /// jobs. Where all rounds have begun that is what waits at the end of each trace in whose run the world is.
-    /// Costs a look at each task of the trace, and for each wanted one the logarithm of the number of those that
-    /// run or wait.
+    /// Costs of each job of the trace its blocks of slots and in those with a wanted task the slots, and for each
+    /// wanted task the logarithm of the number of those that run or wait.
     pub fn waiting(&self) -> Result<WaitingTasks, NoMemory>
         ensures tasks { IfOk result (AreLeft (wanted (rows_begun self.now.stage)) (state self.now.history)) }
         ensures end { (trace : TraceTables) → IsInRunOf self.now.stage trace → AllHaveBegun self.now.stage
@@ -210,7 +210,7 @@ impl World {
         let number = round.number;
         open_round(
             alloc,
-            &round,
+            round,
             &mut course.demand,
             &mut crew.cell,
             &mut crew.workers,

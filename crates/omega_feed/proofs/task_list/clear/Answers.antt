@@ -25,7 +25,7 @@ index_mut-requires-2 c =
     let slots = c.args.slots.now.items in
     let place = c.in-Ok.place in
     let within = set_within slots c.args.key place c.requires.rise (subst (λ (ss : List Slot). HasSlotAt ss c.args.key place) c.deref.ensures.value c.in-Ok.ensures) in
-    let reach = counts_reach c.args.wanted.now.items slots c.requires.counted in
+    let reach = counts_reach c.args.counts.now.items slots c.requires.counted in
     omega (arith, within, reach)
 
 pub overflow_sub-index_mut : goal.overflow_sub-index_mut
@@ -36,7 +36,7 @@ overflow_sub-index_mut c =
     let at : HasSlotAt slots c.args.key place = subst (λ (ss : List Slot). HasSlotAt ss c.args.key place) c.deref.ensures.value c.in-Ok.ensures in
     let within = set_within slots c.args.key place c.requires.rise at in
     let was = ap one_if (c.is_some-ended.ensures ∙ ap is_some c.take.ensures.value) in
-    let bounds = count_within c.args.wanted.now.items slots (place / 64) place c.index_mut-2.result.now slot (omega arith) (omega arith) within c.index_mut-2.ensures.value c.index_mut.ensures.value c.requires.counted in
+    let bounds = count_within c.args.counts.now.items slots (place / 64) place c.index_mut-2.result.now slot (omega arith) (omega arith) within c.index_mut-2.ensures.value c.index_mut.ensures.value c.requires.counted in
     let enough = bounds.0 in
     let bit = c.from.ensures ∙ bit_is c.is_some-ended.result in
     omega (arith, enough, was, bit)
@@ -67,11 +67,11 @@ returns-clause-counted c =
     let within = set_within slots c.args.key place c.requires.rise at in
     let was = ap one_if (c.is_some-ended.ensures ∙ ap is_some c.take.ensures.value) in
     let is = ap (λ (spec : Option Spec). one_if (is_some spec)) c.take.ensures.after in
-    let bounds = count_within c.args.wanted.now.items slots (place / 64) place c.index_mut-2.result.now slot (omega arith) (omega arith) within c.index_mut-2.ensures.value c.index_mut.ensures.value c.requires.counted in
+    let bounds = count_within c.args.counts.now.items slots (place / 64) place c.index_mut-2.result.now slot (omega arith) (omega arith) within c.index_mut-2.ensures.value c.index_mut.ensures.value c.requires.counted in
     let enough = bounds.0 in
     let bit = c.from.ensures ∙ bit_is c.is_some-ended.result in
     let count = c.index_mut-2.result.now in
-    counted_again c.args.wanted.now.items slots (place / 64) place count (count - c.from.result) slot (slot_of slot.key c.take.new.self) (omega arith) (omega arith) within
+    counted_again c.args.counts.now.items slots (place / 64) place count (count - c.from.result) slot (slot_of slot.key c.take.new.self) (omega arith) (omega arith) within
     c.index_mut-2.ensures.value c.index_mut.ensures.value (omega (arith, enough, was, bit, is)) c.requires.counted
 
 pub returns-clause-count : goal.returns-clause-count

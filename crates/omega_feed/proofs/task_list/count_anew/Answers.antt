@@ -8,7 +8,7 @@ use Rattle.omega_feed.proofs.task_list.count_anew.Goals as goal
 pub loop-place-preserved : goal.loop-place-preserved
 loop-place-preserved c =
     let place = c.loop-place.place in
-    let before = c.loop-place.wanted.items in
+    let before = c.loop-place.counts.items in
     let left = c.loop-place.left.now in
     let count = c.wanted_in.result in
     let first = c.split_at.result.0.now in
@@ -35,12 +35,12 @@ loop-place-preserved c =
 
 pub returns : goal.returns
 returns c =
-    let wanted = c.loop-place.wanted.items in
+    let counts = c.loop-place.counts.items in
     let over = c.loop-place-test.false in
     let end = c.len-place-end.ensures in
     let same = c.loop-place.invariant.2 in
     let bound = c.loop-place.invariant.1 in
     let none = nil_from_length c.loop-place.left.now (omega (arith, over, end, same, bound)) in
     subst (λ (counts : List ℕ). AreCounted counts c.args.slots.now)
-    (append-nil (take c.loop-place.place wanted) ∙ take_all c.loop-place.place wanted (omega (arith, over, end, same)))
+    (append-nil (take c.loop-place.place counts) ∙ take_all c.loop-place.place counts (omega (arith, over, end, same)))
     (c.loop-place.invariant.0 [] none)

@@ -11,7 +11,7 @@ pub index_mut-requires-2 : goal.index_mut-requires-2
 index_mut-requires-2 c =
     let slots = c.args.slots.now.items in
     let within = set_within slots c.args.key c.args.place c.requires.rise c.requires.place in
-    let reach = counts_reach c.args.wanted.now.items slots c.requires.counted in
+    let reach = counts_reach c.args.counts.now.items slots c.requires.counted in
     omega (arith, within, reach)
 
 pub overflow_add-index_mut : goal.overflow_add-index_mut
@@ -20,7 +20,7 @@ overflow_add-index_mut c =
     let place = c.args.place in
     let slot = c.index_mut.result.now in
     let within = set_within slots c.args.key place c.requires.rise c.requires.place in
-    let bounds = count_within c.args.wanted.now.items slots (place / 64) place c.index_mut-2.result.now slot (omega arith) (omega arith) within c.index_mut-2.ensures.value c.index_mut.ensures.value c.requires.counted in
+    let bounds = count_within c.args.counts.now.items slots (place / 64) place c.index_mut-2.result.now slot (omega arith) (omega arith) within c.index_mut-2.ensures.value c.index_mut.ensures.value c.requires.counted in
     let few = bounds.1 in
     let was = one_of (is_some slot.spec) c.is_none-added.result (sym (ap is_some c.replace.ensures.value) ∙ c.is_none-added.ensures) in
     let bit = c.from.ensures ∙ bit_is c.is_none-added.result in
@@ -46,7 +46,7 @@ returns-clause-counted c =
     let was = one_of (is_some slot.spec) c.is_none-added.result (sym (ap is_some c.replace.ensures.value) ∙ c.is_none-added.ensures) in
     let bit = c.from.ensures ∙ bit_is c.is_none-added.result in
     let is = ap (λ (spec : Option Spec). one_if (is_some spec)) c.replace.ensures.after in
-    counted_again c.args.wanted.now.items slots (place / 64) place count (count + c.from.result) slot (slot_of slot.key c.replace.new.self) (omega arith) (omega arith) within
+    counted_again c.args.counts.now.items slots (place / 64) place count (count + c.from.result) slot (slot_of slot.key c.replace.new.self) (omega arith) (omega arith) within
     c.index_mut-2.ensures.value c.index_mut.ensures.value (omega (arith, was, bit, is)) c.requires.counted
 
 pub returns-clause-count : goal.returns-clause-count

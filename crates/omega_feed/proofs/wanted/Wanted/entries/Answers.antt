@@ -11,5 +11,5 @@ returns-clause-entries c =
     if_ok_weaker _ _ c.entries_of.result
     (λ entries is.
     is cell.machines
-    ∙ (λ i. row_entries (c.self.view_is i).disks (record { machines = cell.machines; tasks = c.running.ensures.tasks i }) (c.self.view_is i).tasks c.args.row.now))
+    ∙ (λ i. row_entries (c.self.view_is i).disks (record { machines = cell.machines; tasks = c.running.ensures.tasks i }) (c.self.view_is i).tasks c.args.row))
     c.entries_of.ensures.entries
