@@ -6,12 +6,12 @@
 #![tactic(auto)]
 
 use omega_io::{FolderTables, PassGate, StdoutSink};
-use omega_model::{NoMemory, Status};
+use omega_model::{Done, NoMemory, Status};
 use omega_sqlkeep::FileKeeper;
 use omega_top::{exit_status, fault_line, omega};
-use std::env;
 use std::io::ErrorKind;
 use std::process::ExitCode;
+use std::{env, mem};
 
 fn main(rt: HostRuntime) -> ExitCode {
     let mut tables = FolderTables::new(&rt);
@@ -21,7 +21,12 @@ fn main(rt: HostRuntime) -> ExitCode {
         Ok(texts) => match words_of(&rt, texts.as_slice()) {
             Ok(words) => {
                 let words = words.as_slice();
-                let done = omega(
+                let mut remains = None;
+                let Done {
+                    status,
+                    history,
+                    ..
+                } = omega(
                     &rt,
                     rt.alloc(),
                     words,
@@ -29,8 +34,12 @@ fn main(rt: HostRuntime) -> ExitCode {
                     &mut out,
                     &PassGate,
                     &mut keeper,
+                    &mut remains,
                 );
-                done.status
+                // The program ends, and the system takes its memory back sooner than it could be let go.
+                mem::forget(history);
+                mem::forget(remains);
+                status
             }
             Err(NoMemory) => Status::NoMemory,
         },

@@ -6,8 +6,8 @@ use crate::worker::Worker;
 use omega_board::Board;
 
 /// What is left of a world once its history is taken: nobody looks at it any more. To let it go costs the trees of
-/// the running tasks and these, the rows of the events and the tasks of the trace, so it may be done beside other
-/// work.
+/// the running tasks and these, the rows of the events and the tasks of the trace, so a program that ends need not
+/// do it.
 ///
 /// It writes its `Drop` out, so that whoever lets it go cites one function.
 pub struct Remains {

@@ -1,6 +1,5 @@
 //! The report of a run.
 ghost use Rattle.std.specs.Prelude.{◌≡◌, ◌++◌, IfOk};
-ghost use Rattle.std.specs.Thread.{IsSync};
 ghost use Rattle.omega_cell.specs.Effects.{AreEffects};
 ghost use Rattle.omega_feed.specs.Left.{IsLeft};
 ghost use Rattle.omega_model.specs.Lawful.{Lawful};
@@ -15,9 +14,7 @@ use omega_cell::Effects;
 use omega_feed::WaitingTasks;
 use omega_model::{Bytes, Entries, Format, NoMemory, Settings};
 use omega_report::{json_of, report, report_as};
-use omega_rounds::Remains;
 use std::alloc::Global;
-use std::thread::{Threads, join};
 
 /// What the report of a run is made of.
 #[derive(Drop)]
@@ -31,9 +28,6 @@ pub struct ReportInput {
     /// The lines of time as text, on `simulate`.
     pub time: Option<Bytes>,
 }
-
-/// From so many entries on, what is left of a world takes longer to let go than it takes to begin a thread.
-const LONG_HISTORY: usize = 10_000;
 
 /// The bytes of the report of a run, in the format of the settings; that of a simulated run also says how long
 /// its schedulers decided and how long its jobs waited.
@@ -56,42 +50,6 @@ pub fn report_of_run(
         }
         Some(lines) => timed_report(alloc, settings, run, lines.as_slice()),
     }
-}
-
-/// The same, made on a thread while this one lets go of what is left of the world, where that is worth a thread and
-/// one can be made; else that is let go first. Refused for want of memory, as that is.
-pub fn report_beside<R: Threads + Sync>(
-    rt: &R,
-    alloc: Global,
-    settings: &Settings,
-    run: &ReportInput,
-    remains: Remains,
-) -> Result<Bytes, NoMemory>
-    requires sync { IsSync R.row }
-    requires range { IsInRange settings.now }
-    requires effects { AreEffects run.now.history run.now.effects }
-    ensures { IfOk result (λ bytes. (trace : TraceTables) → Lawful settings.now trace run.now.history
-        → IsLeft trace (state run.now.history) run.now.left
-        → IsTimedBy settings.now.command settings.now trace run.now.history run.now.time
-        → IsReport settings.now trace run.now.history bytes) }
-{
-    if run.history.len() < LONG_HISTORY {
-        drop(remains);
-        return report_of_run(alloc, settings, run);
-    }
-    let (report, ()) = join(
-        rt,
-        || -> Result<Bytes, NoMemory>
-            requires range { IsInRange settings.now }
-            requires effects { AreEffects run.now.history run.now.effects }
-            ensures { IfOk result (λ bytes. (trace : TraceTables) → Lawful settings.entry.now trace run.entry.now.history
-                → IsLeft trace (state run.entry.now.history) run.entry.now.left
-                → IsTimedBy settings.entry.now.command settings.entry.now trace run.entry.now.history run.entry.now.time
-                → IsReport settings.entry.now trace run.entry.now.history bytes) }
-        { report_of_run(alloc, settings, run) },
-        || drop(remains),
-    );
-    report
 }
 
 /// The report of a simulated run with these lines of time.

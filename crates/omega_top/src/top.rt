@@ -24,12 +24,13 @@ ghost use Rattle.omega_words.specs.Taken.{settings_in};
 
 use crate::auditing::audit_kept;
 use crate::replay::{RunInput, WholeRun};
-use crate::report::{ReportInput, report_beside};
+use crate::report::{ReportInput, report_of_run};
 use crate::resuming::run_of;
 use crate::trace::trace_of_run;
 use omega_io::{Gate, Sink, Tables, write_all};
 use omega_keep::{Keeper, audited_lines_are_not_refused};
 use omega_model::{Command, Done, Seq, Settings, Status};
+use omega_rounds::Remains;
 use omega_words::read_words;
 use std::alloc::Global;
 use std::sync::Wait;
@@ -54,6 +55,9 @@ use std::thread::Threads;
 /// tables are as they were. On `run` each scheduler has a thread of its own, which passes the gate, and the call may
 /// wait; on `simulate` the commits stand in the order of a virtual clock; on the other commands that run a
 /// trace the schedulers take turns.
+///
+/// What is left of the world in which a trace ran is put in `remains`, for nothing but to be let go. That takes
+/// time, which a program that ends afterwards can leave to the system.
 pub fn omega<R: Threads + Wait + Sync, T: Tables, K: Sink, G: Gate + Sync, P: Keeper>(
     rt: &R,
     alloc: Global,
@@ -62,6 +66,7 @@ pub fn omega<R: Threads + Wait + Sync, T: Tables, K: Sink, G: Gate + Sync, P: Ke
     out: &mut K,
     gate: &G,
     keeper: &mut P,
+    remains: &mut Option<Remains>,
 ) -> Done
     requires sync { IsSync R.row × IsSync G.row }
     ensures usage { result.status ≡ Usage → ¬ AreTaken (map (λ word. word.now) words.now) }
@@ -146,7 +151,16 @@ pub fn omega<R: Threads + Wait + Sync, T: Tables, K: Sink, G: Gate + Sync, P: Ke
     }
     // A law, on which the clause of a whole audit rests. It does nothing.
     audited_lines_are_not_refused();
-    omega_with(rt, alloc, &parsed.settings, tables, out, gate, keeper)
+    omega_with(
+        rt,
+        alloc,
+        &parsed.settings,
+        tables,
+        out,
+        gate,
+        keeper,
+        remains,
+    )
 }
 
 /// What `omega` does once the words are read and folder and path are entered, under any settings in their
@@ -159,6 +173,7 @@ pub fn omega_with<R: Threads + Wait + Sync, T: Tables, K: Sink, G: Gate + Sync, 
     out: &mut K,
     gate: &G,
     keeper: &mut P,
+    remains: &mut Option<Remains>,
 ) -> Done
     requires range { IsInRange settings.now }
     requires sync { IsSync R.row × IsSync G.row }
@@ -213,7 +228,7 @@ pub fn omega_with<R: Threads + Wait + Sync, T: Tables, K: Sink, G: Gate + Sync, 
                     settings: *settings,
                     trace,
                 };
-                replay_and_write(rt, alloc, input, out, gate, keeper)
+                replay_and_write(rt, alloc, input, out, gate, keeper, remains)
             }
             Err(refusal) => refused(alloc, Status::from(refusal), Some(*settings)),
         },
@@ -233,7 +248,7 @@ fn refused(alloc: Global, status: Status, settings: Option<Settings>) -> Done
     }
 }
 
-/// Replays the tables and writes the report.
+/// Replays the tables and writes the report. What is left of the world is put in `remains`.
 fn replay_and_write<R: Threads + Wait + Sync, K: Sink, G: Gate + Sync, P: Keeper>(
     rt: &R,
     alloc: Global,
@@ -241,6 +256,7 @@ fn replay_and_write<R: Threads + Wait + Sync, K: Sink, G: Gate + Sync, P: Keeper
     out: &mut K,
     gate: &G,
     keeper: &mut P,
+    remains: &mut Option<Remains>,
 ) -> Done
     requires range { IsInRange input.settings }
     requires within { IsWithinLimits input.trace }
@@ -273,15 +289,16 @@ fn replay_and_write<R: Threads + Wait + Sync, K: Sink, G: Gate + Sync, P: Keeper
         effects,
         left,
         time,
-        remains,
+        remains: rest,
     } = whole;
+    *remains = Some(rest);
     let run = ReportInput {
         history,
         effects,
         left,
         time,
     };
-    let Ok(bytes) = report_beside(rt, alloc, &settings, &run, remains) else {
+    let Ok(bytes) = report_of_run(alloc, &settings, &run) else {
         return refused(alloc, Status::NoMemory, Some(settings));
     };
     let status = write(out, bytes.as_slice());

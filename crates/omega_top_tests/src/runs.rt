@@ -115,7 +115,17 @@ pub fn run_kept<R: Threads + Wait + Sync, T: Tables, G: Gate + Sync, P: Keeper>(
     requires { IsSync R.row × IsSync G.row }
 {
     let mut sink = MemorySink::new(alloc, call.room)?.cut(1);
-    let done = omega(rt, alloc, call.words, tables, &mut sink, gate, keeper);
+    let mut remains = None;
+    let done = omega(
+        rt,
+        alloc,
+        call.words,
+        tables,
+        &mut sink,
+        gate,
+        keeper,
+        &mut remains,
+    );
     Ok(Ran {
         done,
         written: sink.into_bytes(),

@@ -15,8 +15,8 @@ returns-clause-written g c =
     let settings = c.args.input.settings in
     let trace = c.args.input.trace in
     let run = c.in-Ok.whole in
-    let said = c.in-Ok-report_beside.ensures trace c.in-Ok.ensures.lawful c.in-Ok.ensures.left c.in-Ok.ensures.timed in
-    written_if settings trace run.history c.write-status.result before now c.in-Ok-report_beside.bytes said
+    let said = c.in-Ok-report_of_run.ensures trace c.in-Ok.ensures.lawful c.in-Ok.ensures.left c.in-Ok.ensures.timed in
+    written_if settings trace run.history c.write-status.result before now c.in-Ok-report_of_run.bytes said
     (subst (λ (bytes : List ℕ). Writes bytes before now c.write-status.result) c.as_slice.ensures c.write-status.ensures.written)
 
 pub returns-in_default-clause-resume : goal.returns-in_default-clause-resume
