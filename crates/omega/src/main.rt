@@ -6,9 +6,9 @@
 #![tactic(auto)]
 
 use omega_io::{FolderTables, PassGate, StdoutSink};
-use omega_model::{Done, NoMemory, Status};
+use omega_model::{NoMemory, Status};
 use omega_sqlkeep::FileKeeper;
-use omega_top::{exit_status, fault_line, omega};
+use omega_top::{Done, exit_status, fault_line, omega};
 use std::io::ErrorKind;
 use std::process::ExitCode;
 use std::{env, mem};
@@ -21,10 +21,10 @@ fn main(rt: HostRuntime) -> ExitCode {
         Ok(texts) => match words_of(&rt, texts.as_slice()) {
             Ok(words) => {
                 let words = words.as_slice();
-                let mut remains = None;
                 let Done {
                     status,
                     history,
+                    remains,
                     ..
                 } = omega(
                     &rt,
@@ -34,7 +34,6 @@ fn main(rt: HostRuntime) -> ExitCode {
                     &mut out,
                     &PassGate,
                     &mut keeper,
-                    &mut remains,
                 );
                 // The program ends, and the system takes its memory back sooner than it could be let go.
                 mem::forget(history);

@@ -30,7 +30,7 @@ pub use entries::{Entries, Entry};
 pub use laws::{states_of_legal_histories, work_that_is_left};
 pub use limits::{GREATEST_QUANTITY, LONGEST_TABLE, MOST_ACTIVITIES, MOST_MACHINES, MOST_ROWS};
 pub use list::{Bytes, Copied, NoMemory, Seq};
-pub use results::{Cause, Done, Kind, Status};
+pub use results::{Cause, Kind, Status};
 pub use rows::{
     ActivityRow, AttrRow, ConstraintRow, DiskRow, MachineRow, Round, Rounds, Row, Rows, Table,
     TaskRow, TraceTables,

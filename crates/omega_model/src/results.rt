@@ -1,7 +1,5 @@
 //! What the program answers.
-use crate::entries::Entries;
 use crate::rows::Table;
-use crate::settings::Settings;
 
 /// Why a row is refused.
 #[derive(Clone, Copy, Debug, PartialEq, Eq)]
@@ -53,14 +51,4 @@ pub enum Status {
     WriteFault,
     /// Memory ran out.
     NoMemory,
-}
-
-/// The answer of the top call.
-#[derive(Debug, Drop)]
-pub struct Done {
-    pub status: Status,
-    /// The settings of the words. `None` where the words weren't read: they were refused, or memory ran out.
-    pub settings: Option<Settings>,
-    /// The history whose report was made, or the empty one where none was.
-    pub history: Entries,
 }

@@ -2,6 +2,7 @@
 #![tactic(auto)]
 
 mod auditing;
+mod done;
 mod replay;
 mod report;
 mod resuming;
@@ -9,5 +10,6 @@ mod status;
 mod top;
 mod trace;
 
+pub use done::Done;
 pub use status::{Line, exit_status, fault_line};
 pub use top::{omega, omega_with};

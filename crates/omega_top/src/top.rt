@@ -23,14 +23,14 @@ ghost use Rattle.omega_words.specs.Built.{built_words};
 ghost use Rattle.omega_words.specs.Taken.{settings_in};
 
 use crate::auditing::audit_kept;
+use crate::done::Done;
 use crate::replay::{RunInput, WholeRun};
 use crate::report::{ReportInput, report_of_run};
 use crate::resuming::run_of;
 use crate::trace::trace_of_run;
 use omega_io::{Gate, Sink, Tables, write_all};
 use omega_keep::{Keeper, audited_lines_are_not_refused};
-use omega_model::{Command, Done, Seq, Settings, Status};
-use omega_rounds::Remains;
+use omega_model::{Command, Seq, Settings, Status};
 use omega_words::read_words;
 use std::alloc::Global;
 use std::sync::Wait;
@@ -55,9 +55,6 @@ use std::thread::Threads;
 /// tables are as they were. On `run` each scheduler has a thread of its own, which passes the gate, and the call may
 /// wait; on `simulate` the commits stand in the order of a virtual clock; on the other commands that run a
 /// trace the schedulers take turns.
-///
-/// What is left of the world in which a trace ran is put in `remains`, for nothing but to be let go. That takes
-/// time, which a program that ends afterwards can leave to the system.
 pub fn omega<R: Threads + Wait + Sync, T: Tables, K: Sink, G: Gate + Sync, P: Keeper>(
     rt: &R,
     alloc: Global,
@@ -66,7 +63,6 @@ pub fn omega<R: Threads + Wait + Sync, T: Tables, K: Sink, G: Gate + Sync, P: Ke
     out: &mut K,
     gate: &G,
     keeper: &mut P,
-    remains: &mut Option<Remains>,
 ) -> Done
     requires sync { IsSync R.row × IsSync G.row }
     ensures usage { result.status ≡ Usage → ¬ AreTaken (map (λ word. word.now) words.now) }
@@ -159,7 +155,6 @@ pub fn omega<R: Threads + Wait + Sync, T: Tables, K: Sink, G: Gate + Sync, P: Ke
         out,
         gate,
         keeper,
-        remains,
     )
 }
 
@@ -173,7 +168,6 @@ pub fn omega_with<R: Threads + Wait + Sync, T: Tables, K: Sink, G: Gate + Sync, 
     out: &mut K,
     gate: &G,
     keeper: &mut P,
-    remains: &mut Option<Remains>,
 ) -> Done
     requires range { IsInRange settings.now }
     requires sync { IsSync R.row × IsSync G.row }
@@ -228,7 +222,7 @@ pub fn omega_with<R: Threads + Wait + Sync, T: Tables, K: Sink, G: Gate + Sync, 
                     settings: *settings,
                     trace,
                 };
-                replay_and_write(rt, alloc, input, out, gate, keeper, remains)
+                replay_and_write(rt, alloc, input, out, gate, keeper)
             }
             Err(refusal) => refused(alloc, Status::from(refusal), Some(*settings)),
         },
@@ -237,7 +231,9 @@ pub fn omega_with<R: Threads + Wait + Sync, T: Tables, K: Sink, G: Gate + Sync, 
 
 /// A run that ends with nothing written and without a history.
 fn refused(alloc: Global, status: Status, settings: Option<Settings>) -> Done
-    ensures answer { result ≡ record { status = status; settings = settings; history = [] } }
+    ensures status { result.status ≡ status }
+    ensures settings { result.settings ≡ settings }
+    ensures nothing { result.history ≡ [] }
     ensures turns { InTurns result.history }
     ensures sound { IsSoundHistory result.history }
 {
@@ -245,10 +241,11 @@ fn refused(alloc: Global, status: Status, settings: Option<Settings>) -> Done
         status,
         settings,
         history: Seq::new(alloc),
+        remains: None,
     }
 }
 
-/// Replays the tables and writes the report. What is left of the world is put in `remains`.
+/// Replays the tables and writes the report.
 fn replay_and_write<R: Threads + Wait + Sync, K: Sink, G: Gate + Sync, P: Keeper>(
     rt: &R,
     alloc: Global,
@@ -256,7 +253,6 @@ fn replay_and_write<R: Threads + Wait + Sync, K: Sink, G: Gate + Sync, P: Keeper
     out: &mut K,
     gate: &G,
     keeper: &mut P,
-    remains: &mut Option<Remains>,
 ) -> Done
     requires range { IsInRange input.settings }
     requires within { IsWithinLimits input.trace }
@@ -289,9 +285,8 @@ fn replay_and_write<R: Threads + Wait + Sync, K: Sink, G: Gate + Sync, P: Keeper
         effects,
         left,
         time,
-        remains: rest,
+        remains,
     } = whole;
-    *remains = Some(rest);
     let run = ReportInput {
         history,
         effects,
@@ -306,6 +301,7 @@ fn replay_and_write<R: Threads + Wait + Sync, K: Sink, G: Gate + Sync, P: Keeper
         status,
         settings: Some(settings),
         history: run.history,
+        remains: Some(remains),
     }
 }
 
@@ -335,6 +331,7 @@ fn audit_and_write<K: Sink, P: Keeper>(
         status,
         settings: Some(*settings),
         history: audit.history,
+        remains: None,
     }
 }
 
