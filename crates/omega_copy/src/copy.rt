@@ -9,11 +9,12 @@ ghost use Rattle.omega_model.specs.declared.entries.Entry.{Entry};
 ghost use Rattle.omega_running.specs.Kept.{KeysRise};
 ghost use Rattle.omega_board.specs.Board.{cell_of};
 ghost use Rattle.omega_copy.specs.Copies.{CopyOf, MayFollow, MayCatchUp, without_room};
-ghost use Rattle.omega_copy.specs.Indexes.{TellAll};
+ghost use Rattle.omega_plan.specs.Indexes.{TellAll};
 
-use crate::indexes::Indexes;
 use omega_board::Board;
 use omega_model::{Claim, Delta, Entry, NoMemory, Part};
+use omega_plan::{Indexes, seqs_on};
+use omega_shared::CellCopy;
 use std::alloc::Global;
 use std::marker::Model;
 
@@ -31,7 +32,7 @@ pub struct PrivateCopy {
 impl Model for PrivateCopy {
     ghost use Rattle.omega_board.specs.Board.{cell_of};
     ghost use Rattle.omega_copy.specs.Copies.{CopyState, without_room};
-    ghost use Rattle.omega_copy.specs.Indexes.{TellAll};
+    ghost use Rattle.omega_plan.specs.Indexes.{TellAll};
 
     ghost Value = { CopyState };
 
@@ -134,7 +135,6 @@ impl PrivateCopy {
         self.indexes.reserve(1)?;
         self.board.apply_entry(alloc, entry)?;
         self.indexes.tell_entry(&self.board, entry);
-        self.indexes.seen += 1;
         Ok(())
     }
 
@@ -153,22 +153,32 @@ impl PrivateCopy {
         let machines = numbers_of(alloc, parts.as_slice())?;
         self.indexes.reserve(parts.len())?;
         self.board.put_parts(alloc, parts)?;
-        self.indexes.tell_machines(&self.board, &machines);
-        self.indexes.seen = to;
+        self.indexes.tell_machines(&self.board, to, &machines);
         Ok(())
     }
 }
 
-/// For each claim, how many entries touched the claim's machine on a board. Takes the memory of one number
-/// a claim, and costs a look-up each.
-pub fn seqs_on(alloc: Global, board: &Board, claims: &[Claim]) -> Result<Vec<u64>, NoMemory>
-    ensures { IfOk result (λ seqs. seqs.items ≡ map (λ claim. seq_at board.now.table claim.machine) claims.now) }
-{
-    let mut seqs = Vec::with_capacity(alloc, claims.len())?;
-    for claim in claims {
-        seqs.push_reserved(board.machines().seq(claim.machine));
+impl CellCopy for PrivateCopy {
+    ghost use Rattle.omega_board.specs.Board.{cell_of as cell_of_board};
+    ghost use Rattle.omega_machines.specs.Table.{seq_at};
+
+    ghost cell_of = { λ copy. cell_of_board copy.board };
+
+    ghost seq_of = { λ copy. seq_at copy.board.table };
+
+    ghost seen_of = { λ copy. copy.seen };
+
+    fn seen(&self) -> u64 {
+        PrivateCopy::seen(self)
     }
-    Ok(seqs)
+
+    fn seqs(&self, alloc: Global, claims: &[Claim]) -> Result<Vec<u64>, NoMemory> {
+        PrivateCopy::seqs(self, alloc, claims)
+    }
+
+    fn catch_up(&mut self, alloc: Global, delta: Delta) -> Result<(), NoMemory> {
+        PrivateCopy::catch_up(self, alloc, delta)
+    }
 }
 
 /// The numbers of the machines of some parts.

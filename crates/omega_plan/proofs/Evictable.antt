@@ -28,7 +28,7 @@ use Rattle.omega_running.proofs.Lists.{each_map}
 use Rattle.omega_board.proofs.Numbered.{machine_there}
 use Rattle.omega_board.proofs.Parts.{not_refused}
 use Rattle.omega_board.proofs.Placed.{is_placed-Placed, passes, placeable_fine}
-use Rattle.omega_copy.specs.Telling.{freed_of, freed_on}
+use Rattle.omega_plan.specs.Telling.{freed_of, freed_on}
 use Rattle.omega_fit.proofs.Middles.{below_or_not}
 use Rattle.omega_fit.specs.Needs.{Holds, IsNextWithRoom}
 use Rattle.omega_fit.specs.Wrapped.{FirstBetween}

@@ -1,8 +1,8 @@
 //! The plan of a request.
 ghost use Rattle.std.specs.Prelude.{◌≡◌, ◌≤◌, ◌+◌, ◌++◌, [], None, length, IfOk, IfSome, OnOk};
 ghost use Rattle.omega_board.specs.Board.{cell_of};
-ghost use Rattle.omega_copy.specs.Indexes.{TellAll};
-ghost use Rattle.omega_copy.specs.Overlays.{GoesInWhole, cell_after, tasks_claimed};
+ghost use Rattle.omega_plan.specs.Indexes.{TellAll};
+ghost use Rattle.omega_plan.specs.Overlays.{GoesInWhole, cell_after, tasks_claimed};
 ghost use Rattle.omega_model.specs.Plan.{after_planned, and_claims, whole_or_none};
 ghost use Rattle.omega_model.specs.Cell.{task_at};
 ghost use Rattle.omega_model.specs.Legal.{Sound};
@@ -13,10 +13,11 @@ ghost use Rattle.omega_plan.specs.Steps.{IsStep};
 ghost use Rattle.omega_plan.specs.Trying.{IsFirstToTake};
 
 use crate::evicting::first_to_yield;
+use crate::indexes::Indexes;
+use crate::overlay::Overlay;
 use crate::progress::{Progress, Step};
 use crate::trying::{claim_at, first_to_take};
 use omega_board::Board;
-use omega_copy::{Indexes, Overlay};
 use omega_model::{Claim, Mode, NoMemory, Policy, Request, Seq, Txn, Wish};
 use std::alloc::Global;
 

@@ -17,10 +17,10 @@ use Rattle.omega_model.specs.declared.claims.Mode.TheVariants.{Incremental, Gang
 use Rattle.omega_model.specs.declared.claims.Txn.{Txn}
 use Rattle.omega_model.specs.declared.entries.Entry.{Entry}
 use Rattle.omega_model.specs.declared.entries.Entry.TheVariants.{Commit}
-use Rattle.omega_copy.specs.Indexes.{AreIndexesOf}
-use Rattle.omega_copy.specs.Levels.{Tells}
-use Rattle.omega_copy.specs.Telling.{freed_of}
-use Rattle.omega_copy.specs.declared.indexes.Indexes.{Indexes}
+use Rattle.omega_plan.specs.Indexes.{AreIndexesOf}
+use Rattle.omega_plan.specs.Levels.{Tells}
+use Rattle.omega_plan.specs.Telling.{freed_of}
+use Rattle.omega_plan.specs.declared.indexes.Indexes.{Indexes}
 use Rattle.omega_lock.specs.Lists.{StartsWith}
 use Rattle.omega_model.specs.Cell.{Cell}
 use Rattle.omega_running.specs.Order.{Each}

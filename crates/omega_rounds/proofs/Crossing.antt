@@ -5,9 +5,9 @@ use Rattle.std.proofs.Crossing.{Vec-send}
 use Rattle.std.specs.contracts.alloc.Global as Heap
 use Rattle.std.specs.contracts.impls.GlobalAllocator.TheImpl.{ghosts}
 use Rattle.std.specs.contracts.vec.Vec as Vec
-use Rattle.omega_copy.proofs.levels.Level.TheSendSync as level
-use Rattle.omega_copy.specs.contracts.indexes.Indexes as Indexes
-use Rattle.omega_copy.specs.contracts.levels.Level as Level
+use Rattle.omega_plan.proofs.levels.Level.TheSendSync as level
+use Rattle.omega_plan.specs.contracts.indexes.Indexes as Indexes
+use Rattle.omega_plan.specs.contracts.levels.Level as Level
 use Rattle.omega_desk.proofs.desk.Desk.TheSendSync as desk
 use Rattle.omega_fit.proofs.index.FitIndex.TheSendSync as index
 use Rattle.omega_shared.proofs.Crossing.{pass_send}

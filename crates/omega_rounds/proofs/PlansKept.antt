@@ -14,8 +14,8 @@ use Rattle.omega_model.specs.declared.settings.Settings.{Settings}
 use Rattle.omega_model.specs.Lawful.{opened}
 use Rattle.omega_running.proofs.Lists.{each_map}
 use Rattle.omega_running.specs.Order.{Each}
-use Rattle.omega_copy.specs.Indexes.{AreIndexesOf}
-use Rattle.omega_copy.specs.declared.indexes.Indexes.{Indexes}
+use Rattle.omega_plan.specs.Indexes.{AreIndexesOf}
+use Rattle.omega_plan.specs.declared.indexes.Indexes.{Indexes}
 use Rattle.omega_desk.specs.Desks.{DeskState}
 use Rattle.omega_lock.specs.Lists.{StartsWith}
 use Rattle.omega_shared.specs.Commits.{GoesOnWithout}

@@ -9,8 +9,8 @@ use Rattle.omega_model.specs.declared.entries.Entry.{Entry}
 use Rattle.omega_model.specs.declared.entries.Entry.TheVariants.{Commit}
 use Rattle.omega_model.specs.declared.settings.Settings.{Settings}
 use Rattle.omega_model.specs.declared.wishes.Request.{Request}
-use Rattle.omega_copy.specs.Indexes.{AreIndexesOf}
-use Rattle.omega_copy.specs.declared.indexes.Indexes.{Indexes}
+use Rattle.omega_plan.specs.Indexes.{AreIndexesOf}
+use Rattle.omega_plan.specs.declared.indexes.Indexes.{Indexes}
 use Rattle.omega_desk.specs.Desks.{AnswersFirst, DeskState, IsSameDesk, left_at}
 use Rattle.omega_desk.specs.Walks.{are_wished}
 use Rattle.omega_rounds.specs.AttemptsLeft.{attempts_left}

@@ -1,6 +1,6 @@
 -- Workers that sync at the same time, each piece of them with indexes of its own.
 use Rattle.std.specs.Prelude.{◌≡◌, ◌⊎◌, List, [], ◌∷◌, None}
-use Rattle.omega_copy.specs.Indexes.{AreIndexesOf}
+use Rattle.omega_plan.specs.Indexes.{AreIndexesOf}
 use Rattle.omega_model.specs.declared.entries.Entry.{Entry}
 use Rattle.omega_running.specs.Order.{Each}
 use Rattle.omega_rounds.specs.Plans.{IsReady}

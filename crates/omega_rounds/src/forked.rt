@@ -1,16 +1,16 @@
 //! Plans of one turn that are made at the same time, all on the one board that the schedulers share.
 ghost use Rattle.std.specs.Prelude.{IfOk, List, OnOk};
 ghost use Rattle.std.specs.Thread.{IsSync};
-ghost use Rattle.omega_copy.specs.Indexes.{AreIndexesOf};
+ghost use Rattle.omega_plan.specs.Indexes.{AreIndexesOf};
 ghost use Rattle.omega_model.specs.declared.entries.Entry.{Entry};
 ghost use Rattle.omega_rounds.specs.Forked.{AllHaveSyncedOrStay, AreAllIndexesOf, AreReady, IsNotDue};
 ghost use Rattle.omega_running.specs.Order.{Each};
 
 use crate::worker::Worker;
 use omega_cell::Cell;
-use omega_copy::Indexes;
 use omega_io::pieces_on;
 use omega_model::NoMemory;
+use omega_plan::Indexes;
 use std::alloc::Global;
 use std::thread::{Threads, join_mut};
 

@@ -1,15 +1,14 @@
 //! What a scheduler plans on a board.
 ghost use Rattle.std.specs.Prelude.{◌≡◌, ◌≤◌, ◌<◌, ◌^◌, length, IfOk};
 ghost use Rattle.omega_board.specs.Board.{cell_of};
-ghost use Rattle.omega_copy.specs.Indexes.{TellAll};
+ghost use Rattle.omega_plan.specs.Indexes.{TellAll};
 ghost use Rattle.omega_model.specs.Draws.{drawn_start};
 ghost use Rattle.omega_rounds.specs.Plans.{IsPlannedOver, MayPlan};
 
 use omega_board::Board;
-use omega_copy::Indexes;
 use omega_desk::Desk;
 use omega_model::{NoMemory, Txn};
-use omega_plan::plan;
+use omega_plan::{Indexes, plan};
 use std::alloc::Global;
 
 /// The transaction of an attempt on the first request that is left at a desk, planned on a board of which

@@ -1,7 +1,7 @@
 //! What a scheduler plans when it syncs, in turns and on threads.
 ghost use Rattle.std.specs.Prelude.{◌≡◌, ℕ, List, length, IfOk};
 ghost use Rattle.omega_board.specs.Board.{cell_of};
-ghost use Rattle.omega_copy.specs.Indexes.{AreIndexesOf, TellAll};
+ghost use Rattle.omega_plan.specs.Indexes.{AreIndexesOf, TellAll};
 ghost use Rattle.omega_machines.specs.Table.{seq_at};
 ghost use Rattle.omega_model.specs.Copy.{StandsFor};
 ghost use Rattle.omega_model.specs.declared.entries.Entry.{Entry};
@@ -10,9 +10,9 @@ ghost use Rattle.omega_rounds.specs.Plans.{IsPlan, IsUpTo, MayPlan};
 use crate::planned::planned;
 use omega_board::{Board, touched};
 use omega_cell::Cell;
-use omega_copy::{Indexes, seqs_on};
 use omega_desk::Desk;
 use omega_model::{NoMemory, Txn};
+use omega_plan::{Indexes, seqs_on};
 use std::alloc::Global;
 
 /// A transaction that was planned, and for each of its claims the sequence number that the claim's machine

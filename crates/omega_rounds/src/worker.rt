@@ -1,7 +1,7 @@
 //! A scheduler's worker: its desk, its indexes of the cell, and its plan.
 ghost use Rattle.std.specs.Prelude.{◌≡◌, ◌≢◌, [], None, Some, IfOk, OnOk, OnErr};
 ghost use Rattle.std.specs.List.{All};
-ghost use Rattle.omega_copy.specs.Indexes.{AreIndexesOf};
+ghost use Rattle.omega_plan.specs.Indexes.{AreIndexesOf};
 ghost use Rattle.omega_desk.specs.Desks.{IsSameDesk, left_at, still_tried};
 ghost use Rattle.omega_desk.specs.Walks.{HasDistinctWishes};
 ghost use Rattle.omega_laws.specs.VirtualTime.{first_wishes};
@@ -16,9 +16,9 @@ ghost use Rattle.omega_rounds.specs.WorkerSteps.{CommitsFirst, WorkerSteps, Sync
 use crate::plans::{Planned, plan_first};
 use crate::steps::Stepped;
 use omega_cell::Cell;
-use omega_copy::Indexes;
 use omega_desk::Desk;
 use omega_model::{NoMemory, Requests, Settings};
+use omega_plan::Indexes;
 use std::alloc::Global;
 
 /// What belongs to one scheduler of a world.

@@ -12,9 +12,9 @@ use crate::planned::start_on;
 use crate::worker::Worker;
 use omega_attrs::eligible;
 use omega_board::Board;
-use omega_copy::Indexes;
 use omega_fit::FitIndex;
 use omega_model::Wish;
+use omega_plan::Indexes;
 
 /// At how many machines is looked to tell whether a search may be a long one.
 const LOOKS: usize = 12;

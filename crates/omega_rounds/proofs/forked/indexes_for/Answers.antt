@@ -1,5 +1,5 @@
 use Rattle.std.proofs.Common.{[], ◌∷◌, sym, subst}
-use Rattle.omega_copy.specs.Indexes.{AreIndexesOf}
+use Rattle.omega_plan.specs.Indexes.{AreIndexesOf}
 use Rattle.omega_running.proofs.Lists.{each_append}
 use Rattle.omega_running.specs.Order.{Each}
 use Rattle.omega_rounds.proofs.forked.indexes_for.Goals as goal

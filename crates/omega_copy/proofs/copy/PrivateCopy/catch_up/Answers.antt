@@ -6,12 +6,12 @@ use Rattle.omega_machines.specs.Table.{seq_at}
 use Rattle.omega_board.specs.Board.{cell_of}
 use Rattle.omega_board.specs.Parts.{MayPut, LeadTo}
 use Rattle.omega_running.proofs.Lists.{each_both}
-use Rattle.omega_copy.specs.Indexes.{TellAll}
-use Rattle.omega_copy.specs.Levels.{NearParts, Tells}
-use Rattle.omega_copy.specs.declared.levels.Level.{Level}
-use Rattle.omega_copy.proofs.Told.{same_cell}
+use Rattle.omega_plan.specs.Indexes.{TellAll}
+use Rattle.omega_plan.specs.Levels.{NearParts, Tells}
+use Rattle.omega_plan.specs.declared.levels.Level.{Level}
+use Rattle.omega_plan.proofs.Told.{same_cell}
 use Rattle.omega_copy.specs.Copies.{CopyState, CopyOf, MayCatchUp}
-use Rattle.omega_copy.proofs.Leading.{target_of, leads, stands_at, near_parts}
+use Rattle.omega_plan.proofs.Leading.{target_of, leads, stands_at, near_parts}
 use Rattle.omega_copy.proofs.copy.PrivateCopy.catch_up.Goals as goal
 
 pub put_parts-requires : goal.put_parts-requires

@@ -3,8 +3,8 @@ use Rattle.omega_model.specs.Cell.{Cell}
 use Rattle.omega_model.specs.State.{state}
 use Rattle.omega_running.specs.Order.{Each}
 use Rattle.omega_board.specs.Board.{cell_of}
-use Rattle.omega_copy.specs.Levels.{Tells}
-use Rattle.omega_copy.specs.Telling.{freed_of}
+use Rattle.omega_plan.specs.Levels.{Tells}
+use Rattle.omega_plan.specs.Telling.{freed_of}
 use Rattle.omega_copy.proofs.copy.PrivateCopy.new.Goals as goal
 
 pub returns-clause-seen : goal.returns-clause-seen

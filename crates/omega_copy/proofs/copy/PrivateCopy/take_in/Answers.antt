@@ -5,10 +5,10 @@ use Rattle.omega_running.specs.Kept.{KeysRise}
 use Rattle.omega_running.proofs.Lists.{each_both}
 use Rattle.omega_board.specs.Board.{cell_of}
 use Rattle.omega_copy.specs.Copies.{CopyState}
-use Rattle.omega_copy.specs.Indexes.{TellAll}
-use Rattle.omega_copy.specs.Levels.{NearEntry, Tells}
-use Rattle.omega_copy.specs.declared.levels.Level.{Level}
-use Rattle.omega_copy.proofs.Told.{same_cell, tells_entry}
+use Rattle.omega_plan.specs.Indexes.{TellAll}
+use Rattle.omega_plan.specs.Levels.{NearEntry, Tells}
+use Rattle.omega_plan.specs.declared.levels.Level.{Level}
+use Rattle.omega_plan.proofs.Told.{same_cell, tells_entry}
 use Rattle.omega_copy.proofs.copy.PrivateCopy.take_in.Goals as goal
 
 pub invariant_of-self-in_err-apply_entry : goal.invariant_of-self-in_err-apply_entry

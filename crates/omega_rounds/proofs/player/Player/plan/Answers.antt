@@ -1,5 +1,5 @@
 use Rattle.std.proofs.Common.{◌≡◌, ◌∙◌, None, Some, List, length, refl, ap, subst, arith}
-use Rattle.omega_copy.specs.Indexes.{AreIndexesOf}
+use Rattle.omega_plan.specs.Indexes.{AreIndexesOf}
 use Rattle.omega_model.specs.declared.entries.Entry.{Entry}
 use Rattle.omega_rounds.proofs.PlayingOn.{plays_on_without}
 use Rattle.omega_rounds.proofs.Without.{indexes_without}

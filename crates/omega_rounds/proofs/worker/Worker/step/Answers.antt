@@ -1,5 +1,5 @@
 use Rattle.std.proofs.Common.{refl, ◌∙◌, subst, sym}
-use Rattle.omega_copy.specs.Indexes.{AreIndexesOf}
+use Rattle.omega_plan.specs.Indexes.{AreIndexesOf}
 use Rattle.omega_rounds.proofs.CommitCounts.{indexes_on}
 use Rattle.omega_rounds.proofs.WorkerCommits.{no_work, some_work}
 use Rattle.omega_rounds.proofs.worker.Worker.step.Goals as goal
