@@ -145,7 +145,8 @@ impl World {
         ensures sound { (n : ℕ) → Sound (state (take n self.history)) }
     {
         let World { crew, .. } = self;
-        crew.into_cell().into_history()
+        let (cell, _workers, _indexes) = crew.into_parts();
+        cell.into_history()
     }
 
     /// The history itself, what its entries did, and what is left of the world.

@@ -37,14 +37,6 @@ impl Drop for Crew {
 }
 
 impl Crew {
-    /// The cell itself.
-    pub fn into_cell(self) -> Cell
-        ensures { result ≡ self.cell }
-    {
-        let (cell, _workers, _indexes) = self.into_parts();
-        cell
-    }
-
     /// The cell itself, the workers, and what their plans need beside the cell's board.
     pub fn into_parts(self) -> (Cell, Vec<Worker>, PieceIndexes)
         ensures cell { result.0 ≡ self.cell }
