@@ -18,11 +18,7 @@ use std::alloc::Global;
 /// Opens the jobs of the tasks that were evicted since a place in a cell's history, behind which all
 /// entries are commits. Then all others are quiet on the cell, if they were at that place. Costs the
 /// entries since then and what they evicted, each of these the logarithm of the number of jobs.
-pub fn reopen_since(
-    demand: &mut Demand,
-    cell: &Cell,
-    opened_at: usize,
-) -> Result<(), NoMemory>
+pub fn reopen_since(demand: &mut Demand, cell: &Cell, opened_at: usize) -> Result<(), NoMemory>
     requires within { opened_at ≤ length cell.now.history }
     requires commits { All (λ entry. is_commit entry ≡ true) (drop opened_at cell.now.history) }
     requires quiet { WereQuiet demand.old.open_jobs demand.old.wanted opened_at cell.now.history }

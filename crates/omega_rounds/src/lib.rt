@@ -17,8 +17,8 @@ mod world;
 
 pub use clock::in_time;
 pub use kept::ResumeRefusal;
-pub use resume::resume_turns;
 pub use omega_workers::Stepped;
+pub use resume::resume_turns;
 pub use steps::RoundStep;
 pub use threads::on_threads;
 pub use turns::in_turns;

@@ -27,8 +27,6 @@ mod course;
 mod crew;
 mod remains;
 
-pub use remains::Remains;
-
 use crate::steps::RoundStep;
 use beginning::open_and_begin;
 use course::Course;
@@ -40,6 +38,7 @@ use omega_model::{Entries, Entry, NoMemory, Settings, TraceTables};
 use omega_opening::{Demand, reopen_since};
 use omega_sim::greatest_time;
 use omega_workers::{PieceIndexes, Stepped, Worker, are_worth_threads, first_at_work, sync_pieces};
+pub use remains::Remains;
 use std::alloc::Global;
 use std::marker::Model;
 use std::sync::Wait;

@@ -146,7 +146,12 @@ impl SharedCell {
     /// memory runs out the turn is spent, and the pass may have seen more. May wait.
     ///
     /// Costs the same however long the history is and however many machines there are.
-    pub fn look<R: Wait>(&self, rt: &R, alloc: Global, pass: &mut Pass) -> Result<CellView, NoMemory>
+    pub fn look<R: Wait>(
+        &self,
+        rt: &R,
+        alloc: Global,
+        pass: &mut Pass,
+    ) -> Result<CellView, NoMemory>
         requires of { pass.old.of ≡ self.now.of }
         requires left { 0 < pass.old.turns }
         ensures turn { SpendsTurn pass.old pass.new }
@@ -246,7 +251,12 @@ impl SharedCell {
     }
 
     /// Takes a turn, and gives out a view of the cell.
-    fn lend<R: Wait>(&self, rt: &R, alloc: Global, seat: &mut Seat<Held>) -> Result<CellView, NoMemory>
+    fn lend<R: Wait>(
+        &self,
+        rt: &R,
+        alloc: Global,
+        seat: &mut Seat<Held>,
+    ) -> Result<CellView, NoMemory>
         requires of { seat.old.of ≡ self.now.of }
         requires left { 0 < seat.old.turns }
         requires pass { IsPassSeat seat.old }

@@ -5,7 +5,8 @@ ghost use Rattle.omega_copy.specs.Copies.{CopyOf};
 use crate::shared::{SPEC, one_machine, share_by_two};
 use omega_copy::PrivateCopy;
 use omega_model::{
-    Constraints, Mode, Need, NoMemory, Policy, Reply, Request, Rule, Spec, TaskKey, Txn, Wish, Wishes,
+    Constraints, Mode, Need, NoMemory, Policy, Reply, Request, Rule, Spec, TaskKey, Txn, Wish,
+    Wishes,
 };
 use omega_plan::plan;
 use omega_shared::{Pass, SharedCell};
@@ -40,11 +41,7 @@ fn three_tasks(alloc: Global, job: u64) -> Option<Request> {
 }
 
 /// Plans a request on a copy, which is as it was then.
-fn plan_on(
-    copy: &mut PrivateCopy,
-    alloc: Global,
-    request: &Request,
-) -> Result<Txn, NoMemory>
+fn plan_on(copy: &mut PrivateCopy, alloc: Global, request: &Request) -> Result<Txn, NoMemory>
     ensures { copy.new ≡ copy.old }
 {
     let whole = mem::replace(copy, PrivateCopy::new(alloc));
