@@ -2,7 +2,7 @@
 use Rattle.std.specs.Prelude.{◌≡◌, ◌⊎◌, List, [], ◌∷◌, None}
 use Rattle.omega_copy.specs.Indexes.{AreIndexesOf}
 use Rattle.omega_model.specs.declared.entries.Entry.{Entry}
-use Rattle.omega_running.specs.Order.{Each}
+use Rattle.std.specs.List.{AllByRecursion as Each}
 use Rattle.omega_rounds.specs.Plans.{IsReady}
 use Rattle.omega_rounds.specs.Workers.{synced_of}
 use Rattle.omega_rounds.specs.WorkerSteps.{SyncsWorker}

@@ -1,9 +1,8 @@
 use Rattle.std.proofs.Common.{◌≡◌, ◌++◌, ◌∙◌, List, length, take, drop, Result, Ok, Err, sym, ap, subst}
 use Rattle.std.specs.Prelude.{OnOk}
-use Rattle.std.specs.List.{sum_by}
+use Rattle.std.specs.List.{sum_by, AllByRecursion as Each}
 use Rattle.omega_copy.proofs.Tells.{written_back}
 use Rattle.omega_copy.specs.Indexes.{AreIndexesOf}
-use Rattle.omega_running.specs.Order.{Each}
 use Rattle.omega_rounds.specs.Forked.{AllHaveSyncedOrStay, AreReady}
 use Rattle.omega_rounds.specs.Keeping.{IsWorld}
 use Rattle.omega_rounds.specs.Playing.{SyncsTurn}
