@@ -45,7 +45,7 @@ mod rule;
 mod seat;
 mod seating;
 mod taking;
-mod view;
+mod seat_view;
 
 pub use counted::Counted;
 pub use lock::{Lock, NoMemory};

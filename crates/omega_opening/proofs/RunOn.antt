@@ -5,7 +5,7 @@ use Rattle.std.specs.List.{filter, flat_map, fold, zip}
 use Rattle.std.proofs.lemmas.Bool.{not_from_false, or_parts}
 use Rattle.std.proofs.lemmas.List.Folds.{list_any-append}
 use Rattle.omega_model.proofs.InOrder.{key_same}
-use Rattle.omega_model.proofs.Lists.{by_answer}
+use Rattle.omega_model.proofs.Lists.{by_answer, find_filtered}
 use Rattle.omega_model.specs.Cell.{keys_of, task_at, total, with_task, without}
 use Rattle.omega_model.specs.Keys.{is_among, key_lt, same_key}
 use Rattle.omega_model.specs.Need.{fits}
@@ -19,7 +19,7 @@ use Rattle.omega_model.specs.declared.claims.Judgement.{Judgement}
 use Rattle.omega_model.specs.declared.entries.Entry.{Entry}
 use Rattle.omega_model.specs.declared.entries.Entry.TheVariants.{Round, MachineAdd, MachineUpdate, MachineRemove, AttrSet, AttrDelete, End, Commit}
 use Rattle.omega_running.proofs.InOrder.{key_apart}
-use Rattle.omega_board.proofs.Tasks.{find_filtered, found_new, found_still}
+use Rattle.omega_board.proofs.Tasks.{found_new, found_still}
 use Rattle.omega_opening.specs.Reopening.{may_stop}
 
 -- the task of this name runs

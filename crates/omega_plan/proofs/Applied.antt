@@ -1,6 +1,6 @@
 -- What the states of a history keep, each of whose entries could be applied to the state before it.
 use Rattle.std.proofs.Common.{◌≡◌, ℕ, ◌+◌, ◌<◌, ◌≤◌, inl, inr, List, [], ◌∷◌, ◌++◌, length, map, take, drop, slice_get, Some, refl, sym, ap, ap₂, ◌∙◌, subst, arith, append_assoc, length-append, ◌==◌}
-use Rattle.std.specs.List.{filter, fold, zip}
+use Rattle.std.specs.List.{filter, fold, zip, AllByRecursion as Each}
 use Rattle.std.proofs.lemmas.Bool.{both_ways}
 use Rattle.std.proofs.lemmas.List.{length-map, take_all, take-append-drop}
 use Rattle.omega_model.specs.Applying.{EachMayApply, MayApply, MayPlaceAll, ListsOrHasRoom}
@@ -22,12 +22,11 @@ use Rattle.omega_model.specs.declared.claims.Rule.TheVariants.{Fine}
 use Rattle.omega_model.specs.declared.entries.Entry.{Entry}
 use Rattle.omega_model.specs.declared.entries.Entry.TheVariants.{Round, MachineAdd, MachineUpdate, MachineRemove, AttrSet, AttrDelete, End, Commit}
 use Rattle.omega_model.proofs.Growing.{state_push, legal_push}
-use Rattle.omega_model.proofs.Lists.{by_answer}
+use Rattle.omega_model.proofs.Lists.{by_answer, each_append}
 use Rattle.omega_model.proofs.Soundness.{states_sound}
 use Rattle.omega_running.specs.declared.orders.Order.TheVariants.{ByKey}
-use Rattle.omega_running.specs.Order.{Each, IsInOrder, precedes}
+use Rattle.omega_running.specs.Order.{IsInOrder, precedes}
 use Rattle.omega_running.proofs.Kept.{rises_filter}
-use Rattle.omega_running.proofs.Lists.{each_append}
 use Rattle.omega_board.proofs.Tasks.{without_ordered}
 use Rattle.omega_board.proofs.Untouched.{admitting, claim_local}
 

@@ -10,11 +10,10 @@ use Rattle.omega_model.specs.Keys.{same_key, key_lt, is_among}
 use Rattle.omega_model.specs.declared.cells.Task.{Task}
 use Rattle.omega_model.specs.declared.cells.TaskKey.{TaskKey}
 use Rattle.omega_model.proofs.InOrder.{key_itself, key_same, same_key-sym}
-use Rattle.omega_model.proofs.Lists.{by_answer}
+use Rattle.omega_model.proofs.Lists.{by_answer, each_filter, each_passes, each_map, find_none}
 use Rattle.omega_running.specs.declared.orders.Order.TheVariants.{ByKey}
 use Rattle.omega_running.specs.Order.{IsInOrder, precedes}
-use Rattle.omega_running.proofs.Kept.{each_filter, each_passes, rises_filter, without_absent}
-use Rattle.omega_running.proofs.Lists.{each_map, find_none}
+use Rattle.omega_running.proofs.Kept.{rises_filter, without_absent}
 use Rattle.omega_board.proofs.Tasks.{among_same, back_again, found_new, found_still, gone_absent, key_differs_back, parted, without_ordered}
 use Rattle.omega_plan.specs.Tenants.{AreBeside, either, is_whole, kept}
 use Rattle.omega_plan.specs.declared.tenants.Tenants.{Tenants}

@@ -16,15 +16,13 @@ use Rattle.omega_model.specs.declared.cells.Task.{Task}
 use Rattle.omega_model.specs.declared.entries.Entry.{Entry}
 use Rattle.omega_model.specs.declared.entries.Entry.TheVariants.{Round, MachineAdd, MachineUpdate, MachineRemove, AttrSet, AttrDelete, End, Commit}
 use Rattle.omega_model.proofs.Growing.{state_push}
-use Rattle.omega_model.proofs.Lists.{by_answer}
+use Rattle.omega_model.proofs.Lists.{by_answer, each_of_all, each_found}
 use Rattle.omega_running.specs.declared.orders.Order.TheVariants.{ByKey}
 use Rattle.omega_running.specs.Order.{IsInOrder}
-use Rattle.omega_running.proofs.Lists.{each_of_all}
 use Rattle.omega_board.specs.Parts.{ChangedAlone}
 use Rattle.omega_board.proofs.Commits.{up_listed, placed_listed}
 use Rattle.omega_board.proofs.Histories.{seq_push}
 use Rattle.omega_board.proofs.Ranks.{ending}
-use Rattle.omega_board.proofs.Tasks.{each_found}
 use Rattle.omega_plan.proofs.Applied.{MayAll, applied_sound, applied_held}
 use Rattle.omega_board.proofs.Untouched.{tasks_untouched}
 

@@ -1,6 +1,6 @@
 -- Indexes of a history that go on to a board after it.
 use Rattle.std.proofs.Common.{◌≡◌, ℕ, ◌≤◌, List, [], ◌++◌, length, take, drop, sym, ap, ◌∙◌, subst, arith}
-use Rattle.std.specs.List.{fold, list_any}
+use Rattle.std.specs.List.{fold, list_any, AllByRecursion as Each}
 use Rattle.std.proofs.lemmas.List.{length-map, take-append-drop, take_all}
 use Rattle.std.proofs.lemmas.List.Sums.{fold-append}
 use Rattle.omega_model.specs.Applying.{EachMayApply}
@@ -14,7 +14,6 @@ use Rattle.omega_board.specs.Board.{BoardState, IsBoardOf, cell_of}
 use Rattle.omega_board.specs.Numbers.{is_among}
 use Rattle.omega_fit.specs.Positions.{Positions}
 use Rattle.omega_plan.specs.Indexes.{AreIndexesOf, MayGoOn, TellAll, places_missing}
-use Rattle.omega_running.specs.Order.{Each}
 use Rattle.omega_plan.specs.Levels.{NearParts, Tells}
 use Rattle.omega_plan.specs.Telling.{TellsBut, freed_of, freed_on, placed}
 use Rattle.omega_plan.specs.declared.indexes.Indexes.{Indexes}

@@ -1,6 +1,6 @@
 -- Tasks in a list in order of key: where one is put in, and what those on a machine leave.
 use Rattle.std.proofs.Common.{◌≡◌, ◌<◌, ◌≤◌, ◌+◌, ℕ, zero, suc, true, false, List, [], ◌∷◌, ◌++◌, None, length, get_or, drop, append_assoc, append-nil, arith, refl, sym, ap, ap₂, ◌∙◌, subst}
-use Rattle.std.specs.List.{filter, insert}
+use Rattle.std.specs.List.{filter, insert, AllByRecursion as Each}
 use Rattle.std.proofs.lemmas.List.{drop_more}
 use Rattle.std.proofs.lemmas.List.Elements.{filter-append}
 use Rattle.omega_model.specs.Cell.{is_on, task_at, total, with_task}
@@ -11,9 +11,9 @@ use Rattle.omega_model.specs.declared.cells.Task.{Task}
 use Rattle.omega_model.proofs.Amounts.{need_is, total-append}
 use Rattle.omega_model.proofs.InOrder.{key_asym}
 use Rattle.omega_running.specs.declared.orders.Order.TheVariants.{ByKey}
-use Rattle.omega_running.specs.Order.{Each, IsInOrder, precedes}
+use Rattle.omega_running.specs.Order.{IsInOrder, precedes}
 use Rattle.omega_running.specs.Staying.{staying_on, stays_against}
-use Rattle.omega_running.proofs.Lists.{each_map, each_of, filter_every, filter_none}
+use Rattle.omega_model.proofs.Lists.{each_map, each_of, filter_every, filter_none}
 use Rattle.omega_running.proofs.Staying.{left_by_both}
 use Rattle.omega_running.proofs.Strict.{sides}
 use Rattle.omega_plan.specs.Tenants.{MayPutAll, put_all}

@@ -24,19 +24,18 @@ use Rattle.omega_model.specs.declared.claims.Judgement.{Judgement}
 use Rattle.omega_model.specs.declared.claims.Verdict.TheVariants.{Placed}
 use Rattle.omega_model.proofs.Amounts.{fits_beside, fits_tested, fits_trans, plus-nothing, rest_is, share, total_some}
 use Rattle.omega_model.proofs.Listed.{only_machine}
-use Rattle.omega_model.proofs.Lists.{by_answer, each_both, filter_turned}
+use Rattle.omega_model.proofs.Lists.{by_answer, each_both, filter_turned, each_filter, all_of_each, each_of_all}
 use Rattle.omega_machines.specs.Table.{machines_of}
 use Rattle.omega_running.specs.declared.orders.Order.TheVariants.{ByKey}
 use Rattle.omega_running.specs.Order.{IsInOrder}
-use Rattle.omega_running.proofs.Kept.{each_filter}
-use Rattle.omega_running.proofs.Lists.{all_of_each, each_of_all}
 use Rattle.omega_board.specs.Board.{BoardState, cell_of}
 use Rattle.omega_board.proofs.Claims.{absent_still}
 use Rattle.omega_board.proofs.Parts.{not_refused}
 use Rattle.omega_board.proofs.Placed.{placed_so}
 use Rattle.omega_board.proofs.Places.{each_place}
 use Rattle.omega_board.proofs.Sounds.{names_distinct}
-use Rattle.omega_board.proofs.Tasks.{each_with, without_ordered}
+use Rattle.omega_board.proofs.Tasks.{without_ordered}
+use Rattle.omega_model.proofs.InOrder.{each_with}
 use Rattle.omega_board.proofs.Untouched.{claim_local}
 use Rattle.omega_board.proofs.Uses.{total-with}
 use Rattle.omega_board.specs.Numbers as numbers

@@ -3,7 +3,7 @@ use Rattle.std.proofs.Common.{◌≡◌, ℕ, ◌<◌, ◌+◌, Bool, true, fals
 use Rattle.std.specs.BTreeMap.{is_at}
 use Rattle.std.specs.BTreeSet.{BTreeSet, Updates, contains}
 use Rattle.std.specs.Ordering.{nat_cmp}
-use Rattle.std.specs.List.{filter}
+use Rattle.std.specs.List.{filter, AllByRecursion as Each}
 use Rattle.std.proofs.lemmas.Bool.{lt-ltb, le-ltb, eq-eqb, ne_eqb, eqb-true, cases_order, both_ways}
 use Rattle.std.proofs.lemmas.List.{take_more}
 use Rattle.std.proofs.lemmas.Option.{none-some, same_Some}
@@ -15,11 +15,10 @@ use Rattle.omega_model.specs.declared.cells.Task.{Task}
 use Rattle.omega_model.specs.declared.cells.TaskKey.{TaskKey}
 use Rattle.omega_model.specs.declared.claims.Claim.{Claim}
 use Rattle.omega_model.proofs.InOrder.{key_differs, key_same}
-use Rattle.omega_model.proofs.Lists.{by_answer}
+use Rattle.omega_model.proofs.Lists.{by_answer, each_filter, each_passes, each_both}
 use Rattle.omega_running.specs.declared.orders.Order.TheVariants.{ByKey}
-use Rattle.omega_running.specs.Order.{Each, IsInOrder}
-use Rattle.omega_running.proofs.Kept.{each_filter, each_passes, rises_filter}
-use Rattle.omega_running.proofs.Lists.{each_both}
+use Rattle.omega_running.specs.Order.{IsInOrder}
+use Rattle.omega_running.proofs.Kept.{rises_filter}
 use Rattle.omega_board.proofs.Claims.{absent_still}
 use Rattle.omega_board.proofs.Parts.{found_on}
 use Rattle.omega_board.proofs.Ranks.{each_here}

@@ -1,6 +1,6 @@
 -- What an index tells, when machines are changed and when it is told.
 use Rattle.std.proofs.Common.{◌≡◌, ℕ, zero, suc, append_assoc, slice_get, ◌+◌, ◌<◌, Bool, true, false, ◌||◌, ◌&&◌, nat_eq, List, [], ◌∷◌, ◌++◌, map, set, length, take, drop, append-nil, position, Option, Some, None, not, refl, sym, ap, ap₂, ◌∙◌, subst, arith, if◌then◌else◌, ◌==◌}
-use Rattle.std.specs.List.{filter, zip, position_or_len, IsDistinct, AllByRecursion}
+use Rattle.std.specs.List.{filter, zip, position_or_len, IsDistinct, AllByRecursion as Each}
 use Rattle.std.proofs.lemmas.Bool.{both_ways, eq-eqb, eqb-true, le-leb, ltb-true}
 use Rattle.std.proofs.lemmas.List.{drop_all, length-append, length-map, take_all}
 use Rattle.std.proofs.lemmas.Option.{cond_some, none-some, same_Some}
@@ -20,14 +20,12 @@ use Rattle.omega_model.specs.declared.entries.Entry.TheVariants.{Round, MachineA
 use Rattle.omega_machines.specs.declared.MachineState.{MachineState}
 use Rattle.omega_machines.specs.Table.{machines_of, free_at, free_if_up}
 use Rattle.omega_running.specs.Staying.{stays_against}
-use Rattle.omega_running.specs.Order.{Each}
-use Rattle.omega_running.proofs.Lists.{each_of, filter_every}
 use Rattle.omega_board.specs.Board.{IsCounted}
 use Rattle.omega_board.proofs.Boards.{recounted-same}
 use Rattle.omega_board.proofs.Numbered.{differ_back, others_behind, unlisted_behind}
 use Rattle.omega_board.proofs.Places.{each_get}
 use Rattle.omega_plan.specs.Telling.{TellsBut, TellsOf, free_on, freed_of, freed_on, frees_of, is_this_or, placed}
-use Rattle.omega_model.proofs.Lists.{by_answer}
+use Rattle.omega_model.proofs.Lists.{by_answer, each_of, filter_every}
 
 -- what could be freed on a machine depends on the tasks on it alone
 pub freed_same : (prec : ℕ) (m : Machine) (old now : List Task) → filter (is_on m.id) now ≡ filter (is_on m.id) old → freed_on prec old m ≡ freed_on prec now m
@@ -118,8 +116,8 @@ tells_put stale prec tasks id (m ∷ ms) (f ∷ fs) place value distinct is belo
     by_answer (m.id == id)
     (λ t.
     let here : 0 ≡ place = rw t at is in
-    let others : AllByRecursion (λ n. nat_eq id n ≡ false) (numbers_of ms) =
-    subst (λ k. AllByRecursion (λ n. nat_eq k n ≡ false) (numbers_of ms)) (eqb-true _ _ t) (IsDistinct-head nat_eq m.id (numbers_of ms) distinct) in
+    let others : Each (λ n. nat_eq id n ≡ false) (numbers_of ms) =
+    subst (λ k. Each (λ n. nat_eq k n ≡ false) (numbers_of ms)) (eqb-true _ _ t) (IsDistinct-head nat_eq m.id (numbers_of ms) distinct) in
     let own : (k : Machine) → slice_get (m ∷ ms) 0 ≡ Some k → value ≡ freed_on prec tasks k =
     subst (λ p. (k : Machine) → slice_get (m ∷ ms) p ≡ Some k → value ≡ freed_on prec tasks k) (sym here) value_is in
     subst (λ p. TellsBut stale prec tasks (set (f ∷ fs) p value) (m ∷ ms)) here

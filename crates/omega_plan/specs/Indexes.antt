@@ -4,7 +4,7 @@ use Rattle.omega_model.specs.Applying.{EachMayApply}
 use Rattle.omega_model.specs.Cell.{Cell}
 use Rattle.omega_model.specs.State.{state}
 use Rattle.omega_model.specs.declared.entries.Entry.{Entry}
-use Rattle.omega_running.specs.Order.{Each}
+use Rattle.std.specs.List.{AllByRecursion as Each}
 use Rattle.omega_board.specs.Board.{BoardState, IsBoardOf}
 use Rattle.omega_board.specs.Naming.{NameTouched}
 use Rattle.omega_plan.specs.Levels.{Tells}

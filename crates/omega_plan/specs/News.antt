@@ -4,7 +4,7 @@ use Rattle.omega_model.specs.Cell.{Cell}
 use Rattle.omega_model.specs.declared.cells.Task.{Task}
 use Rattle.omega_model.specs.declared.claims.Claim.{Claim}
 use Rattle.omega_machines.specs.Table.{machines_of}
-use Rattle.omega_running.specs.Order.{Each}
+use Rattle.std.specs.List.{AllByRecursion as Each}
 use Rattle.omega_board.specs.Board.{BoardState, cell_of}
 use Rattle.omega_fit.specs.Positions.{Positions}
 use Rattle.omega_plan.specs.Beside.{IsPlacedBeside}

@@ -2,14 +2,13 @@
 use Rattle.std.specs.Prelude.{◌≡◌, ◌⊎◌, ℕ, Bool, true, false, List, [], ◌∷◌, Option, Some, None, if◌then◌else◌}
 use Rattle.std.specs.BTreeSet.{contains}
 use Rattle.std.specs.Ordering.{nat_cmp}
-use Rattle.std.specs.List.{filter}
+use Rattle.std.specs.List.{filter, AllByRecursion as Each}
 use Rattle.omega_model.specs.Cell.{is_on, task_at, with_task}
 use Rattle.omega_model.specs.Judge.{runs_on}
 use Rattle.omega_model.specs.declared.cells.Task.{Task}
 use Rattle.omega_model.specs.declared.cells.TaskKey.{TaskKey}
 use Rattle.omega_model.specs.declared.claims.Claim.{Claim}
 use Rattle.omega_running.specs.Kept.{KeysRise}
-use Rattle.omega_running.specs.Order.{Each}
 use Rattle.omega_plan.specs.declared.tenants.Tenants.{Tenants}
 
 -- whether all tasks of a machine are among the tenants

@@ -5,7 +5,7 @@ ghost use Rattle.omega_model.specs.declared.cells.Task.{Task};
 ghost use Rattle.omega_model.specs.declared.entries.Entry.{Entry};
 ghost use Rattle.omega_machines.specs.Table.{machines_of};
 ghost use Rattle.omega_board.specs.Board.{cell_of};
-ghost use Rattle.omega_running.specs.Order.{Each};
+ghost use Rattle.std.specs.List.{AllByRecursion as Each};
 ghost use Rattle.omega_plan.specs.Beside.{IsPlacedBeside};
 ghost use Rattle.omega_plan.specs.Indexes.{AreIndexesOf, HavePlaces, HaveRoom, MayGoOn, TellAll};
 ghost use Rattle.omega_plan.specs.Levels.{NearEntry, NearParts, Tells};

@@ -1,7 +1,7 @@
 //! The indexes of what evictions could free, one for each precedence that has asked for such room.
 ghost use Rattle.std.specs.Prelude.{◌≡◌, ◌≤◌, ◌<◌, IfOk, IfSome, OnOk, length};
 ghost use Rattle.omega_model.specs.Cell.{Cell};
-ghost use Rattle.omega_running.specs.Order.{Each};
+ghost use Rattle.std.specs.List.{AllByRecursion as Each};
 ghost use Rattle.omega_plan.specs.Levels.{IsLevelAt, Tells};
 ghost use Rattle.omega_plan.specs.News.{Due, MayTellEach};
 ghost use Rattle.omega_plan.specs.Overlays.{cell_after};

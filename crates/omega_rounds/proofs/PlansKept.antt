@@ -12,8 +12,8 @@ use Rattle.omega_model.specs.declared.rows.Row.{Row}
 use Rattle.omega_model.specs.declared.rows.TraceTables.{TraceTables}
 use Rattle.omega_model.specs.declared.settings.Settings.{Settings}
 use Rattle.omega_model.specs.Lawful.{opened}
-use Rattle.omega_running.proofs.Lists.{each_map}
-use Rattle.omega_running.specs.Order.{Each}
+use Rattle.omega_model.proofs.Lists.{each_map}
+use Rattle.std.specs.List.{AllByRecursion as Each}
 use Rattle.omega_plan.specs.Indexes.{AreIndexesOf}
 use Rattle.omega_plan.specs.declared.indexes.Indexes.{Indexes}
 use Rattle.omega_desk.specs.Desks.{DeskState}

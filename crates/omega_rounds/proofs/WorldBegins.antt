@@ -7,8 +7,7 @@ use Rattle.std.proofs.lemmas.Option.{slice_get_cases, slice_get_within}
 use Rattle.std.proofs.Math.Seq.{take-length}
 use Rattle.std.proofs.Math.ListN.{drop_of_length-le}
 use Rattle.omega_feed.specs.Asked.{Asked, asked_after}
-use Rattle.omega_running.proofs.Lists.{filter_where}
-use Rattle.omega_model.proofs.Lists.{each_map}
+use Rattle.omega_model.proofs.Lists.{each_map, filter_where}
 use Rattle.omega_model.proofs.OpenRequests.{requests_from_open}
 use Rattle.omega_model.specs.Feed.{rounds}
 use Rattle.omega_model.specs.Lawful.{opened, rows_of}

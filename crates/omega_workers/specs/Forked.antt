@@ -2,7 +2,7 @@
 use Rattle.std.specs.Prelude.{◌≡◌, ◌⊎◌, List, [], ◌∷◌, None}
 use Rattle.omega_plan.specs.Indexes.{AreIndexesOf}
 use Rattle.omega_model.specs.declared.entries.Entry.{Entry}
-use Rattle.omega_running.specs.Order.{Each}
+use Rattle.std.specs.List.{AllByRecursion as Each}
 use Rattle.omega_workers.specs.Plans.{IsReady}
 use Rattle.omega_workers.specs.Workers.{synced_of}
 use Rattle.omega_workers.specs.WorkerSteps.{SyncsWorker}

@@ -4,7 +4,7 @@ ghost use Rattle.std.specs.Thread.{IsSync};
 ghost use Rattle.omega_plan.specs.Indexes.{AreIndexesOf};
 ghost use Rattle.omega_model.specs.declared.entries.Entry.{Entry};
 ghost use Rattle.omega_workers.specs.Forked.{AllHaveSyncedOrStay, AreAllIndexesOf, AreReady, IsNotDue};
-ghost use Rattle.omega_running.specs.Order.{Each};
+ghost use Rattle.std.specs.List.{AllByRecursion as Each};
 
 use crate::worker::Worker;
 use omega_cell::Cell;

@@ -1,5 +1,5 @@
 use Rattle.std.proofs.Common.{rules, ◌≡◌, ◌∷◌, subst}
-use Rattle.omega_running.specs.Order.{Each}
+use Rattle.std.specs.List.{AllByRecursion as Each}
 use Rattle.omega_plan.specs.News.{Due}
 use Rattle.omega_plan.specs.declared.levels.Level.{Level}
 use Rattle.omega_plan.proofs.levels.+tell_each.Goals as goal

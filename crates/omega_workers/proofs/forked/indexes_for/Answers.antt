@@ -1,7 +1,7 @@
 use Rattle.std.proofs.Common.{[], ◌∷◌, sym, subst}
 use Rattle.omega_plan.specs.Indexes.{AreIndexesOf}
-use Rattle.omega_running.proofs.Lists.{each_append}
-use Rattle.omega_running.specs.Order.{Each}
+use Rattle.omega_model.proofs.Lists.{each_append}
+use Rattle.std.specs.List.{AllByRecursion as Each}
 use Rattle.omega_workers.proofs.forked.indexes_for.Goals as goal
 
 pub loop-preserved : goal.loop-preserved

@@ -1,7 +1,7 @@
 use Rattle.std.proofs.Common.{List}
 use Rattle.omega_plan.specs.Indexes.{AreIndexesOf}
 use Rattle.omega_model.specs.declared.entries.Entry.{Entry}
-use Rattle.omega_running.specs.Order.{Each}
+use Rattle.std.specs.List.{AllByRecursion as Each}
 use Rattle.omega_workers.proofs.forked.indexes_for.Given as goal
 
 abbrev pub invariant-loop : goal.invariant-loop

@@ -5,7 +5,7 @@ use Rattle.omega_model.specs.declared.delta.Part.{Part}
 use Rattle.omega_machines.specs.Table.{seq_at}
 use Rattle.omega_board.specs.Board.{cell_of}
 use Rattle.omega_board.specs.Parts.{MayPut, LeadTo}
-use Rattle.omega_running.proofs.Lists.{each_both}
+use Rattle.omega_model.proofs.Lists.{each_both}
 use Rattle.omega_plan.specs.Indexes.{TellAll}
 use Rattle.omega_plan.specs.Levels.{NearParts, Tells}
 use Rattle.omega_plan.specs.declared.levels.Level.{Level}

@@ -1,7 +1,7 @@
 use Rattle.std.proofs.Common.{◌≡◌, [], take, sym, ap, ◌∙◌, subst, arith}
 use Rattle.omega_model.specs.Cell.{Cell}
 use Rattle.omega_model.specs.State.{state}
-use Rattle.omega_running.specs.Order.{Each}
+use Rattle.std.specs.List.{AllByRecursion as Each}
 use Rattle.omega_board.specs.Board.{cell_of}
 use Rattle.omega_plan.specs.Levels.{Tells}
 use Rattle.omega_plan.specs.Telling.{freed_of}

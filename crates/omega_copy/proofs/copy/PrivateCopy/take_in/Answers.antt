@@ -2,7 +2,7 @@ use Rattle.std.proofs.Common.{◌≤◌, sym, ap, subst}
 use Rattle.omega_model.specs.Applying.{PlacesInOrder}
 use Rattle.omega_model.specs.Cell.{Cell}
 use Rattle.omega_running.specs.Kept.{KeysRise}
-use Rattle.omega_running.proofs.Lists.{each_both}
+use Rattle.omega_model.proofs.Lists.{each_both}
 use Rattle.omega_board.specs.Board.{cell_of}
 use Rattle.omega_copy.specs.Copies.{CopyState}
 use Rattle.omega_plan.specs.Indexes.{TellAll}

@@ -1,6 +1,6 @@
 use Rattle.std.proofs.Common.{◌≤◌, length, take}
 use Rattle.omega_model.specs.State.{state}
-use Rattle.omega_running.proofs.Lists.{each_both}
+use Rattle.omega_model.proofs.Lists.{each_both}
 use Rattle.omega_plan.specs.Indexes.{places_missing}
 use Rattle.omega_plan.specs.Levels.{NearParts, Tells}
 use Rattle.omega_plan.specs.declared.levels.Level.{Level}

@@ -1,6 +1,6 @@
 use Rattle.std.proofs.Common.{sym, subst, take, arith}
 use Rattle.omega_model.specs.State.{state}
-use Rattle.omega_running.specs.Order.{Each}
+use Rattle.std.specs.List.{AllByRecursion as Each}
 use Rattle.omega_plan.specs.Levels.{Tells}
 use Rattle.omega_plan.proofs.indexes.Indexes.new.Goals as goal
 

@@ -1,5 +1,5 @@
 use Rattle.std.proofs.Common.{◌≡◌, ◌++◌, length, take, drop, sym, ◌∙◌, subst}
-use Rattle.omega_running.specs.Order.{Each}
+use Rattle.std.specs.List.{AllByRecursion as Each}
 use Rattle.omega_plan.specs.Levels.{Tells}
 use Rattle.omega_plan.proofs.Tells.{written_back}
 use Rattle.omega_plan.proofs.indexes.Indexes.reserve.Goals as goal

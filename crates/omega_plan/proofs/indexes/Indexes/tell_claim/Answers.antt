@@ -1,6 +1,6 @@
 use Rattle.std.proofs.Common.{refl}
 use Rattle.omega_model.specs.Cell.{Cell}
-use Rattle.omega_running.proofs.Lists.{each_map}
+use Rattle.omega_model.proofs.Lists.{each_map}
 use Rattle.omega_machines.specs.Table.{machines_of}
 use Rattle.omega_plan.specs.Levels.{Tells}
 use Rattle.omega_plan.specs.News.{Due, MayTell}

@@ -1,5 +1,5 @@
 use Rattle.std.proofs.Common.{refl}
-use Rattle.omega_running.proofs.Lists.{each_map}
+use Rattle.omega_model.proofs.Lists.{each_map}
 use Rattle.omega_board.specs.Board.{cell_of}
 use Rattle.omega_plan.specs.Levels.{NearParts}
 use Rattle.omega_plan.specs.News.{Due, MayTell}

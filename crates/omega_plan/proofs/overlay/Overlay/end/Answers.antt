@@ -1,5 +1,5 @@
 use Rattle.std.proofs.Common.{sym, subst}
-use Rattle.omega_running.proofs.Lists.{each_map}
+use Rattle.omega_model.proofs.Lists.{each_map}
 use Rattle.omega_plan.specs.Indexes.{TellAll}
 use Rattle.omega_plan.specs.Levels.{NearParts, Tells}
 use Rattle.omega_plan.specs.Overlays.{OverlayState, cell_after}

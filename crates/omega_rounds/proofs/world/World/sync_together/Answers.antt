@@ -1,9 +1,8 @@
 use Rattle.std.proofs.Common.{◌≡◌, ◌++◌, ◌∙◌, List, length, take, drop, Result, Ok, Err, sym, ap, subst}
 use Rattle.std.specs.Prelude.{OnOk}
-use Rattle.std.specs.List.{sum_by}
+use Rattle.std.specs.List.{sum_by, AllByRecursion as Each}
 use Rattle.omega_plan.proofs.Tells.{written_back}
 use Rattle.omega_plan.specs.Indexes.{AreIndexesOf}
-use Rattle.omega_running.specs.Order.{Each}
 use Rattle.omega_workers.specs.Forked.{AllHaveSyncedOrStay, AreReady}
 use Rattle.omega_rounds.specs.Keeping.{IsWorld}
 use Rattle.omega_rounds.specs.Playing.{SyncsTurn}

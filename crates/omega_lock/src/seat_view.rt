@@ -2,7 +2,7 @@
 use std::collections::LinkedList;
 
 /// What a seat knows. It is spoken of in proofs alone, and no value of it is made.
-pub struct View<E> {
+pub struct SeatView<E> {
     /// Whether it has a number yet, and which.
     pub has_number: bool,
     pub number: u64,
