@@ -1,5 +1,5 @@
 //! The rows of a round, applied to the cell.
-ghost use Rattle.std.specs.Prelude.{◌≡◌, ◌<◌, ◌^◌, ◌++◌, ◌∷◌, [], true, List, length, position, IfSome, IsTrue, OnOk};
+ghost use Rattle.std.specs.Prelude.{◌≡◌, ◌<◌, ◌++◌, ◌∷◌, [], true, List, position, IfSome, IsTrue, OnOk};
 ghost use Rattle.std.specs.List.{fold};
 ghost use Rattle.omega_board.specs.Board.{cell_of};
 ghost use Rattle.omega_feed.specs.Open.{OthersAreQuiet};

@@ -11,7 +11,7 @@ use Rattle.omega_feed.specs.Asked.{Asked}
 use Rattle.omega_feed.specs.Open.{OthersAreQuiet}
 use Rattle.omega_lock.specs.Lists.{StartsWith}
 use Rattle.omega_model.specs.Lawful.{IsCommitOfRound}
-use Rattle.omega_model.specs.State.{state, step}
+use Rattle.omega_model.specs.State.{state}
 use Rattle.omega_model.specs.Wanted.{WantedTask}
 use Rattle.omega_model.specs.declared.entries.Entry.{Entry}
 use Rattle.omega_model.specs.declared.entries.Entry.TheVariants.{Round as RoundEntry, MachineAdd, MachineUpdate, MachineRemove, AttrSet, AttrDelete, End, Commit}

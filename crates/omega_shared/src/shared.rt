@@ -1,11 +1,10 @@
 //! The shared cell.
-ghost use Rattle.std.specs.Prelude.{◌≡◌, ℕ, ◌<◌, ◌≤◌, ◌+◌, ◌^◌, List, [], Some, true, length, drop, map, All, Any, IfOk, IfErr, OnOk, OnErr, slice_get, vec_capacity};
+ghost use Rattle.std.specs.Prelude.{◌≡◌, ℕ, ◌<◌, ◌≤◌, ◌^◌, [], Some, true, length, drop, map, All, Any, IfOk, IfErr, OnOk, OnErr, slice_get, vec_capacity};
 ghost use Rattle.omega_lock.specs.Lists.{StartsWith};
 ghost use Rattle.omega_model.specs.Applying.{EachMayApply};
 ghost use Rattle.omega_model.specs.Copy.{Carries, StandsFor};
 ghost use Rattle.omega_model.specs.Touches.{copied_seqs};
 ghost use Rattle.omega_model.specs.Work.{is_commit_of};
-ghost use Rattle.omega_model.specs.declared.entries.Entry.{Entry};
 ghost use Rattle.omega_shared.specs.Commits.{GoesOnWithout, commits_since};
 ghost use Rattle.omega_shared.specs.Held.{held_history};
 ghost use Rattle.omega_shared.specs.Passes.{IsPassSeat, new_pass, new_passes, pass_at};

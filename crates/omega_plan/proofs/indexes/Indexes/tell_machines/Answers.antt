@@ -19,6 +19,8 @@ tell-requires-clause-levels c =
 pub returns-clause-tell : goal.returns-clause-tell
 returns-clause-tell c =
     let board = c.args.board.now in
+    let told =
     c.tell.ensures.tell (cell_of board) (refl, c.requires.index)
     (each_map (λ (level : Level). NearParts board c.args.machines.now level.prec level.index) (λ (level : Level). Due board (Changed c.args.machines) level.prec level.index (cell_of board))
-    (λ level near. (refl, near)) c.args.self.now.levels.items c.requires.levels)
+    (λ level near. (refl, near)) c.args.self.now.levels.items c.requires.levels) in
+    record { free = told.free; levels = told.levels }
