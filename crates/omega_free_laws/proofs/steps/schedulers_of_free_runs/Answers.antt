@@ -1,0 +1,9 @@
+use Rattle.omega_free_laws.proofs.CrewLaws.{crew_in_order}
+use Rattle.omega_free_laws.proofs.DueCommits.{own_due_after}
+use Rattle.omega_free_laws.proofs.steps.schedulers_of_free_runs.Goals as goal
+
+pub returns-clause-order : goal.returns-clause-order
+returns-clause-order c = crew_in_order
+
+pub returns-clause-due : goal.returns-clause-due
+returns-clause-due c = own_due_after
