@@ -17,6 +17,7 @@ use Rattle.omega_free_laws.proofs.Stretches.{free_in_stretches, own_in_stretches
 use Rattle.omega_free_laws.proofs.RoundsCounted.{free_rounds_counted}
 use Rattle.omega_free_laws.proofs.Seen.{free_is_legal, free_sees_own}
 use Rattle.omega_free_laws.proofs.SeenSuits.{free_suited}
+use Rattle.omega_free_laws.proofs.Decided.{free_decided}
 use Rattle.omega_free_laws.proofs.TimesOf.{free_times}
 use Rattle.omega_free_laws.proofs.TimesRise.{free_times_rise}
 
@@ -24,7 +25,6 @@ pub holds_of_runs : (settings : Settings) (reading : Reading) (history : List En
     → FreeRun settings reading history times → HoldsOfFreeRuns settings reading history times
 holds_of_runs settings reading history times run =
     let legal = free_is_legal settings reading history times run in
-    let its_times = free_times settings reading history times run in
     record {
       legal = legal;
       sound = states_sound history legal;
@@ -33,8 +33,8 @@ holds_of_runs settings reading history times run =
       counted = free_rounds_counted settings reading history times run;
       seen = free_sees_own settings reading history times run;
       suited = free_suited settings reading history times run;
-      times_are = its_times.0;
-      decided = its_times.1;
+      times_are = free_times settings reading history times run;
+      decided = free_decided settings reading history times run;
     }
 
 pub holds_by_rows : (settings : Settings) (trace : TraceTables) (history : List Entry) (times : List Timed) → 0 < settings.window

@@ -14,6 +14,7 @@ pub mod CrewLaws
 pub mod DueCommits
 pub mod DueEnds
 pub mod Running
+pub mod Decided
 pub mod LivesSteps
 pub mod TimesRise
 pub mod LivesTimes

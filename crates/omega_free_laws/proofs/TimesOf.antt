@@ -1,6 +1,6 @@
 -- The times of a run by the free clock are those of its commits.
 use Rattle.std.proofs.Common.{◌≡◌, ◌+◌, ℕ, false, List, [], ◌∷◌, ◌++◌, length, refl, sym, ap, subst, ◌∙◌, inl, inr, arith}
-use Rattle.std.specs.List.{fold, AllByRecursion as Each}
+use Rattle.std.specs.List.{fold}
 use Rattle.std.proofs.lemmas.Bool.{both_ways}
 use Rattle.std.proofs.lemmas.List.{map_push}
 use Rattle.std.proofs.lemmas.List.Sums.{fold-append}
@@ -9,19 +9,14 @@ use Rattle.omega_model.specs.declared.claims.Judgement.{Judgement}
 use Rattle.omega_model.specs.declared.claims.Txn.{Txn}
 use Rattle.omega_model.specs.declared.entries.Entry.{Entry}
 use Rattle.omega_model.specs.declared.entries.Entry.TheVariants.{Round as RoundEntry, MachineAdd, MachineUpdate, MachineRemove, AttrSet, AttrDelete, End, Commit}
-use Rattle.omega_model.specs.declared.rows.Round.{Round}
 use Rattle.omega_free_laws.specs.Readings.{Reading}
 use Rattle.omega_model.specs.declared.settings.Settings.{Settings}
-use Rattle.omega_laws.specs.VirtualTime.{Timed, decision}
+use Rattle.omega_laws.specs.VirtualTime.{Timed}
 use Rattle.omega_free_laws.specs.Free.{FreeRun, after}
-use Rattle.omega_free_laws.specs.FreeLaws.{AreTimesOf, IsDecided, CommitPlace, CommitsSoFar, placed_commits, read_one}
-use Rattle.omega_free_laws.specs.FreeSteps.{DueCommit, Moment, beginning, committing, due_entry, ending, opening, past_ended, past_opened, past_with}
-use Rattle.omega_free_laws.specs.NextStep.{EachDeciding, Happens}
-use Rattle.omega_free_laws.specs.Passes.{Attempt, wanted_at}
-use Rattle.omega_free_laws.specs.StillWanted.{wanted_wishes}
-use Rattle.omega_free_laws.proofs.OneStep.{committing_each, due_holds, holds_after, nobody_at_first, idle_each}
-use Rattle.omega_laws.specs.Simulated.{greatest_time}
-use Rattle.omega_free_laws.specs.Lives.{DueEnd}
+use Rattle.omega_free_laws.specs.FreeLaws.{AreTimesOf, CommitPlace, CommitsSoFar, placed_commits, read_one}
+use Rattle.omega_free_laws.specs.FreeSteps.{DueCommit, Moment}
+use Rattle.omega_free_laws.specs.NextStep.{Happens}
+use Rattle.omega_free_laws.proofs.OneStep.{holds_after}
 use Rattle.omega_free_laws.proofs.Seen.{stays_ended, stays_opened}
 
 nothing_read : CommitsSoFar
@@ -67,77 +62,30 @@ placed_push history by seen txn reply =
     ap (λ (read : CommitsSoFar). read.commits) (fold-append read_one (record { place = 0; commits = [] }) history (Commit by seen txn reply ∷ []))
     ∙ ap (λ (n : ℕ). placed_commits history ++ record { place = n; scheduler = by } ∷ []) at
 
-place_of_timed : Timed → CommitPlace
-place_of_timed timed = record { place = timed.place; scheduler = timed.scheduler }
-
--- an attempt under way is due once its scheduler has decided
-abbrev pub DueInTime : Settings → ℕ → Attempt → Type 0
-DueInTime settings number attempt = (wishes : ℕ) × (attempt.due ≡ attempt.sync + decision settings number wishes)
-
--- the times so far
-pub record TimedSoFar (settings : Settings) (moment : Moment) : Type 0 where
-  pub are : AreTimesOf moment.past.history moment.times
-  pub decided : Each (IsDecided settings) moment.times
-  pub due : EachDeciding (DueInTime settings) moment.crew
-
-pub each_push : {X : Type 0} (P : X → Type 0) (xs : List X) (x : X) → Each P xs → P x → Each P (xs ++ x ∷ [])
-each_push P [] x each holds = (holds, tt)
-each_push P (y ∷ xs) x each holds = (each.0, each_push P xs x each.1 holds)
-
 module _ (settings : Settings) (reading : Reading) where
-  timed_first : TimedSoFar settings (beginning settings reading)
-  timed_first = record { are = refl; decided = tt; due = nobody_at_first settings reading (DueInTime settings) _ }
+  -- the times so far are those of the commits so far
+  abbrev AreSoFar : Moment → Type 0
+  AreSoFar moment = AreTimesOf moment.past.history moment.times
 
-  timed_opens : (old : Moment) (round : Round) (rest : List Round) → TimedSoFar settings old → TimedSoFar settings (opening settings reading old round rest)
-  timed_opens old round rest so_far = record {
-    are = stays_opened (λ (before : List Entry). AreTimesOf before old.times) (λ before entry none are. are ∙ sym (placed_none before entry none))
-        reading.trace old.past.rows old.past.history (reading.heeded round) so_far.are;
-    decided = so_far.decided;
-    due = idle_each settings reading (DueInTime settings) (DueInTime settings) (past_opened reading old.past round) (greatest_time round.rows)
-        (λ number request. (length (wanted_wishes (wanted_at reading (past_opened reading old.past round)) request), refl))
-        (λ number attempt due. due) old.crew so_far.due;
-  }
-
-  timed_ends : (old : Moment) (end : DueEnd) → TimedSoFar settings old → TimedSoFar settings (ending settings reading old end)
-  timed_ends old end so_far = record {
-    are = stays_ended (λ (before : List Entry). AreTimesOf before old.times) (λ before key machine are. are ∙ sym (placed_none before (End key machine) refl))
-        reading old.past.rows old.past.history end so_far.are;
-    decided = so_far.decided;
-    due = idle_each settings reading (DueInTime settings) (DueInTime settings) (past_ended reading old.past end old.coming) end.time
-        (λ number request. (length (wanted_wishes (wanted_at reading (past_ended reading old.past end old.coming)) request), refl))
-        (λ number attempt due. due) old.crew so_far.due;
-  }
-
-  timed_commits_so : (old : Moment) (due : DueCommit) → DueInTime settings due.by due.attempt → TimedSoFar settings old
-      → TimedSoFar settings (committing settings reading old due.by due.attempt)
-  timed_commits_so old due in_time so_far =
-      let entry : Entry = due_entry settings reading old.past due.by due.attempt in
+  are_next : (old new : Moment) → AreSoFar old → Happens settings reading old new → AreSoFar new
+  are_next old new are (inl opens) =
+      subst AreSoFar (sym opens.happens)
+      (stays_opened (λ (before : List Entry). AreTimesOf before old.times) (λ before entry none are. are ∙ sym (placed_none before entry none))
+      reading.trace old.past.rows old.past.history (reading.heeded opens.round) are)
+  are_next old new are (inr (inl ends)) =
+      subst AreSoFar (sym ends.happens)
+      (stays_ended (λ (before : List Entry). AreTimesOf before old.times) (λ before key machine are. are ∙ sym (placed_none before (End key machine) refl))
+      reading old.past.rows old.past.history ends.end are)
+  are_next old new are (inr (inr commits)) =
+      let due : DueCommit = commits.due in
       let timed : Timed = record { place = length old.past.history; scheduler = due.by; sync = due.attempt.sync; time = due.attempt.due } in
-      record {
-        are = map_push (λ (it : Timed). record { place = it.place; scheduler = it.scheduler }) old.times timed
-            ∙ ap (λ (front : List CommitPlace). front ++ record { place = length old.past.history; scheduler = due.by } ∷ []) so_far.are
-            ∙ sym (placed_push old.past.history due.by due.attempt.seen _ _);
-        decided = each_push (IsDecided settings) old.times timed so_far.decided in_time;
-        due = committing_each settings reading (DueInTime settings) (DueInTime settings) old due.by due.attempt
-            (λ number request. (length (wanted_wishes (wanted_at reading (past_with old.past entry)) request), refl))
-            (λ number attempt differs due. due) so_far.due;
-      }
+      subst AreSoFar (sym commits.happens)
+      (map_push (λ (it : Timed). record { place = it.place; scheduler = it.scheduler }) old.times timed
+      ∙ ap (λ (front : List CommitPlace). front ++ record { place = length old.past.history; scheduler = due.by } ∷ []) are
+      ∙ sym (placed_push old.past.history due.by due.attempt.seen _ _))
 
-  timed_next : (old new : Moment) → TimedSoFar settings old → Happens settings reading old new → TimedSoFar settings new
-  timed_next old new so_far (inl opens) = subst (TimedSoFar settings) (sym opens.happens) (timed_opens old opens.round opens.rest so_far)
-  timed_next old new so_far (inr (inl ends)) = subst (TimedSoFar settings) (sym ends.happens) (timed_ends old ends.end so_far)
-  timed_next old new so_far (inr (inr commits)) =
-      subst (TimedSoFar settings) (sym commits.happens)
-      (timed_commits_so old commits.due (due_holds settings reading (DueInTime settings) old.crew commits.due so_far.due commits.first) so_far)
-
-  pub timed_so_far : (steps : ℕ) → TimedSoFar settings (after settings reading steps)
-  timed_so_far = holds_after settings reading (TimedSoFar settings) timed_first timed_next
-
-  -- the times are those of the commits, and each stands a decision after its sync
-  pub free_times : (history : List Entry) (times : List Timed) → FreeRun settings reading history times
-      → AreTimesOf history times × Each (IsDecided settings) times
+  pub free_times : (history : List Entry) (times : List Timed) → FreeRun settings reading history times → AreTimesOf history times
   free_times history times free =
-      let so_far = timed_so_far free.steps in (
-        subst (λ (h : List Entry). AreTimesOf h times) (sym free.is_history) (subst (AreTimesOf (after settings reading free.steps).past.history) (sym free.is_times) so_far.are),
-        subst (Each (IsDecided settings)) (sym free.is_times) so_far.decided,
-      )
+      subst (λ (h : List Entry). AreTimesOf h times) (sym free.is_history)
+      (subst (AreTimesOf (after settings reading free.steps).past.history) (sym free.is_times)
+      (holds_after settings reading AreSoFar refl are_next free.steps))

@@ -5,7 +5,7 @@ use Rattle.std.specs.List.{AllByRecursion as Each}
 use Rattle.std.proofs.lemmas.List.Elements.{All-from_recursion}
 use Rattle.std.proofs.lemmas.Option.{same_Some}
 use Rattle.omega_model.proofs.Growing.{by_place_push}
-use Rattle.omega_model.proofs.Lists.{each_map}
+use Rattle.omega_model.proofs.Lists.{each_append, each_map}
 use Rattle.omega_model.specs.declared.entries.Entry.{Entry}
 use Rattle.omega_model.specs.declared.rows.Round.{Round}
 use Rattle.omega_free_laws.specs.Readings.{Reading, by_rows}
@@ -20,7 +20,6 @@ use Rattle.omega_free_laws.proofs.OneStep.{IsDueFrom, committing_each, due_holds
 use Rattle.omega_free_laws.specs.Lives.{DueEnd}
 use Rattle.omega_model.specs.declared.rows.TraceTables.{TraceTables}
 use Rattle.omega_free_laws.proofs.RoundsRise.{RoundsRise, rounds_rise}
-use Rattle.omega_free_laws.proofs.TimesOf.{each_push}
 
 -- no end is due before this time
 abbrev pub EndsFrom : Reading → ℕ → Moment → Type 0
@@ -149,7 +148,7 @@ module _ (settings : Settings) (reading : Reading) (Ok : ℕ → Moment → Type
       let next = flow.commits old due flows.now not_past flows.ok no_end in
       record {
         now = time;
-        happened = each_push (λ (it : Timed). it.time ≤ time) old.times timed happened (omega arith);
+        happened = each_append (λ (it : Timed). it.time ≤ time) old.times (timed ∷ []) happened (omega arith, tt);
         on_the_way = committing_each settings reading (IsDueFrom time) (IsDueFrom time) old due.by due.attempt (λ number request. omega arith)
             (λ number attempt differs due. due) (first_is_first old.crew due first);
         to_come = still_to_come time old.coming sooner flows.rounds;

@@ -1,8 +1,11 @@
 -- What holds of the history and of the times of every run by the free clock.
 use Rattle.std.specs.List.{fold, AllByRecursion as Each}
-use Rattle.std.specs.Prelude.{◌≡◌, ℕ, Bool, true, false, List, [], ◌∷◌, ◌++◌, Some, ◌+◌, ◌≤◌, All, IsTrue, length, map, take, slice_get}
+use Rattle.std.specs.Prelude.{◌≡◌, ℕ, Bool, true, false, List, [], ◌∷◌, ◌++◌, Option, Some, ◌+◌, ◌≤◌, All, IsTrue, length, map, take, slice_get}
 use Rattle.omega_model.specs.Lawful.{after_last, opened}
 use Rattle.omega_model.specs.State.{state}
+use Rattle.omega_model.specs.Wanted.{WantedTask}
+use Rattle.omega_model.specs.Work.{commits_of, planned}
+use Rattle.omega_model.specs.declared.claims.Txn.{Txn}
 use Rattle.omega_model.specs.declared.cells.Machine.{Machine}
 use Rattle.omega_model.specs.declared.claims.Claim.{Claim}
 use Rattle.omega_model.specs.declared.entries.Entry.TheVariants.{Commit, End}
@@ -14,15 +17,31 @@ use Rattle.omega_model.specs.declared.wishes.Wish.{Wish}
 use Rattle.omega_laws.specs.Constraints.{SuitsItsWish}
 use Rattle.omega_laws.specs.VirtualTime.{Timed, decision}
 use Rattle.omega_free_laws.specs.Readings.{Reading}
+use Rattle.omega_free_laws.specs.StillWanted.{wanted_claims}
 
 -- the times never fall
 abbrev pub TimesRise : List Timed → Type 0
 TimesRise times =
     (place : ℕ) (timed : Timed) → slice_get times place ≡ Some timed → All (λ (earlier : Timed). earlier.time ≤ timed.time) (take place times)
 
--- a commit comes when its scheduler has decided on some number of wishes since it synced
-abbrev pub IsDecided : Settings → Timed → Type 0
-IsDecided settings timed = (wishes : ℕ) × (timed.time ≡ timed.sync + decision settings timed.scheduler wishes)
+-- a commit on these entries, with its time, is what was still wanted of the plan for some wishes: on what its scheduler had
+-- seen, as the scheduler's attempt of this number; and it comes when the scheduler has decided on so many wishes since it
+-- synced
+pub record IsDecided (settings : Settings) (before : List Entry) (timed : Timed) (seen : ℕ) (txn : Txn) : Type 0 where
+  pub wishes : List Wish
+  pub asked : List WantedTask
+  pub claims : txn.claims ≡ wanted_claims asked (planned settings timed.scheduler (commits_of timed.scheduler before) (take seen before) wishes)
+  pub time : timed.time ≡ timed.sync + decision settings timed.scheduler (length wishes)
+
+-- the entry at its place is such a commit of its scheduler
+abbrev pub IsDecidedCommit : Settings → List Entry → Timed → Option Entry → Type 0
+IsDecidedCommit settings before timed (Some (Commit by seen txn reply)) = (by ≡ timed.scheduler) × IsDecided settings before timed seen txn
+IsDecidedCommit settings before timed _ = ⊥
+
+-- so it is of each of these commits with their times
+abbrev pub EachDecided : Settings → List Entry → List Timed → Type 0
+EachDecided settings history times =
+    Each (λ (timed : Timed). IsDecidedCommit settings (take timed.place history) timed (slice_get history timed.place)) times
 
 -- an entry, if it is a commit, had seen its scheduler's last commit, and nothing but what stands before it
 abbrev pub SeesItsOwn : List Entry → Entry → Type 0
