@@ -1,6 +1,6 @@
 -- What holds of each scheduler at each moment of a run by the free clock.
 use Rattle.std.proofs.Common.{◌≡◌, ◌+◌, ℕ, Bool, true, false, cond, List, [], ◌∷◌, ◌++◌, Option, Some, None, map, refl, sym, ap, ap₂, subst, ◌∙◌, inl, inr, arith, filter, length-append, add-zero}
-use Rattle.std.specs.Prelude.{◌&&◌, ◌==◌, nat_lt, if◌then◌else◌}
+use Rattle.std.specs.Prelude.{not, ◌&&◌, ◌==◌, nat_lt, if◌then◌else◌}
 use Rattle.std.specs.List.{range_with_len, AllByRecursion as Each}
 use Rattle.std.proofs.lemmas.Bool.{and_parts, eq-eqb, eqb-true}
 use Rattle.std.proofs.lemmas.List.{take-append-le}
@@ -8,14 +8,18 @@ use Rattle.std.proofs.lemmas.List.Sums.{sum_by-append, sum_by-cons}
 use Rattle.std.proofs.Math.Seq.{take-length}
 use Rattle.omega_laws.proofs.Suited.{OfValue, each_mapped}
 use Rattle.omega_laws.specs.Simulated.{greatest_time}
-use Rattle.omega_model.proofs.Lists.{by_answer, each_map, each_passes}
+use Rattle.omega_model.proofs.ExtraWishes.{IsExtraOf, extras_are, names_of}
+use Rattle.omega_model.proofs.Lists.{by_answer, each_append, each_filter, each_map, each_passes}
+use Rattle.omega_model.specs.Cell.{Cell}
+use Rattle.omega_model.specs.ExtraTasks.{activities_of, extra_count, extra_wish, free_indexes, running_extras, wanted_of, wishes_after, wishes_for_extras}
 use Rattle.omega_model.specs.Feed.{feed}
 use Rattle.omega_model.specs.Policy.{schedulers}
-use Rattle.omega_model.specs.Requests.{jobs_in_order, request_of, requests, wishes_of, works_on}
+use Rattle.omega_model.specs.Wishes.{wish_of}
+use Rattle.omega_model.specs.Requests.{is_waiting, jobs_in_order, request_of, requests, wishes_of, works_on}
 use Rattle.omega_model.specs.Routing.{scheduler_of}
 use Rattle.omega_model.specs.State.{reply_of, state}
 use Rattle.omega_model.specs.Wanted.{WantedTask, wanted}
-use Rattle.omega_model.specs.Work.{Standing, commits_of, ends_request, failing_after, failing_with, fresh, is_commit_of, is_empty, moved_on, outcomes_of, planned, rest_of}
+use Rattle.omega_model.specs.Work.{Standing, commits_of, ends_request, failing_after, failing_with, fresh, is_commit_of, is_empty, moved_on, outcomes_of, places_wish, planned, rest_of}
 use Rattle.omega_model.specs.declared.claims.Judgement.{Judgement}
 use Rattle.omega_model.specs.declared.claims.Outcome.{Outcome}
 use Rattle.omega_model.specs.declared.claims.Txn.{Txn}
@@ -27,7 +31,8 @@ use Rattle.omega_free_laws.specs.Readings.{Reading}
 use Rattle.omega_model.specs.declared.settings.Settings.{Settings}
 use Rattle.omega_model.specs.declared.wishes.Request.{Request}
 use Rattle.omega_model.specs.declared.wishes.Wish.{Wish}
-use Rattle.omega_free_laws.specs.CrewLaws.{CrewInOrder, IsInOrder, PlansFirst}
+use Rattle.omega_free_laws.specs.CrewLaws.{CrewInOrder, IsInOrder, IsOwnRequest, PlansFirst}
+use Rattle.omega_free_laws.specs.FreeLaws.{IsWishOf}
 use Rattle.omega_free_laws.specs.Free.{after}
 use Rattle.omega_free_laws.specs.FreeSteps.{DueCommit, Moment, after_commit, beginning, committing, due_entry, due_txn, ending, first_due, idle_scheduler, opening, past_ended, past_opened, past_with, idle_synced}
 use Rattle.omega_free_laws.specs.Lives.{DueEnd}
@@ -75,11 +80,39 @@ order_push settings reading history entry scheduler other is =
 
 module _ (settings : Settings) (reading : Reading) where
   abbrev IsOwn : ℕ → Request → Type 0
-  IsOwn number request = scheduler_of settings reading.trace request.job ≡ number
+  IsOwn number request = IsOwnRequest settings reading.trace number request
 
-  of_job : (number job : ℕ) (wishes : List Wish) → scheduler_of settings reading.trace job ≡ number → OfValue (IsOwn number) (request_of job wishes)
-  of_job number job [] routed = tt
-  of_job number job (wish ∷ wishes) routed = routed
+  -- wishes for tasks, and for extras, are wishes of the trace
+  tasks_wished : (tasks : List WantedTask) → Each (IsWishOf reading.trace) (map (wish_of reading.trace) tasks)
+  tasks_wished [] = tt
+  tasks_wished (task ∷ tasks) = (record { model = task; whose = inl refl; constraints = refl }, tasks_wished tasks)
+
+  each_wished : (job : ℕ) (model : WantedTask) (indexes : List ℕ) → Each (IsExtraOf job) (names_of (map (extra_wish reading.trace model) indexes))
+      → Each (IsWishOf reading.trace) (map (extra_wish reading.trace model) indexes)
+  each_wished job model [] extras = tt
+  each_wished job model (index ∷ indexes) extras =
+      (record { model = model; whose = inr (extras.0.1, refl); constraints = refl }, each_wished job model indexes extras.1)
+
+  extras_wished : (cell : Cell) (asked : List WantedTask) (job : ℕ) (activities : Option ℕ) (models : List WantedTask)
+      → Each (IsExtraOf job) (names_of (wishes_after settings reading.trace cell asked job activities models))
+      → Each (IsWishOf reading.trace) (wishes_after settings reading.trace cell asked job activities models)
+  extras_wished cell asked job None models extras = tt
+  extras_wished cell asked job (Some activities) [] extras = tt
+  extras_wished cell asked job (Some activities) (model ∷ others) extras =
+      each_wished job model
+      (free_indexes (map (λ task. task.key.index) (running_extras cell job)) (extra_count settings cell job activities asked model.spec.need)) extras
+
+  all_wished : (cell : Cell) (asked : List WantedTask) (job : ℕ) → Each (IsWishOf reading.trace) (wishes_of settings reading.trace cell asked job)
+  all_wished cell asked job =
+      each_append (IsWishOf reading.trace) (map (wish_of reading.trace) (filter (is_waiting cell job) asked))
+      (wishes_for_extras settings reading.trace cell asked job)
+      (tasks_wished (filter (is_waiting cell job) asked))
+      (extras_wished cell asked job (activities_of reading.trace job) (wanted_of job asked) (extras_are settings reading.trace cell asked job).each)
+
+  of_job : (number job : ℕ) (wishes : List Wish) → scheduler_of settings reading.trace job ≡ number → Each (IsWishOf reading.trace) wishes
+      → OfValue (IsOwn number) (request_of job wishes)
+  of_job number job [] routed wished = tt
+  of_job number job (wish ∷ wishes) routed wished = record { routed = routed; wished = wished }
 
   requests_own : (rows : List Row) (history : List Entry) (number : ℕ) → Each (IsOwn number) (requests settings reading.trace rows history number)
   requests_own rows history number =
@@ -87,7 +120,7 @@ module _ (settings : Settings) (reading : Reading) where
       let own : ℕ → Type 0 = λ job. scheduler_of settings reading.trace job ≡ number in
       let jobs : List ℕ = filter test (jobs_in_order (feed reading.trace)) in
       each_mapped own (IsOwn number) (λ job. request_of job (wishes_of settings reading.trace (state history) (wanted rows) job))
-      (λ job routed. of_job number job _ routed) jobs
+      (λ job routed. of_job number job _ routed (all_wished (state history) (wanted rows) job)) jobs
       (each_map (λ job. test job ≡ true) own (λ job passes. eqb-true _ _ (and_parts _ _ passes).0) jobs (each_passes test (jobs_in_order (feed reading.trace))))
 
   left_own : (P : Request → Type 0) (asked : List WantedTask) (standing : Standing) (left : List Request) → standing.requests ≡ left → Each P left
@@ -103,8 +136,16 @@ module _ (settings : Settings) (reading : Reading) where
   moved_own number standing request rest outcomes own =
       elim (ends_request settings (standing.taken + 1) (failing_after (standing.failing request.job) outcomes) request outcomes) as (λ test.
       Each (IsOwn number) (if test then fresh (failing_with standing.failing request.job outcomes) rest
-      else record { requests = rest_of request outcomes ∷ rest; taken = standing.taken + 1; failing = failing_with standing.failing request.job outcomes }).requests)
-      [ true ↦ own.1 | false ↦ own ]
+      else record { requests = rest_of request outcomes ∷ rest; taken = standing.taken + 1; failing = failing_with standing.failing request.job outcomes }).requests) [
+        | true ↦ own.1
+        | false ↦ (
+          record {
+            routed = own.0.routed;
+            wished = each_filter (IsWishOf reading.trace) (λ (wish : Wish). not (places_wish outcomes wish)) request.wishes own.0.wished;
+          },
+          own.1,
+        )
+      ]
 
   entry_own : (by seen : ℕ) (txn : Txn) (reply : List Judgement) (scheduler : Scheduler) → (scheduler.number == by) ≡ true
       → Each (IsOwn scheduler.number) scheduler.left.requests
@@ -263,9 +304,9 @@ module _ (settings : Settings) (reading : Reading) (history : List Entry) where
     by_attempt None at = tt
     by_attempt (Some attempt) at =
         let plans = each.0.plans attempt at in
-        let own : Each (λ (request : Request). scheduler_of settings reading.trace request.job ≡ scheduler.number) (plans.request ∷ plans.rest) =
-        subst (Each (λ (request : Request). scheduler_of settings reading.trace request.job ≡ scheduler.number)) plans.first each.0.own in
-        ap (scheduler_of settings reading.trace) plans.job ∙ own.0
+        let own : Each (IsOwnRequest settings reading.trace scheduler.number) (plans.request ∷ plans.rest) =
+        subst (Each (IsOwnRequest settings reading.trace scheduler.number)) plans.first each.0.own in
+        ap (scheduler_of settings reading.trace) plans.job ∙ own.0.routed
 
   pub due_routed : (crew : List Scheduler) (due : DueCommit) → Each (IsInOrder settings reading history) crew → first_due crew ≡ Some due
       → scheduler_of settings reading.trace due.attempt.job ≡ due.by

@@ -16,7 +16,6 @@ use Rattle.omega_free_laws.proofs.LivesTimes.{own_ends_in_time, own_nothing_due,
 use Rattle.omega_free_laws.proofs.Stretches.{free_in_stretches, own_in_stretches}
 use Rattle.omega_free_laws.proofs.RoundsCounted.{free_rounds_counted}
 use Rattle.omega_free_laws.proofs.Seen.{free_is_legal, free_sees_own}
-use Rattle.omega_free_laws.proofs.SeenSuits.{free_suited}
 use Rattle.omega_free_laws.proofs.Decided.{free_decided}
 use Rattle.omega_free_laws.proofs.TimesOf.{free_times}
 use Rattle.omega_free_laws.proofs.TimesRise.{free_times_rise}
@@ -32,7 +31,6 @@ holds_of_runs settings reading history times run =
       evictions = evictions_go_down history legal;
       counted = free_rounds_counted settings reading history times run;
       seen = free_sees_own settings reading history times run;
-      suited = free_suited settings reading history times run;
       times_are = free_times settings reading history times run;
       decided = free_decided settings reading history times run;
     }

@@ -5,7 +5,6 @@ pub mod OneStep
 pub mod OnlyFree
 pub mod Seen
 pub mod RoundsRise
-pub mod SeenSuits
 pub mod TimesOf
 pub mod Stretches
 pub mod RoundsCounted

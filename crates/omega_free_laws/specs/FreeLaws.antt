@@ -1,13 +1,14 @@
 -- What holds of the history and of the times of every run by the free clock.
 use Rattle.std.specs.List.{fold, AllByRecursion as Each}
-use Rattle.std.specs.Prelude.{◌≡◌, ℕ, Bool, true, false, List, [], ◌∷◌, ◌++◌, Option, Some, ◌+◌, ◌≤◌, All, IsTrue, length, map, take, slice_get}
+use Rattle.std.specs.Prelude.{◌≡◌, ℕ, Bool, true, false, List, [], ◌∷◌, ◌++◌, Option, Some, ◌+◌, ◌≤◌, ◌⊎◌, All, IsTrue, length, map, take, slice_get}
 use Rattle.omega_model.specs.Lawful.{after_last, opened}
+use Rattle.omega_model.specs.ExtraTasks.{first_extra}
+use Rattle.omega_model.specs.Wishes.{constraints_of}
 use Rattle.omega_model.specs.State.{state}
+use Rattle.omega_model.specs.declared.rows.TraceTables.{TraceTables}
 use Rattle.omega_model.specs.Wanted.{WantedTask}
 use Rattle.omega_model.specs.Work.{commits_of, planned}
 use Rattle.omega_model.specs.declared.claims.Txn.{Txn}
-use Rattle.omega_model.specs.declared.cells.Machine.{Machine}
-use Rattle.omega_model.specs.declared.claims.Claim.{Claim}
 use Rattle.omega_model.specs.declared.entries.Entry.TheVariants.{Commit, End}
 use Rattle.omega_model.specs.declared.entries.Entry.{Entry}
 use Rattle.omega_model.specs.declared.rows.Round.{Round}
@@ -24,24 +25,32 @@ abbrev pub TimesRise : List Timed → Type 0
 TimesRise times =
     (place : ℕ) (timed : Timed) → slice_get times place ≡ Some timed → All (λ (earlier : Timed). earlier.time ≤ timed.time) (take place times)
 
--- a commit on these entries, with its time, is what was still wanted of the plan for some wishes: on what its scheduler had
--- seen, as the scheduler's attempt of this number; and it comes when the scheduler has decided on so many wishes since it
--- synced
-pub record IsDecided (settings : Settings) (before : List Entry) (timed : Timed) (seen : ℕ) (txn : Txn) : Type 0 where
+-- a wish as the trace has it: its constraints are those of its task, or, where that is an extra, of some task of its job
+pub record IsWishOf (trace : TraceTables) (wish : Wish) : Type 0 where
+  pub model : WantedTask
+  pub whose : (model.key ≡ wish.key) ⊎ ((first_extra ≤ wish.key.index) × (model.key.job ≡ wish.key.job))
+  pub constraints : wish.constraints ≡ constraints_of trace model
+
+-- a commit on these entries, with its time, is what was still wanted of the plan for some wishes of the trace: on what its
+-- scheduler had seen, as the scheduler's attempt of this number. Each claim is on a machine that met the constraints of its
+-- wish as it was seen. The commit comes when the scheduler has decided on so many wishes since it synced
+pub record IsDecided (settings : Settings) (trace : TraceTables) (before : List Entry) (timed : Timed) (seen : ℕ) (txn : Txn) : Type 0 where
   pub wishes : List Wish
+  pub wished : Each (IsWishOf trace) wishes
   pub asked : List WantedTask
   pub claims : txn.claims ≡ wanted_claims asked (planned settings timed.scheduler (commits_of timed.scheduler before) (take seen before) wishes)
+  pub suited : Each (SuitsItsWish (state (take seen before)).machines wishes) txn.claims
   pub time : timed.time ≡ timed.sync + decision settings timed.scheduler (length wishes)
 
 -- the entry at its place is such a commit of its scheduler
-abbrev pub IsDecidedCommit : Settings → List Entry → Timed → Option Entry → Type 0
-IsDecidedCommit settings before timed (Some (Commit by seen txn reply)) = (by ≡ timed.scheduler) × IsDecided settings before timed seen txn
-IsDecidedCommit settings before timed _ = ⊥
+abbrev pub IsDecidedCommit : Settings → TraceTables → List Entry → Timed → Option Entry → Type 0
+IsDecidedCommit settings trace before timed (Some (Commit by seen txn reply)) = (by ≡ timed.scheduler) × IsDecided settings trace before timed seen txn
+IsDecidedCommit settings trace before timed _ = ⊥
 
 -- so it is of each of these commits with their times
-abbrev pub EachDecided : Settings → List Entry → List Timed → Type 0
-EachDecided settings history times =
-    Each (λ (timed : Timed). IsDecidedCommit settings (take timed.place history) timed (slice_get history timed.place)) times
+abbrev pub EachDecided : Settings → TraceTables → List Entry → List Timed → Type 0
+EachDecided settings trace history times =
+    Each (λ (timed : Timed). IsDecidedCommit settings trace (take timed.place history) timed (slice_get history timed.place)) times
 
 -- an entry, if it is a commit, had seen its scheduler's last commit, and nothing but what stands before it
 abbrev pub SeesItsOwn : List Entry → Entry → Type 0
@@ -51,19 +60,6 @@ SeesItsOwn before _ = Unit {0}
 -- so it is of each commit
 abbrev pub EachSeesItsOwn : List Entry → Type 0
 EachSeesItsOwn history = (place : ℕ) (entry : Entry) → slice_get history place ≡ Some entry → SeesItsOwn (take place history) entry
-
--- a claim suits its wish among some wishes on these machines
-abbrev pub SuitsSomeWish : List Machine → Claim → Type 0
-SuitsSomeWish machines claim = (wishes : List Wish) × SuitsItsWish machines wishes claim
-
--- each claim of an entry, if it is a commit, suits its wish on the machines as its scheduler had seen them
-abbrev pub SuitedWhenSeen : List Entry → Entry → Type 0
-SuitedWhenSeen before (Commit by seen txn reply) = Each (SuitsSomeWish (state (take seen before)).machines) txn.claims
-SuitedWhenSeen before _ = Unit {0}
-
--- so it is of each commit
-abbrev pub EachSuitedWhenSeen : List Entry → Type 0
-EachSuitedWhenSeen history = (place : ℕ) (entry : Entry) → slice_get history place ≡ Some entry → SuitedWhenSeen (take place history) entry
 
 -- a history goes on from a shorter one, by entries that pass a test alone
 abbrev pub GoesOnBy : (Entry → Bool) → List Entry → List Entry → Type 0

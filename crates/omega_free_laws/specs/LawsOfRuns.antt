@@ -10,14 +10,14 @@ use Rattle.omega_model.specs.declared.rows.TraceTables.{TraceTables}
 use Rattle.omega_model.specs.declared.settings.Settings.{Settings}
 use Rattle.omega_cell.specs.Laws.{EvictionsGoDown, NoGangIsSplit}
 use Rattle.omega_laws.specs.VirtualTime.{Timed}
-use Rattle.omega_free_laws.specs.FreeLaws.{AreTimesOf, EachSeesItsOwn, EachSuitedWhenSeen, EachDecided, RoundsInStretches, TimesRise, is_commit_or_end}
+use Rattle.omega_free_laws.specs.FreeLaws.{AreTimesOf, EachSeesItsOwn, EachDecided, RoundsInStretches, TimesRise, is_commit_or_end}
 use Rattle.omega_free_laws.specs.LivesLaws.{EachEndRuns, EachEndsInTime, EndsOnce, NothingWasDue}
 use Rattle.omega_free_laws.specs.Readings.{Reading, by_lives, by_rows}
 
 -- however a trace is read: the history is legal, its state is sound after each entry, no gang is split and evictions go
--- down; it begins as many rounds as the trace has; each commit had seen its scheduler's last one, and each of its claims
--- suits its wish on the machines as they were seen; and the times are those of its commits, each of which is what was still
--- wanted of a plan on what was seen, and comes a decision on the plan's wishes after its sync
+-- down; it begins as many rounds as the trace has; each commit had seen its scheduler's last one; the times are those of the
+-- commits; and each commit is what was still wanted of a plan on what was seen, on machines that met the constraints there,
+-- a decision after its sync
 pub record HoldsOfFreeRuns (settings : Settings) (reading : Reading) (history : List Entry) (times : List Timed) : Type 0 where
   pub legal : Legal history
   pub sound : (n : ℕ) → Sound (state (take n history))
@@ -25,9 +25,8 @@ pub record HoldsOfFreeRuns (settings : Settings) (reading : Reading) (history : 
   pub evictions : EvictionsGoDown history
   pub counted : count_by begins_round history ≡ length (rounds reading.trace settings.window)
   pub seen : EachSeesItsOwn history
-  pub suited : EachSuitedWhenSeen history
   pub times_are : AreTimesOf history times
-  pub decided : EachDecided settings history times
+  pub decided : EachDecided settings reading.trace history times
 
 -- where tasks end by the trace's rows: the entries of each round stand in one stretch, in order, with commits alone
 -- between them, and the times never fall

@@ -10,9 +10,11 @@ ghost use Rattle.omega_free_laws.specs.Readings.{Reading};
 
 /// However a trace is read, the run by the free clock has one history and one list of times. The
 /// history is legal, its state is sound after each entry, no gang is split and evictions go down;
-/// it begins as many rounds as the trace has; each commit had seen its scheduler's last one, and
-/// each of its claims is on a machine that met the wish's constraints as it was seen; and the times
-/// are those of the commits, each a decision after its sync. Does nothing: the contract is the law.
+/// it begins as many rounds as the trace has; each commit had seen its scheduler's last one; the
+/// times are those of the commits. Each commit is what was still wanted of a plan for wishes of the
+/// trace on what its scheduler had seen, each claim on a machine that met the wish's constraints
+/// there, and it comes a decision on these wishes after its sync. Does nothing: the contract is the
+/// law.
 pub fn free_histories()
     ensures only { (settings : Settings) (reading : Reading) (one other : List Entry)
         (times_one times_other : List Timed)

@@ -1,6 +1,7 @@
 //! The steps of a run by the free clock: what each is, that they end, and who decides on what.
 ghost use Rattle.std.specs.Prelude.{◌≡◌, ◌≤◌, ℕ, List, [], Some, None};
 ghost use Rattle.std.specs.List.{AllByRecursion as Each};
+ghost use Rattle.omega_model.specs.Routing.{scheduler_of};
 ghost use Rattle.omega_model.specs.declared.entries.Entry.{Entry};
 ghost use Rattle.omega_model.specs.declared.rows.TraceTables.{TraceTables};
 ghost use Rattle.omega_model.specs.declared.settings.Settings.{Settings};
@@ -38,11 +39,14 @@ pub fn free_runs_end()
 /// At each moment the schedulers stand in order of number, and each that is deciding has planned for
 /// the first of its requests, those of its wishes that were wanted, on what it had seen, and will
 /// have decided when the time for so many has gone by. The attempt that is due first is that of the
-/// scheduler of its number. Does nothing: the contract is the law.
+/// scheduler of its number, and for a job of it. Does nothing: the contract is the law.
 pub fn schedulers_of_free_runs()
     ensures order { (settings : Settings) (reading : Reading) (steps : ℕ)
         → CrewInOrder settings reading (after settings reading steps) }
     ensures due { (settings : Settings) (reading : Reading) (steps : ℕ) (due : DueCommit)
         → first_due (after settings reading steps).crew ≡ Some due
         → Each (IsOnIt due) (after settings reading steps).crew }
+    ensures routed { (settings : Settings) (reading : Reading) (steps : ℕ) (due : DueCommit)
+        → first_due (after settings reading steps).crew ≡ Some due
+        → scheduler_of settings reading.trace due.attempt.job ≡ due.by }
 {}
