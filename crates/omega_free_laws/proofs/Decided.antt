@@ -11,6 +11,7 @@ use Rattle.omega_model.specs.Legal.{Legal}
 use Rattle.omega_model.specs.Policy.{policy_of}
 use Rattle.omega_model.specs.State.{state}
 use Rattle.omega_model.specs.declared.rows.TraceTables.{TraceTables}
+use Rattle.omega_laws.proofs.Places.{get_seam}
 use Rattle.omega_laws.proofs.Suited.{plan_suited}
 use Rattle.omega_laws.specs.Constraints.{SuitsItsWish}
 use Rattle.omega_model.specs.Work.{commits_of, planned}
@@ -30,7 +31,7 @@ use Rattle.omega_free_laws.specs.Readings.{Reading}
 use Rattle.omega_free_laws.specs.StillWanted.{is_still_wanted, wanted_claims, wanted_wishes}
 use Rattle.omega_free_laws.proofs.CrewLaws.{crew_in_order}
 use Rattle.omega_free_laws.proofs.OneStep.{due_holds, holds_at}
-use Rattle.omega_free_laws.proofs.Running.{AreWithin, get_before, get_last, within_push}
+use Rattle.omega_free_laws.proofs.Running.{AreWithin, get_before, within_push}
 use Rattle.omega_free_laws.proofs.Seen.{seen_so_far, stays_ended, stays_opened}
 
 -- the commits with these times stand in the history, and each was decided so
@@ -98,7 +99,7 @@ module _ (settings : Settings) (reading : Reading) where
       let first : take (length history) (history ++ entry ∷ []) ≡ history =
       take-append-le (length history) history (entry ∷ []) (omega arith) ∙ take-length history in
       let new : IsDecidedCommit settings reading.trace (take (length history) (history ++ entry ∷ [])) timed (slice_get (history ++ entry ∷ []) (length history)) =
-      subst (λ (it : Option Entry). IsDecidedCommit settings reading.trace (take (length history) (history ++ entry ∷ [])) timed it) (sym (get_last history entry))
+      subst (λ (it : Option Entry). IsDecidedCommit settings reading.trace (take (length history) (history ++ entry ∷ [])) timed it) (sym (get_seam history entry []))
       (subst (λ (front : List Entry). IsDecidedCommit settings reading.trace front timed (Some entry)) (sym first) (
         refl,
         record {

@@ -21,6 +21,7 @@ use Rattle.omega_model.specs.declared.claims.Judgement.{Judgement}
 use Rattle.omega_model.specs.declared.claims.Txn.{Txn}
 use Rattle.omega_model.specs.declared.entries.Entry.{Entry}
 use Rattle.omega_model.specs.declared.entries.Entry.TheVariants.{Round as RoundEntry, MachineAdd, MachineUpdate, MachineRemove, AttrSet, AttrDelete, End, Commit}
+use Rattle.omega_laws.proofs.Places.{get_seam}
 use Rattle.omega_laws.specs.VirtualTime.{Timed}
 use Rattle.omega_free_laws.specs.Lives.{did_place, places_task, placing}
 use Rattle.omega_free_laws.proofs.DueEnds.{each_runs}
@@ -41,10 +42,6 @@ pub get_before : {X : Type 0} (xs ys : List X) (i : ℕ) → i < length xs → s
 get_before [] ys i less = absurd (omega (arith, less))
 get_before (x ∷ xs) ys zero less = refl
 get_before (x ∷ xs) ys (suc i) less = get_before xs ys i (omega (arith, less))
-
-pub get_last : {X : Type 0} (xs : List X) (x : X) → slice_get (xs ++ x ∷ []) (length xs) ≡ Some x
-get_last [] x = refl
-get_last (y ∷ xs) x = get_last xs x
 
 filter_same : {X : Type 0} (p q : X → Bool) (xs : List X) → Each (λ x. p x ≡ q x) xs → filter p xs ≡ filter q xs
 filter_same p q [] same = refl
@@ -78,7 +75,7 @@ pub placing_new : (history : List Entry) (times : List Timed) (entry : Entry) (t
     → places_task key entry ≡ true → placing (history ++ entry ∷ []) (times ++ timed ∷ []) key ≡ Some timed
 placing_new history times entry timed key at places =
     let here : did_place key (slice_get (history ++ entry ∷ []) timed.place) ≡ true =
-    ap (λ (n : ℕ). did_place key (slice_get (history ++ entry ∷ []) n)) at ∙ ap (did_place key) (get_last history entry) ∙ places in
+    ap (λ (n : ℕ). did_place key (slice_get (history ++ entry ∷ []) n)) at ∙ ap (did_place key) (get_seam history entry []) ∙ places in
     placing_of (history ++ entry ∷ []) times timed key ∙ rw here (last_or-end None (filter (λ (it : Timed). did_place key (slice_get (history ++ entry ∷ []) it.place)) times) timed)
 
 pub placing_old : (history : List Entry) (times : List Timed) (entry : Entry) (timed : Timed) (key : TaskKey) → AreWithin history times
@@ -86,7 +83,7 @@ pub placing_old : (history : List Entry) (times : List Timed) (entry : Entry) (t
     → placing (history ++ entry ∷ []) (times ++ timed ∷ []) key ≡ placing history times key
 placing_old history times entry timed key within at places =
     let here : did_place key (slice_get (history ++ entry ∷ []) timed.place) ≡ false =
-    ap (λ (n : ℕ). did_place key (slice_get (history ++ entry ∷ []) n)) at ∙ ap (did_place key) (get_last history entry) ∙ places in
+    ap (λ (n : ℕ). did_place key (slice_get (history ++ entry ∷ []) n)) at ∙ ap (did_place key) (get_seam history entry []) ∙ places in
     placing_of (history ++ entry ∷ []) times timed key
     ∙ rw here (ap (last_or None) (append-nil (filter (λ (it : Timed). did_place key (slice_get (history ++ entry ∷ []) it.place)) times)))
     ∙ placing_same history times entry key within
