@@ -30,7 +30,7 @@ mod worth;
 pub use clock::in_time;
 pub use kept::ResumeRefusal;
 pub use remains::Remains;
-pub use resume::resume_turns;
+pub use resume::{kept_lines_depart_once, resume_turns};
 pub use steps::{RoundStep, Stepped};
 pub use threads::on_threads;
 pub use turns::in_turns;

@@ -1,0 +1,11 @@
+use Rattle.omega_rounds.proofs.Departing.{departs_never, departs_once, departs_whole}
+use Rattle.omega_rounds.proofs.resume.kept_lines_depart_once.Goals as goal
+
+pub returns-clause-once : goal.returns-clause-once
+returns-clause-once c = departs_once
+
+pub returns-clause-never : goal.returns-clause-never
+returns-clause-never c = departs_never
+
+pub returns-clause-whole : goal.returns-clause-whole
+returns-clause-whole c = departs_whole
