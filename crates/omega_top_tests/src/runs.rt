@@ -4,8 +4,8 @@ ghost use Rattle.std.specs.Thread.{IsSync};
 
 use omega_io::{Gate, MemorySink, MemoryTables, Tables};
 use omega_keep::{Keeper, SteadyKeeper};
-use omega_model::{Bytes, Done, NoMemory, Seq, Status};
-use omega_top::omega;
+use omega_model::{Bytes, NoMemory, Seq, Status};
+use omega_top::{Done, omega};
 use std::alloc::Global;
 use std::process::Abort;
 use std::sync::Wait;
@@ -115,7 +115,6 @@ pub fn run_kept<R: Threads + Wait + Sync, T: Tables, G: Gate + Sync, P: Keeper>(
     requires { IsSync R.row × IsSync G.row }
 {
     let mut sink = MemorySink::new(alloc, call.room)?.cut(1);
-    let mut remains = None;
     let done = omega(
         rt,
         alloc,
@@ -124,7 +123,6 @@ pub fn run_kept<R: Threads + Wait + Sync, T: Tables, G: Gate + Sync, P: Keeper>(
         &mut sink,
         gate,
         keeper,
-        &mut remains,
     );
     Ok(Ran {
         done,

@@ -93,19 +93,19 @@ returns-clause-resume g c bytes =
 
 pub returns-then-is_err-clause-resume : goal.returns-then-is_err-clause-resume
 returns-then-is_err-clause-resume g c bytes =
-    rw c.refused-then-is_err.ensures.answer (λ is reads. no_memory_resume c.in-Ok.parsed.settings (trace_of bytes) _ _ refl)
+    rw (c.refused-then-is_err.ensures.settings, c.refused-then-is_err.ensures.nothing, c.refused-then-is_err.ensures.status) (λ is reads. no_memory_resume c.in-Ok.parsed.settings (trace_of bytes) _ _ refl)
 
 pub returns-then-is_err-2-clause-resume : goal.returns-then-is_err-2-clause-resume
 returns-then-is_err-2-clause-resume g c bytes =
-    rw c.refused-then-is_err-2.ensures.answer (λ is reads. no_memory_resume c.in-Ok.parsed.settings (trace_of bytes) _ _ c.enter-2.ensures.list)
+    rw (c.refused-then-is_err-2.ensures.settings, c.refused-then-is_err-2.ensures.nothing, c.refused-then-is_err-2.ensures.status) (λ is reads. no_memory_resume c.in-Ok.parsed.settings (trace_of bytes) _ _ c.enter-2.ensures.list)
 
 pub returns-then-is_err-clause-some_resume : goal.returns-then-is_err-clause-some_resume
 returns-then-is_err-clause-some_resume g c =
-    rw c.refused-then-is_err.ensures.answer (λ is. no_memory_some_resume c.in-Ok.parsed.settings _ _ refl)
+    rw (c.refused-then-is_err.ensures.settings, c.refused-then-is_err.ensures.nothing, c.refused-then-is_err.ensures.status) (λ is. no_memory_some_resume c.in-Ok.parsed.settings _ _ refl)
 
 pub returns-then-is_err-2-clause-some_resume : goal.returns-then-is_err-2-clause-some_resume
 returns-then-is_err-2-clause-some_resume g c =
-    rw c.refused-then-is_err-2.ensures.answer (λ is. no_memory_some_resume c.in-Ok.parsed.settings _ _ c.enter-2.ensures.list)
+    rw (c.refused-then-is_err-2.ensures.settings, c.refused-then-is_err-2.ensures.nothing, c.refused-then-is_err-2.ensures.status) (λ is. no_memory_some_resume c.in-Ok.parsed.settings _ _ c.enter-2.ensures.list)
 
 pub returns-clause-complete_made : goal.returns-clause-complete_made
 returns-clause-complete_made g c makes stays taken =
@@ -117,16 +117,16 @@ returns-clause-to_end g c bytes told done =
     rw c.omega_with.ensures.settings (c.omega_with.ensures.to_end bytes (λ table. c.enter.ensures.rests table ∙ told table) done)
 
 pub returns-then-is_err-clause-some_run : goal.returns-then-is_err-clause-some_run
-returns-then-is_err-clause-some_run g c = rw c.refused-then-is_err.ensures.answer (λ other. no_memory_run c.in-Ok.parsed.settings _ _ refl)
+returns-then-is_err-clause-some_run g c = rw (c.refused-then-is_err.ensures.settings, c.refused-then-is_err.ensures.nothing, c.refused-then-is_err.ensures.status) (λ other. no_memory_run c.in-Ok.parsed.settings _ _ refl)
 
 pub returns-then-is_err-2-clause-some_run : goal.returns-then-is_err-2-clause-some_run
-returns-then-is_err-2-clause-some_run g c = rw c.refused-then-is_err-2.ensures.answer (λ other. no_memory_run c.in-Ok.parsed.settings _ _ refl)
+returns-then-is_err-2-clause-some_run g c = rw (c.refused-then-is_err-2.ensures.settings, c.refused-then-is_err-2.ensures.nothing, c.refused-then-is_err-2.ensures.status) (λ other. no_memory_run c.in-Ok.parsed.settings _ _ refl)
 
 pub returns-then-is_err-clause-audit : goal.returns-then-is_err-clause-audit
-returns-then-is_err-clause-audit g c = rw c.refused-then-is_err.ensures.answer (λ audits. no_memory_audit c.in-Ok.parsed.settings.format _ _)
+returns-then-is_err-clause-audit g c = rw (c.refused-then-is_err.ensures.settings, c.refused-then-is_err.ensures.nothing, c.refused-then-is_err.ensures.status) (λ audits. no_memory_audit c.in-Ok.parsed.settings.format _ _)
 
 pub returns-then-is_err-2-clause-audit : goal.returns-then-is_err-2-clause-audit
-returns-then-is_err-2-clause-audit g c = rw c.refused-then-is_err-2.ensures.answer (λ audits. no_memory_audit c.in-Ok.parsed.settings.format _ _)
+returns-then-is_err-2-clause-audit g c = rw (c.refused-then-is_err-2.ensures.settings, c.refused-then-is_err-2.ensures.nothing, c.refused-then-is_err-2.ensures.status) (λ audits. no_memory_audit c.in-Ok.parsed.settings.format _ _)
 
 pub returns-clause-complete_audit : goal.returns-clause-complete_audit
 returns-clause-complete_audit g c audits keeps keeper sink taken =

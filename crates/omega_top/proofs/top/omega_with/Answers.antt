@@ -82,20 +82,20 @@ returns-in-Ok-clause-no_further g c = ends_no_further _ _ _ _ c.args.settings.no
 
 pub returns-in-Err-clause-no_further : goal.returns-in-Err-clause-no_further
 returns-in-Err-clause-no_further g c =
-    rw (c.refused.ensures.answer, c.from.ensures) (stops_there _ _ _ _ c.in-Err.refusal c.in-Err.ensures.stopped)
+    rw (c.refused.ensures.status, c.from.ensures) (stops_there _ _ _ _ c.in-Err.refusal c.in-Err.ensures.stopped)
 
 pub returns-in-Err-clause-first : goal.returns-in-Err-clause-first
 returns-in-Err-clause-first g c bytes told =
-    rw (c.refused.ensures.answer, c.from.ensures) (answers_refusal bytes c.in-Err.refusal (c.in-Err.ensures.refusal bytes told))
+    rw (c.refused.ensures.status, c.from.ensures) (answers_refusal bytes c.in-Err.refusal (c.in-Err.ensures.refusal bytes told))
 
 pub returns-in-Err-clause-made : goal.returns-in-Err-clause-made
 returns-in-Err-clause-made g c makes =
-    rw (c.refused.ensures.answer, c.from.ensures)
+    rw (c.refused.ensures.status, c.from.ensures)
     (subst (λ (refusal : ReadRefusal). EndsRun (status_of refusal)) (sym (c.in-Err.ensures.made makes)) tt)
 
 pub returns-in-Err-clause-some_run : goal.returns-in-Err-clause-some_run
 returns-in-Err-clause-some_run g c =
-    rw (c.refused.ensures.answer, c.from.ensures) (λ runs. refused_run c.args.settings.now c.in-Err.refusal _ _ refl)
+    rw (c.refused.ensures.nothing, c.refused.ensures.status, c.from.ensures) (λ runs. refused_run c.args.settings.now c.in-Err.refusal _ _ refl)
 
 pub returns-in-Ok-clause-written : goal.returns-in-Ok-clause-written
 returns-in-Ok-clause-written g c bytes told =
@@ -107,10 +107,10 @@ returns-in-Ok-clause-written g c bytes told =
 
 pub returns-in-Err-clause-resume : goal.returns-in-Err-clause-resume
 returns-in-Err-clause-resume g c =
-    rw (c.refused.ensures.answer, c.from.ensures)
+    rw (c.refused.ensures.nothing, c.refused.ensures.status, c.from.ensures)
     (λ is bytes told. refused_resume c.args.settings.now (trace_of bytes) (g.P.Keeper.kept c.args.keeper.now) c.in-Err.refusal)
 
 pub returns-in-Err-clause-some_resume : goal.returns-in-Err-clause-some_resume
 returns-in-Err-clause-some_resume g c =
-    rw (c.refused.ensures.answer, c.from.ensures)
+    rw (c.refused.ensures.nothing, c.refused.ensures.status, c.from.ensures)
     (λ is. refused_some_resume c.args.settings.now (g.P.Keeper.kept c.args.keeper.now) c.in-Err.refusal)

@@ -26,7 +26,7 @@ returns-in_default-clause-resume g c =
     let before = g.P.Keeper.kept c.args.keeper.now in
     let now = g.P.Keeper.kept c.run_of.new.keeper in
     let run = c.in-Ok.whole in
-    rw c.refused-in_default.ensures.answer
+    rw (c.refused-in_default.ensures.nothing, c.refused-in_default.ensures.status)
     (λ is. stopped_resume settings trace before now NoMemory (stops_whole settings trace before now run.history (c.in-Ok.ensures.kept is) c.in-Ok.ensures.lawful
     (c.in-Ok.ensures.turns (ap takes_turns is))
     (λ other lawful turns. c.in-Ok.ensures.only (λ threads. let clash : Resume ≡ Run = sym is ∙ threads in absurd (cc)) other lawful
