@@ -2,10 +2,11 @@
 use Rattle.std.proofs.Common.{◌≡◌, ◌≤◌, ◌<◌, ℕ, suc, true, false, List, [], ◌∷◌, ◌++◌, length, take, drop, Some, None, inl, inr, refl, sym, ap, subst, arith, ◌∙◌}
 use Rattle.std.specs.Prelude.{◌==◌, if◌then◌else◌}
 use Rattle.std.proofs.lemmas.Bool.{eq-eqb, eqb-true}
-use Rattle.std.proofs.lemmas.List.{length-append, length-map}
+use Rattle.std.proofs.Math.Seq.{take-append_seam}
+use Rattle.std.proofs.lemmas.List.{length-append, length-map, map-append}
 use Rattle.std.proofs.lemmas.Slice.Eq.{bytes_eq-Decides}
 use Rattle.omega_keep.specs.KeptLines.{entry_text}
-use Rattle.omega_keep.specs.Resumed.{ends_round, in_common, lines_of, refused_for}
+use Rattle.omega_keep.specs.Resumed.{AreWholeRounds, ends_round, in_common, lines_of, refused_for}
 use Rattle.omega_laws.specs.FirstRounds.{AreFirstInTurns}
 use Rattle.omega_laws.proofs.FirstRounds.{all_first, first_go_on, none_first, only_first}
 use Rattle.omega_laws.proofs.RoundsAdd.{rounds_add}
@@ -153,3 +154,22 @@ module _ (settings : Settings) (trace : TraceTables) where
             ∙ ap (refused_for departs.history) lines ∙ departs.refused in
             absurd (cc)
       ]
+
+  -- those are the first lines of the whole run, up to the end of a round
+  pub whole_front : (lines : List (List ℕ)) (history : List Entry) → AreRoundsInTurns settings trace lines
+      → Lawful settings trace history → InTurns history → AreWholeRounds history lines
+  whole_front lines history are lawful turns =
+      let one : List Entry = are.history in
+      let all : ℕ = length (rounds trace settings.window) in
+      let rows = rows_of (take are.count (rounds trace settings.window)) in
+      let between : List Round = drop are.count (take all (rounds trace settings.window)) in
+      let goes_on = first_go_on settings trace are.count all one history are.played.within are.played (all_first settings trace history lawful turns) in
+      let later = rounds_add settings trace rows one between history goes_on in
+      record {
+        count = length one;
+        ends = ends_between settings trace rows one between history goes_on;
+        told = are.told
+            ∙ sym (take-append_seam (lines_of one) (lines_of later.0))
+            ∙ ap (λ (n : ℕ). take n (lines_of one ++ lines_of later.0)) (length-map one entry_text)
+            ∙ ap (take (length one)) (sym (map-append entry_text one later.0) ∙ ap lines_of (sym later.1));
+      }

@@ -2,7 +2,7 @@
 ghost use Rattle.std.specs.Prelude.{◌≡◌, ◌≤◌, ℕ, None, Some, List, IfErr, IfOk, OnErr, OnOk, length};
 ghost use Rattle.std.specs.Thread.{IsSync};
 ghost use Rattle.omega_keep.specs.Keeping.{Adds, Rose};
-ghost use Rattle.omega_keep.specs.Resumed.{refused_for};
+ghost use Rattle.omega_keep.specs.Resumed.{AreWholeRounds, refused_for};
 ghost use Rattle.omega_model.specs.Lawful.{Lawful};
 ghost use Rattle.omega_model.specs.Turns.{InTurns};
 ghost use Rattle.omega_model.specs.declared.entries.Entry.{Entry};
@@ -75,7 +75,8 @@ pub fn resume_turns<R: Threads + Sync, P: Keeper>(
 
 /// Kept lines depart from the first rounds of a trace in turns at one place at most, and nowhere where they
 /// are those of first rounds. For the history of the whole run, where there is one, they are refused at just
-/// that place. Does nothing: the contract is the law.
+/// that place, and lines of first rounds are its first lines, up to the end of a round. Does nothing: the
+/// contract is the law.
 pub fn kept_lines_depart_once()
     ensures once { (settings : Settings) (trace : TraceTables) (kept : List (List ℕ)) (one other : ℕ)
         → DepartAt settings trace kept one → DepartAt settings trace kept other → one ≡ other }
@@ -84,6 +85,9 @@ pub fn kept_lines_depart_once()
     ensures whole { (settings : Settings) (trace : TraceTables) (kept : List (List ℕ)) (place : ℕ)
         (history : List Entry) → DepartAt settings trace kept place
         → Lawful settings trace history → InTurns history → refused_for history kept ≡ Some place }
+    ensures front { (settings : Settings) (trace : TraceTables) (lines : List (List ℕ))
+        (history : List Entry) → AreRoundsInTurns settings trace lines
+        → Lawful settings trace history → InTurns history → AreWholeRounds history lines }
 {}
 
 /// Plays the round that is under way to its end and takes it. The history before it has so many entries.
