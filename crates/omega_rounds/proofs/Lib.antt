@@ -30,5 +30,6 @@ pub mod Reopened
 pub mod PlansKept
 pub mod KeptRounds
 pub mod RoundStarts
+pub mod Departing
 pub mod ResumedRounds
 pub mod AnsweredEntries

@@ -18,7 +18,7 @@ mod world;
 pub use clock::in_time;
 pub use kept::ResumeRefusal;
 pub use omega_workers::Stepped;
-pub use resume::resume_turns;
+pub use resume::{kept_lines_depart_once, resume_turns};
 pub use steps::RoundStep;
 pub use threads::on_threads;
 pub use turns::in_turns;

@@ -10,5 +10,6 @@ pub mod Ordering
 pub mod Unread
 pub mod Timing
 pub mod Written
+pub mod Replayed
 pub mod GoneOn
 pub mod NewWorlds

@@ -7,4 +7,5 @@ pub mod Chosen
 pub mod Reads
 pub mod Unread
 pub mod SoundHistory
+pub mod Replayed
 pub mod Resumes

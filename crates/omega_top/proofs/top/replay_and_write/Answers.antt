@@ -1,10 +1,10 @@
 use Rattle.std.proofs.Common.{◌≡◌, ◌∙◌, List, ℕ, ap, subst, sym}
 use Rattle.omega_model.specs.declared.results.Status.TheVariants.{NoMemory}
-use Rattle.omega_model.specs.declared.settings.Command.{Command}
 use Rattle.omega_model.specs.declared.settings.Command.TheVariants.{Resume, Run}
 use Rattle.omega_top.specs.Answers.{Writes}
-use Rattle.omega_top.specs.Commands.{OrderedBy, takes_turns}
-use Rattle.omega_top.proofs.GoneOn.{stopped_resume, stops_whole}
+use Rattle.omega_top.specs.Commands.{takes_turns}
+use Rattle.omega_top.proofs.GoneOn.{reported_resume, stopped_resume, stops_whole}
+use Rattle.omega_top.proofs.Replayed.{replayed}
 use Rattle.omega_top.proofs.Written.{written_if}
 use Rattle.omega_top.proofs.top.replay_and_write.Goals as goal
 
@@ -19,6 +19,21 @@ returns-clause-written g c =
     written_if settings trace run.history c.write-status.result before now c.in-Ok-report_of_run.bytes said
     (subst (λ (bytes : List ℕ). Writes bytes before now c.write-status.result) c.as_slice.ensures c.write-status.ensures.written)
 
+pub returns-clause-resume : goal.returns-clause-resume
+returns-clause-resume g c is =
+    let settings = c.args.input.settings in
+    let trace = c.args.input.trace in
+    let before = g.K.Sink.written c.args.out.now in
+    let now = g.K.Sink.written c.write-status.new.out in
+    let run = c.in-Ok.whole in
+    let status = c.write-status.result in
+    let said = c.in-Ok-report_of_run.ensures trace c.in-Ok.ensures.lawful c.in-Ok.ensures.left c.in-Ok.ensures.timed in
+    reported_resume settings trace (g.P.Keeper.kept c.args.keeper.now) (g.P.Keeper.kept c.run_of.new.keeper) run.history status before now
+    (c.in-Ok.ensures.kept is) c.write-status.ensures.ends
+    (replayed settings trace run.history status before now c.in-Ok-report_of_run.bytes is c.in-Ok.ensures.lawful c.in-Ok.ensures.ordered
+    (c.in-Ok.ensures.only (λ threads. let clash : Resume ≡ Run = sym is ∙ threads in absurd (cc))) said
+    (subst (λ (bytes : List ℕ). Writes bytes before now status) c.as_slice.ensures c.write-status.ensures.written))
+
 pub returns-in_default-clause-resume : goal.returns-in_default-clause-resume
 returns-in_default-clause-resume g c =
     let settings = c.args.input.settings in
@@ -27,7 +42,5 @@ returns-in_default-clause-resume g c =
     let now = g.P.Keeper.kept c.run_of.new.keeper in
     let run = c.in-Ok.whole in
     rw (c.refused-in_default.ensures.nothing, c.refused-in_default.ensures.status)
-    (λ is. stopped_resume settings trace before now NoMemory (stops_whole settings trace before now run.history (c.in-Ok.ensures.kept is) c.in-Ok.ensures.lawful
-    (c.in-Ok.ensures.turns (ap takes_turns is))
-    (λ other lawful turns. c.in-Ok.ensures.only (λ threads. let clash : Resume ≡ Run = sym is ∙ threads in absurd (cc)) other lawful
-    (subst (λ (command : Command). OrderedBy command settings trace other) (sym is) turns))))
+    (λ is. stopped_resume settings trace before now NoMemory _ (stops_whole settings trace before now run.history (c.in-Ok.ensures.kept is) c.in-Ok.ensures.lawful
+    (c.in-Ok.ensures.turns (ap takes_turns is))))
