@@ -16,7 +16,7 @@ use omega_model::{
     Bytes, Claim, Constraints, Mode, Need, NoMemory, Policy, Request, Rule, TaskKey, Txn, Verdict,
     Wish, Wishes,
 };
-use omega_plan::{plan, victims};
+use omega_plan::{Indexes, Overlay, plan, victims};
 use std::alloc::Global;
 use std::mem;
 

@@ -3,19 +3,11 @@ mod SyncedTogether
 mod PlayersTogether
 pub mod TurnsTaken
 pub mod Taking
-pub mod AttemptsLeft
-mod Examples
 pub mod Worlds
 pub mod TwoHalves
-pub mod Attempted
 pub mod WorkerLists
-pub mod Answering
 pub mod Requested
-pub mod Fed
-pub mod Applying
 pub mod NewWorkers
-pub mod CommitCounts
-pub mod WorkerCommits
 pub mod DeskCommits
 pub mod WorldSteps
 pub mod WorldWaiting
@@ -34,7 +26,6 @@ pub mod PlayingOn
 pub mod RoundFailures
 pub mod ClosedRounds
 pub mod PlayersBack
-pub mod RunOn
 pub mod Reopened
 pub mod PlansKept
 pub mod KeptRounds

@@ -19,7 +19,7 @@ use Rattle.omega_model.specs.declared.rows.TraceTables.{TraceTables}
 use Rattle.omega_model.specs.Touches.{is_commit}
 use Rattle.omega_plan.specs.Indexes.{AreIndexesOf}
 use Rattle.omega_plan.specs.declared.indexes.Indexes.{Indexes}
-use Rattle.omega_rounds.proofs.CommitCounts.{commits_other, indexes_on}
+use Rattle.omega_workers.proofs.CommitCounts.{commits_other, indexes_on}
 use Rattle.omega_laws.proofs.RowEntries.{IsOfRow, are_of_row}
 
 -- an entry of a row is no commit

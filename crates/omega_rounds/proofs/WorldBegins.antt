@@ -31,18 +31,19 @@ use Rattle.omega_plan.specs.Indexes.{AreIndexesOf}
 use Rattle.omega_plan.specs.declared.indexes.Indexes.{Indexes}
 use Rattle.omega_desk.specs.Counts.{count_of}
 use Rattle.omega_desk.specs.Desks.{DeskState, left_at, still_tried}
-use Rattle.omega_rounds.specs.AttemptsLeft.{attempts_left}
-use Rattle.omega_rounds.specs.Forked.{AreAllIndexesOf}
-use Rattle.omega_rounds.specs.declared.forked.PieceIndexes.{PieceIndexes}
+use Rattle.omega_workers.specs.AttemptsLeft.{attempts_left}
+use Rattle.omega_workers.specs.Forked.{AreAllIndexesOf}
+use Rattle.omega_workers.specs.declared.forked.PieceIndexes.{PieceIndexes}
 use Rattle.omega_laws.specs.InRound.{RoundIsOver, rows_now}
 use Rattle.omega_rounds.specs.Keeping.{HasBegun, HasNotBegun, IsLawful, IsWorld, world_at}
 use Rattle.omega_laws.specs.NextCommit.{NobodyHasWork}
-use Rattle.omega_rounds.specs.Opening.{BeginAll, BeginsWorker, HaveNoWork, IsAsked}
+use Rattle.omega_rounds.specs.Beginning.{BeginAll, BeginsWorker, IsAsked}
+use Rattle.omega_workers.specs.Workers.{HaveNoWork, IsDeskOf, IsRoutedTo, IsWorker, synced_of, to_do_of, SyncedWithin}
 use Rattle.omega_rounds.specs.Playing.{IsAtStart}
-use Rattle.omega_rounds.specs.Workers.{IsDeskOf, IsRoutedTo, IsWorker, synced_of, to_do_of, SyncedWithin}
 use Rattle.omega_rounds.specs.Stages.{IsInRunOf, Source, Stage, next_stage, rows_begun, stage_of}
-use Rattle.omega_rounds.specs.declared.worker.Worker.{Worker}
-use Rattle.omega_rounds.proofs.PlansKept.{all_indexes_opened, plan_none}
+use Rattle.omega_workers.specs.declared.worker.Worker.{Worker}
+use Rattle.omega_rounds.proofs.PlansKept.{all_indexes_opened}
+use Rattle.omega_workers.proofs.HavingPlans.{plan_none}
 use Rattle.omega_rounds.proofs.OpenedEntries.{commits_opened, failed_opened, indexes_opened}
 use Rattle.omega_laws.proofs.Places.{take_next}
 use Rattle.omega_rounds.proofs.Requested.{open_own, requests_own}

@@ -1,11 +1,10 @@
 //! The shared cell.
-ghost use Rattle.std.specs.Prelude.{◌≡◌, ℕ, ◌<◌, ◌≤◌, ◌+◌, ◌^◌, List, [], Some, true, length, drop, map, All, Any, IfOk, IfErr, OnOk, OnErr, slice_get, vec_capacity};
+ghost use Rattle.std.specs.Prelude.{◌≡◌, ℕ, ◌<◌, ◌≤◌, ◌^◌, [], Some, true, length, drop, map, All, Any, IfOk, IfErr, OnOk, OnErr, slice_get, vec_capacity};
 ghost use Rattle.omega_lock.specs.Lists.{StartsWith};
 ghost use Rattle.omega_model.specs.Applying.{EachMayApply};
 ghost use Rattle.omega_model.specs.Copy.{Carries, StandsFor};
 ghost use Rattle.omega_model.specs.Touches.{copied_seqs};
 ghost use Rattle.omega_model.specs.Work.{is_commit_of};
-ghost use Rattle.omega_model.specs.declared.entries.Entry.{Entry};
 ghost use Rattle.omega_shared.specs.Commits.{GoesOnWithout, commits_since};
 ghost use Rattle.omega_shared.specs.Held.{held_history};
 ghost use Rattle.omega_shared.specs.Passes.{IsPassSeat, new_pass, new_passes, pass_at};
@@ -146,7 +145,12 @@ impl SharedCell {
     /// memory runs out the turn is spent, and the pass may have seen more. May wait.
     ///
     /// Costs the same however long the history is and however many machines there are.
-    pub fn look<R: Wait>(&self, rt: &R, alloc: Global, pass: &mut Pass) -> Result<CellView, NoMemory>
+    pub fn look<R: Wait>(
+        &self,
+        rt: &R,
+        alloc: Global,
+        pass: &mut Pass,
+    ) -> Result<CellView, NoMemory>
         requires of { pass.old.of ≡ self.now.of }
         requires left { 0 < pass.old.turns }
         ensures turn { SpendsTurn pass.old pass.new }
@@ -246,7 +250,12 @@ impl SharedCell {
     }
 
     /// Takes a turn, and gives out a view of the cell.
-    fn lend<R: Wait>(&self, rt: &R, alloc: Global, seat: &mut Seat<Held>) -> Result<CellView, NoMemory>
+    fn lend<R: Wait>(
+        &self,
+        rt: &R,
+        alloc: Global,
+        seat: &mut Seat<Held>,
+    ) -> Result<CellView, NoMemory>
         requires of { seat.old.of ≡ self.now.of }
         requires left { 0 < seat.old.turns }
         requires pass { IsPassSeat seat.old }

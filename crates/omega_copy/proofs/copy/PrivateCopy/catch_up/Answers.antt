@@ -53,5 +53,5 @@ returns-clause-stands c = λ history stands carries applied.
     let target = target_of history seen delta.to in
     let lead = leads history seen delta.to carried.order applied board delta here carried in
     let at = c.in_ok-put_parts.ensures.put target (subst (λ (parts : List Part). LeadTo board parts target) (sym c.into_parts-parts.ensures) lead) in
-    subst (λ n. StandsFor (cell_of c.put_parts.new.self) (seq_at c.put_parts.new.self.table) n history) (sym c.to-to.ensures)
+    subst (λ n. StandsFor (cell_of c.put_parts.new.self) (seq_at c.put_parts.new.self.table) n history) (sym (c.tell_machines.ensures.seen ∙ c.to-to.ensures))
     (stands_at c.put_parts.new.self history seen delta.to carried.within at)
