@@ -218,6 +218,11 @@ chosen() {
     shape updates 2000 replay
     shape shrinking 2000 replay
     shape crowded 5000 replay --preempt all
+    shape levels 32768 replay --batch 8 --preempt all
+    shape levels 32768 run --batch 8 --preempt all
+    shape ranks 255 replay --batch 2 --preempt all
+    shape ranks 5000 replay --batch 2 --preempt all
+    shape ranks_in_turn 500 replay --batch 2 --preempt all
     shape taking_over 2000 run
     shape same_tree 100000 replay
     shape other_trees 100000 replay

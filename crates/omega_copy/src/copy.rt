@@ -22,7 +22,7 @@ use std::marker::Model;
 ///
 /// A contract sees its board without the room that the board has for more tasks, and how many entries it
 /// has seen. It doesn't see the indexes that the copy keeps beside the board: what is free on each
-/// machine, and what evictions could free for each precedence for which that was asked.
+/// machine, and what evictions could free for precedences for which that was asked.
 #[derive(Drop)]
 pub struct PrivateCopy {
     board: Board,
@@ -107,8 +107,8 @@ impl PrivateCopy {
 
     /// Takes in the rest of a history for which the copy stands, from the first entry on that it
     /// hasn't seen. Where memory runs out it has taken in some of them, and stands for the history
-    /// still. Costs what the entries change, an attribute's entry the logarithm of the machine's attributes
-    /// and those behind one that is deleted, and for each level the tasks on the machines that they touch.
+    /// still. Costs what the entries change, and an attribute's entry the logarithm of the machine's attributes
+    /// and those behind one that is deleted.
     pub fn follow(&mut self, alloc: Global, later: &[Entry]) -> Result<(), NoMemory>
         requires history { MayFollow self.old later.now }
         requires few { self.old.seen + length later.now < 2 ^ 64 }
@@ -140,8 +140,8 @@ impl PrivateCopy {
 
     /// Takes in what changed between the entries that it has seen and a later place of a history for
     /// which it stands. The indexes are told. Where memory runs out, the copy is as before. Costs the parts
-    /// of the delta and the tasks on their machines, each of which is looked up on the board, and for each
-    /// level these tasks once more, whatever number of entries it leads over.
+    /// of the delta and the tasks on their machines, each of which is looked up on the board, whatever number of
+    /// entries it leads over.
     pub fn catch_up(&mut self, alloc: Global, delta: Delta) -> Result<(), NoMemory>
         requires history { MayCatchUp self.old delta }
         ensures stands { OnOk result ((history : List Entry) → CopyOf self.old history → Carries delta history self.old.seen delta.to → EachMayApply history → CopyOf self.new history) }

@@ -27,7 +27,7 @@ use Rattle.omega_plan.proofs.Applied.{MayAll, applied_sound, applied_held}
 use Rattle.omega_board.proofs.Untouched.{tasks_untouched}
 
 -- a list and itself
-alone_same : (changed : ℕ → Bool) (rows : List Machine) → ChangedAlone changed rows rows
+pub alone_same : (changed : ℕ → Bool) (rows : List Machine) → ChangedAlone changed rows rows
 alone_same changed [] = tt
 alone_same changed (row ∷ rows) = ((refl, λ _. refl), alone_same changed rows)
 
@@ -50,6 +50,10 @@ alone_trans first second both more too (m ∷ ms) (k ∷ ks) (n ∷ ns) one two 
   ),
   alone_trans first second both more too ms ks ns one.1 two.1,
 )
+
+-- the same where more may change
+pub alone_more : (changed more : ℕ → Bool) → ((id : ℕ) → changed id ≡ true → more id ≡ true) → (old new : List Machine) → ChangedAlone changed old new → ChangedAlone more old new
+alone_more changed more also old new alone = alone_trans changed changed more also also old new new alone (alone_same changed new)
 
 module _ (machine : ℕ) (f : Machine → Machine) (keeps : (m : Machine) → (f m).id ≡ m.id) where
   alone_changed : (rows : List Machine) → ChangedAlone (λ id. machine == id) rows (change machine f rows)
@@ -91,7 +95,7 @@ module _ (machine : ℕ) (f : Machine → Machine) (keeps : (m : Machine) → (f
       subst (λ n. is_listed n (change machine f (ensured machine rows)) ≡ true) (eqb-true _ _ same) (lists_changed (ensured machine rows) (lists_ensured rows))
 
 -- an entry changes the machines that it touches alone
-rows_step : (rows : List Machine) (entry : Entry) → ChangedAlone (λ id. touches id entry) rows (machines_after rows entry)
+pub rows_step : (rows : List Machine) (entry : Entry) → ChangedAlone (λ id. touches id entry) rows (machines_after rows entry)
 rows_step rows (Round number) = alone_same _ rows
 rows_step rows (MachineAdd machine cap) = alone_touched machine (added cap) (λ m. refl) rows
 rows_step rows (MachineUpdate machine cap) = alone_touched machine (updated cap) (λ m. refl) rows

@@ -1,8 +1,8 @@
 -- Claims beside a board, and what indexes are told of them.
-use Rattle.std.proofs.Common.{◌≡◌, ℕ, zero, suc, ◌+◌, ◌≤◌, Bool, true, false, cond, ◌||◌, ◌&&◌, nat_eq, nat_lt, nat_le, List, [], ◌∷◌, Option, Some, None, get_or, slice_get, map, set, position, refl, sym, ap, ap₂, ◌∙◌, subst, arith, if◌then◌else◌, ◌==◌}
+use Rattle.std.proofs.Common.{◌≡◌, ℕ, zero, suc, ◌+◌, ◌≤◌, Bool, true, false, cond, ◌||◌, ◌&&◌, nat_eq, List, [], ◌∷◌, Option, Some, None, get_or, slice_get, map, set, position, refl, sym, ap, ap₂, ◌∙◌, subst, arith, if◌then◌else◌, ◌==◌}
 use Rattle.std.specs.List.{IsDistinct, position_or_len}
 use Rattle.std.specs.Prelude.{option_map}
-use Rattle.std.proofs.lemmas.Bool.{eq-eqb, eqb-true, leb-true, le-leb, ltb-true, ltb-false, or_parts}
+use Rattle.std.proofs.lemmas.Bool.{eq-eqb, eqb-true, le-leb, or_parts}
 use Rattle.std.proofs.lemmas.Option.{cond_some, none-some, same_Some}
 use Rattle.omega_model.specs.Cell.{is_on, task_at, total, with_task, without}
 use Rattle.omega_model.specs.Need.{minus, nothing, plus}
@@ -32,54 +32,30 @@ use Rattle.omega_plan.proofs.Tells.{tells_unlisted, tells_while, told_all, told_
 less_by : (cap need rest : Need) → minus cap (plus need rest) ≡ minus (minus cap rest) need
 less_by cap need rest = need_is _ _ (omega arith) (omega arith) (omega arith)
 
-as_much : (cap rest : Need) → minus cap (plus nothing rest) ≡ minus cap rest
-as_much cap rest = need_is _ _ (omega arith) (omega arith) (omega arith)
-
--- a task of a lower precedence doesn't stay
-below_goes : (prec own : ℕ) → nat_lt own prec ≡ true → nat_le prec own ≡ false
-below_goes prec own below = by_answer (nat_le prec own) (λ t. absurd (omega (arith, ltb-true _ _ below, leb-true _ _ t))) (λ f. f)
-
-else_stays : (prec own : ℕ) → nat_lt own prec ≡ false → nat_le prec own ≡ true
-else_stays prec own other = le-leb prec own (omega (arith, not_below own prec other))
-  where
-    not_below : (a b : ℕ) → nat_lt a b ≡ false → b ≤ a
-    not_below a b f = omega (arith, ltb-false _ _ f)
-
--- one more task on a machine takes its need off what could be freed there, unless its precedence is lower
-pub freed_less : (prec : ℕ) (tasks : List Task) (t : Task) (m : Machine) → task_at tasks t.key ≡ None → IsInOrder ByKey tasks → is_on m.id t ≡ true
-    → freed_on prec (with_task t tasks) m ≡ option_map (taken_by prec t.spec) (freed_on prec tasks m)
-freed_less prec tasks t m absent order on =
+-- one more task on a machine takes its need off what is free there
+pub freed_less : (tasks : List Task) (t : Task) (m : Machine) → task_at tasks t.key ≡ None → IsInOrder ByKey tasks → is_on m.id t ≡ true
+    → freed_on 0 (with_task t tasks) m ≡ option_map (taken_by t.spec) (freed_on 0 tasks m)
+freed_less tasks t m absent order on =
     by_answer m.up
     (λ up.
-    ap (λ b. if b then Some (minus m.cap (staying_on prec (with_task t tasks) m.id)) else None) up
+    ap (λ b. if b then Some (minus m.cap (staying_on 0 (with_task t tasks) m.id)) else None) up
     ∙ ap Some left
-    ∙ sym (ap (λ b. option_map (taken_by prec t.spec) (if b then Some (minus m.cap (staying_on prec tasks m.id)) else None)) up))
+    ∙ sym (ap (λ b. option_map (taken_by t.spec) (if b then Some (minus m.cap (staying_on 0 tasks m.id)) else None)) up))
     (λ down.
-    ap (λ b. if b then Some (minus m.cap (staying_on prec (with_task t tasks) m.id)) else None) down
-    ∙ sym (ap (λ b. option_map (taken_by prec t.spec) (if b then Some (minus m.cap (staying_on prec tasks m.id)) else None)) down))
+    ap (λ b. if b then Some (minus m.cap (staying_on 0 (with_task t tasks) m.id)) else None) down
+    ∙ sym (ap (λ b. option_map (taken_by t.spec) (if b then Some (minus m.cap (staying_on 0 tasks m.id)) else None)) down))
   where
-    one_more : staying_on prec (with_task t tasks) m.id ≡ plus (share (λ x. stays_against prec x && is_on m.id x) t) (staying_on prec tasks m.id)
+    own : share (λ x. stays_against 0 x && is_on m.id x) t ≡ t.spec.need
+    own = ap₂ (λ (a c : Bool). cond (a && c) t.spec.need nothing) (le-leb 0 t.spec.prec (omega arith)) on
+
+    one_more : staying_on 0 (with_task t tasks) m.id ≡ plus t.spec.need (staying_on 0 tasks m.id)
     one_more =
-        ap total (filter_and (stays_against prec) (is_on m.id) (with_task t tasks))
-        ∙ total-with (λ x. stays_against prec x && is_on m.id x) t tasks absent order
-        ∙ ap (λ ts. plus (share (λ x. stays_against prec x && is_on m.id x) t) (total ts)) (sym (filter_and (stays_against prec) (is_on m.id) tasks))
+        ap total (filter_and (stays_against 0) (is_on m.id) (with_task t tasks))
+        ∙ total-with (λ x. stays_against 0 x && is_on m.id x) t tasks absent order
+        ∙ ap₂ plus own (ap total (sym (filter_and (stays_against 0) (is_on m.id) tasks)))
 
-    own : (b : Bool) → stays_against prec t ≡ b → share (λ x. stays_against prec x && is_on m.id x) t ≡ (if b then t.spec.need else nothing)
-    own b is = ap₂ (λ (a c : Bool). cond (a && c) t.spec.need nothing) is on ∙ both b
-      where
-        both : (b : Bool) → cond (b && true) t.spec.need nothing ≡ (if b then t.spec.need else nothing)
-        both true = refl
-        both false = refl
-
-    left : minus m.cap (staying_on prec (with_task t tasks) m.id) ≡ taken_by prec t.spec (minus m.cap (staying_on prec tasks m.id))
-    left =
-        by_answer (nat_lt t.spec.prec prec)
-        (λ below.
-        ap (minus m.cap) (one_more ∙ ap (λ n. plus n (staying_on prec tasks m.id)) (own false (below_goes prec t.spec.prec below))) ∙ as_much m.cap (staying_on prec tasks m.id)
-        ∙ sym (ap (λ b. if b then minus m.cap (staying_on prec tasks m.id) else minus (minus m.cap (staying_on prec tasks m.id)) t.spec.need) below))
-        (λ other.
-        ap (minus m.cap) (one_more ∙ ap (λ n. plus n (staying_on prec tasks m.id)) (own true (else_stays prec t.spec.prec other))) ∙ less_by m.cap t.spec.need (staying_on prec tasks m.id)
-        ∙ sym (ap (λ b. if b then minus m.cap (staying_on prec tasks m.id) else minus (minus m.cap (staying_on prec tasks m.id)) t.spec.need) other))
+    left : minus m.cap (staying_on 0 (with_task t tasks) m.id) ≡ taken_by t.spec (minus m.cap (staying_on 0 tasks m.id))
+    left = ap (minus m.cap) one_more ∙ less_by m.cap t.spec.need (staying_on 0 tasks m.id)
 
 -- what stands at a place of a list of values
 get_mapped : {X Y : Type 0} (f : X → Y) (xs : List X) (place : ℕ) (x : X) (d : Y) → slice_get xs place ≡ Some x → get_or (map f xs) place d ≡ f x
@@ -101,38 +77,38 @@ at_position p (y ∷ ys) place x found is =
     let next : suc (position_or_len p ys) ≡ place = omega (arith, behind) in
     at_position p ys (position_or_len p ys) x refl (subst (λ n. slice_get (y ∷ ys) n ≡ Some x) (sym next) is))
 
-module _ (prec : ℕ) (board : BoardState) (tenants : Tenants) (claim : Claim) (tasks : List Task) (placed : IsPlacedBeside board tenants claim tasks)
-    (frees : List (Option Need)) (so : frees ≡ freed_of prec (record { machines = machines_of board.table; tasks = tasks })) where
+module _ (board : BoardState) (tenants : Tenants) (claim : Claim) (tasks : List Task) (placed : IsPlacedBeside board tenants claim tasks)
+    (frees : List (Option Need)) (so : frees ≡ freed_of 0 (record { machines = machines_of board.table; tasks = tasks })) where
   -- an index tells all but what a claim changed
-  told_else : TellsBut (λ n. claim.machine == n || false) prec (tasks_with tasks claim) frees (machines_of board.table)
+  told_else : TellsBut (λ n. claim.machine == n || false) 0 (tasks_with tasks claim) frees (machines_of board.table)
   told_else =
-      subst (λ fs. TellsBut (λ n. claim.machine == n || false) prec (tasks_with tasks claim) fs (machines_of board.table)) (sym so)
-      (tells_while (λ n. claim.machine == n || false) prec tasks (tasks_with tasks claim) (λ id out. placed.elsewhere id (or_parts _ _ out).0) (machines_of board.table))
+      subst (λ fs. TellsBut (λ n. claim.machine == n || false) 0 (tasks_with tasks claim) fs (machines_of board.table)) (sym so)
+      (tells_while (λ n. claim.machine == n || false) 0 tasks (tasks_with tasks claim) (λ id out. placed.elsewhere id (or_parts _ _ out).0) (machines_of board.table))
 
   -- where it has no victims
-  pub taken_there : (place : ℕ) (at : Option Need) (value : Option Need) → claim.victims ≡ [] → at ≡ get_or frees place None → value ≡ option_map (taken_by prec claim.spec) at
-      → (m : Machine) → slice_get (machines_of board.table) place ≡ Some m → m.id ≡ claim.machine → value ≡ freed_on prec (tasks_with tasks claim) m
+  pub taken_there : (place : ℕ) (at : Option Need) (value : Option Need) → claim.victims ≡ [] → at ≡ get_or frees place None → value ≡ option_map (taken_by claim.spec) at
+      → (m : Machine) → slice_get (machines_of board.table) place ≡ Some m → m.id ≡ claim.machine → value ≡ freed_on 0 (tasks_with tasks claim) m
   taken_there place at value none at_is is m here same =
       is
-      ∙ ap (option_map (taken_by prec claim.spec)) (at_is ∙ ap (λ fs. get_or fs place None) so ∙ get_mapped (freed_on prec tasks) (machines_of board.table) place m None here)
-      ∙ sym (freed_less prec tasks (task_of claim) m placed.absent placed.ordered (eq-eqb claim.machine m.id (sym same)))
-      ∙ ap (λ ts. freed_on prec (with_task (task_of claim) ts) m) (sym (without_none tasks))
-      ∙ ap (λ ks. freed_on prec (with_task (task_of claim) (without ks tasks)) m) (sym none)
+      ∙ ap (option_map (taken_by claim.spec)) (at_is ∙ ap (λ fs. get_or fs place None) so ∙ get_mapped (freed_on 0 tasks) (machines_of board.table) place m None here)
+      ∙ sym (freed_less tasks (task_of claim) m placed.absent placed.ordered (eq-eqb claim.machine m.id (sym same)))
+      ∙ ap (λ ts. freed_on 0 (with_task (task_of claim) ts) m) (sym (without_none tasks))
+      ∙ ap (λ ks. freed_on 0 (with_task (task_of claim) (without ks tasks)) m) (sym none)
 
   -- once its machine is told too
   pub claim_told : (shown : List MachineState) (after : List (Option Need)) (place : ℕ) (value : Option Need) → shown ≡ board.table → IsDistinct nat_eq (numbers_of (machines_of board.table))
       → Some place ≡ position (λ machine. machine.id == claim.machine) (machines_of shown)
-      → ((m : Machine) → slice_get (machines_of board.table) place ≡ Some m → m.id ≡ claim.machine → value ≡ freed_on prec (tasks_with tasks claim) m)
-      → after ≡ set frees place value → after ≡ freed_of prec (record { machines = machines_of board.table; tasks = tasks_with tasks claim })
+      → ((m : Machine) → slice_get (machines_of board.table) place ≡ Some m → m.id ≡ claim.machine → value ≡ freed_on 0 (tasks_with tasks claim) m)
+      → after ≡ set frees place value → after ≡ freed_of 0 (record { machines = machines_of board.table; tasks = tasks_with tasks claim })
   claim_told shown after place value same distinct found is written =
       let at = cond_some _ _ _ (sym (subst (λ t. Some place ≡ position (λ machine. machine.id == claim.machine) (machines_of t)) same found)) in
-      told_all prec (tasks_with tasks claim) after (machines_of board.table)
-      (told_at (λ id. false) prec (tasks_with tasks claim) claim.machine board.table shown frees after place value same distinct found
+      told_all 0 (tasks_with tasks claim) after (machines_of board.table)
+      (told_at (λ id. false) 0 (tasks_with tasks claim) claim.machine board.table shown frees after place value same distinct found
       (λ m here. is m here (eqb-true m.id claim.machine (at_position (λ machine. machine.id == claim.machine) (machines_of board.table) place m at.1 here)))
       written told_else)
 
   -- or where its machine isn't listed
-  pub claim_unlisted : is_listed claim.machine (machines_of board.table) ≡ false → frees ≡ freed_of prec (record { machines = machines_of board.table; tasks = tasks_with tasks claim })
+  pub claim_unlisted : is_listed claim.machine (machines_of board.table) ≡ false → frees ≡ freed_of 0 (record { machines = machines_of board.table; tasks = tasks_with tasks claim })
   claim_unlisted absent =
-      told_all prec (tasks_with tasks claim) frees (machines_of board.table)
-      (tells_unlisted (λ id. false) prec (tasks_with tasks claim) claim.machine frees (machines_of board.table) absent told_else)
+      told_all 0 (tasks_with tasks claim) frees (machines_of board.table)
+      (tells_unlisted (λ id. false) 0 (tasks_with tasks claim) claim.machine frees (machines_of board.table) absent told_else)

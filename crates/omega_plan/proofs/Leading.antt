@@ -22,12 +22,12 @@ use Rattle.omega_board.specs.Board.{BoardState, cell_of}
 use Rattle.omega_board.specs.Numbers.{is_among}
 use Rattle.omega_board.specs.Parts.{Target, LeadTo, IsAt, ChangedAlone}
 use Rattle.omega_board.proofs.Rewritten.{listed_still, parts_from}
-use Rattle.omega_fit.specs.Positions.{Positions}
-use Rattle.omega_plan.specs.Levels.{NearParts}
-use Rattle.omega_plan.specs.Telling.{TellsBut, freed_of, freed_on, placed}
+use Rattle.omega_plan.specs.Indexes.{MayTell, TellAll}
+use Rattle.omega_plan.specs.Levels.{GoesTo}
+use Rattle.omega_plan.specs.Telling.{freed_of, freed_on}
+use Rattle.omega_plan.specs.declared.indexes.Indexes.{Indexes}
 use Rattle.omega_plan.proofs.Applied.{MayAll, may_all, may_front, may_back, applied_sound, applied_held}
-use Rattle.omega_plan.proofs.Changing.{went_all, seq_still}
-use Rattle.omega_plan.proofs.Tells.{freed_same}
+use Rattle.omega_plan.proofs.Changing.{alone_more, went_all, seq_still}
 
 -- where a history is at a place, and what its entries since another changed
 abbrev pub target_of : List Entry → ℕ → ℕ → Target
@@ -84,22 +84,6 @@ stands_at board history from to within at = record {
   numbers = at.seqs;
 }
 
--- an index with a place for each machine tells of those that didn't change
-pub tells_rows : (changed stale : ℕ → Bool) (prec : ℕ) → ((id : ℕ) → stale id ≡ false → changed id ≡ false) → (old new : List Task) → ((id : ℕ) → changed id ≡ false → filter (is_on id) new ≡ filter (is_on id) old)
-    → (before after : List Machine) → ChangedAlone changed before after
-    → TellsBut stale prec new (placed after (map (freed_on prec old) before)) after
-tells_rows changed stale prec fewer old new same [] [] alone = tt
-tells_rows changed stale prec fewer old new same [] (n ∷ ns) alone =
-    (λ fresh. absurd (both_ways _ (fewer n.id fresh) alone.0), tells_rows changed stale prec fewer old new same [] ns alone.1)
-tells_rows changed stale prec fewer old new same (m ∷ ms) [] alone = absurd alone
-tells_rows changed stale prec fewer old new same (m ∷ ms) (n ∷ ns) alone = (
-  λ fresh.
-      let unchanged = fewer n.id fresh in
-      let row : n ≡ m = alone.0.1 unchanged in
-      freed_same prec m old new (same m.id (ap (λ (r : Machine). changed r.id) (sym row) ∙ unchanged)) ∙ ap (freed_on prec new) (sym row),
-  tells_rows changed stale prec fewer old new same ms ns alone.1,
-)
-
 -- as many machines are new as changed, at most
 room_rows : (changed : ℕ → Bool) (before after : List Machine) → ChangedAlone changed before after → length after ≤ length before + length (filter (λ row. changed row.id) after)
 room_rows changed [] [] alone = omega arith
@@ -132,39 +116,35 @@ module _ (board after : BoardState) (parts : List Part) (target : Target) (leads
   numbers : map (λ (part : Part). part.machine.id) parts ≡ numbers_of changed_rows
   numbers = ap (map (λ (part : Part). part.machine.id)) leads_there.brings ∙ parts_numbers target.changed target.cell target.seqs 0 target.cell.machines
 
-  rows_now : machines_of after.table ≡ target.cell.machines
-  rows_now = ap (λ (c : Cell). c.machines) at.cell
+  -- and are those of what changed
+  named_all : (ids : List ℕ) → ids ≡ map (λ (part : Part). part.machine.id) parts → (id : ℕ) → target.changed id ≡ true → is_among ids id ≡ true
+  named_all ids named id touched =
+      ap (λ ns. is_among ns id) (named ∙ numbers) ∙ numbers_in id changed_rows
+      ∙ listed_still target.changed id touched target.cell.machines (leads_there.listed id touched)
 
-  tasks_now : after.tasks ≡ target.cell.tasks
-  tasks_now = ap (λ (c : Cell). c.tasks) at.cell
+  goes_there : (ids : List ℕ) → ids ≡ map (λ (part : Part). part.machine.id) parts → GoesTo (is_among ids) (cell_of board) target.cell
+  goes_there ids named = record {
+    rows = alone_more target.changed (is_among ids) (named_all ids named) (machines_of board.table) target.cell.machines leads_there.rows;
+    tasks = λ id out. leads_there.tasks id (false_from_ne_true _ (λ t. both_ways _ out (named_all ids named id t)));
+  }
 
-  -- once parts were put, an index with a place for each machine tells all but their machines
-  tells_parts : (prec : ℕ) (frees : List (Option Need)) (ids : List ℕ) → frees ≡ freed_of prec (cell_of board) → ids ≡ map (λ (part : Part). part.machine.id) parts
-      → TellsBut (is_among ids) prec after.tasks (placed (machines_of after.table) frees) (machines_of after.table)
-  tells_parts prec frees ids is named =
-      subst (λ ms. TellsBut (is_among ids) prec after.tasks (placed ms frees) ms) (sym rows_now)
-      (subst (λ ts. TellsBut (is_among ids) prec ts (placed target.cell.machines frees) target.cell.machines) (sym tasks_now)
-      (subst (λ fs. TellsBut (is_among ids) prec target.cell.tasks (placed target.cell.machines fs) target.cell.machines) (sym is)
-      (tells_rows target.changed (is_among ids) prec fewer board.tasks target.cell.tasks leads_there.tasks (machines_of board.table) target.cell.machines leads_there.rows)))
-    where
-      fewer : (id : ℕ) → is_among ids id ≡ false → target.changed id ≡ false
-      fewer id out =
-          false_from_ne_true _ (λ t.
-          let listed : is_listed id changed_rows ≡ true = listed_still target.changed id t target.cell.machines (leads_there.listed id t) in
-          both_ways _ out (ap (λ ns. is_among ns id) (named ∙ numbers) ∙ numbers_in id changed_rows ∙ listed))
-
-  -- and there is room for the new ones where there is for as many as there are parts
-  room_parts : (prec : ℕ) (frees : List (Option Need)) (spare : ℕ) → frees ≡ freed_of prec (cell_of board) → length parts ≤ spare → length (machines_of after.table) ≤ length frees + spare
-  room_parts prec frees spare is room =
+  -- there is room for the new ones where there is for as many as there are parts
+  room_parts : (frees : List (Option Need)) (spare : ℕ) → frees ≡ freed_of 0 (cell_of board) → length parts ≤ spare → length (machines_of after.table) ≤ length frees + spare
+  room_parts frees spare is room =
       let more = room_rows target.changed (machines_of board.table) target.cell.machines leads_there.rows in
-      let now : length (machines_of after.table) ≡ length target.cell.machines = ap length rows_now in
-      let old : length frees ≡ length (machines_of board.table) = ap length is ∙ length-map (machines_of board.table) (freed_on prec board.tasks) in
+      let now : length (machines_of after.table) ≡ length target.cell.machines = ap (λ (c : Cell). length c.machines) at.cell in
+      let old : length frees ≡ length (machines_of board.table) = ap length is ∙ length-map (machines_of board.table) (freed_on 0 board.tasks) in
       let many : length (map (λ (part : Part). part.machine.id) parts) ≡ length (numbers_of changed_rows) = ap length numbers in
       let one = length-map parts (λ (part : Part). part.machine.id) in
       let two = length-map changed_rows (λ (m : Machine). m.id) in
       omega (arith, more, now, old, many, one, two, room)
 
-  -- so an index that told all may be told of parts
-  pub near_parts : (prec : ℕ) (index : Positions) (ids : List ℕ) → index.free ≡ freed_of prec (cell_of board) → length parts ≤ index.spare
-      → ids ≡ map (λ (part : Part). part.machine.id) parts → NearParts after ids prec index
-  near_parts prec index ids is room named = record { room = room_parts prec index.free index.spare is room; told = tells_parts prec index.free ids is named }
+  -- so indexes may be told of parts once these were put
+  pub may_tell_parts : (indexes : Indexes) (ids : List ℕ) → TellAll (cell_of board) indexes → length parts ≤ indexes.index.spare → ids ≡ map (λ (part : Part). part.machine.id) parts
+      → MayTell (is_among ids) after indexes
+  may_tell_parts indexes ids tell room named = record {
+    before = cell_of board;
+    tell = tell;
+    goes = subst (GoesTo (is_among ids) (cell_of board)) (sym at.cell) (goes_there ids named);
+    room = room_parts indexes.index.free indexes.index.spare tell.free room;
+  }

@@ -1,6 +1,7 @@
 pub mod Tells
 pub mod TellsAfter
 pub mod Told
+pub mod Noted
 pub mod Applied
 pub mod Changing
 pub mod Leading

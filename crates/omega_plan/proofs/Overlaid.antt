@@ -39,11 +39,11 @@ use Rattle.omega_model.proofs.InOrder.{each_with}
 use Rattle.omega_board.proofs.Untouched.{claim_local}
 use Rattle.omega_board.proofs.Uses.{total-with}
 use Rattle.omega_board.specs.Numbers as numbers
-use Rattle.omega_fit.specs.Positions.{Positions}
 use Rattle.omega_plan.specs.Beside.{IsOverlay, IsPlacedBeside}
-use Rattle.omega_plan.specs.Levels.{NearParts}
-use Rattle.omega_plan.specs.Telling.{TellsBut, freed_of, freed_on}
-use Rattle.omega_plan.proofs.Tells.{tells_placed, tells_while}
+use Rattle.omega_plan.specs.Indexes.{MayTell, TellAll}
+use Rattle.omega_plan.specs.Telling.{freed_on}
+use Rattle.omega_plan.specs.declared.indexes.Indexes.{Indexes}
+use Rattle.omega_plan.proofs.Changing.{alone_same}
 use Rattle.omega_plan.specs.Overlays.{GoesInWhole, OverlayState, cell_after, tasks_claimed, tasks_with}
 use Rattle.omega_plan.specs.Tenants.{AreBeside, GoesBeside, either, is_whole, kept}
 use Rattle.omega_plan.specs.declared.tenants.Tenants.{Tenants}
@@ -171,15 +171,15 @@ module _ (overlay : OverlayState) (claim : Claim) (goes_in : GoesInWhole (cell_a
             ap (filter (is_on id)) tasks ∙ local.elsewhere id (or_parts _ _ parts.1).0 ∙ so.elsewhere id parts.0;
       }
 
--- once the claims are taken back, an index tells all but their machines
-pub near_back : (tenants : Tenants) (running : List Task) (machines shown : List ℕ) (overlay : OverlayState) → IsOverlay tenants running machines overlay → shown ≡ machines
-    → (prec : ℕ) (index : Positions) → index.free ≡ freed_of prec (cell_after overlay) → NearParts overlay.board shown prec index
-near_back tenants running machines shown overlay so same prec index told =
+-- once the claims are taken back, indexes may be told of their machines
+pub may_tell_back : (tenants : Tenants) (running : List Task) (machines shown : List ℕ) (overlay : OverlayState) → IsOverlay tenants running machines overlay → shown ≡ machines
+    → (indexes : Indexes) → TellAll (cell_after overlay) indexes → MayTell (numbers.is_among shown) overlay.board indexes
+may_tell_back tenants running machines shown overlay so same indexes tell =
     let rows = machines_of overlay.board.table in
-    let long : length index.free ≡ length rows = ap length told ∙ length-map rows (freed_on prec (tasks_claimed overlay)) in
-    subst (λ ids. NearParts overlay.board ids prec index) (sym same) (record {
+    let long : length indexes.index.free ≡ length rows = ap length tell.free ∙ length-map rows (freed_on 0 (tasks_claimed overlay)) in
+    subst (λ ids. MayTell (numbers.is_among ids) overlay.board indexes) (sym same) (record {
+      before = cell_after overlay;
+      tell = tell;
+      goes = record { rows = alone_same _ rows; tasks = λ id out. sym (so.elsewhere id out) };
       room = omega (arith, long);
-      told = tells_placed (numbers.is_among machines) prec overlay.board.tasks index.free rows
-          (subst (λ fs. TellsBut (numbers.is_among machines) prec overlay.board.tasks fs rows) (sym told)
-          (tells_while (numbers.is_among machines) prec (tasks_claimed overlay) overlay.board.tasks (λ id out. sym (so.elsewhere id out)) rows));
     })

@@ -134,26 +134,6 @@ tells_put stale prec tasks id (m ∷ ms) (f ∷ fs) place value distinct is belo
       tells_put stale prec tasks id ms fs behind value (IsDistinct-tail nat_eq m.id (numbers_of ms) distinct) refl (omega (arith, below, next)) later told.1,
     ))
 
-module _ (stale : ℕ → Bool) (prec : ℕ) (tasks : List Task) (id : ℕ) (out : stale id ≡ true) where
-  -- a machine that is left out may change
-  pub tells_changed : (f : Machine → Machine) → ((m : Machine) → (f m).id ≡ m.id) → (frees : List (Option Need)) (ms : List Machine)
-      → TellsBut stale prec tasks frees ms → TellsBut stale prec tasks frees (change id f ms)
-  tells_changed f keeps [] [] told = tt
-  tells_changed f keeps [] (m ∷ ms) told = absurd told
-  tells_changed f keeps (x ∷ xs) [] told = absurd told
-  tells_changed f keeps (x ∷ xs) (m ∷ ms) told =
-      let rest = tells_changed f keeps xs ms told.1 in
-      by_answer (m.id == id)
-      (λ t. rw t (λ fresh. absurd (both_ways (stale (f m).id) fresh (ap stale (keeps m ∙ eqb-true _ _ t) ∙ out)), rest))
-      (λ e. rw e (told.0, rest))
-
-  -- and be new
-  tells_more : (frees : List (Option Need)) (ms : List Machine) → TellsBut stale prec tasks frees ms → TellsBut stale prec tasks (frees ++ None ∷ []) (ms ++ new_machine id ∷ [])
-  tells_more [] [] told = (λ fresh. absurd (both_ways _ fresh out), tt)
-  tells_more [] (m ∷ ms) told = absurd told
-  tells_more (x ∷ xs) [] told = absurd told
-  tells_more (x ∷ xs) (m ∷ ms) told = (told.0, tells_more xs ms told.1)
-
 -- no place is missing where each machine has one
 none_missing : (frees : List (Option Need)) (rows : List Machine) → length frees ≡ length rows → placed rows frees ≡ frees
 none_missing frees rows same =
@@ -170,38 +150,11 @@ one_more_place frees after rows below is = ap (placed rows) is ∙ pushed frees 
     pushed (f ∷ fs) [] less = absurd (omega arith)
     pushed (f ∷ fs) (r ∷ rs) less = ap (λ xs. f ∷ xs) (pushed fs rs (omega arith))
 
--- as many machines have as many places
-pub places_alike : (frees : List (Option Need)) (a b : List Machine) → length a ≡ length b → placed a frees ≡ placed b frees
-places_alike [] [] [] same = refl
-places_alike [] [] (m ∷ ms) same = absurd (omega (arith, same))
-places_alike [] (n ∷ ns) [] same = absurd (omega (arith, same))
-places_alike [] (n ∷ ns) (m ∷ ms) same = ap (λ xs. None ∷ xs) (places_alike [] ns ms (omega (arith, same)))
-places_alike (f ∷ fs) [] [] same = refl
-places_alike (f ∷ fs) [] (m ∷ ms) same = absurd (omega (arith, same))
-places_alike (f ∷ fs) (n ∷ ns) [] same = absurd (omega (arith, same))
-places_alike (f ∷ fs) (n ∷ ns) (m ∷ ms) same = ap (λ xs. f ∷ xs) (places_alike fs ns ms (omega (arith, same)))
-
 -- an index with a place for each machine gets no further one
 pub tells_placed : (stale : ℕ → Bool) (prec : ℕ) (tasks : List Task) (frees : List (Option Need)) (ms : List Machine) → TellsBut stale prec tasks frees ms
     → TellsBut stale prec tasks (placed ms frees) ms
 tells_placed stale prec tasks frees ms told =
     subst (λ fs. TellsBut stale prec tasks fs ms) (sym (none_missing frees ms (told_length stale prec tasks frees ms told))) told
-
--- a machine is listed that is left out
-pub tells_ensured : (stale : ℕ → Bool) (prec : ℕ) (tasks : List Task) (id : ℕ) → stale id ≡ true → (frees : List (Option Need)) (ms : List Machine) → TellsBut stale prec tasks frees ms
-    → TellsBut stale prec tasks (placed (ensured id ms) frees) (ensured id ms)
-tells_ensured stale prec tasks id out frees ms told =
-    by_answer (is_listed id ms)
-    (λ t. rw t (tells_placed stale prec tasks frees ms told))
-    (λ f.
-    let rows : List Machine = ms ++ new_machine id ∷ [] in
-    let more : List (Option Need) = frees ++ None ∷ [] in
-    let same : length frees ≡ length ms = told_length stale prec tasks frees ms told in
-    let long : length rows ≡ length ms + 1 = length-append ms (new_machine id ∷ []) in
-    let longer : length more ≡ length frees + 1 = length-append frees (None ∷ []) in
-    let one : placed rows frees ≡ more =
-    sym (one_more_place frees more rows (omega (arith, same, long)) refl) ∙ none_missing more rows (omega (arith, same, long, longer)) in
-    rw f (subst (λ fs. TellsBut stale prec tasks fs rows) (sym one) (tells_more stale prec tasks id out frees ms told)))
 
 -- a machine was told of at its position
 pub told_at : (stale : ℕ → Bool) (prec : ℕ) (tasks : List Task) (id : ℕ) (table shown : List MachineState) (frees after : List (Option Need)) (place : ℕ) (value : Option Need)
@@ -253,18 +206,17 @@ told_states stale prec tasks frees table told = told_length stale prec tasks fre
 pub zipped_more : (claims later : List Claim) (reply rest : List Judgement) (claim : Claim) (judgement : Judgement) → claims ≡ claim ∷ later → reply ≡ judgement ∷ rest → zip claims reply ≡ (claim, judgement) ∷ zip later rest
 zipped_more claims later reply rest claim judgement first second = ap₂ (λ cs js. zip cs js) first second
 
-module _ (decided later : List (Claim × Judgement)) (claim : Claim) (judgement : Judgement) (more : decided ≡ (claim, judgement) ∷ later)
-    (prec : ℕ) (tasks : List Task) (frees : List (Option Need)) (ms : List Machine) where
-  split : TellsBut (is_claimed decided) prec tasks frees ms → TellsBut (λ id. (is_placed judgement.verdict && claim.machine == id) || is_claimed later id) prec tasks frees ms
-  split so = subst (λ ds. TellsBut (is_claimed ds) prec tasks frees ms) more so
+module _ (decided later : List (Claim × Judgement)) (claim : Claim) (judgement : Judgement) (more : decided ≡ (claim, judgement) ∷ later) where
+  split : (id : ℕ) → is_claimed decided id ≡ ((is_placed judgement.verdict && claim.machine == id) || is_claimed later id)
+  split id = ap (λ ds. is_claimed ds id) more
 
   -- the first claim was placed
-  pub placed_more : is_placed judgement.verdict ≡ true → TellsBut (is_claimed decided) prec tasks frees ms → TellsBut (is_this_or claim.machine (is_claimed later)) prec tasks frees ms
-  placed_more placed so = subst (λ b. TellsBut (λ id. (b && claim.machine == id) || is_claimed later id) prec tasks frees ms) placed (split so)
+  pub placed_more : is_placed judgement.verdict ≡ true → (id : ℕ) → is_claimed decided id ≡ is_this_or claim.machine (is_claimed later) id
+  placed_more placed id = split id ∙ ap (λ b. (b && claim.machine == id) || is_claimed later id) placed
 
   -- or it wasn't
-  pub passed_more : is_placed judgement.verdict ≡ false → TellsBut (is_claimed decided) prec tasks frees ms → TellsBut (is_claimed later) prec tasks frees ms
-  passed_more passed so = subst (λ b. TellsBut (λ id. (b && claim.machine == id) || is_claimed later id) prec tasks frees ms) passed (split so)
+  pub passed_more : is_placed judgement.verdict ≡ false → (id : ℕ) → is_claimed decided id ≡ is_claimed later id
+  passed_more passed id = split id ∙ ap (λ b. (b && claim.machine == id) || is_claimed later id) passed
 
 -- what could be freed on machines up to a place and on the one there
 freed_dropped : (f : Machine → Option Need) (ms : List Machine) (place : ℕ) (value : Option Need) → place < length ms → ((m : Machine) → slice_get ms place ≡ Some m → value ≡ f m)

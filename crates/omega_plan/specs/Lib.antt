@@ -5,7 +5,6 @@ pub mod Overlays
 pub mod Placed
 pub mod Tenants
 pub mod Beside
-pub mod News
 pub mod Kinds
 pub mod Steps
 pub mod Trying

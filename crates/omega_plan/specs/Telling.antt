@@ -1,5 +1,5 @@
 -- What an index tells of the machines of a cell.
-use Rattle.std.specs.Prelude.{◌≡◌, ℕ, Bool, false, List, [], ◌∷◌, ◌++◌, Option, Some, None, not, ◌==◌, ◌||◌, nat_lt, length, map, drop, if◌then◌else◌}
+use Rattle.std.specs.Prelude.{◌≡◌, ℕ, Bool, false, List, [], ◌∷◌, ◌++◌, Option, Some, None, not, ◌==◌, ◌||◌, length, map, drop, if◌then◌else◌}
 use Rattle.std.specs.Option.{option_map_or}
 use Rattle.omega_model.specs.Cell.{Cell, use_on}
 use Rattle.omega_model.specs.Need.{minus}
@@ -25,9 +25,9 @@ freed_on prec tasks machine = if machine.up then Some (minus machine.cap (stayin
 abbrev pub freed_of : ℕ → Cell → List (Option Need)
 freed_of prec cell = map (freed_on prec cell.tasks) cell.machines
 
--- what is left of what could be freed for a precedence once one more task runs
-abbrev pub taken_by : ℕ → Spec → Need → Need
-taken_by prec spec amount = if nat_lt spec.prec prec then amount else minus amount spec.need
+-- what is left of what is free once one more task runs
+abbrev pub taken_by : Spec → Need → Need
+taken_by spec amount = minus amount spec.need
 
 -- an index tells what evictions for this precedence could free on each machine, but perhaps not on those
 -- whose numbers pass the test `stale`

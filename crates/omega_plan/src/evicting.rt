@@ -37,7 +37,7 @@ pub(crate) struct Candidate {
 /// make room, with the victims. Begins where the progress says. Looks at the root of the level alone
 /// where evictions could nowhere free enough of one component. Else it looks for victims on the machines
 /// where evictions could free enough and which suit, one after the other, and at worst at all positions.
-/// Costs that, and the first time for a precedence the making of its level from all machines and tasks.
+/// Costs that, and what `Indexes::lend_level` costs.
 pub(crate) fn first_to_yield(
     alloc: Global,
     overlay: &Overlay,

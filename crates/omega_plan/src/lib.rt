@@ -5,15 +5,15 @@
 //! it is, or else, where the policy preempts, the first on which evictions make room.
 //!
 //! The claims are tried in an overlay, which answers what the board would with the claims placed. Indexes
-//! say what is free on each machine, and for each precedence at which evictions were tried what these could
-//! free; they are told of the claims, and told again when the claims are taken back. They stand beside the board
-//! too: whoever plans has some, and brings them up to the board by what changed since.
+//! say what is free on each machine, and for precedences at which evictions were tried what these could
+//! free; they are told of the claims, and told again when the claims are taken back, the index of a precedence
+//! only when it is asked for next. They stand beside the board too: whoever plans has some, and brings them up to
+//! the board by what changed since.
 #![tactic(auto)]
 
 mod evicting;
 mod indexes;
 mod levels;
-mod news;
 mod overlay;
 mod placed;
 mod planning;

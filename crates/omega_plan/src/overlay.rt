@@ -127,7 +127,7 @@ impl<'a> Overlay<'a> {
     /// Places a claim on the cell after those before it, on which it would be placed and evict all of its
     /// victims. The indexes are told. Where memory runs out, all is as before.
     ///
-    /// A claim without victims costs a look-up for each index, whatever runs on its machine, and where its
+    /// A claim without victims costs a look-up, whatever runs on its machine, and where its
     /// key isn't greater than those before it, up to a pass over these; one with victims costs the tasks on
     /// its machine, and the first one the claims before it.
     pub fn claim(
@@ -156,8 +156,7 @@ impl<'a> Overlay<'a> {
     }
 
     /// Takes the claims back, and hands them out in order. The indexes tell of the board again. Costs a
-    /// look-up for each claim, and for each level the tasks on the claims' machines, once for claims in
-    /// a row on one machine.
+    /// look-up for each claim, once for claims in a row on one machine.
     pub fn end(self, indexes: &mut Indexes) -> Vec<Claim>
         requires tell { TellAll (cell_after self) indexes.old }
         ensures claims { result.items ≡ self.entry.claims }

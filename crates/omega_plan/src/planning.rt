@@ -31,8 +31,7 @@ use std::alloc::Global;
 /// Takes memory for the claims, and for what all of them but the last change beside the board; the answer
 /// holds that of its claims alone, since a history keeps it. Each wish costs a search; wishes in a row that
 /// differ in the task's index alone cost one pass over the machines together. A wish whose key isn't greater
-/// than those before it costs up to a pass over the claims beside the board too. In the end each level costs the
-/// tasks on the machines of all claims but the last.
+/// than those before it costs up to a pass over the claims beside the board too.
 pub fn plan(
     alloc: Global,
     board: &Board,

@@ -18,7 +18,7 @@ use Rattle.omega_model.specs.declared.claims.Txn.{Txn}
 use Rattle.omega_model.specs.declared.entries.Entry.{Entry}
 use Rattle.omega_model.specs.declared.entries.Entry.TheVariants.{Commit}
 use Rattle.omega_plan.specs.Indexes.{AreIndexesOf}
-use Rattle.omega_plan.specs.Levels.{Tells}
+use Rattle.omega_plan.specs.Levels.{LevelsTell}
 use Rattle.omega_plan.specs.Telling.{freed_of}
 use Rattle.omega_plan.specs.declared.indexes.Indexes.{Indexes}
 use Rattle.omega_model.specs.Cell.{Cell}
@@ -58,7 +58,7 @@ indexes_on indexes before after on are =
     record {
       within = omega (arith, within, longer);
       free = are.free ∙ ap (freed_of 0) front;
-      levels = subst (λ (cell : Cell). Each (Tells cell) indexes.levels.items) front are.levels;
+      levels = subst (λ (cell : Cell). LevelsTell cell indexes.levels) front are.levels;
     }
 
 -- what a scheduler has seen stays within a longer history

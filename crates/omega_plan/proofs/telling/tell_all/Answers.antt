@@ -8,7 +8,7 @@ use Rattle.omega_plan.proofs.Tells.{told_all, told_states}
 use Rattle.omega_plan.proofs.telling.tell_all.Goals as goal
 
 pub tell_next-requires-clause-long : goal.tell_next-requires-clause-long
-tell_next-requires-clause-long c = told_states _ c.args.prec c.args.board.now.tasks c.loop-machine.index.free c.args.board.now.table c.loop-machine.invariant.told
+tell_next-requires-clause-long c = told_states _ 0 c.args.board.now.tasks c.loop-machine.index.free c.args.board.now.table c.loop-machine.invariant.told
 
 pub loop-machine-preserved : goal.loop-machine-preserved
 loop-machine-preserved c =
@@ -16,13 +16,13 @@ loop-machine-preserved c =
     let i = c.loop-machine.machine-index in
     record {
       told = c.tell_next.ensures.tells (λ id. list_any (λ machine. machine == id) (drop (i + 1) machines))
-          (subst (λ ms. TellsBut (λ id. list_any (λ machine. machine == id) ms) c.args.prec c.args.board.now.tasks c.loop-machine.index.free (machines_of c.args.board.now.table))
+          (subst (λ ms. TellsBut (λ id. list_any (λ machine. machine == id) ms) 0 c.args.board.now.tasks c.loop-machine.index.free (machines_of c.args.board.now.table))
           (drop_more machines i 0 c.loop-machine-test.true) c.loop-machine.invariant.told);
       last = c.tell_next.ensures.own;
     }
 
 pub returns : goal.returns
 returns c =
-    told_all c.args.prec c.args.board.now.tasks c.loop-machine.index.free (machines_of c.args.board.now.table)
-    (subst (λ ms. TellsBut (λ id. list_any (λ machine. machine == id) ms) c.args.prec c.args.board.now.tasks c.loop-machine.index.free (machines_of c.args.board.now.table))
+    told_all 0 c.args.board.now.tasks c.loop-machine.index.free (machines_of c.args.board.now.table)
+    (subst (λ ms. TellsBut (λ id. list_any (λ machine. machine == id) ms) 0 c.args.board.now.tasks c.loop-machine.index.free (machines_of c.args.board.now.table))
     (drop_all c.loop-machine.machine-index c.args.machines.now c.loop-machine-test.false) c.loop-machine.invariant.told)

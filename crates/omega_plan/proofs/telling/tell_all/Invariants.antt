@@ -6,6 +6,6 @@ use Rattle.omega_plan.proofs.telling.tell_all.Given as goal
 
 abbrev pub invariant-loop-machine : goal.invariant-loop-machine
 invariant-loop-machine l = record {
-  told : TellsBut (λ id. list_any (λ machine. machine == id) (drop l.machine-index l.machines)) l.prec l.fn.board.tasks l.index.free (machines_of l.fn.board.table);
-  last : IfSome l.last (λ told. TellsOf told l.prec l.fn.board.tasks l.index.free (machines_of l.fn.board.table));
+  told : TellsBut (λ id. list_any (λ machine. machine == id) (drop l.machine-index l.machines)) 0 l.fn.board.tasks l.index.free (machines_of l.fn.board.table);
+  last : IfSome l.last (λ told. TellsOf told 0 l.fn.board.tasks l.index.free (machines_of l.fn.board.table));
 }

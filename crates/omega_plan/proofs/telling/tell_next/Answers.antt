@@ -8,7 +8,7 @@ use Rattle.omega_plan.proofs.telling.tell_next.Goals as goal
 
 pub returns-then-eq-clause-tells : goal.returns-then-eq-clause-tells
 returns-then-eq-clause-tells c = λ stale told.
-    let prec = c.args.prec in
+    let prec : ℕ = 0 in
     let tasks = c.args.board.now.tasks in
     let frees = c.args.index.now.free in
     let rows = machines_of c.args.board.now.table in
@@ -20,5 +20,5 @@ pub returns-clause-own : goal.returns-clause-own
 returns-clause-own c =
     let table = c.args.board.now.table in
     c.tell.ensures (λ id. not (c.args.machine == id))
-    (tells_none c.args.machine c.args.prec c.args.board.now.tasks c.args.index.now.free (machines_of table)
+    (tells_none c.args.machine 0 c.args.board.now.tasks c.args.index.now.free (machines_of table)
     (c.requires.long ∙ sym (length-map table (λ (s : MachineState). s.machine))))

@@ -9,6 +9,6 @@ use Rattle.omega_plan.proofs.telling.tell_placed.Given as goal
 
 abbrev pub invariant-loop-claim : goal.invariant-loop-claim
 invariant-loop-claim l = record {
-  told : TellsBut (λ id. list_any (places_on id) (zip (iter_rest (zip_first l.claim-iterator)) (iter_rest (zip_second l.claim-iterator)))) l.prec l.fn.board.tasks l.index.free (machines_of l.fn.board.table);
-  last : IfSome l.last (λ told. TellsOf told l.prec l.fn.board.tasks l.index.free (machines_of l.fn.board.table));
+  told : TellsBut (λ id. list_any (places_on id) (zip (iter_rest (zip_first l.claim-iterator)) (iter_rest (zip_second l.claim-iterator)))) 0 l.fn.board.tasks l.index.free (machines_of l.fn.board.table);
+  last : IfSome l.last (λ told. TellsOf told 0 l.fn.board.tasks l.index.free (machines_of l.fn.board.table));
 }

@@ -9,11 +9,11 @@ use Rattle.omega_plan.proofs.telling.tell_touched.Goals as goal
 
 pub tell_found-requires : goal.tell_found-requires
 tell_found-requires c =
-    subst (λ (stale : ℕ → Bool). TellsBut stale c.args.prec c.args.board.now.tasks c.args.index.now.free (machines_of c.args.board.now.table))
+    subst (λ (stale : ℕ → Bool). TellsBut stale 0 c.args.board.now.tasks c.args.index.now.free (machines_of c.args.board.now.table))
     (λ i id. c.machine.ensures.touched (no_commit c.args.entry.now c.in_default.not-Commit) id i) c.requires
 
 pub tell_placed-requires : goal.tell_placed-requires
 tell_placed-requires c =
-    subst (λ claims. TellsBut (is_claimed (zip claims c.as_slice-in-Commit.result.now)) c.args.prec c.args.board.now.tasks c.args.index.now.free (machines_of c.args.board.now.table)) (sym c.as_slice.ensures)
-    (subst (λ reply. TellsBut (is_claimed (zip c.in-Commit.txn.claims reply)) c.args.prec c.args.board.now.tasks c.args.index.now.free (machines_of c.args.board.now.table)) (sym c.as_slice-in-Commit.ensures)
-    (subst (λ (e : Entry). TellsBut (is_touched_by e) c.args.prec c.args.board.now.tasks c.args.index.now.free (machines_of c.args.board.now.table)) c.in-Commit.is c.requires))
+    subst (λ claims. TellsBut (is_claimed (zip claims c.as_slice-in-Commit.result.now)) 0 c.args.board.now.tasks c.args.index.now.free (machines_of c.args.board.now.table)) (sym c.as_slice.ensures)
+    (subst (λ reply. TellsBut (is_claimed (zip c.in-Commit.txn.claims reply)) 0 c.args.board.now.tasks c.args.index.now.free (machines_of c.args.board.now.table)) (sym c.as_slice-in-Commit.ensures)
+    (subst (λ (e : Entry). TellsBut (is_touched_by e) 0 c.args.board.now.tasks c.args.index.now.free (machines_of c.args.board.now.table)) c.in-Commit.is c.requires))
