@@ -12,3 +12,5 @@ pub mod Timing
 pub mod Written
 pub mod GoneOn
 pub mod NewWorlds
+pub mod Runs
+pub mod Reported

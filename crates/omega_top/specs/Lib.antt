@@ -8,3 +8,4 @@ pub mod Reads
 pub mod Unread
 pub mod SoundHistory
 pub mod Resumes
+pub mod Runs
