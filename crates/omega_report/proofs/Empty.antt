@@ -13,5 +13,5 @@ lines_read-nil = refl
 -- no bytes are a page in each format
 pub empty_page : (format : Format) → IsPage format []
 unfolding lines_read
-empty_page Text = record { form = refl; ended = refl }
-empty_page Json = record { form = refl; ended = refl }
+empty_page Text = record { form = refl; ended = refl; plain = refl; short = refl }
+empty_page Json = record { form = refl; ended = refl; plain = refl; short = refl }

@@ -7,6 +7,7 @@ pub mod WalkGrows
 pub mod Summed
 pub mod RoundsCounted
 pub mod Compact
+pub mod Forms
 pub mod Growing
 pub mod Joined
 pub mod ShortNumbers

@@ -10,9 +10,7 @@ use Rattle.omega_model.specs.Feed.{rounds}
 use Rattle.omega_model.specs.Policy.{schedulers}
 use Rattle.omega_model.specs.Report.{Line}
 use Rattle.omega_model.specs.ReportCounts.{Counts, abandoned, counts_of, jobs_of, waiting}
-use Rattle.omega_model.specs.ReportForms.{in_format}
 use Rattle.omega_model.specs.ReportLines.{counts_line, final_lines, first_line, middle_lines, printed_lines, scheduler_lines}
-use Rattle.omega_model.specs.declared.settings.Format.{Format}
 use Rattle.omega_model.specs.Requests.{failed, given_up}
 use Rattle.omega_model.specs.State.{state}
 use Rattle.omega_model.specs.declared.cells.Need.{Need}
@@ -21,7 +19,6 @@ use Rattle.omega_model.specs.declared.rows.TraceTables.{TraceTables}
 use Rattle.omega_model.specs.declared.settings.Settings.{Settings}
 use Rattle.omega_report.specs.Counted.{counts_in}
 use Rattle.omega_report.specs.Lines.{sizes_line, unplaced_line, usage_line}
-use Rattle.omega_report.specs.Pages.{PageState}
 use Rattle.omega_report.specs.Walking.{lines_from, lines_of_all}
 use Rattle.omega_report.specs.Tallies.{tallies}
 use Rattle.omega_report.specs.declared.counts.Counts.{Counts as HeldCounts}
@@ -94,10 +91,10 @@ summed_is settings trace history entries windows counts used capacity tasks jobs
 pub length_tallies : (count : ℕ) (history : List Entry) → length (tallies count history) ≡ count
 length_tallies count history = length-map-range_with_len (λ scheduler. counts_of scheduler history) 0 count
 
--- a page on which all lines stand is the report in its form
-pub report_said : (settings : Settings) (form : Format) (trace : TraceTables) (history : List Entry) (page : PageState) (empty first : List Line) → empty ≡ [] → first ≡ empty ++ first_line ∷ []
-    → page.format ≡ form → page.lines ≡ (first ++ middle_lines settings.command history) ++ final_lines settings trace history
-    → in_format page.format page.lines ≡ in_format form (printed_lines settings trace history)
-report_said settings form trace history page empty first none begun format lines =
+-- the first line, those of the entries and the last ones are all lines
+pub lines_said : (settings : Settings) (trace : TraceTables) (history : List Entry) (empty first lines : List Line) → empty ≡ [] → first ≡ empty ++ first_line ∷ []
+    → lines ≡ (first ++ middle_lines settings.command history) ++ final_lines settings trace history
+    → lines ≡ printed_lines settings trace history
+lines_said settings trace history empty first lines none begun all =
     let start : first ≡ first_line ∷ [] = begun ∙ ap (λ ls. ls ++ first_line ∷ []) none in
-    ap₂ in_format format (lines ∙ ap (λ ls. (ls ++ middle_lines settings.command history) ++ final_lines settings trace history) start)
+    all ∙ ap (λ ls. (ls ++ middle_lines settings.command history) ++ final_lines settings trace history) start

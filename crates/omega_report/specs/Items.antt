@@ -1,5 +1,5 @@
--- A line as a JSON value.
-use Rattle.std.specs.Prelude.{map}
+-- Lines as a JSON value.
+use Rattle.std.specs.Prelude.{List, map}
 use Rattle.serde_json.specs.Data.{Data, array, number, string, unsigned}
 use Rattle.serde_json.specs.View.{items_of}
 use Rattle.omega_model.specs.Report.{Line, Word, Name, Number}
@@ -12,3 +12,7 @@ word_data (Number value) = number (unsigned value)
 -- the array of the words
 abbrev pub line_data : Line → Data
 line_data line = array (items_of (map word_data line))
+
+-- the array of the lines
+abbrev pub report_data : List Line → Data
+report_data lines = array (items_of (map line_data lines))

@@ -1,5 +1,6 @@
 pub mod AuditLines
 pub mod Counted
+pub mod Forms
 pub mod Items
 pub mod JsonOfText
 pub mod Lines

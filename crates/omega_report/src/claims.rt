@@ -8,8 +8,8 @@ ghost use Rattle.omega_report.specs.Lines.{refusal_line};
 ghost use Rattle.omega_model.specs.declared.entries.Entry.{Entry};
 
 use crate::page::Page;
-use crate::words::Word::{Name, Number};
-use crate::words::task_words;
+use crate::line_words::Word::{Name, Number};
+use crate::line_words::task_words;
 use omega_model::{Claim, Judgement, NoMemory, TaskKey, Txn, Verdict};
 
 impl Page {

@@ -3,10 +3,11 @@ ghost use Rattle.std.specs.Prelude.{◌≡◌, ◌++◌, [], ℕ, List, true, If
 ghost use Rattle.omega_model.specs.Report.{Line};
 ghost use Rattle.omega_model.specs.declared.settings.Format.{Format};
 ghost use Rattle.omega_model.specs.ReportForms.{are_plain, text_of};
-ghost use Rattle.omega_report.specs.JsonOfText.{are_words, in_wide_format, is_short_number, json_of_words, text_json, text_of_words};
+ghost use Rattle.omega_report.specs.JsonOfText.{are_words, in_wide_format, json_of_words, text_of_words};
 ghost use Rattle.omega_report.specs.declared.json_of_text.Position.TheVariants.{Beginning};
-ghost use Rattle.omega_report.specs.Writing.{after_byte, ending, lead, with_digit, with_word};
+ghost use Rattle.omega_report.specs.Writing.{after_byte, ending, lead, with_word};
 
+use crate::json_word::push_json_word;
 use omega_model::{Bytes, NoMemory, Seq};
 use std::alloc::Global;
 use std::marker::Model;
@@ -91,7 +92,7 @@ impl Writing {
         ensures { OnOk result (self.new ≡ record { json = with_word self.old; word = []; position = self.old.position }) }
     {
         self.json.extend_from_slice(lead(self.position))?;
-        push_word(&mut self.json, self.word.as_slice())?;
+        push_json_word(&mut self.json, self.word.as_slice())?;
         self.word.clear();
         Ok(())
     }
@@ -124,43 +125,5 @@ fn ending(position: Position) -> &'static [u8]
     match position {
         Position::Beginning => b"[]\n",
         Position::NewLine | Position::SameLine => b"]\n",
-    }
-}
-
-/// Appends a word as JSON.
-fn push_word(json: &mut Vec<u8>, word: &[u8]) -> Result<(), NoMemory>
-    ensures { OnOk result (json.new.items ≡ json.old.items ++ text_json word.now) }
-{
-    if is_short_number(word) {
-        json.extend_from_slice(word)?;
-        return Ok(());
-    }
-    json.push(b'"')?;
-    json.extend_from_slice(word)?;
-    json.push(b'"')?;
-    Ok(())
-}
-
-/// Whether a word is digits alone, of a number below 2^64.
-fn is_short_number(word: &[u8]) -> bool
-    ensures { result ≡ is_short_number word.now }
-{
-    let mut value: u64 = 0;
-    for byte in word {
-        match with_digit(value, *byte) {
-            Some(next) => value = next,
-            None => return false,
-        }
-    }
-    true
-}
-
-/// A number with one more digit, if the byte is one and 64 bits hold the number.
-fn with_digit(value: u64, byte: u8) -> Option<u64>
-    ensures { result ≡ with_digit value byte }
-{
-    match byte {
-        b'0'..=b'9' => value.checked_mul(10)?.checked_add(u64::from(byte - b'0')),
-        _ => None,
     }
 }

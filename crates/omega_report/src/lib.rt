@@ -6,23 +6,24 @@
 #![tactic(auto)]
 
 mod ahead;
-mod as_json;
-mod as_text;
 mod audited;
 mod claims;
 mod counts;
 mod entry_lines;
+mod items;
 mod json_of_text;
+mod json_word;
 mod judgements;
 mod laws;
+mod line_words;
 mod lines;
 mod page;
 mod reporting;
 mod tally;
 mod walk;
-mod words;
+mod writing;
 
 pub use audited::audit_report;
 pub use json_of_text::json_of;
-pub use laws::json_of_short_lines;
-pub use reporting::{report, report_as};
+pub use laws::{json_is_compact, json_of_short_lines};
+pub use reporting::{report, timed_report};

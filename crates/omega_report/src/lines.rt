@@ -10,8 +10,8 @@ ghost use Rattle.omega_model.specs.declared.entries.Entry.{Entry};
 
 use crate::counts::Counts;
 use crate::page::Page;
-use crate::words::Word::{Name, Number};
-use crate::words::task_words;
+use crate::line_words::Word::{Name, Number};
+use crate::line_words::task_words;
 use omega_model::{Need, NoMemory, TaskKey};
 
 impl Page {

@@ -6,13 +6,15 @@ ghost use Rattle.omega_feed.specs.Left.{IsLeft};
 ghost use Rattle.omega_model.specs.Lawful.{Lawful, begins_round};
 ghost use Rattle.omega_model.specs.Policy.{schedulers};
 ghost use Rattle.omega_model.specs.Report.{Line};
-ghost use Rattle.omega_model.specs.ReportForms.{in_format, printed_report};
+ghost use Rattle.omega_model.specs.ReportForms.{printed_report};
 ghost use Rattle.omega_model.specs.ReportLines.{final_lines, printed_lines};
 ghost use Rattle.omega_model.specs.State.{state};
 ghost use Rattle.omega_model.specs.declared.entries.Entry.{Entry};
 ghost use Rattle.omega_model.specs.declared.rows.TraceTables.{TraceTables};
 ghost use Rattle.omega_model.specs.declared.settings.Format.{Format as Form};
+ghost use Rattle.omega_report.specs.JsonOfText.{in_wide_format};
 ghost use Rattle.omega_report.specs.Walking.{lines_of_all, IsAfter};
+ghost use Rattle.omega_sim.specs.TimeLines.{lines_of_totals};
 
 use crate::counts::Counts;
 use crate::page::Page;
@@ -20,10 +22,19 @@ use crate::walk::{Walk, walked};
 use omega_cell::{Effects, Usage};
 use omega_desk::Failures;
 use omega_feed::WaitingTasks;
-use omega_model::{Bytes, Entry, Format, NoMemory, Settings};
+use omega_model::{Bytes, Entry, NoMemory, Settings};
+use omega_sim::TimeTotals;
 use std::alloc::Global;
 
-/// The bytes of the report of a history in the settings' format: what `report_as` answers in it.
+/// The bytes of the report of a history in the format of the settings: the lines of its entries, each on the
+/// state of those before it, what is used at the end of each round, and what the history comes to. For
+/// `generate` there is only the first line and what the history comes to.
+///
+/// `effects` are those of the history, and there are at most 30 batch schedulers. The bytes are the
+/// report for each trace of which the history is a whole run under these settings, and of which `left`
+/// is what waits at the history's end.
+///
+/// Costs the entries and the lines. No line costs the machines or the tasks that run.
 pub fn report(
     alloc: Global,
     settings: &Settings,
@@ -37,36 +48,46 @@ pub fn report(
         → Lawful settings.now trace history.now → IsLeft trace (state history.now) left.now
         → bytes ≡ printed_report settings.now trace history.now) }
 {
-    report_as(alloc, settings.format, settings, history, effects, left)
+    whole_page(alloc, settings, history, effects, left)?.finish()
 }
 
-/// The bytes of the report of a history in this format: the lines of its entries, each on the
-/// state of those before it, what is used at the end of each round, and what the history comes to. For
-/// `generate` there is only the first line and what the history comes to.
-///
-/// `effects` are those of the history, and there are at most 30 batch schedulers. The bytes are the
-/// report for each trace of which the history is a whole run under these settings, and of which `left`
-/// is what waits at the history's end.
-///
-/// Costs the entries and the lines. No line costs the machines or the tasks that run.
-pub fn report_as(
+/// The same bytes with those of the lines of these totals behind them, as the report of a simulated run has
+/// them. A time of more than 64 bits is a string in JSON.
+pub fn timed_report(
     alloc: Global,
-    format: Format,
     settings: &Settings,
     history: &[Entry],
     effects: &Effects,
     left: &WaitingTasks,
+    totals: &[TimeTotals],
 ) -> Result<Bytes, NoMemory>
     requires batch { settings.now.batch ≤ 30 }
     requires effects { AreEffects history.now effects.now }
     ensures { IfOk result (λ bytes. (trace : TraceTables)
         → Lawful settings.now trace history.now → IsLeft trace (state history.now) left.now
-        → bytes ≡ in_format format (printed_lines settings.now trace history.now)) }
+        → bytes ≡ in_wide_format settings.now.format (printed_lines settings.now trace history.now ++ lines_of_totals totals.now)) }
 {
-    let mut page = Page::new(alloc, format);
+    whole_page(alloc, settings, history, effects, left)?.finish_with(totals)
+}
+
+/// The page with all lines of the report of a history.
+fn whole_page(
+    alloc: Global,
+    settings: &Settings,
+    history: &[Entry],
+    effects: &Effects,
+    left: &WaitingTasks,
+) -> Result<Page, NoMemory>
+    requires batch { settings.now.batch ≤ 30 }
+    requires effects { AreEffects history.now effects.now }
+    ensures { IfOk result (λ page. (trace : TraceTables)
+        → Lawful settings.now trace history.now → IsLeft trace (state history.now) left.now
+        → (page.format ≡ settings.now.format) × (page.lines ≡ printed_lines settings.now trace history.now)) }
+{
+    let mut page = Page::new(alloc, settings.format);
     page.first()?;
     let walk = walked(alloc, settings, page, history, effects)?;
-    summed_up(settings, history, effects.last, left, walk)?.finish()
+    summed_up(settings, history, effects.last, left, walk)
 }
 
 /// The page of a walk over a history, with what it comes to, where `last` is the usage at its end.

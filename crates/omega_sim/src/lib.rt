@@ -1,5 +1,5 @@
 //! What a virtual clock needs: when each scheduler commits next, the times of the commits that were made,
-//! and the lines of a report that say how long schedulers decided and how long jobs waited.
+//! and how long schedulers decided and jobs waited, as numbers and as lines of a report.
 #![tactic(auto)]
 
 mod agenda;
@@ -9,6 +9,7 @@ mod laws;
 mod lines;
 mod sums;
 mod timed;
+mod totals;
 
 pub use agenda::Agenda;
 pub use arrivals::{Arrivals, greatest_time};
@@ -16,3 +17,4 @@ pub use laws::sums_of_lawful_histories;
 pub use lines::time_lines;
 pub use sums::last_time;
 pub use timed::{Timed, Times};
+pub use totals::{TimeTotals, time_totals};

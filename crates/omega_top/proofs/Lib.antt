@@ -13,3 +13,5 @@ pub mod Written
 pub mod Replayed
 pub mod GoneOn
 pub mod NewWorlds
+pub mod Runs
+pub mod Reported

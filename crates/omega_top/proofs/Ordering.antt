@@ -1,5 +1,5 @@
 -- The commits of a run in the order of its command.
-use Rattle.std.proofs.Common.{◌≡◌, List, None, refl, subst, sym}
+use Rattle.std.proofs.Common.{◌≡◌, List, None, Some, refl, subst, sym}
 use Rattle.omega_laws.specs.Simulated.{SimulatedWith}
 use Rattle.omega_laws.specs.VirtualTime.{Timed}
 use Rattle.omega_model.specs.Turns.{InTurns}
@@ -9,7 +9,7 @@ use Rattle.omega_model.specs.declared.settings.Command.{Command}
 use Rattle.omega_model.specs.declared.settings.Command.TheVariants.{Audit, Generate, Replay, Resume, Run, Simulate}
 use Rattle.omega_model.specs.declared.settings.Settings.{Settings}
 use Rattle.omega_top.specs.Commands.{OrderedBy}
-use Rattle.omega_top.specs.Reports.{AreTimesBy}
+use Rattle.omega_top.specs.Reports.{AreTimesBy, AreTotalsBy}
 
 -- of a command that has neither threads nor a clock
 module _ (command : Command) (settings : Settings) (trace : TraceTables) (history : List Entry)
@@ -23,16 +23,6 @@ module _ (command : Command) (settings : Settings) (trace : TraceTables) (histor
     go Audit run simulate = turns
     go Run run simulate = absurd (run refl)
     go Simulate run simulate = absurd (simulate refl)
-
-  pub turns_of : OrderedBy command settings trace history → InTurns history
-  turns_of = go command not_run not_simulate where
-    go : (command : Command) → (command ≡ Run → ⊥) → (command ≡ Simulate → ⊥) → OrderedBy command settings trace history → InTurns history
-    go Replay run simulate turns = turns
-    go Generate run simulate turns = turns
-    go Resume run simulate turns = turns
-    go Audit run simulate turns = turns
-    go Run run simulate ordered = absurd (run refl)
-    go Simulate run simulate ordered = absurd (simulate refl)
 
   pub untimed : AreTimesBy command settings trace history None
   untimed = go command not_run not_simulate where
@@ -49,3 +39,23 @@ pub by_clock : (command : Command) (settings : Settings) (trace : TraceTables) (
     → command ≡ Simulate → SimulatedWith settings trace history times → OrderedBy command settings trace history
 by_clock command settings trace history times is simulated =
     subst (λ (by : Command). OrderedBy by settings trace history) (sym is) (times, simulated)
+
+-- of the one that has threads
+pub by_threads : (command : Command) (settings : Settings) (trace : TraceTables) (history : List Entry) → command ≡ Run → OrderedBy command settings trace history
+by_threads command settings trace history is = subst (λ (by : Command). OrderedBy by settings trace history) (sym is) tt
+
+pub untimed_by_threads : (command : Command) (settings : Settings) (trace : TraceTables) (history : List Entry) → command ≡ Run → AreTimesBy command settings trace history None
+untimed_by_threads command settings trace history is = subst (λ (by : Command). AreTimesBy by settings trace history None) (sym is) refl
+
+pub timed_by_clock : (command : Command) (settings : Settings) (trace : TraceTables) (history : List Entry) (times : List Timed)
+    → command ≡ Simulate → SimulatedWith settings trace history times → AreTimesBy command settings trace history (Some times)
+timed_by_clock command settings trace history times is simulated =
+    subst (λ (by : Command). AreTimesBy by settings trace history (Some times)) (sym is) simulated
+
+-- of the one that goes on from kept lines
+pub by_resume : (command : Command) (settings : Settings) (trace : TraceTables) (history : List Entry) → command ≡ Resume → InTurns history
+    → OrderedBy command settings trace history
+by_resume command settings trace history is turns = subst (λ (by : Command). OrderedBy by settings trace history) (sym is) turns
+
+pub no_totals : (command : Command) (settings : Settings) (trace : TraceTables) (history : List Entry) → command ≡ Resume → AreTotalsBy command settings trace history None
+no_totals command settings trace history is = subst (λ (by : Command). AreTotalsBy by settings trace history None) (sym is) refl

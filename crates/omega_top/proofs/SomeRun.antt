@@ -1,31 +1,15 @@
--- Runs of some trace, and the commits of whole runs.
+-- Runs of some trace.
 use Rattle.std.proofs.Common.{◌≡◌, ℕ, List, [], Option, arith}
 use Rattle.omega_model.specs.Limits.{IsWithinLimits}
 use Rattle.omega_model.specs.Trace.{no_rows}
 use Rattle.omega_model.specs.declared.entries.Entry.{Entry}
-use Rattle.omega_model.specs.declared.results.Status.{Status}
-use Rattle.omega_model.specs.declared.results.Status.TheVariants.{Done, Usage, ReadFault, TooLong, BadRow, TooMany, BadKept, KeepFault, WriteFault, NoMemory}
+use Rattle.omega_model.specs.declared.results.Status.TheVariants.{NoMemory}
 use Rattle.omega_model.specs.declared.rows.TraceTables.{TraceTables}
 use Rattle.omega_model.specs.declared.settings.Settings.{Settings}
-use Rattle.omega_laws.proofs.WholeCommits.{lawful_whole}
 use Rattle.omega_tables.specs.Reading.{status_of}
 use Rattle.omega_tables.specs.declared.refusal.ReadRefusal.{ReadRefusal}
 use Rattle.omega_tables.specs.declared.refusal.ReadRefusal.TheVariants.{Fault, TooLong as Long, BadRow as Bad, TooMany as Many, NoMemory as Memory}
-use Rattle.omega_top.specs.Answers.{HasWholeCommits, IsSomeRun, IsWholeRun}
-
--- the commits of a run that reached its report are whole attempts
-pub whole_commits : (settings : Settings) (trace : TraceTables) (history : List Entry) (status : Status)
-    → IsWholeRun settings trace history status → HasWholeCommits settings trace history status
-whole_commits settings trace history Done whole = lawful_whole settings trace history whole
-whole_commits settings trace history WriteFault whole = lawful_whole settings trace history whole
-whole_commits settings trace history NoMemory whole = tt
-whole_commits settings trace history Usage whole = tt
-whole_commits settings trace history (ReadFault table) whole = tt
-whole_commits settings trace history (TooLong table) whole = tt
-whole_commits settings trace history (BadRow table row column cause) whole = tt
-whole_commits settings trace history (TooMany kind number) whole = tt
-whole_commits settings trace history (BadKept number) whole = tt
-whole_commits settings trace history KeepFault whole = tt
+use Rattle.omega_top.specs.Answers.{IsSomeRun}
 
 -- a trace without rows is within the limits
 pub no_rows-within : IsWithinLimits no_rows

@@ -1,34 +1,26 @@
--- What a simulated run needs of its trace, and the lines and the text of its report.
-use Rattle.std.proofs.Common.{◌≡◌, ◌∙◌, ◌≤◌, ◌<◌, ◌^◌, ℕ, List, [], ◌∷◌, ◌++◌, Option, Some, None, Bool, true, false, arith, map, ap, refl, subst, sym}
+-- What a simulated run needs of its trace.
+use Rattle.std.proofs.Common.{◌≡◌, ◌∙◌, ◌≤◌, ◌<◌, ◌^◌, ℕ, List, [], ◌∷◌, Option, Some, None, Bool, true, false, arith, map, ap, refl, sym}
 use Rattle.std.specs.Prelude.{All, unwrap_or, ◌==◌}
-use Rattle.std.specs.List.{filter, flat_map, last_or, list_all, range_with_len}
-use Rattle.std.proofs.lemmas.List.Concat.{flat_map-append}
+use Rattle.std.specs.List.{filter, last_or}
 use Rattle.std.proofs.lemmas.List.Elements.{All-head, All-tail, All-same}
-use Rattle.std.proofs.lemmas.List.Folds.{list_all-append}
 use Rattle.omega_feed.proofs.Cutting.{rounds_have}
 use Rattle.omega_laws.specs.Simulated.{SimulatedWith}
 use Rattle.omega_laws.specs.VirtualTime.{Timed}
-use Rattle.omega_model.proofs.PlainWords.{report_plain}
 use Rattle.omega_model.specs.Feed.{feed, rounds, time_of}
 use Rattle.omega_model.specs.Fields.{ActivityFields, most_activities}
 use Rattle.omega_model.specs.Lawful.{rows_of}
 use Rattle.omega_model.specs.Limits.{IsWithinLimits}
-use Rattle.omega_model.specs.Policy.{schedulers}
 use Rattle.omega_model.specs.Ranges.{IsInRange}
-use Rattle.omega_model.specs.Report.{line_text}
-use Rattle.omega_model.specs.ReportForms.{are_plain, is_plain, text_of}
-use Rattle.omega_model.specs.ReportLines.{printed_lines}
 use Rattle.omega_model.specs.declared.entries.Entry.{Entry}
 use Rattle.omega_model.specs.declared.rows.Round.{Round}
 use Rattle.omega_model.specs.declared.rows.TraceTables.{TraceTables}
 use Rattle.omega_model.specs.declared.settings.Command.{Command}
 use Rattle.omega_model.specs.declared.settings.Command.TheVariants.{Audit, Generate, Replay, Resume, Run, Simulate}
 use Rattle.omega_model.specs.declared.settings.Settings.{Settings}
-use Rattle.omega_rounds.specs.Stages.{Stage, first_stage}
+use Rattle.omega_rounds.specs.Stages.{Source, WorldState}
 use Rattle.omega_sim.specs.InBounds.{IsInBounds}
-use Rattle.omega_sim.specs.TimeLines.{lines_of_one, lines_of_time}
-use Rattle.omega_top.proofs.NewWorlds.{rounds_still}
-use Rattle.omega_top.specs.Reports.{AreReadRounds, AreTimesBy, simulated_lines}
+use Rattle.omega_top.specs.Reports.{AreReadRounds, AreTimesBy}
+use Rattle.omega_top.specs.Runs.{IsOver}
 
 one_few : (job : ℕ) (before : Option ℕ) (row : ActivityFields) (rows : List ActivityFields) (own : Bool) → (row.job == job) ≡ own
     → unwrap_or (last_or (Some row.activities) (map (λ row. row.activities) (filter (λ row. row.job == job) rows))) 0 ≤ most_activities
@@ -61,27 +53,6 @@ trace_in_bounds settings trace some range within are early few =
       activities = λ job. last_few job None trace.activities (omega arith) few;
     }
 
--- the lines of time are plain
-time_plain : (settings : Settings) (trace : TraceTables) (history : List Entry) (times : List Timed) (schedulers : List ℕ)
-    → are_plain (flat_map (lines_of_one settings trace history times) schedulers) ≡ true
-time_plain settings trace history times [] = refl
-time_plain settings trace history times (scheduler ∷ schedulers) = time_plain settings trace history times schedulers
-
--- so is every line of the report of a simulated history
-pub simulated_plain : (settings : Settings) (trace : TraceTables) (history : List Entry) (times : List Timed)
-    → are_plain (simulated_lines settings trace history times) ≡ true
-simulated_plain settings trace history times =
-    rw (list_all-append (λ line. list_all is_plain line) (printed_lines settings trace history) (lines_of_time settings trace history times), report_plain settings trace history)
-    (time_plain settings trace history times (range_with_len 0 (schedulers settings)))
-
--- the text of a simulated report is that of its lines, those of time behind the others
-pub text_with_lines : (settings : Settings) (trace : TraceTables) (history : List Entry) (times : List Timed) (text lines : List ℕ)
-    → text ≡ text_of (printed_lines settings trace history) ++ lines → lines ≡ text_of (lines_of_time settings trace history times)
-    → text ≡ text_of (simulated_lines settings trace history times)
-text_with_lines settings trace history times text lines is of_time =
-    is ∙ ap (λ (more : List ℕ). text_of (printed_lines settings trace history) ++ more) of_time
-    ∙ sym (flat_map-append line_text (printed_lines settings trace history) (lines_of_time settings trace history times))
-
 -- whose commits have times is a simulated run, with these times
 pub simulated_by : (command : Command) (settings : Settings) (trace : TraceTables) (history : List Entry) (times : List Timed)
     → AreTimesBy command settings trace history (Some times) → SimulatedWith settings trace history times
@@ -92,19 +63,12 @@ simulated_by Generate settings trace history times is = absurd (cc)
 simulated_by Resume settings trace history times is = absurd (cc)
 simulated_by Audit settings trace history times is = absurd (cc)
 
--- the rounds of a run are those of its trace, from its new world on
-pub rounds_of_trace : (settings : Settings) (trace : TraceTables) (stage later : Stage)
-    → IsWithinLimits trace → All (λ row. row.activities ≤ most_activities) trace.activities → stage ≡ first_stage settings trace
-    → later.source ≡ stage.source → AreReadRounds settings trace later.source.rounds
-rounds_of_trace settings trace stage later within few new source = record {
+-- the rounds of a world whose run is over are those of its trace
+pub rounds_of_trace : (settings : Settings) (trace : TraceTables) (world : WorldState)
+    → IsWithinLimits trace → All (λ row. row.activities ≤ most_activities) trace.activities → IsOver settings trace world
+    → AreReadRounds settings trace world.stage.source.rounds
+rounds_of_trace settings trace world within few over = record {
   within = within;
   few = few;
-  rounds = rounds_still settings trace stage later new source;
+  rounds = ap (λ (from : Source). from.rounds) over.made ∙ ap (λ (some : Settings). rounds trace some.window) over.by;
 }
-
--- and its times those of its commits
-pub times_of_trace : (settings : Settings) (trace : TraceTables) (stage : Stage) (history : List Entry) (times : Option (List Timed))
-    → stage ≡ first_stage settings trace → AreTimesBy settings.command stage.settings trace history times
-    → AreTimesBy settings.command settings trace history times
-times_of_trace settings trace stage history times new timed =
-    subst (λ (at : Stage). AreTimesBy settings.command at.settings trace history times) new timed

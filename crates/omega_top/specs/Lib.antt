@@ -9,3 +9,4 @@ pub mod Unread
 pub mod SoundHistory
 pub mod Replayed
 pub mod Resumes
+pub mod Runs

@@ -6,7 +6,7 @@ use Rattle.omega_model.specs.Feed.{rounds}
 use Rattle.omega_model.specs.Fields.{most_activities}
 use Rattle.omega_model.specs.Limits.{IsWithinLimits}
 use Rattle.omega_model.specs.Report.{Line}
-use Rattle.omega_model.specs.ReportForms.{printed_report, text_of}
+use Rattle.omega_model.specs.ReportForms.{printed_report}
 use Rattle.omega_model.specs.ReportLines.{printed_lines}
 use Rattle.omega_model.specs.declared.entries.Entry.{Entry}
 use Rattle.omega_model.specs.declared.rows.Round.{Round}
@@ -15,7 +15,8 @@ use Rattle.omega_model.specs.declared.settings.Command.{Command}
 use Rattle.omega_model.specs.declared.settings.Command.TheVariants.{Audit, Generate, Replay, Resume, Run, Simulate}
 use Rattle.omega_model.specs.declared.settings.Settings.{Settings}
 use Rattle.omega_report.specs.JsonOfText.{in_wide_format}
-use Rattle.omega_sim.specs.TimeLines.{lines_of_time}
+use Rattle.omega_sim.specs.TimeLines.{lines_of_time, totals_of}
+use Rattle.omega_sim.specs.declared.totals.TimeTotals.{TimeTotals}
 
 -- the lines of the report of a simulated history whose commits have these times
 abbrev pub simulated_lines : Settings → TraceTables → List Entry → List Timed → List Line
@@ -50,21 +51,21 @@ pub record IsOfSomeTrace (settings : Settings) (some : List Round) (history : Li
   pub rounds : AreReadRounds settings trace some
   pub timed : AreTimesBy settings.command settings trace history times
 
--- these bytes are the lines of time of a simulated history
-pub record AreLinesOfTime (settings : Settings) (trace : TraceTables) (history : List Entry) (lines : List ℕ) : Type 0 where
+-- this is what the times of a simulated history add up to
+pub record AreTotals (settings : Settings) (trace : TraceTables) (history : List Entry) (totals : List TimeTotals) : Type 0 where
   pub times : List Timed
   pub timed : SimulatedWith settings trace history times
-  pub bytes : lines ≡ text_of (lines_of_time settings trace history times)
+  pub all : totals ≡ totals_of settings trace history times
 
--- these are the lines of time of a run of a command: only a simulated one has them
-abbrev pub IsTimedBy : Command → Settings → TraceTables → List Entry → Option (List ℕ) → Type 0
-IsTimedBy Simulate settings trace history (Some lines) = AreLinesOfTime settings trace history lines
-IsTimedBy Simulate settings trace history None = ⊥
-IsTimedBy Replay settings trace history lines = lines ≡ None
-IsTimedBy Run settings trace history lines = lines ≡ None
-IsTimedBy Generate settings trace history lines = lines ≡ None
-IsTimedBy Resume settings trace history lines = lines ≡ None
-IsTimedBy Audit settings trace history lines = lines ≡ None
+-- this is what the times of a run of a command add up to: only a simulated one has them
+abbrev pub AreTotalsBy : Command → Settings → TraceTables → List Entry → Option (List TimeTotals) → Type 0
+AreTotalsBy Simulate settings trace history (Some totals) = AreTotals settings trace history totals
+AreTotalsBy Simulate settings trace history None = ⊥
+AreTotalsBy Replay settings trace history totals = totals ≡ None
+AreTotalsBy Run settings trace history totals = totals ≡ None
+AreTotalsBy Generate settings trace history totals = totals ≡ None
+AreTotalsBy Resume settings trace history totals = totals ≡ None
+AreTotalsBy Audit settings trace history totals = totals ≡ None
 
 -- these bytes are the report of a history, as a command prints it
 abbrev pub ReportedBy : Command → Settings → TraceTables → List Entry → List ℕ → Type 0

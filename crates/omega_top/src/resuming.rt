@@ -1,21 +1,13 @@
 //! A run that goes on from kept lines, and one that keeps none.
-ghost use Rattle.std.specs.Prelude.{◌≡◌, ◌≢◌, ◌≤◌, IfErr, IfOk, true};
+ghost use Rattle.std.specs.Prelude.{◌≡◌, ◌≢◌, ◌≤◌, IfErr, IfOk};
 ghost use Rattle.std.specs.Thread.{IsSync};
-ghost use Rattle.omega_cell.specs.Effects.{AreEffects};
-ghost use Rattle.omega_feed.specs.Left.{IsLeft};
 ghost use Rattle.omega_keep.specs.Keeping.{Rose};
-ghost use Rattle.omega_model.specs.Lawful.{Lawful};
 ghost use Rattle.omega_model.specs.Limits.{IsWithinLimits};
 ghost use Rattle.omega_model.specs.Ranges.{IsInRange};
-ghost use Rattle.omega_model.specs.State.{state};
-ghost use Rattle.omega_model.specs.Turns.{InTurns};
 ghost use Rattle.omega_model.specs.declared.results.Status.TheVariants.{KeepFault};
-ghost use Rattle.omega_model.specs.declared.settings.Command.TheVariants.{Resume, Run};
-ghost use Rattle.omega_top.specs.Answers.{IsTheOnly};
-ghost use Rattle.omega_top.specs.Commands.{IsOrdered, takes_turns};
-ghost use Rattle.omega_top.specs.Reports.{IsTimedBy};
+ghost use Rattle.omega_model.specs.declared.settings.Command.TheVariants.{Resume};
 ghost use Rattle.omega_top.specs.Resumes.{KeepsWhole, StaysAtKeeper, StopsBy, StopsFrom};
-ghost use Rattle.omega_top.specs.SoundHistory.{IsSoundHistory};
+ghost use Rattle.omega_top.specs.Runs.{IsRunOf};
 
 use crate::auditing::load;
 use crate::replay::{RunInput, WholeRun, replayed, whole_run};
@@ -27,8 +19,7 @@ use std::alloc::Global;
 use std::sync::Wait;
 use std::thread::Threads;
 
-/// The history of a trace under these settings, what its entries did, and what waits at its end: on `resume`
-/// its first lines are those that a keeper has, and the others are appended to the keeper's list, round by
+/// The run of a trace under these settings: on `resume` the first lines of its history are those that a keeper has, and the others are appended to the keeper's list, round by
 /// round; on every other command the keeper isn't used. Else the status with which the run ends. On `run` it
 /// may wait.
 pub fn run_of<R: Threads + Wait + Sync, G: Gate + Sync, P: Keeper>(
@@ -41,14 +32,7 @@ pub fn run_of<R: Threads + Wait + Sync, G: Gate + Sync, P: Keeper>(
     requires range { IsInRange input.settings }
     requires within { IsWithinLimits input.trace }
     requires sync { IsSync R.row × IsSync G.row }
-    ensures lawful { IfOk result (λ run. Lawful input.settings input.trace run.history) }
-    ensures ordered { IfOk result (λ run. IsOrdered input.settings input.trace run.history) }
-    ensures timed { IfOk result (λ run. IsTimedBy input.settings.command input.settings input.trace run.history run.time) }
-    ensures turns { takes_turns input.settings.command ≡ true → IfOk result (λ run. InTurns run.history) }
-    ensures only { input.settings.command ≢ Run → IfOk result (λ run. IsTheOnly input.settings input.trace run.history) }
-    ensures effects { IfOk result (λ run. AreEffects run.history run.effects) }
-    ensures sound { IfOk result (λ run. IsSoundHistory run.history) }
-    ensures left { IfOk result (λ run. IsLeft input.trace (state run.history) run.left) }
+    ensures run { IfOk result (IsRunOf input.settings input.trace) }
     ensures stops { IfErr result (StopsBy input.settings.command) }
     ensures kept { input.settings.command ≡ Resume → IfOk result (λ run. KeepsWhole (P.kept keeper.old) (P.kept keeper.new) run.history) }
     ensures refused { input.settings.command ≡ Resume → IfErr result (StopsFrom input.settings input.trace (P.kept keeper.old) (P.kept keeper.new)) }
@@ -76,13 +60,7 @@ fn resumed<R: Threads + Sync, P: Keeper>(
     requires sync { IsSync R.row }
     requires range { IsInRange input.settings }
     requires command { input.settings.command ≡ Resume }
-    ensures lawful { IfOk result (λ run. Lawful input.settings input.trace run.history) }
-    ensures timed { IfOk result (λ run. IsTimedBy input.settings.command input.settings input.trace run.history run.time) }
-    ensures turns { IfOk result (λ run. InTurns run.history) }
-    ensures only { IfOk result (λ run. IsTheOnly input.settings input.trace run.history) }
-    ensures effects { IfOk result (λ run. AreEffects run.history run.effects) }
-    ensures sound { IfOk result (λ run. IsSoundHistory run.history) }
-    ensures left { IfOk result (λ run. IsLeft input.trace (state run.history) run.left) }
+    ensures run { IfOk result (IsRunOf input.settings input.trace) }
     ensures kept { IfOk result (λ run. KeepsWhole (P.kept keeper.old) (P.kept keeper.new) run.history) }
     ensures refused { IfErr result (StopsFrom input.settings input.trace (P.kept keeper.old) (P.kept keeper.new)) }
     ensures cause { IfErr result (λ status. status ≡ KeepFault → Rose (P.faults keeper.old) (P.faults keeper.new)) }

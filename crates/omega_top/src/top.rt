@@ -11,12 +11,13 @@ ghost use Rattle.omega_model.specs.Turns.{InTurns};
 ghost use Rattle.omega_model.specs.declared.results.Status.TheVariants.{KeepFault, Usage, WriteFault, NoMemory};
 ghost use Rattle.omega_model.specs.declared.rows.Table.{Table};
 ghost use Rattle.omega_model.specs.declared.settings.Command.TheVariants.{Audit, Resume, Run};
-ghost use Rattle.omega_top.specs.Answers.{Answers, EndsRun, HasHistory, HasReadCause, HasWholeCommits, IsOnlyRun, IsOrderedRun, IsSomeRun, IsWholeRun, IsWritten, NoneRose, Writes, WritesNothing};
+ghost use Rattle.omega_top.specs.Answers.{Answers, EndsRun, HasHistory, HasReadCause, HasWholeCommits, IfReported, IsOnlyRun, IsOrderedRun, IsSomeRun, IsWholeRun, IsWritten, NoneRose, Writes, WritesNothing};
 ghost use Rattle.omega_top.specs.Audits.{EntersKept, IsAudit, IsNotOfKept, IsUntouched, KeepsAudited};
 ghost use Rattle.omega_top.specs.Commands.{makes_tables, reads_tables, takes_turns, uses_keeper};
 ghost use Rattle.omega_top.specs.Chosen.{AreChosenBy, AreTaken, Audits, EntersChosen, MakesTables, Resumes};
 ghost use Rattle.omega_top.specs.Reads.{Reads, StayUnread, left_by};
 ghost use Rattle.omega_top.specs.Resumes.{EndsBy, IsResume, IsSomeResume, KeepsRounds, StaysAtKeeper};
+ghost use Rattle.omega_top.specs.Runs.{IsRun};
 ghost use Rattle.omega_top.specs.SoundHistory.{IsSoundHistory};
 ghost use Rattle.omega_top.specs.Unread.{AreUntouched, ReadsNoFurther};
 ghost use Rattle.omega_words.specs.Built.{built_words};
@@ -24,8 +25,8 @@ ghost use Rattle.omega_words.specs.Taken.{settings_in};
 
 use crate::auditing::audit_kept;
 use crate::done::Done;
-use crate::replay::{RunInput, WholeRun};
-use crate::report::{ReportInput, report_of_run};
+use crate::replay::RunInput;
+use crate::report::report_of_run;
 use crate::resuming::run_of;
 use crate::trace::trace_of_run;
 use omega_io::{Gate, Sink, Tables, write_all};
@@ -147,15 +148,7 @@ pub fn omega<R: Threads + Wait + Sync, T: Tables, K: Sink, G: Gate + Sync, P: Ke
     }
     // A law, on which the clause of a whole audit rests. It does nothing.
     audited_lines_are_not_refused();
-    omega_with(
-        rt,
-        alloc,
-        &parsed.settings,
-        tables,
-        out,
-        gate,
-        keeper,
-    )
+    omega_with(rt, alloc, &parsed.settings, tables, out, gate, keeper)
 }
 
 /// What `omega` does once the words are read and folder and path are entered, under any settings in their
@@ -267,31 +260,14 @@ fn replay_and_write<R: Threads + Wait + Sync, K: Sink, G: Gate + Sync, P: Keeper
     ensures kept_path { P.entered keeper.new ≡ P.entered keeper.old }
     ensures kept_later { P.faults keeper.old ≤ P.faults keeper.new }
     ensures cause { result.status ≡ WriteFault → Rose (K.faults out.old) (K.faults out.new) }
-    ensures lawful { IsWholeRun input.settings input.trace result.history result.status }
-    ensures only { input.settings.command ≢ Run → IsOnlyRun input.settings input.trace result.history result.status }
-    ensures ordered { IsOrderedRun input.settings input.trace result.history result.status }
-    ensures turns { takes_turns input.settings.command ≡ true → InTurns result.history }
-    ensures sound { IsSoundHistory result.history }
+    ensures run { IfReported (IsRun input.settings input.trace result.history) result.status }
     ensures history { HasHistory result.history result.status }
     ensures written { IsWritten input.settings input.trace result.history result.status (K.written out.old) (K.written out.new) }
 {
     let settings = input.settings;
-    let whole = match run_of(rt, alloc, input, gate, keeper) {
-        Ok(whole) => whole,
+    let run = match run_of(rt, alloc, input, gate, keeper) {
+        Ok(run) => run,
         Err(status) => return refused(alloc, status, Some(settings)),
-    };
-    let WholeRun {
-        history,
-        effects,
-        left,
-        time,
-        remains,
-    } = whole;
-    let run = ReportInput {
-        history,
-        effects,
-        left,
-        time,
     };
     let Ok(bytes) = report_of_run(alloc, &settings, &run) else {
         return refused(alloc, Status::NoMemory, Some(settings));
@@ -301,7 +277,7 @@ fn replay_and_write<R: Threads + Wait + Sync, K: Sink, G: Gate + Sync, P: Keeper
         status,
         settings: Some(settings),
         history: run.history,
-        remains: Some(remains),
+        remains: Some(run.remains),
     }
 }
 

@@ -115,15 +115,7 @@ pub fn run_kept<R: Threads + Wait + Sync, T: Tables, G: Gate + Sync, P: Keeper>(
     requires { IsSync R.row × IsSync G.row }
 {
     let mut sink = MemorySink::new(alloc, call.room)?.cut(1);
-    let done = omega(
-        rt,
-        alloc,
-        call.words,
-        tables,
-        &mut sink,
-        gate,
-        keeper,
-    );
+    let done = omega(rt, alloc, call.words, tables, &mut sink, gate, keeper);
     Ok(Ran {
         done,
         written: sink.into_bytes(),

@@ -1,10 +1,9 @@
 use Rattle.std.proofs.Common.{◌∙◌, List, ap, subst, sym}
-use Rattle.omega_cell.proofs.Evictions.{evictions_go_down}
-use Rattle.omega_cell.proofs.Gangs.{no_gang_is_split}
 use Rattle.omega_keep.specs.Audited.{IsAudited}
 use Rattle.omega_model.specs.ReportForms.{in_format}
 use Rattle.omega_model.specs.declared.entries.Entry.{Entry}
 use Rattle.omega_report.specs.AuditLines.{audit_lines}
+use Rattle.omega_top.proofs.Runs.{sound_of}
 use Rattle.omega_top.proofs.auditing.audit_kept.Goals as goal
 
 pub returns-in-Ok-clause-audit : goal.returns-in-Ok-clause-audit
@@ -17,10 +16,4 @@ returns-in-Ok-clause-audit g c = record {
 
 pub returns-in-Ok-clause-sound : goal.returns-in-Ok-clause-sound
 returns-in-Ok-clause-sound g c =
-    let run = c.into_run-history in
-    rw run.ensures.history (record {
-      legal = run.ensures.legal;
-      states = run.ensures.sound;
-      gangs = no_gang_is_split _ run.ensures.legal;
-      evictions = evictions_go_down _ run.ensures.legal;
-    })
+    let run = c.into_run-history in rw run.ensures.history (sound_of _ run.ensures.legal)

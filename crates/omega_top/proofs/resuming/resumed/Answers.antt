@@ -1,11 +1,12 @@
-use Rattle.std.proofs.Common.{List, Option, ℕ, subst, sym}
+use Rattle.std.proofs.Common.{List, Option, ℕ, ap, subst, sym}
 use Rattle.std.proofs.lemmas.Result.{err_from_is_err_and}
 use Rattle.omega_keep.specs.Keeping.{Adds}
 use Rattle.omega_model.specs.Lawful.{Lawful}
 use Rattle.omega_rounds.specs.Resuming.{LeavesKept, lines_behind}
 use Rattle.omega_rounds.specs.Stages.{Stage}
 use Rattle.omega_top.proofs.GoneOn.{keeps_whole, stops_from, stops_whole}
-use Rattle.omega_top.proofs.NewWorlds.{in_run}
+use Rattle.omega_top.proofs.NewWorlds.{in_run, is_over}
+use Rattle.omega_top.proofs.Ordering.{by_resume, no_totals}
 use Rattle.omega_top.proofs.resuming.resumed.Goals as goal
 
 pub returns-in_err-world-clause-refused : goal.returns-in_err-world-clause-refused
@@ -37,3 +38,15 @@ returns-clause-refused g c =
     (subst (λ (list : Option (List (List ℕ))). Adds (lines_behind c.in_ok-kept.kept history) list now) c.load.ensures.list c.in_ok-world.ensures.kept))
     (subst (λ (stage : Stage). Lawful stage.settings trace history) new (c.in_ok-world.ensures.lawful trace made))
     c.in_ok-world.ensures.turns
+
+pub returns-in-Ok-whole_run-clause-run : goal.returns-in-Ok-whole_run-clause-run
+returns-in-Ok-whole_run-clause-run g c =
+    let settings = c.args.input.settings in
+    let trace = c.args.input.trace in
+    let new = c.in-Ok.ensures.stage in
+    let made = in_run settings trace c.in-Ok.world.stage new in
+    let run = c.in_ok-world.ensures in
+    c.in-Ok-whole_run.ensures.run settings trace
+    (is_over settings trace c.in-Ok.world.stage c.in_ok-world.world (ap (λ (at : Stage). at.settings) new) made run.source run.settings run.last (run.lawful trace made)
+    (by_resume settings.command _ trace _ c.requires.command run.turns))
+    (no_totals settings.command settings trace _ c.requires.command)

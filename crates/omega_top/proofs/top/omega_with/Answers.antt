@@ -1,19 +1,30 @@
-use Rattle.std.proofs.Common.{◌∙◌, ap, refl, subst, sym, true≢false}
+use Rattle.std.proofs.Common.{◌≡◌, ◌∙◌, List, ap, refl, subst, sym, true≢false}
 use Rattle.omega_io.specs.Edge.{Tells}
+use Rattle.omega_laws.proofs.WholeCommits.{lawful_whole}
+use Rattle.omega_laws.specs.WholeCommits.{CommitsAreWhole}
+use Rattle.omega_model.specs.Lawful.{Lawful}
 use Rattle.omega_model.specs.Trace.{trace_of}
+use Rattle.omega_model.specs.Turns.{InTurns}
+use Rattle.omega_model.specs.declared.entries.Entry.{Entry}
+use Rattle.omega_model.specs.declared.results.Status.{Status}
 use Rattle.omega_model.specs.declared.rows.TraceTables.{TraceTables}
 use Rattle.omega_model.specs.declared.settings.Command.{Command}
+use Rattle.omega_model.specs.declared.settings.Settings.{Settings}
 use Rattle.omega_tables.specs.Reading.{status_of}
 use Rattle.omega_tables.specs.declared.refusal.ReadRefusal.{ReadRefusal}
 use Rattle.omega_top.proofs.AuditEnds.{audit_no_further, audit_not_usage, audit_read_cause, audit_writes_nothing}
 use Rattle.omega_top.proofs.GoneOn.{refused_resume, refused_some_resume}
 use Rattle.omega_top.proofs.Reading.{audit_reads_none}
 use Rattle.omega_top.proofs.Refusing.{answers_refusal}
-use Rattle.omega_top.proofs.SomeRun.{refused_run, whole_commits}
+use Rattle.omega_top.proofs.NoHistory.{sound_empty, turns_empty}
+use Rattle.omega_top.proofs.Runs.{answered, only_run, reported, sound_of, turns_of_run}
+use Rattle.omega_top.proofs.SomeRun.{refused_run}
 use Rattle.omega_top.proofs.Unread.{ends_no_further, stops_there}
-use Rattle.omega_top.specs.Answers.{EndsRun, IsWritten}
-use Rattle.omega_top.specs.Commands.{makes_tables, takes_turns, uses_keeper}
+use Rattle.omega_top.specs.Answers.{EndsRun, IfReported, IsTheOnly, IsWritten}
+use Rattle.omega_top.specs.Commands.{IsOrdered, makes_tables, takes_turns, uses_keeper}
 use Rattle.omega_top.specs.Reads.{left_by}
+use Rattle.omega_top.specs.Runs.{IsRun}
+use Rattle.omega_top.specs.SoundHistory.{IsSoundHistory}
 use Rattle.omega_top.proofs.top.omega_with.Goals as goal
 
 pub returns-in-Audit-clause-first : goal.returns-in-Audit-clause-first
@@ -72,10 +83,67 @@ pub returns-in-Audit-clause-to_end : goal.returns-in-Audit-clause-to_end
 returns-in-Audit-clause-to_end g c bytes told done =
     subst (λ (command : Command). Tells (g.T.Tables.rest c.args.tables.now) (left_by command bytes)) (sym c.in-Audit.is) told
 
+-- what holds of a run that reached its report, of the trace of these bytes
+of_bytes : (Says : TraceTables → Type 0) (settings : Settings) (trace other : TraceTables) (history : List Entry) (status : Status)
+    → trace ≡ other → ((at : TraceTables) → IsRun settings at history → Says at) → IfReported (IsRun settings trace history) status
+    → IfReported (Says other) status
+of_bytes Says settings trace other history status are says run =
+    reported (IsRun settings trace history) (Says other) status (λ one. subst Says are (says trace one)) run
+
+pub returns-in-Ok-clause-lawful : goal.returns-in-Ok-clause-lawful
+returns-in-Ok-clause-lawful g c bytes told =
+    let settings = c.args.settings.now in
+    let done = c.replay_and_write.result in
+    of_bytes (λ (trace : TraceTables). Lawful settings trace done.history) settings _ _ done.history done.status (c.in-Ok.ensures.trace bytes told)
+    (λ trace run. run.lawful) c.replay_and_write.ensures.run
+
+pub returns-in-Ok-clause-ordered : goal.returns-in-Ok-clause-ordered
+returns-in-Ok-clause-ordered g c bytes told =
+    let settings = c.args.settings.now in
+    let done = c.replay_and_write.result in
+    of_bytes (λ (trace : TraceTables). IsOrdered settings trace done.history) settings _ _ done.history done.status (c.in-Ok.ensures.trace bytes told)
+    (λ trace run. run.ordered) c.replay_and_write.ensures.run
+
+pub returns-in-Ok-clause-only : goal.returns-in-Ok-clause-only
+returns-in-Ok-clause-only g c no_threads bytes told =
+    let settings = c.args.settings.now in
+    let done = c.replay_and_write.result in
+    of_bytes (λ (trace : TraceTables). IsTheOnly settings trace done.history) settings _ _ done.history done.status (c.in-Ok.ensures.trace bytes told)
+    (λ trace run. only_run settings trace done.history run no_threads) c.replay_and_write.ensures.run
+
 pub returns-in-Ok-clause-whole_commits : goal.returns-in-Ok-clause-whole_commits
 returns-in-Ok-clause-whole_commits g c bytes told =
-    let trace = c.in-Ok.ensures.trace bytes told in
-    rw (← trace) (whole_commits c.args.settings.now _ c.replay_and_write.result.history c.replay_and_write.result.status c.replay_and_write.ensures.lawful)
+    let settings = c.args.settings.now in
+    let done = c.replay_and_write.result in
+    of_bytes (λ (trace : TraceTables). CommitsAreWhole settings trace done.history) settings _ _ done.history done.status (c.in-Ok.ensures.trace bytes told)
+    (λ trace run. lawful_whole settings trace done.history run.lawful) c.replay_and_write.ensures.run
+
+pub returns-in-Ok-clause-turns : goal.returns-in-Ok-clause-turns
+returns-in-Ok-clause-turns g c takes =
+    let settings = c.args.settings.now in
+    let done = c.replay_and_write.result in
+    answered (IsRun settings c.in-Ok.trace done.history) InTurns done.history done.status turns_empty
+    (λ run. turns_of_run settings c.in-Ok.trace done.history run takes) c.replay_and_write.ensures.history c.replay_and_write.ensures.run
+
+pub returns-in-Ok-clause-sound : goal.returns-in-Ok-clause-sound
+returns-in-Ok-clause-sound g c =
+    let done = c.replay_and_write.result in
+    answered (IsRun c.args.settings.now c.in-Ok.trace done.history) IsSoundHistory done.history done.status sound_empty
+    (λ run. sound_of done.history run.legal) c.replay_and_write.ensures.history c.replay_and_write.ensures.run
+
+pub returns-in-Ok-clause-some_run : goal.returns-in-Ok-clause-some_run
+returns-in-Ok-clause-some_run g c runs =
+    let settings = c.args.settings.now in
+    let trace = c.in-Ok.trace in
+    let done = c.replay_and_write.result in
+    let run = c.replay_and_write.ensures.run in
+    record {
+      trace = trace;
+      within = c.in-Ok.ensures.within;
+      whole = reported (IsRun settings trace done.history) (Lawful settings trace done.history) done.status (λ one. one.lawful) run;
+      ordered = reported (IsRun settings trace done.history) (IsOrdered settings trace done.history) done.status (λ one. one.ordered) run;
+      written = c.replay_and_write.ensures.written;
+    }
 
 pub returns-in-Ok-clause-no_further : goal.returns-in-Ok-clause-no_further
 returns-in-Ok-clause-no_further g c = ends_no_further _ _ _ _ c.args.settings.now.command c.replay_and_write.result.status c.replay_and_write.ensures.ends

@@ -3,10 +3,17 @@ use Rattle.omega_model.specs.declared.results.Status.TheVariants.{NoMemory}
 use Rattle.omega_model.specs.declared.settings.Command.TheVariants.{Resume, Run}
 use Rattle.omega_top.specs.Answers.{Writes}
 use Rattle.omega_top.specs.Commands.{takes_turns}
+use Rattle.omega_top.specs.Runs.{IsRun}
 use Rattle.omega_top.proofs.GoneOn.{reported_resume, stopped_resume, stops_whole}
 use Rattle.omega_top.proofs.Replayed.{replayed}
-use Rattle.omega_top.proofs.Written.{written_if}
+use Rattle.omega_top.proofs.Runs.{only_run, turns_of_run}
+use Rattle.omega_top.proofs.Written.{if_reported, written_if}
 use Rattle.omega_top.proofs.top.replay_and_write.Goals as goal
+
+pub returns-clause-run : goal.returns-clause-run
+returns-clause-run g c =
+    let run = c.in-Ok.run in
+    if_reported (IsRun c.args.input.settings c.args.input.trace run.history) c.write-status.result c.in-Ok.ensures.run.history
 
 pub returns-clause-written : goal.returns-clause-written
 returns-clause-written g c =
@@ -14,9 +21,8 @@ returns-clause-written g c =
     let now = g.K.Sink.written c.write-status.new.out in
     let settings = c.args.input.settings in
     let trace = c.args.input.trace in
-    let run = c.in-Ok.whole in
-    let said = c.in-Ok-report_of_run.ensures trace c.in-Ok.ensures.lawful c.in-Ok.ensures.left c.in-Ok.ensures.timed in
-    written_if settings trace run.history c.write-status.result before now c.in-Ok-report_of_run.bytes said
+    let said = c.in-Ok-report_of_run.ensures trace c.in-Ok.ensures.run in
+    written_if settings trace c.in-Ok.run.history c.write-status.result before now c.in-Ok-report_of_run.bytes said
     (subst (λ (bytes : List ℕ). Writes bytes before now c.write-status.result) c.as_slice.ensures c.write-status.ensures.written)
 
 pub returns-clause-resume : goal.returns-clause-resume
@@ -25,13 +31,14 @@ returns-clause-resume g c is =
     let trace = c.args.input.trace in
     let before = g.K.Sink.written c.args.out.now in
     let now = g.K.Sink.written c.write-status.new.out in
-    let run = c.in-Ok.whole in
+    let history = c.in-Ok.run.history in
+    let run = c.in-Ok.ensures.run.history in
     let status = c.write-status.result in
-    let said = c.in-Ok-report_of_run.ensures trace c.in-Ok.ensures.lawful c.in-Ok.ensures.left c.in-Ok.ensures.timed in
-    reported_resume settings trace (g.P.Keeper.kept c.args.keeper.now) (g.P.Keeper.kept c.run_of.new.keeper) run.history status before now
+    let said = c.in-Ok-report_of_run.ensures trace c.in-Ok.ensures.run in
+    reported_resume settings trace (g.P.Keeper.kept c.args.keeper.now) (g.P.Keeper.kept c.run_of.new.keeper) history status before now
     (c.in-Ok.ensures.kept is) c.write-status.ensures.ends
-    (replayed settings trace run.history status before now c.in-Ok-report_of_run.bytes is c.in-Ok.ensures.lawful c.in-Ok.ensures.ordered
-    (c.in-Ok.ensures.only (λ threads. let clash : Resume ≡ Run = sym is ∙ threads in absurd (cc))) said
+    (replayed settings trace history status before now c.in-Ok-report_of_run.bytes is run.lawful run.ordered
+    (only_run settings trace history run (λ threads. let clash : Resume ≡ Run = sym is ∙ threads in absurd (cc))) said
     (subst (λ (bytes : List ℕ). Writes bytes before now status) c.as_slice.ensures c.write-status.ensures.written))
 
 pub returns-in_default-clause-resume : goal.returns-in_default-clause-resume
@@ -40,7 +47,8 @@ returns-in_default-clause-resume g c =
     let trace = c.args.input.trace in
     let before = g.P.Keeper.kept c.args.keeper.now in
     let now = g.P.Keeper.kept c.run_of.new.keeper in
-    let run = c.in-Ok.whole in
+    let history = c.in-Ok.run.history in
+    let run = c.in-Ok.ensures.run.history in
     rw (c.refused-in_default.ensures.nothing, c.refused-in_default.ensures.status)
-    (λ is. stopped_resume settings trace before now NoMemory _ (stops_whole settings trace before now run.history (c.in-Ok.ensures.kept is) c.in-Ok.ensures.lawful
-    (c.in-Ok.ensures.turns (ap takes_turns is))))
+    (λ is. stopped_resume settings trace before now NoMemory _ (stops_whole settings trace before now history (c.in-Ok.ensures.kept is) run.lawful
+    (turns_of_run settings trace history run (ap takes_turns is))))
