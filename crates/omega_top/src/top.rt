@@ -147,15 +147,7 @@ pub fn omega<R: Threads + Wait + Sync, T: Tables, K: Sink, G: Gate + Sync, P: Ke
     }
     // A law, on which the clause of a whole audit rests. It does nothing.
     audited_lines_are_not_refused();
-    omega_with(
-        rt,
-        alloc,
-        &parsed.settings,
-        tables,
-        out,
-        gate,
-        keeper,
-    )
+    omega_with(rt, alloc, &parsed.settings, tables, out, gate, keeper)
 }
 
 /// What `omega` does once the words are read and folder and path are entered, under any settings in their
