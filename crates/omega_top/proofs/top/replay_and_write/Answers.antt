@@ -41,6 +41,11 @@ returns-clause-resume g c is =
     (only_run settings trace history run (λ threads. let clash : Resume ≡ Run = sym is ∙ threads in absurd (cc))) said
     (subst (λ (bytes : List ℕ). Writes bytes before now status) c.as_slice.ensures c.write-status.ensures.written))
 
+pub returns-in-Err-clause-resume : goal.returns-in-Err-clause-resume
+returns-in-Err-clause-resume g c =
+    rw (c.refused.ensures.nothing, c.refused.ensures.status)
+    (λ is. stopped_resume c.args.input.settings c.args.input.trace _ _ c.in-Err.status _ (c.in-Err.ensures.refused is))
+
 pub returns-in_default-clause-resume : goal.returns-in_default-clause-resume
 returns-in_default-clause-resume g c =
     let settings = c.args.input.settings in
