@@ -237,6 +237,7 @@ chosen() {
     shape nowhere 5000 replay
     shape lopsided 5000 replay
     shape many_rounds 10000 replay
+    shape comes_back 10000 replay
     shape given_up 2000 replay --give-up 1
     shape large_job 500000 replay
     shape one_waits 2000 replay

@@ -518,6 +518,17 @@ def many_rounds(files, size):
     rounds_of(files, size, 20)
 
 
+def comes_back(files, size):
+    """One machine with many tasks, which goes and comes back in each of 50 rounds"""
+    window = 300 * SECOND
+    files.machine(1)
+    for index in range(size):
+        files.task(0, 1, index, 0, 0.9 / size)
+    for turn in range(1, 51):
+        files.put('machine_events', turn * window, 1, 1, 'p', '', '')
+        files.put('machine_events', turn * window + 1, 1, 0, 'p', 1, 1)
+
+
 def given_up(files, size):
     """Jobs that are given up, in as many rounds"""
     files.machine(1, 0.1, 0.1)
@@ -670,7 +681,7 @@ SHAPES = {shape.__name__: shape for shape in (
     one_job, apart, never_fits, one_machine, long_runs, attributes, scarce, map_reduce, half_full, full, evicting,
     too_little, victims, one_by_one, updates, shrinking, crowded, levels, ranks, ranks_in_turn, taking_over,
     same_tree, other_trees, one_note, machines_apart, machines_in_row, constraints, matched, unset_in_order, unset_backwards, set_in_turn,
-    nowhere, lopsided, many_rounds, given_up, large_job,
+    nowhere, lopsided, many_rounds, comes_back, given_up, large_job,
     one_waits, restarts, most_ended, left_apart, short_rounds, extras, extras_alike, commas, quotes, long_text)}
 
 
