@@ -17,13 +17,7 @@ pub(crate) fn answer(rt: &HostRuntime, words: &[Bytes], answers: &mut String) ->
     // A folder that isn't there is no fault.
     let _ = fs::remove_dir_all(rt, FOLDER);
     done(fs::create_dir(rt, FOLDER))?;
-    take_all(
-        rt,
-        FileKeeper::new(rt),
-        FileKeeper::new(rt),
-        words,
-        answers,
-    )?;
+    take_all(rt, FileKeeper::new(rt), FileKeeper::new(rt), words, answers)?;
     done(fs::remove_dir_all(rt, FOLDER))
 }
 
@@ -60,11 +54,7 @@ fn take_all<K: Keeper + Drop>(
 }
 
 /// Takes a step that is of the folder alone; `false` where it is none.
-fn takes_in_folder(
-    rt: &HostRuntime,
-    step: &[Bytes],
-    answers: &mut String,
-) -> Result<bool, Fault> {
+fn takes_in_folder(rt: &HostRuntime, step: &[Bytes], answers: &mut String) -> Result<bool, Fault> {
     match step {
         [call, path, bytes] if text(call)? == "put" => {
             done(fs::write(rt, text(path)?, bytes.as_slice()))?;
