@@ -51,12 +51,7 @@ impl OpenFile {
     }
 
     /// Puts lines at the end, and sees before and after that the file stands where it did.
-    fn append(
-        &mut self,
-        rt: &HostRuntime,
-        lines: &Lines,
-        expected: Expected,
-    ) -> Result<(), Error> {
+    fn append(&mut self, rt: &HostRuntime, lines: &Lines, expected: Expected) -> Result<(), Error> {
         self.see_in_place(rt)?;
         append_to(&mut self.connection, lines, expected)?;
         self.see_in_place(rt)
@@ -104,10 +99,7 @@ fn load_at(
     if file.is_none() && !looks_begun(rt, path.as_str())? {
         return Ok(None);
     }
-    look_into(
-        rt.alloc(),
-        &mut opened(rt, path.as_str(), file)?.connection,
-    )
+    look_into(rt.alloc(), &mut opened(rt, path.as_str(), file)?.connection)
 }
 
 /// Puts lines at the end of the file at a path, which is made where it isn't there.
@@ -253,13 +245,7 @@ impl<'a> Keeper for FileKeeper<'a> {
     }
 
     fn append(&mut self, lines: &Lines) -> Result<(), KeepRefusal> {
-        match append_at(
-            self.rt,
-            &self.path,
-            &mut self.file,
-            lines,
-            self.expected,
-        ) {
+        match append_at(self.rt, &self.path, &mut self.file, lines, self.expected) {
             Ok(()) => {
                 self.expected = Expected::AnyRows;
                 Ok(())

@@ -115,10 +115,12 @@ impl Paths {
     pub fn are_as_noted(&self, rt: &HostRuntime) -> Result<bool, Error> {
         let file_id = file_at(rt, self.path.as_str())?;
         let log_id = file_at(rt, self.log.as_str())?;
-        Ok(file_id.is_some()
-            && log_id.is_some()
-            && file_id == self.file_id
-            && log_id == self.log_id)
+        Ok(
+            file_id.is_some()
+                && log_id.is_some()
+                && file_id == self.file_id
+                && log_id == self.log_id,
+        )
     }
 
     /// Removes the log where it has no page, if it is the one that was noted.
