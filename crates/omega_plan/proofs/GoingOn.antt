@@ -14,7 +14,7 @@ use Rattle.omega_board.specs.Board.{BoardState, IsBoardOf, cell_of}
 use Rattle.omega_board.specs.Numbers.{is_among}
 use Rattle.omega_plan.specs.Indexes.{AreIndexesOf, HavePlaces, MayGoOn, MayTell, TellAll}
 use Rattle.omega_plan.specs.Levels.{GoesTo, LevelsTell}
-use Rattle.omega_plan.specs.Telling.{freed_of, freed_on}
+use Rattle.omega_plan.specs.Telling.{freed_of}
 use Rattle.omega_plan.specs.declared.indexes.Indexes.{Indexes}
 use Rattle.omega_plan.proofs.Applied.{MayAll, may_all, may_front, may_back}
 use Rattle.omega_plan.proofs.Changing.{Went, alone_more, went_all}

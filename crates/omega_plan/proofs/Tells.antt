@@ -2,11 +2,11 @@
 use Rattle.std.proofs.Common.{◌≡◌, ℕ, zero, suc, append_assoc, slice_get, ◌+◌, ◌<◌, Bool, true, false, ◌||◌, ◌&&◌, nat_eq, List, [], ◌∷◌, ◌++◌, map, set, length, take, drop, append-nil, position, Option, Some, None, not, refl, sym, ap, ap₂, ◌∙◌, subst, arith, if◌then◌else◌, ◌==◌}
 use Rattle.std.specs.List.{filter, zip, position_or_len, IsDistinct, AllByRecursion as Each}
 use Rattle.std.proofs.lemmas.Bool.{both_ways, eq-eqb, eqb-true, le-leb, ltb-true}
-use Rattle.std.proofs.lemmas.List.{drop_all, length-append, length-map, take_all}
+use Rattle.std.proofs.lemmas.List.{drop_all, length-map, take_all}
 use Rattle.std.proofs.lemmas.Option.{cond_some, none-some, same_Some}
 use Rattle.std.proofs.lemmas.Map.Keys.{IsDistinct-head, IsDistinct-tail}
 use Rattle.omega_model.specs.Cell.{Cell, is_on, total, use_on}
-use Rattle.omega_model.specs.Machines.{numbers_of, is_listed, change, ensured, new_machine}
+use Rattle.omega_model.specs.Machines.{numbers_of, is_listed}
 use Rattle.omega_model.specs.Need.{minus}
 use Rattle.omega_model.specs.Touches.{is_commit, is_placed, is_claimed}
 use Rattle.omega_model.specs.declared.cells.Machine.{Machine}

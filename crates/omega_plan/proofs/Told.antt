@@ -1,5 +1,5 @@
 -- What indexes may be told once a board has changed.
-use Rattle.std.proofs.Common.{◌≡◌, ℕ, ◌≤◌, ◌+◌, List, length, sym, ap, ◌∙◌, subst, arith}
+use Rattle.std.proofs.Common.{◌≡◌, ◌≤◌, ◌+◌, length, sym, ap, ◌∙◌, subst, arith}
 use Rattle.std.proofs.lemmas.List.{length-map}
 use Rattle.omega_model.specs.Applying.{PlacesInOrder}
 use Rattle.omega_model.specs.Cell.{Cell}

@@ -1,4 +1,4 @@
-use Rattle.std.proofs.Common.{◌==◌, drop}
+use Rattle.std.proofs.Common.{drop}
 use Rattle.omega_model.specs.Cell.{Cell}
 use Rattle.omega_board.specs.Numbers.{is_among}
 use Rattle.omega_plan.specs.Levels.{LevelsTellBut}
