@@ -1,12 +1,11 @@
 -- Levels that are told when they are asked for, and the machines that are noted until then.
 use Rattle.std.proofs.Common.{◌≡◌, ◌+◌, ◌||◌, ◌==◌, ℕ, Bool, true, false, List, [], ◌∷◌, ◌++◌, length, drop, sym, ap, ap₂, ◌∙◌, subst, arith, if◌then◌else◌}
-use Rattle.std.specs.List.{list_any, remove}
+use Rattle.std.specs.List.{list_any, remove, AllByRecursion as Each}
 use Rattle.std.proofs.lemmas.Bool.{or_parts}
 use Rattle.std.proofs.lemmas.List.{drop-append-le, length-append}
 use Rattle.std.proofs.lemmas.List.Folds.{list_any-append}
 use Rattle.omega_model.specs.Cell.{Cell}
-use Rattle.omega_running.specs.Order.{Each}
-use Rattle.omega_running.proofs.Lists.{each_append, each_map}
+use Rattle.omega_model.proofs.Lists.{each_append, each_map}
 use Rattle.omega_plan.specs.Levels.{LevelsTellBut, Tells, TellsLate, is_behind, no_number}
 use Rattle.omega_plan.specs.Telling.{is_this_or, placed}
 use Rattle.omega_plan.specs.declared.levels.Level.{Level}
