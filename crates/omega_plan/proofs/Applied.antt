@@ -1,6 +1,6 @@
 -- What the states of a history keep, each of whose entries could be applied to the state before it.
 use Rattle.std.proofs.Common.{◌≡◌, ℕ, ◌+◌, ◌<◌, ◌≤◌, inl, inr, List, [], ◌∷◌, ◌++◌, length, map, take, slice_get, Some, refl, sym, ap, ap₂, ◌∙◌, subst, arith, append_assoc, length-append, ◌==◌}
-use Rattle.std.specs.List.{filter, fold, zip}
+use Rattle.std.specs.List.{filter, fold, zip, AllByRecursion as Each}
 use Rattle.std.proofs.lemmas.Bool.{both_ways}
 use Rattle.std.proofs.lemmas.List.{length-map, take_all}
 use Rattle.omega_model.specs.Applying.{EachMayApply, MayApply, MayPlaceAll, ListsOrHasRoom}
