@@ -218,6 +218,11 @@ chosen() {
     shape updates 2000 replay
     shape shrinking 2000 replay
     shape crowded 5000 replay --preempt all
+    shape levels 32768 replay --batch 8 --preempt all
+    shape levels 32768 run --batch 8 --preempt all
+    shape ranks 255 replay --batch 2 --preempt all
+    shape ranks 5000 replay --batch 2 --preempt all
+    shape ranks_in_turn 500 replay --batch 2 --preempt all
     shape taking_over 2000 run
     shape same_tree 100000 replay
     shape other_trees 100000 replay
@@ -232,6 +237,7 @@ chosen() {
     shape nowhere 5000 replay
     shape lopsided 5000 replay
     shape many_rounds 10000 replay
+    shape comes_back 10000 replay
     shape given_up 2000 replay --give-up 1
     shape large_job 500000 replay
     shape one_waits 2000 replay

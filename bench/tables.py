@@ -372,6 +372,38 @@ def crowded(files, size):
         files.task(ROUND, job, 0, 0, 0.5 / size)
 
 
+PRIORITIES = 255
+
+
+def levels(files, size):
+    """Eight jobs of each of 255 priorities that are too large for every machine, for runs that evict"""
+    for number in range(1, size + 1):
+        files.machine(number, 0.5, 0.5)
+    for job in range(8 * PRIORITIES):
+        files.task(0, job, 0, 0, 0.9, prio=1 + job // 8)
+
+
+def ranks(files, size):
+    """Jobs of 255 priorities in one round, each of which evicts one of 10,000 tasks on one machine"""
+    full_of_tasks(files)
+    for job in range(size):
+        files.task(ROUND, 11 + job, 0, 0, 0.0001, prio=1 + job % PRIORITIES)
+
+
+def ranks_in_turn(files, size):
+    """Jobs of 255 priorities, one in each round, each of which evicts one of 10,000 tasks on one machine"""
+    full_of_tasks(files)
+    for job in range(size):
+        files.task((1 + job) * ROUND, 11 + job, 0, 0, 0.0001, prio=1 + job % PRIORITIES)
+
+
+def full_of_tasks(files):
+    """One machine full of tasks of the least priority."""
+    files.machine(1)
+    for index in range(10_000):
+        files.task(0, 10, index, 0, 0.0001, prio=0)
+
+
 def taking_over(files, size):
     """Jobs of one task on one machine, for runs on threads"""
     files.machine(1)
@@ -484,6 +516,17 @@ def many_rounds(files, size):
     for job in range(20):
         files.task(0, job, 0, 0, 0.5)
     rounds_of(files, size, 20)
+
+
+def comes_back(files, size):
+    """One machine with many tasks, which goes and comes back in each of 50 rounds"""
+    window = 300 * SECOND
+    files.machine(1)
+    for index in range(size):
+        files.task(0, 1, index, 0, 0.9 / size)
+    for turn in range(1, 51):
+        files.put('machine_events', turn * window, 1, 1, 'p', '', '')
+        files.put('machine_events', turn * window + 1, 1, 0, 'p', 1, 1)
 
 
 def given_up(files, size):
@@ -636,9 +679,9 @@ def too_little(files, size):
 
 SHAPES = {shape.__name__: shape for shape in (
     one_job, apart, never_fits, one_machine, long_runs, attributes, scarce, map_reduce, half_full, full, evicting,
-    too_little, victims, one_by_one, updates, shrinking, crowded, taking_over, same_tree, other_trees,
-    one_note, machines_apart, machines_in_row, constraints, matched, unset_in_order, unset_backwards, set_in_turn,
-    nowhere, lopsided, many_rounds, given_up, large_job,
+    too_little, victims, one_by_one, updates, shrinking, crowded, levels, ranks, ranks_in_turn, taking_over,
+    same_tree, other_trees, one_note, machines_apart, machines_in_row, constraints, matched, unset_in_order, unset_backwards, set_in_turn,
+    nowhere, lopsided, many_rounds, comes_back, given_up, large_job,
     one_waits, restarts, most_ended, left_apart, short_rounds, extras, extras_alike, commas, quotes, long_text)}
 
 

@@ -3,10 +3,11 @@
 
     kept.py put DATABASE <LINES     the lines go to the end of the database, which is made where it isn't there
     kept.py get DATABASE            writes its lines; none where it isn't there
+    kept.py make DATABASE <SQL      makes a database of any kind by statements of SQL
 """
 import sys
 
-from definitions.keep import DatabaseKeeper
+from definitions.keep import DatabaseKeeper, make_database
 from definitions.refusals import Refusal
 
 
@@ -14,9 +15,12 @@ def main(words: list[str]) -> int:
     if words in (['--help'], ['-h']):
         print(__doc__, end='')
         return 0
-    if len(words) != 2 or words[0] not in ('put', 'get'):
+    if len(words) != 2 or words[0] not in ('put', 'get', 'make'):
         print(__doc__, end='', file=sys.stderr)
         return 2
+    if words[0] == 'make':
+        make_database(words[1], sys.stdin.read())
+        return 0
     keeper = DatabaseKeeper(words[1])
     try:
         if words[0] == 'put':

@@ -26,6 +26,7 @@ answer() {
     mapfile -t words <words || return 1
     base=$(kept_file "${words[@]}")
     [ ! -f kept-bytes ] || cp kept-bytes "$base"
+    [ ! -f kept-sql ] || python3 "$reference/kept.py" make "$base" <kept-sql
     [ ! -s kept ] || python3 "$reference/kept.py" put "$base" <kept
     python3 "$reference/omega.py" "${words[@]}" >report.txt 2>fault.txt
     echo $? >status

@@ -69,7 +69,7 @@ count() { # NAME FUNCTION WORDS..
 
 # Whether a folder's run finds kept lines, or a file where they would be, and what it leaves is looked at.
 is_kept() {
-    [ -f "$1/kept" ] || [ -f "$1/kept-bytes" ]
+    [ -f "$1/kept" ] || [ -f "$1/kept-bytes" ] || [ -f "$1/kept-sql" ]
 }
 
 # Prints the file in which these words have lines kept.
@@ -127,11 +127,14 @@ copy_with_made() {
     (cd "$scratch/copy" && exec bash ./make.sh)
 }
 
-# Makes a copy of a folder, and in it a database of its kept lines, if it has any, or the file that it has instead.
+# Makes a copy of a folder, and in it a database of its kept lines, if it has any, or the file that it has instead, or
+# that its statements make.
 copy_with_kept() {
     rm -rf "$scratch/copy"
     cp -r "$1" "$scratch/copy"
     [ ! -f "$1/kept-bytes" ] || cp "$1/kept-bytes" "$2"
+    [ ! -f "$1/kept-sql" ] || python3 "$root/reference/kept.py" make "$2" <"$1/kept-sql"
+    [ ! -f "$2" ] || cp "$2" "$scratch/before"
     [ ! -s "$1/kept" ] || python3 "$root/reference/kept.py" put "$2" <"$1/kept"
 }
 
@@ -141,8 +144,8 @@ copy_with_kept() {
 kept_differences() {
     local wanted=$1/kept
     [ ! -f "$1/kept-after" ] || wanted=$1/kept-after
-    if [ -f "$1/kept-bytes" ]; then
-        differences "$1/kept-bytes" "$2"
+    if [ -f "$1/kept-bytes" ] || [ -f "$1/kept-sql" ]; then
+        cmp "$scratch/before" "$2" 2>&1
     elif [ -f "$2" ]; then
         [ ! -e "$2-wal" ] || echo "a log stands beside the database"
         python3 "$root/reference/kept.py" get "$2" >"$scratch/after"

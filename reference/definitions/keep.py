@@ -1,6 +1,7 @@
 """A history that is kept outside the program, a line for each entry: where the lines are, `resume` and `audit`."""
 import os
 import sqlite3
+from typing import Callable, TypeVar
 
 from .entries import Entry, RoundBegins
 from .kept_lines import entry_line, read_entry
@@ -11,8 +12,10 @@ from .report_lines import use_line
 from .state import History
 
 CREATE = 'CREATE TABLE IF NOT EXISTS kept (place INTEGER PRIMARY KEY, line BLOB NOT NULL) STRICT'
+NAMED = "SELECT type FROM sqlite_master WHERE lower(name) = 'kept' AND type != 'trigger'"
 LOAD = 'SELECT line FROM kept ORDER BY place'
 APPEND = 'INSERT INTO kept (place, line) VALUES ((SELECT coalesce(max(place) + 1, 0) FROM kept), ?)'
+T = TypeVar('T')
 
 
 class MemoryKeeper:
@@ -28,39 +31,81 @@ class MemoryKeeper:
         self.lines += lines
 
 
+def has_table(base: sqlite3.Connection) -> bool:
+    """Whether a database has the table of lines. Whatever else has its name is refused."""
+    kinds = [kind for kind, in base.execute(NAMED)]
+    if not kinds:
+        return False
+    columns = {name.lower(): (kind.lower(), key) for _, name, kind, _, _, key in base.execute('PRAGMA table_info(kept)')}
+    has_key_apart = any(origin == 'pk' for _, _, _, origin, _ in base.execute('PRAGMA index_list(kept)'))
+    keys = [name for name, (_, key) in columns.items() if key]
+    if kinds != ['table'] or keys != ['place'] or columns['place'][0] != 'integer' or has_key_apart or 'line' not in columns:
+        raise keep_fault()
+    return True
+
+
 class DatabaseKeeper:
-    """Lines in a table of an SQLite database, in the order of their places. One that isn't there has none. Names that
-    SQLite would take as something else than a file's are refused."""
+    """Lines in a table of an SQLite database, in the order of their places. One that isn't there has none, and so has a
+    file of no bytes; a link that leads to nothing and a file of one byte are refused. Names that SQLite would take as
+    something else than a file's are refused. Loading writes nothing. What is appended goes behind the lines that were
+    loaded and appended so far, and where others stand there is refused."""
 
     def __init__(self, name: str, folder: str = '') -> None:
         self.is_file = name not in ('', ':memory:') and not name.startswith('file:')
         self.path = os.path.join(folder, name)
+        self.known: int | None = None
 
     def load(self) -> list[bytes]:
-        if not os.path.exists(self.path):
+        lines = self.loaded()
+        self.known = len(lines)
+        return lines
+
+    def loaded(self) -> list[bytes]:
+        if not os.path.lexists(self.path) or os.path.isfile(self.path) and os.path.getsize(self.path) == 0:
             return []
-        lines = [line for line, in self.run(LOAD)]
+        if not os.path.exists(self.path) or os.path.getsize(self.path) == 1:
+            raise keep_fault()
+        lines = self.run(lambda base: [line for line, in base.execute(LOAD)] if has_table(base) else [])
         if not all(isinstance(line, bytes) for line in lines):
             raise keep_fault()
         return lines
 
     def append(self, lines: list[bytes]) -> None:
-        self.run(APPEND, [(line,) for line in lines])
+        self.run(lambda base: self.append_to(base, lines))
+        if self.known is not None:
+            self.known += len(lines)
 
-    def run(self, command: str, rows: list[tuple] | None = None) -> list[tuple]:
-        """Runs one command, for each of some rows if there are such, as one transaction; the table is made first."""
+    def append_to(self, base: sqlite3.Connection, lines: list[bytes]) -> None:
+        base.execute('BEGIN IMMEDIATE')
+        has_table(base)
+        base.execute(CREATE)
+        count, = base.execute('SELECT count(*) FROM kept').fetchone()
+        if self.known not in (None, count):
+            raise keep_fault()
+        base.executemany(APPEND, [(line,) for line in lines])
+
+    def run(self, command: Callable[[sqlite3.Connection], T]) -> T:
+        """Runs a command as one transaction."""
         if not self.is_file:
             raise keep_fault()
         try:
             base = sqlite3.connect(self.path)
             try:
                 with base:
-                    base.execute(CREATE)
-                    return (base.execute(command) if rows is None else base.executemany(command, rows)).fetchall()
+                    return command(base)
             finally:
                 base.close()
         except sqlite3.Error:
             raise keep_fault() from None
+
+
+def make_database(path: str, statements: str) -> None:
+    """Makes a database by statements of SQL."""
+    base = sqlite3.connect(path)
+    try:
+        base.executescript(statements)
+    finally:
+        base.close()
 
 
 Keeper = MemoryKeeper | DatabaseKeeper

@@ -24,13 +24,14 @@ Reader = Callable[[Table], bytes | None]
 
 
 def folder_reader(folder: str) -> Reader:
-    """The tables of a folder. One that needn't be there is empty where it isn't."""
+    """The tables of a folder. One that needn't be there is empty where no name of it stands there."""
     def read(table: Table) -> bytes | None:
+        path = os.path.join(folder, table + '.csv')
         try:
-            with open(os.path.join(folder, table + '.csv'), 'rb') as file:
+            with open(path, 'rb') as file:
                 return file.read(LONGEST_TABLE + 1)
         except FileNotFoundError:
-            return None if table in NEEDED else b''
+            return None if table in NEEDED or os.path.lexists(path) else b''
         except OSError:
             return None
     return read

@@ -53,6 +53,14 @@ class Cases(unittest.TestCase):
         self.written('words/refused', "no command: play\nan open quote: play 'x\nthe command: replay\n")
         self.assertEqual(self.last_line('words'), (1, '1 passed, 2 failed'))
 
+    # A database that statements have made has to stay as it is.
+    def test_a_database_of_any_kind(self) -> None:
+        for name in ('words', 'report.txt', 'kept-sql'):
+            self.written('case/' + name, {'words': 'resume\n--kept=k.db\n', 'report.txt': 'right\n'}.get(name, 'CREATE TABLE t (a);'))
+        self.assertEqual(self.last_line('case'), (1, '0 passed, 1 failed'))
+        self.written('case/words', 'replay\n--kept=k.db\n')
+        self.assertEqual(self.last_line('case'), (0, '1 passed, 0 failed'))
+
     # What is left beside the run is looked at, wherever the words have the lines kept.
     def test_kept_lines(self) -> None:
         for name in ('words', 'report.txt', 'kept'):

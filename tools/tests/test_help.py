@@ -30,8 +30,7 @@ class Helped(unittest.TestCase):
         (self.root / 'crates.txt').write_text('')
         (out / 'omega').write_text(PROGRAM)
         (out / 'omega').chmod(0o755)
-        (out / 'omega.stamp').write_text('')
-        os.utime(out / 'omega.stamp', (4e9, 4e9))
+        (out / 'omega.stamp').write_text(self.run_it('--digest').stdout)
 
     def run_it(self, *words: str) -> 'subprocess.CompletedProcess[str]':
         return subprocess.run([str(self.root / 'omega.sh'), *words], capture_output=True, text=True, cwd='/')
@@ -80,7 +79,8 @@ class Helped(unittest.TestCase):
 
     def test_other_scripts(self) -> None:
         for script in ('bench/tables.py', 'bench/bench.sh', 'bench/study.py', 'tools/slice.py', 'tools/report.py',
-                       'tools/sweep.py', 'tools/quick.sh', 'tools/refused.py', 'tools/costs.py', 'tools/kills.py',
+                       'tools/sweep.py', 'tools/quick.sh', 'tools/refused.py', 'tools/costs.py', 'tools/kills.py', 'tools/pairs.py',
+                       'tools/kept_file.py',
                        'reference/tables.py', 'reference/compare.py', 'reference/spoiled.py', 'reference/kept.py'):
             answer = subprocess.run([str(ROOT / script), '--help'], capture_output=True, text=True)
             self.assertEqual((answer.returncode, answer.stderr), (0, ''), script)

@@ -1,6 +1,6 @@
 -- What every board keeps, when a task stops and when one starts.
 use Rattle.std.proofs.Common.{◌≡◌, ℕ, Bool, true, false, not, nat_eq, List, [], ◌∷◌, ◌++◌, Option, Some, None, is_some, IsTrue, IsSomeAnd, refl, sym, ap, ◌∙◌, subst, arith, ◌==◌, if◌then◌else◌}
-use Rattle.std.specs.List.{IsDistinct, AllByRecursion}
+use Rattle.std.specs.List.{IsDistinct, AllByRecursion as Each}
 use Rattle.std.specs.Option.{option_map, option_map_or, option_and_then}
 use Rattle.std.proofs.lemmas.Bool.{both_ways, eqb-true, eq-eqb}
 use Rattle.std.proofs.lemmas.Map.Keys.{IsDistinct-head, IsDistinct-tail}
@@ -16,14 +16,14 @@ use Rattle.omega_model.specs.declared.cells.Task.{Task}
 use Rattle.omega_machines.specs.declared.MachineState.{MachineState}
 use Rattle.omega_machines.specs.Table.{machines_of, state_at, used, use_at, free_if_up, free_at, change_state, new_state, ensured_states, charged, released, touched, IsTable}
 use Rattle.omega_machines.proofs.Laws.{machine_of_state, listed_state, machines_same, state_changed, others_unchanged}
-use Rattle.omega_running.specs.Order.{Each}
-use Rattle.omega_running.proofs.Lists.{each_map, each_both, each_append, each_of, find_first, filter_none}
+use Rattle.omega_running.proofs.Lists.{find_first}
 use Rattle.omega_board.specs.Board.{BoardState, IsBoard, IsCounted, is_on_up, recounted, table_with}
 use Rattle.omega_running.proofs.Kept.{found_key}
-use Rattle.omega_board.proofs.Tasks.{each_filter, each_found, each_with, without_ordered, with_ordered}
+use Rattle.omega_board.proofs.Tasks.{without_ordered, with_ordered}
+use Rattle.omega_model.proofs.InOrder.{each_with}
 use Rattle.omega_board.proofs.Uses.{total-with, total-without}
 use Rattle.omega_model.proofs.Amounts.{plus-assoc, plus-nothing, need_is, share}
-use Rattle.omega_model.proofs.Lists.{by_answer}
+use Rattle.omega_model.proofs.Lists.{by_answer, each_map, each_both, each_append, each_of, filter_none, each_filter, each_found}
 
 -- a machine that is counted has as much free as the count says
 pub recounted-same : (tasks : List Task) (state : MachineState) → IsCounted tasks state → recounted tasks state ≡ state
@@ -65,7 +65,7 @@ only_state (s ∷ ss) id found distinct is =
     (λ t. (λ _. same_Some s found (rw t at is), others ss (IsDistinct-head nat_eq s.machine.id (numbers_of (machines_of ss)) distinct) (eqb-true _ _ t)))
     (λ f. (λ t. absurd (both_ways _ f t), only_state ss id found (IsDistinct-tail nat_eq s.machine.id (numbers_of (machines_of ss)) distinct) (rw f at is)))
   where
-    others : (rest : List MachineState) → AllByRecursion (λ n. nat_eq s.machine.id n ≡ false) (numbers_of (machines_of rest)) → s.machine.id ≡ id
+    others : (rest : List MachineState) → Each (λ n. nat_eq s.machine.id n ≡ false) (numbers_of (machines_of rest)) → s.machine.id ≡ id
         → Each (λ r. (r.machine.id == id) ≡ true → r ≡ found) rest
     others [] differ own = tt
     others (r ∷ rest) differ own = (

@@ -14,15 +14,14 @@ use Rattle.omega_model.specs.declared.claims.Claim.{Claim}
 use Rattle.omega_machines.specs.declared.MachineState.{MachineState}
 use Rattle.omega_machines.specs.Table.{machines_of, free_if_up, free_at}
 use Rattle.omega_machines.proofs.Laws.{machine_of_state}
-use Rattle.omega_running.proofs.Lists.{find_none, filter_every, each_of}
 use Rattle.omega_board.specs.Board.{IsBoard}
 use Rattle.omega_board.specs.Putting.{HasRoomFor}
-use Rattle.omega_board.proofs.Tasks.{each_filter, each_absent, found_still}
+use Rattle.omega_board.proofs.Tasks.{found_still}
 use Rattle.omega_board.proofs.Boards.{in_use, state_up}
 use Rattle.omega_board.proofs.Parts.{not_refused}
 use Rattle.omega_board.proofs.Placed.{IsPlaced}
 use Rattle.omega_model.proofs.Amounts.{fits_tested, rest_is}
-use Rattle.omega_model.proofs.Lists.{by_answer}
+use Rattle.omega_model.proofs.Lists.{by_answer, find_none, filter_every, each_of, each_filter, each_absent}
 
 -- nothing goes
 pub without_none : (tasks : List Task) → without [] tasks ≡ tasks

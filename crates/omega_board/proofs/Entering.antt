@@ -1,6 +1,6 @@
 -- A change of one machine that is counted on it.
 use Rattle.std.proofs.Common.{◌≡◌, ℕ, ◌+◌, true, false, List, [], ◌∷◌, Option, Some, None, is_some, IsTrue, refl, sym, ap, ◌∙◌, subst, arith, if◌then◌else◌, ◌==◌}
-use Rattle.std.specs.List.{filter}
+use Rattle.std.specs.List.{filter, AllByRecursion as Each}
 use Rattle.std.specs.Option.{option_map, option_map_or}
 use Rattle.std.proofs.lemmas.Bool.{both_ways, eqb-true, eq-eqb}
 use Rattle.omega_model.specs.Need.{Fits, nothing, plus, minus}
@@ -14,13 +14,11 @@ use Rattle.omega_machines.specs.declared.MachineState.{MachineState}
 use Rattle.omega_machines.specs.Table.{machines_of, state_at, use_at, seq_at, change_state, ensured_states, touched, used, state_added, state_updated, with_machine, IsTable}
 use Rattle.omega_machines.proofs.Laws.{listed_state, machines_changed, machines_same, state_changed, others_unchanged, listed_changed}
 use Rattle.omega_machines.proofs.Ensuring.{table_ensured}
-use Rattle.omega_running.specs.Order.{Each}
-use Rattle.omega_running.proofs.Lists.{each_of}
 use Rattle.omega_board.specs.Board.{IsBoard, IsCounted, CountsOn}
 use Rattle.omega_board.proofs.Boards.{in_use, ensured_board, changed_board, touched_board}
 use Rattle.omega_board.proofs.Counts.{seq_touched}
 use Rattle.omega_model.proofs.Amounts.{need_is}
-use Rattle.omega_model.proofs.Lists.{by_answer}
+use Rattle.omega_model.proofs.Lists.{by_answer, each_of}
 
 -- a machine that is listed has a state
 pub state_listed : (table : List MachineState) (id : ℕ) → IsTrue (is_listed id (machines_of table)) → (s : MachineState) × (state_at table id ≡ Some s)

@@ -1,6 +1,6 @@
 -- The shortest beginning of the victims that stand which makes room.
 use Rattle.std.proofs.Common.{◌≡◌, ℕ, zero, suc, ◌+◌, ◌-◌, ◌≤◌, Bool, true, false, not, ◌&&◌, ◌||◌, List, [], ◌∷◌, length, map, take, drop, Option, Some, refl, sym, ap, ◌∙◌, arith, ◌==◌, if◌then◌else◌, inl, inr}
-use Rattle.std.specs.List.{find, list_any, range_with_len}
+use Rattle.std.specs.List.{find, list_any, range_with_len, AllByRecursion as Each}
 use Rattle.std.specs.Option.{unwrap_or}
 use Rattle.std.proofs.lemmas.Bool.{both_ways, and_parts, and_from, or_left, or_right, or_cases, or_parts, not-true, not_from_false}
 use Rattle.std.proofs.lemmas.List.{take_all, take-append-drop}
@@ -13,10 +13,8 @@ use Rattle.omega_model.specs.Need.{fits}
 use Rattle.omega_model.specs.declared.cells.TaskKey.{TaskKey}
 use Rattle.omega_model.specs.declared.cells.Task.{Task}
 use Rattle.omega_model.specs.declared.claims.Claim.{Claim}
-use Rattle.omega_running.specs.Order.{Each}
-use Rattle.omega_running.proofs.Lists.{each_map, each_both}
-use Rattle.omega_board.proofs.Standing.{AreStanding, later_apart, each_drop}
-use Rattle.omega_model.proofs.Lists.{by_answer}
+use Rattle.omega_board.proofs.Standing.{AreStanding, later_apart}
+use Rattle.omega_model.proofs.Lists.{by_answer, each_map, each_both, each_drop}
 use Rattle.omega_model.proofs.InOrder.{key_same}
 
 -- the first of the beginnings of at least this length that passes a test

@@ -1,6 +1,6 @@
 -- Running tasks that others lack.
 use Rattle.std.proofs.Common.{◌≡◌, ℕ, Bool, true, false, not, ◌&&◌, ◌||◌, List, [], ◌∷◌, ◌++◌, Option, Some, None, refl, sym, ap, ap₂, ◌∙◌, subst, ◌==◌, if◌then◌else◌}
-use Rattle.std.specs.List.{filter, flat_map, list_any}
+use Rattle.std.specs.List.{filter, flat_map, list_any, AllByRecursion as Each}
 use Rattle.std.specs.Option.{option_and_then, option_map_or}
 use Rattle.std.proofs.lemmas.Bool.{both_ways, eqb-true, eq-eqb, and_parts, and_from, false_from_ne_true}
 use Rattle.std.proofs.lemmas.List.{map-append}
@@ -15,14 +15,13 @@ use Rattle.omega_model.specs.declared.cells.Spec.{Spec}
 use Rattle.omega_model.specs.declared.cells.Task.{Task}
 use Rattle.omega_model.specs.declared.cells.TaskKey.{TaskKey}
 use Rattle.omega_running.specs.declared.orders.Order.TheVariants.{ByKey}
-use Rattle.omega_running.specs.Order.{Each, IsInOrder, precedes}
+use Rattle.omega_running.specs.Order.{IsInOrder, precedes}
 use Rattle.omega_running.specs.Standing.{same_need, same_spec, same_task, stands_in}
 use Rattle.omega_running.proofs.Kept.{rises_filter, found_key}
-use Rattle.omega_running.proofs.Lists.{each_map, filter_where, find_none}
-use Rattle.omega_board.proofs.Tasks.{each_filter, each_found, filter_and, any_at, key_differs_back}
+use Rattle.omega_board.proofs.Tasks.{any_at, key_differs_back}
 use Rattle.omega_board.proofs.Ranks.{each_here}
 use Rattle.omega_model.proofs.InOrder.{key_asym, key_itself, key_same, same_key-sym}
-use Rattle.omega_model.proofs.Lists.{by_answer}
+use Rattle.omega_model.proofs.Lists.{by_answer, each_map, filter_where, find_none, each_filter, each_found, filter_and}
 
 -- tasks that are the same in all are one
 same_need-is : (a b : Need) → same_need a b ≡ true → a ≡ b

@@ -1,6 +1,6 @@
 -- Machines that are listed under distinct numbers.
 use Rattle.std.proofs.Common.{◌≡◌, ℕ, zero, suc, Bool, true, false, nat_eq, List, [], ◌∷◌, slice_get, Some, refl, sym, ap, subst, ◌==◌}
-use Rattle.std.specs.List.{filter, IsDistinct, AllByRecursion}
+use Rattle.std.specs.List.{filter, IsDistinct, AllByRecursion as Each}
 use Rattle.std.proofs.lemmas.Bool.{both_ways, eqb-true, eq-eqb, false_from_ne_true}
 use Rattle.std.proofs.lemmas.Map.Keys.{IsDistinct-head, IsDistinct-tail, IsDistinct-cons}
 use Rattle.std.proofs.lemmas.Option.{none-some, same_Some}
@@ -8,7 +8,6 @@ use Rattle.omega_model.specs.Cell.{machine_at}
 use Rattle.omega_model.specs.Machines.{is_listed, numbers_of}
 use Rattle.omega_model.specs.declared.cells.Machine.{Machine}
 use Rattle.omega_model.proofs.Lists.{by_answer}
-use Rattle.omega_running.specs.Order.{Each}
 use Rattle.omega_board.proofs.Places.{each_get}
 
 -- numbers differ either way
@@ -19,7 +18,7 @@ differ_back a b differ = false_from_ne_true _ (λ t. both_ways _ differ (eq-eqb 
 abbrev pub Others : ℕ → List Machine → Type 0
 Others id rows = Each (λ row. (row.id == id) ≡ false) rows
 
-pub others_of : (id : ℕ) (rows : List Machine) → AllByRecursion (λ n. nat_eq id n ≡ false) (numbers_of rows) → Others id rows
+pub others_of : (id : ℕ) (rows : List Machine) → Each (λ n. nat_eq id n ≡ false) (numbers_of rows) → Others id rows
 others_of id [] differ = tt
 others_of id (row ∷ rows) differ = (differ_back id row.id differ.0, others_of id rows differ.1)
 
@@ -28,7 +27,7 @@ pub others_behind : (row : Machine) (rows : List Machine) → IsDistinct nat_eq 
 others_behind row rows distinct = others_of row.id rows (IsDistinct-head nat_eq row.id (numbers_of rows) distinct)
 
 -- no machine behind the one of a number has the number
-pub unlisted_behind : (id : ℕ) (rows : List Machine) → AllByRecursion (λ n. nat_eq id n ≡ false) (numbers_of rows) → is_listed id rows ≡ false
+pub unlisted_behind : (id : ℕ) (rows : List Machine) → Each (λ n. nat_eq id n ≡ false) (numbers_of rows) → is_listed id rows ≡ false
 unlisted_behind id [] differ = refl
 unlisted_behind id (row ∷ rows) differ =
     let here : (row.id == id) ≡ false = differ_back id row.id differ.0 in
@@ -46,7 +45,7 @@ distinct_kept p (row ∷ rows) distinct =
     kept : p row ≡ true → filter p (row ∷ rows) ≡ row ∷ filter p rows
     kept t = rw t refl
 
-    fewer : (rs : List Machine) → AllByRecursion (λ n. nat_eq row.id n ≡ false) (numbers_of rs) → AllByRecursion (λ n. nat_eq row.id n ≡ false) (numbers_of (filter p rs))
+    fewer : (rs : List Machine) → Each (λ n. nat_eq row.id n ≡ false) (numbers_of rs) → Each (λ n. nat_eq row.id n ≡ false) (numbers_of (filter p rs))
     fewer [] all = tt
     fewer (r ∷ rs) all = by_answer (p r) (λ t. rw t (all.0, fewer rs all.1)) (λ f. rw f (fewer rs all.1))
 

@@ -1,13 +1,12 @@
 -- Lists of machine numbers and of places: sorted, each once.
 use Rattle.std.proofs.Common.{◌≡◌, ℕ, zero, suc, ◌<◌, ◌≤◌, Bool, true, false, ◌||◌, nat_eq, nat_lt, List, [], ◌∷◌, ◌++◌, length, get_or, take, refl, sym, ap, ◌∙◌, arith, ◌==◌}
-use Rattle.std.specs.List.{dedup, AllByRecursion}
+use Rattle.std.specs.List.{dedup, AllByRecursion as Each}
 use Rattle.std.specs.List.Sorted.{IsStrictlyIncreasing, IsStrictlySortedBy}
 use Rattle.std.specs.Ordering.{nat_cmp}
 use Rattle.std.specs.declared.cmp.Ordering.TheVariants.{Less}
 use Rattle.std.proofs.lemmas.Bool.{eqb-true, ltb-true, false_from_ne_true}
 use Rattle.std.proofs.lemmas.List.Folds.{list_any-append}
 use Rattle.std.proofs.lemmas.Map.Keys.{sorted_head, sorted_tail, sorted_from_strictly_increasing}
-use Rattle.omega_running.specs.Order.{Each}
 use Rattle.omega_running.proofs.Kept.{or_no}
 use Rattle.omega_board.specs.Numbers.{is_among}
 use Rattle.omega_model.proofs.Lists.{by_answer}
@@ -52,7 +51,7 @@ rest_greater p ps sorted = by ps (sorted_head nat_cmp p ps sorted)
     less : (q : ℕ) → nat_cmp p q ≡ Less → p < q
     less q is = by_answer (nat_lt p q) (λ t. ltb-true _ _ t) (λ f. absurd (by_answer (p == q) (λ t. let e = rw (f, t) at is in (cc)) (λ g. let e = rw (f, g) at is in (cc))))
 
-    by : (qs : List ℕ) → AllByRecursion (λ q. nat_cmp p q ≡ Less) qs → Each (λ q. p < q) qs
+    by : (qs : List ℕ) → Each (λ q. nat_cmp p q ≡ Less) qs → Each (λ q. p < q) qs
     by [] all = tt
     by (q ∷ qs) all = (less q all.0, by qs all.1)
 

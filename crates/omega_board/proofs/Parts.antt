@@ -23,7 +23,7 @@ use Rattle.omega_machines.specs.Table.{machines_of, state_at, free_at}
 use Rattle.omega_machines.proofs.Laws.{machine_of_state, listed_state, found_bounded}
 use Rattle.omega_running.specs.declared.orders.Order.TheVariants.{ByKey}
 use Rattle.omega_running.specs.Order.{IsInOrder}
-use Rattle.omega_running.proofs.Lists.{each_of, filter_every}
+use Rattle.omega_model.proofs.Lists.{each_of, filter_every}
 use Rattle.omega_board.specs.Board.{BoardState, IsBoard, Stand}
 use Rattle.omega_running.proofs.Kept.{found_key}
 use Rattle.omega_board.proofs.Tasks.{any_at, found_still, without_more, without_ordered}

@@ -1,7 +1,7 @@
 -- What holds of each item of a list, told by places.
 use Rattle.std.proofs.Common.{◌≡◌, ℕ, zero, suc, List, [], ◌∷◌, slice_get, Some, refl, subst}
 use Rattle.std.proofs.lemmas.Option.{none-some, same_Some}
-use Rattle.omega_running.specs.Order.{Each}
+use Rattle.std.specs.List.{AllByRecursion as Each}
 
 module _ {X : Type 0} (P : X → Type 0) where
   -- what holds of each item holds of the one at a place

@@ -1,6 +1,6 @@
 -- The tasks on a machine in order of eviction.
 use Rattle.std.proofs.Common.{◌≡◌, ℕ, zero, suc, ◌+◌, ◌<◌, ◌≤◌, Bool, true, false, not, ◌&&◌, List, [], ◌∷◌, ◌++◌, length, get_or, take, drop, Option, Some, None, IsSomeAnd, refl, sym, ap, ap₂, ◌∙◌, subst, arith, ◌==◌, le-leb}
-use Rattle.std.specs.List.{filter}
+use Rattle.std.specs.List.{filter, AllByRecursion as Each}
 use Rattle.std.proofs.lemmas.Bool.{eq-eqb, and_from, or_from, or_left, or_right, not_from_true, not_from_false}
 use Rattle.std.proofs.lemmas.List.{drop_more, drop_all, take_at, take-map, get_or-map, get_or_default}
 use Rattle.std.proofs.lemmas.List.Elements.{filter-append}
@@ -13,22 +13,17 @@ use Rattle.omega_model.specs.declared.cells.Need.{Need}
 use Rattle.omega_model.specs.declared.cells.TaskKey.{TaskKey}
 use Rattle.omega_model.specs.declared.cells.Task.{Task}
 use Rattle.omega_running.specs.declared.orders.Order.TheVariants.{ByKey}
-use Rattle.omega_running.specs.Order.{Each, IsInOrder}
-use Rattle.omega_running.proofs.Lists.{each_map, each_both, each_of, each_back, filter_every, filter_none, filter_where}
+use Rattle.omega_running.specs.Order.{IsInOrder}
 use Rattle.omega_running.proofs.Ranked.{each_put, each_ranked, each_unranked}
-use Rattle.omega_board.proofs.Tasks.{stays, each_filter, filter_and, filter_alike}
+use Rattle.omega_board.proofs.Tasks.{stays}
 use Rattle.omega_model.proofs.InOrder.{key_itself, key_differs, key_same, same_key-sym}
 use Rattle.omega_model.proofs.Amounts.{fits_tested, rank_total, plus-swap, need_is, total-cons, share}
-use Rattle.omega_model.proofs.Lists.{by_answer}
+use Rattle.omega_model.proofs.Stopping.{each_among}
+use Rattle.omega_model.proofs.Lists.{by_answer, each_map, each_both, each_of, each_back, filter_every, filter_none, filter_where, filter_turned, each_filter, each_at}
 
 -- the test of an amount says what it says
 pub fits_true : (a b : Need) → Fits a b → fits a b ≡ true
 fits_true a b h = and_from _ _ (le-leb _ _ h.0) (and_from _ _ (le-leb _ _ h.1.0) (le-leb _ _ h.1.1))
-
-pub each_at : {X : Type 0} (P : X → Type 0) (xs : List X) (i : ℕ) (d : X) → Each P xs → i < length xs → P (get_or xs i d)
-each_at P [] i d each below = absurd (omega arith)
-each_at P (x ∷ xs) zero d each below = each.0
-each_at P (x ∷ xs) (suc i) d each below = each_at P xs i d each.1 (omega arith)
 
 -- an order doesn't change a sum
 total-put : (p : Task → Bool) (t : Task) (tasks : List Task) → total (filter p (put_by_rank t tasks)) ≡ plus (share p t) (total (filter p tasks))
@@ -97,28 +92,12 @@ others_not_among (x ∷ xs) ys apart =
     each_both (λ y. same_key x.key y.key ≡ false) (λ y. is_among y.key (keys_of xs) ≡ false) (λ y. is_among y.key (keys_of (x ∷ xs)) ≡ false)
     (λ y differ rest. or_from _ _ (same_key-sym x.key y.key differ) rest) ys (each_back (λ y. same_key x.key y.key ≡ false) xs ys apart.0) (others_not_among xs ys apart.1)
 
-each_among : (xs : List Task) → Each (λ x. is_among x.key (keys_of xs) ≡ true) xs
-each_among [] = tt
-each_among (x ∷ xs) = (
-  or_left _ _ (key_itself x.key),
-  each_map (λ y. is_among y.key (keys_of xs) ≡ true) (λ y. is_among y.key (keys_of (x ∷ xs)) ≡ true) (λ y h. or_right (same_key y.key x.key) _ h) xs (each_among xs),
-)
-
-filter_swap : (p q : Task → Bool) (tasks : List Task) → filter p (filter q tasks) ≡ filter q (filter p tasks)
-filter_swap p q tasks = filter_and p q tasks ∙ filter_alike (λ t. p t && q t) (λ t. q t && p t) (λ t. flip (p t) (q t)) tasks ∙ sym (filter_and q p tasks)
-  where
-    flip : (a b : Bool) → (a && b) ≡ (b && a)
-    flip true true = refl
-    flip true false = refl
-    flip false true = refl
-    flip false false = refl
-
 -- once the first in order of eviction stopped, the machine's use is that of the others
 pub use-without : (tasks : List Task) (id : ℕ) (xs ys : List Task) → IsInOrder ByKey tasks → ranked_on id tasks ≡ xs ++ ys → use_on (without (keys_of xs) tasks) id ≡ total ys
 use-without tasks id xs ys order parts =
     let stay : Task → Bool = λ t. not (is_among t.key (keys_of xs)) in
     let apart : Apart (xs ++ ys) = subst Apart parts (ranked_apart tasks id order) in
-    ap total (filter_swap (is_on id) stay tasks)
+    ap total (filter_turned (is_on id) stay tasks)
     ∙ sym (rank_total stay (filter (is_on id) tasks))
     ∙ ap (λ ts. total (filter stay ts)) parts
     ∙ ap total (filter-append stay xs ys)
@@ -199,7 +178,7 @@ pub none-without : (tasks : List Task) (id : ℕ) → filter (is_on id) (without
 none-without tasks id =
     let names = keys_of (ranked_on id tasks) in
     let stay : Task → Bool = λ t. not (is_among t.key names) in
-    filter_swap (is_on id) stay tasks
+    filter_turned (is_on id) stay tasks
     ∙ filter_none stay (filter (is_on id) tasks)
     (each_map (λ t. is_among t.key names ≡ true) (λ t. stay t ≡ false) (λ t h. not_from_true _ h) (filter (is_on id) tasks)
     (each_unranked (λ t. is_among t.key names ≡ true) (filter (is_on id) tasks) (each_among (ranked_on id tasks))))

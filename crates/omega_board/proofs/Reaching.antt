@@ -1,6 +1,6 @@
 -- Parts that lead from a board to a target, put step by step.
 use Rattle.std.proofs.Common.{◌≡◌, ℕ, ◌+◌, ◌≤◌, Bool, true, false, not, ◌||◌, ◌&&◌, nat_eq, List, [], ◌∷◌, ◌++◌, length, slice_get, Some, IsTrue, refl, sym, ap, ◌∙◌, subst, arith, ◌==◌, if◌then◌else◌}
-use Rattle.std.specs.List.{filter, fold, IsDistinct}
+use Rattle.std.specs.List.{filter, fold, IsDistinct, AllByRecursion as Each}
 use Rattle.std.specs.Option.{option_map}
 use Rattle.std.proofs.lemmas.Bool.{both_ways, eqb-true, eq-eqb, or_from}
 use Rattle.std.proofs.lemmas.List.{length-map}
@@ -23,10 +23,9 @@ use Rattle.omega_machines.specs.Table.{machines_of, seq_at, ensured_states}
 use Rattle.omega_machines.proofs.Laws.{seq_ensured}
 use Rattle.omega_running.specs.Kept.{KeysRise}
 use Rattle.omega_running.specs.declared.orders.Order.TheVariants.{ByKey}
-use Rattle.omega_running.specs.Order.{Each, IsInOrder, precedes}
+use Rattle.omega_running.specs.Order.{IsInOrder, precedes}
 use Rattle.omega_running.specs.Standing.{stands_in}
 use Rattle.omega_running.proofs.Kept.{rises_filter}
-use Rattle.omega_running.proofs.Lists.{each_map, each_both, each_append, each_of_all, all_of_each, filter_none, filter_where}
 use Rattle.omega_board.specs.Board.{BoardState, IsBoard, cell_of}
 use Rattle.omega_board.specs.Parts.{part_in, Target, LeadTo, IsAt}
 use Rattle.omega_board.specs.Putting.{lacking, gone_of, came_of, listed_parts, with_row, seq_put, with_tasks_of, MayPutRow, MayStart, MayStartAll}
@@ -38,10 +37,10 @@ use Rattle.omega_board.proofs.Places.{each_get}
 use Rattle.omega_board.proofs.Ranks.{Apart, ordered_apart, filter_apart, each_here}
 use Rattle.omega_board.proofs.Rewritten.{listing, putting, rows_put, seq_kept, listed_still, unlisted_still, listed_machines, parts_flat, parts_fold, parts_each}
 use Rattle.omega_board.proofs.Sounds.{names_distinct}
-use Rattle.omega_board.proofs.Tasks.{each_filter, each_passes, filter_and, filter_alike, without_ordered, found_still, gone_absent, back_again, stays}
+use Rattle.omega_board.proofs.Tasks.{without_ordered, found_still, gone_absent, back_again, stays}
 use Rattle.omega_model.proofs.Amounts.{fits_trans, total_fewer}
 use Rattle.omega_model.proofs.InOrder.{key_same}
-use Rattle.omega_model.proofs.Lists.{by_answer}
+use Rattle.omega_model.proofs.Lists.{by_answer, each_map, each_both, each_append, each_of_all, all_of_each, filter_none, filter_where, each_filter, each_passes, filter_and, filter_alike}
 
 -- some of the tasks use no more
 use_fewer : (p : Task → Bool) (tasks : List Task) (id : ℕ) → Fits (use_on (filter p tasks) id) (use_on tasks id)

@@ -16,16 +16,15 @@ use Rattle.omega_model.specs.declared.cells.TaskKey.{TaskKey}
 use Rattle.omega_model.specs.declared.cells.Task.{Task}
 use Rattle.omega_machines.specs.declared.MachineState.{MachineState}
 use Rattle.omega_machines.specs.Table.{machines_of, state_at, free_if_up, free_at, seq_at}
-use Rattle.omega_running.proofs.Lists.{each_of_all}
 use Rattle.omega_board.specs.Board.{BoardState, IsBoard, cell_of, recounted, table_with}
 use Rattle.omega_board.specs.Putting.{MayStart}
 use Rattle.omega_board.specs.Undo.{UndoState, before_change, before_all, MayTakeAllBack, at_reserve, IsUndoOf}
 use Rattle.omega_board.specs.declared.undo.Change.TheVariants.{Stopped, Started}
-use Rattle.omega_board.proofs.Tasks.{each_found, back_again, gone_again, gone_absent, found_new}
+use Rattle.omega_board.proofs.Tasks.{back_again, gone_again, gone_absent, found_new}
 use Rattle.omega_board.proofs.Uses.{total-with}
 use Rattle.omega_board.proofs.Boards.{table_with-same, state_up, in_use, own_name, found_own}
 use Rattle.omega_board.proofs.Sounds.{sound_board}
-use Rattle.omega_model.proofs.Lists.{by_answer}
+use Rattle.omega_model.proofs.Lists.{by_answer, each_of_all, each_found}
 
 -- boards with equal parts are equal
 pub board_is : (a b : BoardState) → a.table ≡ b.table → a.tasks ≡ b.tasks → a.spare ≡ b.spare → a ≡ b

@@ -1,6 +1,6 @@
 -- The rows of parts, put in place of what machines had.
 use Rattle.std.proofs.Common.{◌≡◌, ℕ, suc, ◌+◌, Bool, true, false, nat_eq, List, [], ◌∷◌, ◌++◌, map, slice_get, Some, refl, sym, ap, ap₂, ◌∙◌, subst, arith, ◌==◌, if◌then◌else◌}
-use Rattle.std.specs.List.{filter, flat_map, fold, enumerate_from, IsDistinct, AllByRecursion}
+use Rattle.std.specs.List.{filter, flat_map, fold, enumerate_from, IsDistinct, AllByRecursion as Each}
 use Rattle.std.proofs.lemmas.Bool.{both_ways, eqb-true, eq-eqb, false_from_ne_true}
 use Rattle.std.proofs.lemmas.Map.Keys.{IsDistinct-head, IsDistinct-tail}
 use Rattle.omega_model.specs.Cell.{Cell}
@@ -10,12 +10,10 @@ use Rattle.omega_model.specs.declared.delta.Part.{Part}
 use Rattle.omega_machines.specs.declared.MachineState.{MachineState}
 use Rattle.omega_machines.specs.Table.{machines_of, ensured_states}
 use Rattle.omega_machines.proofs.Laws.{machines_ensured}
-use Rattle.omega_running.specs.Order.{Each}
 use Rattle.omega_board.specs.Parts.{part_in, ChangedAlone}
 use Rattle.omega_board.specs.Putting.{listed_parts}
 use Rattle.omega_board.proofs.Numbered.{Others, differ_back, others_behind, others_of}
-use Rattle.omega_board.proofs.Tasks.{each_filter}
-use Rattle.omega_model.proofs.Lists.{by_answer}
+use Rattle.omega_model.proofs.Lists.{by_answer, each_filter}
 
 -- a list that is made to list machines
 abbrev pub listing : List Machine → List Machine → List Machine
@@ -62,7 +60,7 @@ rows_put changed [] (n ∷ ns) alone distinct =
     let rest = rows_put changed [] ns alone.1 (IsDistinct-tail nat_eq n.id (numbers_of ns) distinct) in
     let others : Others n.id kept = each_filter (λ row. (row.id == n.id) ≡ false) (λ row. changed row.id) ns (others_behind n ns distinct) in
     let first : listing [] (n ∷ kept) ≡ new_machine n.id ∷ listing [] kept = listing_skips (new_machine n.id) [] kept others in
-    let differ : Others n.id (listing [] kept) = others_of n.id (listing [] kept) (subst (AllByRecursion (λ k. nat_eq n.id k ≡ false)) (sym rest.0) (IsDistinct-head nat_eq n.id (numbers_of ns) distinct)) in
+    let differ : Others n.id (listing [] kept) = others_of n.id (listing [] kept) (subst (Each (λ k. nat_eq n.id k ≡ false)) (sym rest.0) (IsDistinct-head nat_eq n.id (numbers_of ns) distinct)) in
     rw alone.0 (
       ap numbers_of first ∙ ap (λ ks. n.id ∷ ks) rest.0,
       ap (λ rows. putting rows (n ∷ kept)) first
@@ -81,7 +79,7 @@ rows_put changed (m ∷ ms) (n ∷ ns) alone distinct =
     let listed : (m.id == n.id) ≡ true = eq-eqb _ _ (sym same) in
     let stays : ensured n.id (m ∷ ms) ≡ m ∷ ms = rw listed refl in
     let all : listing (m ∷ ms) (n ∷ kept) ≡ m ∷ listing ms kept = ap (λ rows. listing rows kept) stays ∙ first in
-    let differ : Others n.id (listing ms kept) = others_of n.id (listing ms kept) (subst (AllByRecursion (λ k. nat_eq n.id k ≡ false)) (sym rest.0) (IsDistinct-head nat_eq n.id (numbers_of ns) distinct)) in
+    let differ : Others n.id (listing ms kept) = others_of n.id (listing ms kept) (subst (Each (λ k. nat_eq n.id k ≡ false)) (sym rest.0) (IsDistinct-head nat_eq n.id (numbers_of ns) distinct)) in
     subst (λ rows. (numbers_of (listing (m ∷ ms) rows) ≡ numbers_of (n ∷ ns)) × (putting (listing (m ∷ ms) rows) rows ≡ n ∷ ns)) (sym (kept_first t)) (
       ap numbers_of all ∙ ap₂ (λ k ks. k ∷ ks) (sym same) rest.0,
       ap (λ rows. putting rows (n ∷ kept)) all

@@ -1,6 +1,6 @@
 -- A board on which the row of a machine is put, and one that lists the machines of parts.
 use Rattle.std.proofs.Common.{◌≡◌, ℕ, zero, suc, ◌+◌, ◌<◌, ◌≤◌, inl, inr, Bool, true, false, List, [], ◌∷◌, ◌++◌, length, take, get_or, slice_get, Some, IsTrue, refl, sym, ap, ◌∙◌, subst, arith, append_assoc, length-append, ◌==◌, if◌then◌else◌}
-use Rattle.std.specs.List.{filter}
+use Rattle.std.specs.List.{filter, AllByRecursion as Each}
 use Rattle.std.specs.Option.{option_map, option_map_or}
 use Rattle.std.proofs.lemmas.Bool.{both_ways, eqb-true, eq-eqb, or_left, or_right}
 use Rattle.std.proofs.lemmas.List.{length-map, take_more}
@@ -17,14 +17,12 @@ use Rattle.omega_model.specs.declared.delta.Part.{Part}
 use Rattle.omega_machines.specs.declared.MachineState.{MachineState}
 use Rattle.omega_machines.specs.Table.{machines_of, state_at, seq_at, change_state, state_put, new_state, ensured_states, IsTable}
 use Rattle.omega_machines.proofs.Laws.{machines_changed, state_changed, others_unchanged}
-use Rattle.omega_running.specs.Order.{Each}
-use Rattle.omega_running.proofs.Lists.{each_of, each_map}
 use Rattle.omega_board.specs.Board.{BoardState, IsBoard, IsCounted}
 use Rattle.omega_board.specs.Putting.{listed_parts, with_row, MayPutRow}
 use Rattle.omega_board.proofs.Boards.{changed_board}
 use Rattle.omega_board.proofs.Entering.{state_listed}
 use Rattle.omega_model.proofs.Amounts.{need_is}
-use Rattle.omega_model.proofs.Lists.{by_answer}
+use Rattle.omega_model.proofs.Lists.{by_answer, each_of, each_map}
 
 -- a number that stands at a place is listed
 pub there_listed : (machines : List Machine) (place id : ℕ) → slice_get (numbers_of machines) place ≡ Some id → is_listed id machines ≡ true

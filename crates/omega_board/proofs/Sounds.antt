@@ -1,6 +1,6 @@
 -- Every board stands for a sound cell.
 use Rattle.std.proofs.Common.{◌≡◌, true, false, List, [], ◌∷◌, ap, arith}
-use Rattle.std.specs.List.{All, IsDistinct, AllByRecursion}
+use Rattle.std.specs.List.{All, IsDistinct, AllByRecursion as Each}
 use Rattle.std.proofs.lemmas.List.Elements.{All-nil, All-cons}
 use Rattle.std.proofs.lemmas.Map.Keys.{IsDistinct-cons}
 use Rattle.omega_model.specs.Need.{Fits}
@@ -13,8 +13,8 @@ use Rattle.omega_model.specs.declared.cells.Task.{Task}
 use Rattle.omega_machines.specs.declared.MachineState.{MachineState}
 use Rattle.omega_machines.specs.Table.{machines_of}
 use Rattle.omega_running.specs.declared.orders.Order.TheVariants.{ByKey}
-use Rattle.omega_running.specs.Order.{Each, IsInOrder}
-use Rattle.omega_running.proofs.Lists.{all_of_each}
+use Rattle.omega_running.specs.Order.{IsInOrder}
+use Rattle.omega_model.proofs.Lists.{all_of_each}
 use Rattle.omega_board.specs.Board.{IsBoard, IsCounted}
 use Rattle.omega_model.proofs.InOrder.{key_differs}
 
@@ -24,7 +24,7 @@ unfolding IsDistinct
 names_distinct [] order = tt
 names_distinct (t ∷ tasks) order = IsDistinct-cons same_key t.key (keys_of tasks) (others tasks order.0) (names_distinct tasks order.1)
   where
-    others : (rest : List Task) → Each (λ y. key_lt t.key y.key ≡ true) rest → AllByRecursion (λ y. same_key t.key y ≡ false) (keys_of rest)
+    others : (rest : List Task) → Each (λ y. key_lt t.key y.key ≡ true) rest → Each (λ y. same_key t.key y ≡ false) (keys_of rest)
     others [] each = tt
     others (y ∷ rest) each = (key_differs t.key y.key each.0, others rest each.1)
 

@@ -1,6 +1,6 @@
 -- The victims of a claim that stand.
 use Rattle.std.proofs.Common.{◌≡◌, ℕ, zero, suc, ◌+◌, ◌<◌, ◌≤◌, Bool, true, false, not, ◌&&◌, ◌||◌, List, [], ◌∷◌, ◌++◌, length, get_or, take, drop, slice_get, Option, Some, None, refl, sym, ap, ◌∙◌, subst, arith, append_assoc, append-nil, inl, inr, ◌==◌, if◌then◌else◌}
-use Rattle.std.specs.List.{filter, find}
+use Rattle.std.specs.List.{filter, find, AllByRecursion as Each}
 use Rattle.std.specs.Option.{option_map}
 use Rattle.std.proofs.Math.Bool.{or-false}
 use Rattle.std.proofs.lemmas.Bool.{both_ways, or_cases, or_from, or_right, not-true}
@@ -15,16 +15,13 @@ use Rattle.omega_model.specs.declared.cells.TaskKey.{TaskKey}
 use Rattle.omega_model.specs.declared.cells.Task.{Task}
 use Rattle.omega_model.specs.declared.claims.Claim.{Claim}
 use Rattle.omega_model.specs.declared.claims.Verdict.TheVariants.{SameJob}
-use Rattle.omega_running.specs.Order.{Each}
-use Rattle.omega_running.proofs.Lists.{each_map, each_both, each_of, filter_every}
 use Rattle.omega_running.proofs.InOrder.{rank_strict}
 use Rattle.omega_running.proofs.Kept.{irreflexive}
 use Rattle.omega_board.specs.Board.{Stand}
 use Rattle.omega_board.specs.Judging.{comes_behind, ComesLast}
-use Rattle.omega_board.proofs.Tasks.{each_filter, each_passes, filter_and, filter_alike}
 use Rattle.omega_model.proofs.Fewer.{filter_fewer}
 use Rattle.omega_model.proofs.InOrder.{key_itself, key_same}
-use Rattle.omega_model.proofs.Lists.{by_answer}
+use Rattle.omega_model.proofs.Lists.{by_answer, each_map, each_both, each_of, filter_every, each_filter, each_passes, filter_and, filter_alike, each_drop, each_take}
 
 -- the names that pass a test and are among some
 pub among_filter : (p : TaskKey → Bool) (key : TaskKey) (keys : List TaskKey) → is_among key (filter p keys) ≡ (p key && is_among key keys)
@@ -136,16 +133,6 @@ are_standing tasks claim = record {
   runs = each_passes (runs_on tasks claim.machine) (first_mentions claim.victims);
   once = filter_once (runs_on tasks claim.machine) (first_mentions claim.victims) (once_first claim.victims);
 }
-
-pub each_take : {X : Type 0} (P : X → Type 0) (n : ℕ) (xs : List X) → Each P xs → Each P (take n xs)
-each_take P zero xs each = tt
-each_take P (suc n) [] each = tt
-each_take P (suc n) (x ∷ xs) each = (each.0, each_take P n xs each.1)
-
-pub each_drop : {X : Type 0} (P : X → Type 0) (n : ℕ) (xs : List X) → Each P xs → Each P (drop n xs)
-each_drop P zero xs each = each
-each_drop P (suc n) [] each = tt
-each_drop P (suc n) (x ∷ xs) each = each_drop P n xs each.1
 
 pub once_take : (n : ℕ) (keys : List TaskKey) → Once keys → Once (take n keys)
 once_take zero keys once = tt

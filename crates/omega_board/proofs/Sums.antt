@@ -1,6 +1,6 @@
 -- What is in use on all machines of a board that are up, and their capacity, are those of its cell.
 use Rattle.std.proofs.Common.{◌≡◌, List, [], ◌∷◌, map, refl, ap, ◌∙◌, arith}
-use Rattle.std.specs.List.{filter}
+use Rattle.std.specs.List.{filter, AllByRecursion as Each}
 use Rattle.omega_model.specs.Cell.{use_on}
 use Rattle.omega_model.specs.ExtraTasks.{capacity_in_all, sum_of, used_in}
 use Rattle.omega_model.specs.Need.{plus}
@@ -10,7 +10,6 @@ use Rattle.omega_model.proofs.Amounts.{need_is, plus-nothing}
 use Rattle.omega_model.proofs.Lists.{by_answer}
 use Rattle.omega_machines.specs.declared.MachineState.{MachineState}
 use Rattle.omega_machines.specs.Table.{capacity_of_all, machines_of, used, used_by_all}
-use Rattle.omega_running.specs.Order.{Each}
 use Rattle.omega_board.specs.Board.{BoardState, IsCounted, cell_of}
 
 -- what is in use on a machine is what its tasks use

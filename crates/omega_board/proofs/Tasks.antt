@@ -1,6 +1,6 @@
 -- Running tasks in order of key, with one more and with one less.
 use Rattle.std.proofs.Common.{◌≡◌, Bool, true, false, cond, not, ◌||◌, ◌&&◌, List, [], ◌∷◌, ◌++◌, Some, None, refl, sym, ap, ap₂, ◌∙◌, subst}
-use Rattle.std.specs.List.{filter, find, list_any}
+use Rattle.std.specs.List.{filter, find, list_any, AllByRecursion as Each}
 use Rattle.std.specs.Option.{option_map_or}
 use Rattle.std.proofs.Math.Bool.{or-false}
 use Rattle.std.proofs.lemmas.Bool.{both_ways, or_right, not-true, not_from_false}
@@ -12,65 +12,13 @@ use Rattle.omega_model.specs.Cell.{task_at, with_task, without}
 use Rattle.omega_model.specs.declared.cells.TaskKey.{TaskKey}
 use Rattle.omega_model.specs.declared.cells.Task.{Task}
 use Rattle.omega_running.specs.declared.orders.Order.TheVariants.{ByKey}
-use Rattle.omega_running.specs.Order.{Each, IsInOrder, precedes}
-use Rattle.omega_running.proofs.Lists.{each_map, each_append, each_of, filter_every, filter_none, find_none, find_right, any_none}
+use Rattle.omega_running.specs.Order.{IsInOrder, precedes}
+use Rattle.omega_running.proofs.Lists.{find_right}
 use Rattle.omega_running.proofs.Strict.{trans}
 use Rattle.omega_running.proofs.InOrder.{key_apart, key_strict}
 use Rattle.omega_running.proofs.Kept.{put_is, put_rises, rises_filter, without_absent}
 use Rattle.omega_model.proofs.InOrder.{key_itself, key_differs, key_asym, key_same}
-use Rattle.omega_model.proofs.Lists.{by_answer}
-
-module _ {X : Type 0} where
-  -- what holds of each element holds of each that a filter leaves
-  pub each_filter : (P : X → Type 0) (p : X → Bool) (xs : List X) → Each P xs → Each P (filter p xs)
-  each_filter P p [] e = tt
-  each_filter P p (x ∷ xs) e =
-      by_answer (p x) (λ t. rw t (e.0, each_filter P p xs e.1)) (λ f. rw f (each_filter P p xs e.1))
-
-  -- what a filter leaves passes
-  pub each_passes : (p : X → Bool) (xs : List X) → Each (λ x. p x ≡ true) (filter p xs)
-  each_passes p [] = tt
-  each_passes p (x ∷ xs) = by_answer (p x) (λ t. rw t (t, each_passes p xs)) (λ f. rw f (each_passes p xs))
-
-  -- what a search finds is an element that passes
-  pub each_found : (P : X → Type 0) (p : X → Bool) (xs : List X) (y : X) → Each P xs → find p xs ≡ Some y → P y × (p y ≡ true)
-  each_found P p [] y e found = absurd (none-some y found)
-  each_found P p (x ∷ xs) y e found =
-      by_answer (p x)
-      (λ t.
-      let same : x ≡ y = same_Some x y (rw t at found) in
-      (subst P same e.0, ap p (sym same) ∙ t))
-      (λ f. each_found P p xs y e.1 (rw f at found))
-
-  pub found_passes : (p : X → Bool) (xs : List X) (y : X) → find p xs ≡ Some y → p y ≡ true
-  found_passes p xs y found = (each_found (λ _. Unit {0}) p xs y (each_of _ (λ _. tt) xs) found).1
-
-  -- a search that finds nothing
-  pub each_absent : (p : X → Bool) (xs : List X) → find p xs ≡ None → Each (λ x. p x ≡ false) xs
-  each_absent p [] none = tt
-  each_absent p (x ∷ xs) none =
-      by_answer (p x) (λ t. absurd (none-some x (sym (rw t at none)))) (λ f. (f, each_absent p xs (rw f at none)))
-
-  -- a filter after a filter
-  pub filter_and : (p q : X → Bool) (xs : List X) → filter p (filter q xs) ≡ filter (λ x. p x && q x) xs
-  filter_and p q [] = refl
-  filter_and p q (x ∷ xs) =
-      by_answer (q x)
-      (λ t. by_answer (p x) (λ u. rw (t, u) (ap (λ ys. x ∷ ys) (filter_and p q xs))) (λ u. rw (t, u) (filter_and p q xs)))
-      (λ f. by_answer (p x) (λ u. rw (f, u) (filter_and p q xs)) (λ u. rw (f, u) (filter_and p q xs)))
-
-  -- two filters that agree everywhere
-  pub filter_alike : (p q : X → Bool) → ((x : X) → p x ≡ q x) → (xs : List X) → filter p xs ≡ filter q xs
-  filter_alike p q same [] = refl
-  filter_alike p q same (x ∷ xs) = λ i. cond (same x i) (x ∷ filter_alike p q same xs i) (filter_alike p q same xs i)
-
-  -- a search for what a filter leaves
-  pub find_filtered : (q s : X → Bool) → ((x : X) → q x ≡ true → s x ≡ true) → (xs : List X) → find q (filter s xs) ≡ find q xs
-  find_filtered q s leaves [] = refl
-  find_filtered q s leaves (x ∷ xs) =
-      by_answer (s x)
-      (λ t. rw t (ap (λ o. cond (q x) (Some x) o) (find_filtered q s leaves xs)))
-      (λ f. by_answer (q x) (λ u. absurd (both_ways (s x) f (leaves x u))) (λ u. rw (f, u) (find_filtered q s leaves xs)))
+use Rattle.omega_model.proofs.Lists.{by_answer, each_map, filter_every, filter_none, find_none, any_none, each_absent, each_found, each_passes, filter_alike, filter_and, find_filtered}
 
 pub key_differs_back : (a b : TaskKey) → key_lt a b ≡ true → same_key b a ≡ false
 key_differs_back a b less = not-true (same_key b a) (sym (key_apart b a) ∙ or_right _ _ less)
@@ -183,12 +131,6 @@ found_new t tasks =
     find_right (λ y. same_key y.key t.key) front (t ∷ back)
     (each_map (λ y. key_lt y.key t.key ≡ true) (λ y. same_key y.key t.key ≡ false) (λ y less. key_differs y.key t.key less) front (each_passes (λ o. key_lt o.key t.key) tasks))
     ∙ rw (key_itself t.key) refl
-
--- what holds of each task holds with one more
-pub each_with : (P : Task → Type 0) (t : Task) (tasks : List Task) → P t → Each P tasks → Each P (with_task t tasks)
-each_with P t tasks new old =
-    each_append P (filter (λ o. key_lt o.key t.key) tasks) (t ∷ filter (λ o. key_lt t.key o.key) tasks)
-    (each_filter P _ tasks old) (new, each_filter P _ tasks old)
 
 -- a search by name and a test, in order of key, is a test of the task of that name
 pub any_at : (q r : Task → Bool) (key : TaskKey) → ((t : Task) → q t ≡ (same_key t.key key && r t)) → (tasks : List Task) → IsInOrder ByKey tasks

@@ -1,6 +1,6 @@
 -- What an entry or a claim doesn't touch: the tasks on other machines.
 use Rattle.std.proofs.Common.{◌≡◌, ℕ, Bool, true, false, ◌&&◌, not, List, [], ◌∷◌, ◌++◌, Some, None, refl, sym, ap, ◌∙◌, subst, ◌==◌}
-use Rattle.std.specs.List.{filter, fold, list_any, zip}
+use Rattle.std.specs.List.{filter, fold, list_any, zip, AllByRecursion as Each}
 use Rattle.std.specs.Option.{option_map_or}
 use Rattle.std.proofs.lemmas.Bool.{both_ways, eqb-true, eq-eqb, not_from_false}
 use Rattle.std.proofs.lemmas.List.Elements.{filter-append}
@@ -21,17 +21,16 @@ use Rattle.omega_model.specs.declared.claims.Verdict.TheVariants.{Placed}
 use Rattle.omega_model.specs.declared.entries.Entry.{Entry}
 use Rattle.omega_model.specs.declared.entries.Entry.TheVariants.{Round, MachineAdd, MachineUpdate, MachineRemove, AttrSet, AttrDelete, End, Commit}
 use Rattle.omega_model.proofs.InOrder.{key_same}
-use Rattle.omega_model.proofs.Lists.{by_answer}
+use Rattle.omega_model.proofs.Lists.{by_answer, each_map, each_both, each_of, each_front, filter_where, each_filter, each_passes, filter_and}
 use Rattle.omega_running.specs.declared.orders.Order.TheVariants.{ByKey}
-use Rattle.omega_running.specs.Order.{Each, IsInOrder}
-use Rattle.omega_running.proofs.Lists.{each_map, each_both, each_of, each_front, filter_where}
+use Rattle.omega_running.specs.Order.{IsInOrder}
 use Rattle.omega_board.proofs.Claims.{absent_still}
 use Rattle.omega_board.proofs.Parts.{runs_on_is, found_on}
 use Rattle.omega_board.proofs.Placed.{placed_so, is_placed-Placed}
 use Rattle.omega_board.proofs.Places.{each_place}
 use Rattle.omega_running.proofs.Ranked.{each_ranked}
 use Rattle.omega_board.proofs.Ranks.{each_here, excess_first}
-use Rattle.omega_board.proofs.Tasks.{each_filter, each_passes, parted, filter_and, with_ordered, without_ordered}
+use Rattle.omega_board.proofs.Tasks.{parted, with_ordered, without_ordered}
 
 -- where the tasks on a machine stay, they are the same
 on_kept : (tasks : List Task) (id : ℕ) (p : Task → Bool) → Each (λ t. is_on id t ≡ true → p t ≡ true) tasks → filter (is_on id) (filter p tasks) ≡ filter (is_on id) tasks

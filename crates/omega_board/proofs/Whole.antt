@@ -1,6 +1,6 @@
 -- All parts of a board lead from the empty board to an equal one.
 use Rattle.std.proofs.Common.{◌≡◌, ℕ, ◌+◌, Bool, true, false, List, [], ◌∷◌, ◌++◌, length, map, slice_get, Option, Some, None, is_some, ◌≤◌, IsTrue, refl, sym, ap, ap₂, ◌∙◌, subst, append_assoc, length-append, ◌==◌}
-use Rattle.std.specs.List.{filter, enumerate_from, range_with_len}
+use Rattle.std.specs.List.{filter, enumerate_from, range_with_len, AllByRecursion as Each}
 use Rattle.std.specs.Option.{option_map, option_map_or}
 use Rattle.std.proofs.lemmas.Bool.{both_ways, eqb-true, eq-eqb, or_left, or_right}
 use Rattle.std.proofs.lemmas.List.{length-map}
@@ -17,12 +17,10 @@ use Rattle.omega_model.specs.declared.delta.Part.{Part}
 use Rattle.omega_machines.specs.declared.MachineState.{MachineState}
 use Rattle.omega_machines.specs.Table.{IsBounded, machines_of, seq_at, state_at}
 use Rattle.omega_machines.proofs.Laws.{listed_state, machine_of_state}
-use Rattle.omega_running.specs.Order.{Each}
-use Rattle.omega_running.proofs.Lists.{all_of_each, each_map, each_of_all, filter_every, filter_none}
 use Rattle.omega_board.specs.Board.{BoardState, IsBoard, cell_of, is_on_up}
 use Rattle.omega_board.specs.Parts.{ChangedAlone, LeadTo, bare, part_at, part_in, whole}
 use Rattle.omega_board.proofs.Sounds.{sound_board}
-use Rattle.omega_model.proofs.Lists.{by_answer}
+use Rattle.omega_model.proofs.Lists.{by_answer, all_of_each, each_map, each_of_all, filter_every, filter_none}
 
 -- a machine behind others stands at the place of their number
 pub there_behind : (front : List Machine) (row : Machine) (rest : List Machine) → slice_get (front ++ row ∷ rest) (length front) ≡ Some row

@@ -14,7 +14,7 @@ use Rattle.omega_model.specs.declared.entries.Entry.{Entry}
 use Rattle.omega_machines.specs.declared.MachineState.{MachineState}
 use Rattle.omega_machines.specs.Table.{machines_of, seq_at, IsTable}
 use Rattle.omega_running.specs.Kept.{KeysRise}
-use Rattle.omega_running.specs.Order.{Each}
+use Rattle.std.specs.List.{AllByRecursion as Each}
 
 -- a board, and for how many more tasks it has room
 pub record BoardState : Type 0 where

@@ -2,7 +2,7 @@
 ghost use Rattle.std.specs.Prelude.{◌≡◌, []};
 ghost use Rattle.omega_model.specs.Legal.{Sound};
 ghost use Rattle.omega_running.specs.Kept.{KeysRise};
-ghost use Rattle.omega_running.specs.Order.{Each};
+ghost use Rattle.std.specs.List.{AllByRecursion as Each};
 ghost use Rattle.omega_board.specs.Board.{cell_of, IsCounted};
 
 use omega_machines::MachineTable;

@@ -1,6 +1,6 @@
 //! Parts of a board: taken off it, and put on another.
 ghost use Rattle.std.specs.Prelude.{◌≡◌, ◌≤◌, ◌<◌, ◌++◌, ℕ, false, [], Some, length, slice_get, OnOk, OnErr, IfOk, if◌then◌else◌, ◌==◌};
-ghost use Rattle.std.specs.List.{filter, fold};
+ghost use Rattle.std.specs.List.{filter, fold, AllByRecursion as Each};
 ghost use Rattle.omega_machines.specs.Table.{machines_of, seq_at};
 ghost use Rattle.omega_model.specs.Cell.{is_on, keys_of, use_on};
 ghost use Rattle.omega_model.specs.Fields.{greatest};
@@ -8,7 +8,6 @@ ghost use Rattle.omega_model.specs.Limits.{most_machines};
 ghost use Rattle.omega_model.specs.Machines.{change, numbers_of};
 ghost use Rattle.omega_model.specs.Need.{Fits};
 ghost use Rattle.omega_running.specs.Kept.{KeysRise};
-ghost use Rattle.omega_running.specs.Order.{Each};
 ghost use Rattle.omega_board.specs.Board.{cell_of};
 ghost use Rattle.omega_board.specs.Parts.{part_at, Target, LeadTo, MayPut, IsAt, bare, whole};
 ghost use Rattle.omega_board.specs.Putting.{lacking, gone_of, came_of, listed_parts, with_row, seq_put, with_tasks_of, MayPutRow, MayStartAll};

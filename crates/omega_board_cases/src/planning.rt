@@ -2,21 +2,21 @@
 ghost use Rattle.std.specs.Prelude.{◌≡◌, ◌≤◌, ◌↔◌, length, IfOk, IsTrue, OnOk};
 ghost use Rattle.omega_board.specs.Board.{cell_of};
 ghost use Rattle.omega_copy.specs.Copies.{CopyOf};
-ghost use Rattle.omega_copy.specs.Indexes.{TellAll};
-ghost use Rattle.omega_copy.specs.Overlays.{GoesInWhole};
+ghost use Rattle.omega_plan.specs.Indexes.{TellAll};
+ghost use Rattle.omega_plan.specs.Overlays.{GoesInWhole};
 
 use crate::board::ask;
 use crate::showing::{show_free, show_judged, show_tasks};
 use omega_board::Board;
 use omega_calls::{Fault, claim, need, number, place, show_place, show_task, small, spec, text};
 use omega_cell::Cell;
-use omega_copy::{Indexes, Overlay, PrivateCopy};
+use omega_copy::PrivateCopy;
 use omega_fit::FitIndex;
 use omega_model::{
     Bytes, Claim, Constraints, Mode, Need, NoMemory, Policy, Request, Rule, TaskKey, Txn, Verdict,
     Wish, Wishes,
 };
-use omega_plan::{plan, victims};
+use omega_plan::{Indexes, Overlay, plan, victims};
 use std::alloc::Global;
 use std::mem;
 

@@ -14,13 +14,12 @@ use Rattle.omega_model.specs.declared.delta.Part.{Part}
 use Rattle.omega_model.specs.declared.entries.Entry.{Entry}
 use Rattle.omega_machines.specs.declared.MachineState.{MachineState}
 use Rattle.omega_machines.specs.Table.{machines_of, seq_at}
-use Rattle.omega_running.proofs.Lists.{all_of_each}
 use Rattle.omega_board.specs.Board.{BoardState, cell_of, IsBoardOf}
 use Rattle.omega_board.specs.Parts.{part_in, part_at}
 use Rattle.omega_board.proofs.Whole.{same_items, there_behind}
 use Rattle.omega_cell.specs.Touched.{passes_at, touched_places}
 use Rattle.omega_cell.proofs.Touching.{places_within}
-use Rattle.omega_model.proofs.Lists.{by_answer}
+use Rattle.omega_model.proofs.Lists.{by_answer, all_of_each}
 
 -- the places that are touched are places of the board
 pub places_in : (board : BoardState) (entries : List Entry) (places : List ℕ) → places ≡ touched_places (machines_of board.table) entries → All (λ place. place < length board.table) places

@@ -1,7 +1,7 @@
 -- What is evicted for a claim has to go.
 use Rattle.std.proofs.Common.{◌≡◌, ℕ, zero, suc, ◌<◌, Bool, true, false, not, ◌&&◌, nat_le, List, [], ◌∷◌, ◌++◌, length, map, take, Option, Some, None, refl, sym, ap, ap₂, ◌∙◌, subst, arith, ◌==◌}
 use Rattle.std.specs.Prelude.{slice_get, IsSomeAnd}
-use Rattle.std.specs.List.{filter, find, fold, zip}
+use Rattle.std.specs.List.{filter, find, fold, zip, AllByRecursion as Each}
 use Rattle.std.specs.Option.{option_map, option_map_or, unwrap_or}
 use Rattle.std.proofs.lemmas.Bool.{both_ways, and_parts, leb-false, or_left, or_right}
 use Rattle.std.proofs.lemmas.List.{length-take, take-take}
@@ -26,17 +26,16 @@ use Rattle.omega_model.specs.declared.claims.Verdict.TheVariants.{NoMachine, Vic
 use Rattle.omega_model.specs.declared.entries.Entry.{Entry}
 use Rattle.omega_model.specs.declared.entries.Entry.TheVariants.{Round, MachineAdd, MachineUpdate, MachineRemove, AttrSet, AttrDelete, End, Commit}
 use Rattle.omega_running.specs.declared.orders.Order.TheVariants.{ByKey}
-use Rattle.omega_running.specs.Order.{Each, IsInOrder, precedes}
+use Rattle.omega_running.specs.Order.{IsInOrder, precedes}
 use Rattle.omega_running.proofs.Kept.{rises_filter}
-use Rattle.omega_running.proofs.Lists.{filter_every, find_none}
 use Rattle.omega_board.proofs.Parts.{found_on, withstands_is}
 use Rattle.omega_board.proofs.Placed.{passes, is_placed-Placed, placeable_fine}
 use Rattle.omega_board.proofs.Standing.{among_filter, among_first, are_standing, first_standing, mentions_once, stand}
-use Rattle.omega_board.proofs.Tasks.{each_absent, filter_and, filter_alike, found_still, gone_absent, key_differs_back, stays_other, with_ordered, without_ordered}
+use Rattle.omega_board.proofs.Tasks.{found_still, gone_absent, key_differs_back, stays_other, with_ordered, without_ordered}
 use Rattle.omega_cell.specs.Laws.{RunsBelow, EachHasToGo, EvictInOrder, EvictsWhatHasToGo, EvictionsGoDown}
 use Rattle.omega_cell.proofs.Shortest.{IsShortest, shortest}
 use Rattle.omega_model.proofs.InOrder.{key_itself, key_differs}
-use Rattle.omega_model.proofs.Lists.{by_answer}
+use Rattle.omega_model.proofs.Lists.{by_answer, filter_every, find_none, each_absent, filter_and, filter_alike}
 use Rattle.omega_model.proofs.Admitted.{Refuses, refuses_changed, refuses_if, refuses_rank, refuses_running}
 
 -- a new task stands in its place, whatever had its name

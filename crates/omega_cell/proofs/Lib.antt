@@ -9,3 +9,4 @@ pub mod Committing
 pub mod Gangs
 pub mod Evictions
 mod Examples
+pub mod Crossing

@@ -1,6 +1,6 @@
 -- The places of the machines that entries touch.
 use Rattle.std.proofs.Common.{◌≡◌, ℕ, zero, suc, ◌+◌, ◌<◌, ◌≤◌, Bool, true, false, ◌||◌, nat_eq, nat_lt, List, [], ◌∷◌, ◌++◌, length, get_or, slice_get, position, Option, Some, None, refl, sym, ap, ap₂, ◌∙◌, subst, arith, ◌==◌}
-use Rattle.std.specs.List.{filter, position_or_len, range_with_len, IsDistinct}
+use Rattle.std.specs.List.{filter, position_or_len, range_with_len, IsDistinct, AllByRecursion as Each}
 use Rattle.std.specs.List.Sorted.{IsStrictlyIncreasing, IsStrictlySortedBy}
 use Rattle.std.specs.Option.{option_map_or}
 use Rattle.std.specs.Ordering.{nat_cmp}
@@ -10,16 +10,13 @@ use Rattle.std.proofs.lemmas.Map.Keys.{IsDistinct-tail, sorted_tail, sorted_from
 use Rattle.std.proofs.lemmas.Option.{none-some, same_Some, cond_some, slice_get-get_or, slice_get_within}
 use Rattle.omega_model.specs.Machines.{is_listed, numbers_of}
 use Rattle.omega_model.specs.declared.cells.Machine.{Machine}
-use Rattle.omega_running.specs.Order.{Each}
-use Rattle.omega_running.proofs.Lists.{each_map, each_of}
 use Rattle.omega_board.specs.Numbers.{is_among}
 use Rattle.omega_board.proofs.Numbered.{differ_back, others_behind}
 use Rattle.omega_board.proofs.Numbers.{not_behind, one_more, rest_greater}
 use Rattle.omega_board.proofs.Places.{each_get}
-use Rattle.omega_board.proofs.Tasks.{each_passes}
 use Rattle.omega_cell.specs.Touched.{passes_at}
 use Rattle.omega_model.specs.Touches.{is_number}
-use Rattle.omega_model.proofs.Lists.{by_answer}
+use Rattle.omega_model.proofs.Lists.{by_answer, each_map, each_of, each_passes}
 
 -- a machine that isn't listed has no place
 pub unlisted_nowhere : (id : ℕ) (machines : List Machine) → is_listed id machines ≡ false → (place : ℕ) → passes_at (is_number id) machines place ≡ false

@@ -1,9 +1,9 @@
 -- A copy that follows a history.
 use Rattle.std.proofs.Common.{◌≡◌, ℕ, zero, suc, ◌+◌, ◌<◌, ◌≤◌, List, [], ◌∷◌, ◌++◌, length, get_or, take, drop, slice_get, Some, refl, sym, ap, ◌∙◌, subst, arith, if◌then◌else◌}
-use Rattle.std.proofs.lemmas.List.{take_more, take-append-le, length-append}
+use Rattle.std.proofs.lemmas.List.{take_more, take-append-le, take-append-drop, length-append}
 use Rattle.std.proofs.lemmas.Option.{slice_get-get_or, slice_get_within, get_or_from_slice_get}
 use Rattle.omega_model.specs.Applying.{MayApply, EachMayApply}
-use Rattle.omega_model.specs.Cell.{Cell}
+use Rattle.omega_model.specs.Cell.{Cell, empty_cell}
 use Rattle.omega_model.specs.Copy.{StandsFor, Carries}
 use Rattle.omega_model.specs.Parts.{DeltaState}
 use Rattle.omega_model.specs.State.{state, step}
@@ -11,9 +11,12 @@ use Rattle.omega_model.specs.Touches.{seq, touches}
 use Rattle.omega_model.specs.declared.entries.Entry.{Entry}
 use Rattle.omega_model.proofs.Growing.{state_push}
 use Rattle.omega_machines.specs.Table.{machines_of, seq_at}
+use Rattle.omega_running.specs.declared.orders.Order.TheVariants.{ByKey}
+use Rattle.omega_running.specs.Order.{IsInOrder}
 use Rattle.omega_board.specs.Board.{BoardState, cell_of}
 use Rattle.omega_board.proofs.Commits.{cell_is}
 use Rattle.omega_board.proofs.Histories.{seq_push, may_apply}
+use Rattle.omega_plan.proofs.Applied.{MayAll, applied_held, may_all, may_front}
 use Rattle.omega_copy.specs.Copies.{CopyState, CopyOf, MayFollow, MayCatchUp}
 
 -- the entries up to a place and the one there
@@ -119,3 +122,11 @@ may_catch_up copy delta history stands carries applied = record {
   carries = subst (λ n. Carries delta history copy.seen n) (sym carries.ends) carries;
   applied = applied;
 }
+
+-- the tasks of a copy that follows a history, each of whose entries could be applied, are in order
+pub next_ordered : (start now : CopyState) (later : List Entry) (n : ℕ) → IsFollowing start now later n → MayFollow start later → IsInOrder ByKey now.board.tasks
+next_ordered start now later n so may =
+    let history = may.history in
+    let stands = so.stands history may.stands may.rest in
+    let whole : MayAll empty_cell (take now.seen history ++ drop now.seen history) = subst (MayAll empty_cell) (sym (take-append-drop now.seen history)) (may_all [] history may.applied) in
+    subst (IsInOrder ByKey) (sym stands.tasks) (applied_held (take now.seen history) (may_front empty_cell (take now.seen history) (drop now.seen history) whole)).ordered

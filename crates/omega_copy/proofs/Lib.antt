@@ -1,14 +1,1 @@
-pub mod Tells
-pub mod TellsAfter
-pub mod Told
 pub mod Follows
-pub mod Applied
-pub mod Changing
-pub mod Leading
-pub mod GoingOn
-pub mod Besides
-pub mod Hosting
-pub mod Placing
-pub mod Listed
-pub mod Claimed
-pub mod Overlaid

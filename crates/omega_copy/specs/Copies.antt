@@ -1,11 +1,12 @@
 -- A scheduler's private copy as a caller sees it.
 use Rattle.std.specs.Prelude.{◌≡◌, ℕ, List, drop}
 use Rattle.omega_model.specs.Applying.{EachMayApply}
-use Rattle.omega_model.specs.Copy.{StandsFor, Carries}
+use Rattle.omega_model.specs.Copy.{StandsFor}
 use Rattle.omega_model.specs.Parts.{DeltaState}
 use Rattle.omega_model.specs.declared.entries.Entry.{Entry}
 use Rattle.omega_machines.specs.Table.{seq_at}
 use Rattle.omega_board.specs.Board.{BoardState, cell_of}
+use Rattle.omega_shared.specs.Copies.{MayCatchUp as IsCaughtUpBy}
 
 -- a copy: its board, and how many entries it has seen
 pub record CopyState : Type 0 where
@@ -28,10 +29,6 @@ pub record MayFollow (copy : CopyState) (later : List Entry) : Type 0 where
   pub applied : EachMayApply history
   pub rest : later ≡ drop copy.seen history
 
--- a copy may catch up by a delta: it stands for a history that the delta carries from where the copy is,
--- each of whose entries could be applied to the state before it
-pub record MayCatchUp (copy : CopyState) (delta : DeltaState) : Type 0 where
-  pub history : List Entry
-  pub stands : CopyOf copy history
-  pub carries : Carries delta history copy.seen delta.to
-  pub applied : EachMayApply history
+-- a copy may catch up by a delta
+abbrev pub MayCatchUp : CopyState → DeltaState → Type 0
+MayCatchUp copy delta = IsCaughtUpBy (cell_of copy.board) (seq_at copy.board.table) copy.seen delta

@@ -1,9 +1,1 @@
 pub mod Copies
-pub mod Levels
-pub mod Telling
-pub mod Indexes
-pub mod Overlays
-pub mod Placed
-pub mod Tenants
-pub mod Beside
-pub mod News

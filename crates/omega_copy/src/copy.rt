@@ -9,11 +9,12 @@ ghost use Rattle.omega_model.specs.declared.entries.Entry.{Entry};
 ghost use Rattle.omega_running.specs.Kept.{KeysRise};
 ghost use Rattle.omega_board.specs.Board.{cell_of};
 ghost use Rattle.omega_copy.specs.Copies.{CopyOf, MayFollow, MayCatchUp, without_room};
-ghost use Rattle.omega_copy.specs.Indexes.{TellAll};
+ghost use Rattle.omega_plan.specs.Indexes.{TellAll};
 
-use crate::indexes::Indexes;
 use omega_board::Board;
 use omega_model::{Claim, Delta, Entry, NoMemory, Part};
+use omega_plan::{Indexes, seqs_on};
+use omega_shared::CellCopy;
 use std::alloc::Global;
 use std::marker::Model;
 
@@ -21,7 +22,7 @@ use std::marker::Model;
 ///
 /// A contract sees its board without the room that the board has for more tasks, and how many entries it
 /// has seen. It doesn't see the indexes that the copy keeps beside the board: what is free on each
-/// machine, and what evictions could free for each precedence for which that was asked.
+/// machine, and what evictions could free for precedences for which that was asked.
 #[derive(Drop)]
 pub struct PrivateCopy {
     board: Board,
@@ -31,7 +32,7 @@ pub struct PrivateCopy {
 impl Model for PrivateCopy {
     ghost use Rattle.omega_board.specs.Board.{cell_of};
     ghost use Rattle.omega_copy.specs.Copies.{CopyState, without_room};
-    ghost use Rattle.omega_copy.specs.Indexes.{TellAll};
+    ghost use Rattle.omega_plan.specs.Indexes.{TellAll};
 
     ghost Value = { CopyState };
 
@@ -106,8 +107,8 @@ impl PrivateCopy {
 
     /// Takes in the rest of a history for which the copy stands, from the first entry on that it
     /// hasn't seen. Where memory runs out it has taken in some of them, and stands for the history
-    /// still. Costs what the entries change, an attribute's entry the logarithm of the machine's attributes
-    /// and those behind one that is deleted, and for each level the tasks on the machines that they touch.
+    /// still. Costs what the entries change, and an attribute's entry the logarithm of the machine's attributes
+    /// and those behind one that is deleted.
     pub fn follow(&mut self, alloc: Global, later: &[Entry]) -> Result<(), NoMemory>
         requires history { MayFollow self.old later.now }
         requires few { self.old.seen + length later.now < 2 ^ 64 }
@@ -134,14 +135,13 @@ impl PrivateCopy {
         self.indexes.reserve(1)?;
         self.board.apply_entry(alloc, entry)?;
         self.indexes.tell_entry(&self.board, entry);
-        self.indexes.seen += 1;
         Ok(())
     }
 
     /// Takes in what changed between the entries that it has seen and a later place of a history for
     /// which it stands. The indexes are told. Where memory runs out, the copy is as before. Costs the parts
-    /// of the delta and the tasks on their machines, each of which is looked up on the board, and for each
-    /// level these tasks once more, whatever number of entries it leads over.
+    /// of the delta and the tasks on their machines, each of which is looked up on the board, whatever number of
+    /// entries it leads over.
     pub fn catch_up(&mut self, alloc: Global, delta: Delta) -> Result<(), NoMemory>
         requires history { MayCatchUp self.old delta }
         ensures stands { OnOk result ((history : List Entry) → CopyOf self.old history → Carries delta history self.old.seen delta.to → EachMayApply history → CopyOf self.new history) }
@@ -153,22 +153,32 @@ impl PrivateCopy {
         let machines = numbers_of(alloc, parts.as_slice())?;
         self.indexes.reserve(parts.len())?;
         self.board.put_parts(alloc, parts)?;
-        self.indexes.tell_machines(&self.board, &machines);
-        self.indexes.seen = to;
+        self.indexes.tell_machines(&self.board, to, &machines);
         Ok(())
     }
 }
 
-/// For each claim, how many entries touched the claim's machine on a board. Takes the memory of one number
-/// a claim, and costs a look-up each.
-pub fn seqs_on(alloc: Global, board: &Board, claims: &[Claim]) -> Result<Vec<u64>, NoMemory>
-    ensures { IfOk result (λ seqs. seqs.items ≡ map (λ claim. seq_at board.now.table claim.machine) claims.now) }
-{
-    let mut seqs = Vec::with_capacity(alloc, claims.len())?;
-    for claim in claims {
-        seqs.push_reserved(board.machines().seq(claim.machine));
+impl CellCopy for PrivateCopy {
+    ghost use Rattle.omega_board.specs.Board.{cell_of as cell_of_board};
+    ghost use Rattle.omega_machines.specs.Table.{seq_at};
+
+    ghost cell_of = { λ copy. cell_of_board copy.board };
+
+    ghost seq_of = { λ copy. seq_at copy.board.table };
+
+    ghost seen_of = { λ copy. copy.seen };
+
+    fn seen(&self) -> u64 {
+        PrivateCopy::seen(self)
     }
-    Ok(seqs)
+
+    fn seqs(&self, alloc: Global, claims: &[Claim]) -> Result<Vec<u64>, NoMemory> {
+        PrivateCopy::seqs(self, alloc, claims)
+    }
+
+    fn catch_up(&mut self, alloc: Global, delta: Delta) -> Result<(), NoMemory> {
+        PrivateCopy::catch_up(self, alloc, delta)
+    }
 }
 
 /// The numbers of the machines of some parts.

@@ -1,12 +1,11 @@
 -- To cut rows in order where the round changes is to gather the rows of each round.
 use Rattle.std.proofs.Common.{◌≡◌, ℕ, ◌+◌, ◌/◌, ◌<◌, ◌≤◌, ◌==◌, Bool, true, false, cond, not, if◌then◌else◌, List, [], ◌∷◌, ◌++◌, map, refl, ap, ap₂, sym, ◌∙◌, inl, inr, arith, append-nil, append_assoc}
-use Rattle.std.specs.List.{filter}
+use Rattle.std.specs.List.{filter, AllByRecursion as Each}
 use Rattle.std.proofs.Math.Nat.{mul-le-mul_left}
 use Rattle.std.proofs.lemmas.Grind.{flat_map-append}
 use Rattle.std.proofs.lemmas.Bool.{eq-eqb, ne_eqb, eqb-true, eqb-false, cases_lt}
-use Rattle.omega_running.specs.Order.{Each}
-use Rattle.omega_running.proofs.Kept.{each_filter}
-use Rattle.omega_running.proofs.Lists.{each_map, each_append, filter_every, filter_left, filter_right}
+use Rattle.omega_model.proofs.Lists.{each_filter, each_map, each_append, filter_every}
+use Rattle.omega_running.proofs.Lists.{filter_left, filter_right}
 use Rattle.omega_model.specs.Feed.{time_of, event_rows, feed, round_number, is_of_round, each_once, round_at, rounds}
 use Rattle.omega_model.specs.Lawful.{rows_of}
 use Rattle.omega_model.specs.declared.rows.Row.{Row}
@@ -28,7 +27,7 @@ cut window number rows (row ∷ rest) =
     if round_number window row == number then cut window number (rows ++ row ∷ []) rest
     else closed number rows ++ cut window (round_number window row) (row ∷ []) rest
 
-each_of_once : (P : ℕ → Type 0) (ns : List ℕ) → Each P ns → Each P (each_once ns)
+pub each_of_once : (P : ℕ → Type 0) (ns : List ℕ) → Each P ns → Each P (each_once ns)
 each_of_once P [] e = tt
 each_of_once P (n ∷ ns) e = (e.0, each_filter P (λ m. not (m == n)) (each_once ns) (each_of_once P ns e.1))
 

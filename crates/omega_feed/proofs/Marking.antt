@@ -7,7 +7,7 @@ use Rattle.omega_model.specs.Keys.{same_key}
 use Rattle.omega_model.specs.declared.cells.TaskKey.{TaskKey}
 use Rattle.omega_model.proofs.InOrder.{key_same}
 use Rattle.omega_running.specs.Order.{job_and_index}
-use Rattle.omega_running.proofs.Lists.{each_map, filter_none}
+use Rattle.omega_model.proofs.Lists.{each_map, filter_none}
 use Rattle.omega_feed.specs.Asked.{activities_in, constraints_for}
 use Rattle.omega_feed.specs.Marks.{AreMarkedJobs, AreMarkedTasks, is_marked}
 

@@ -1,9 +1,8 @@
 -- The rows of three tables in order of time: what stands there of each time, and of each table.
 use Rattle.std.proofs.Common.{◌≡◌, ℕ, ◌≤◌, Bool, true, false, cond, List, [], ◌∷◌, ◌++◌, map, nat_lt, refl, sym, ap, ap₂, ◌∙◌}
-use Rattle.std.specs.List.{filter}
+use Rattle.std.specs.List.{filter, AllByRecursion as Each}
 use Rattle.std.proofs.lemmas.List.Elements.{filter-append}
-use Rattle.omega_running.specs.Order.{Each}
-use Rattle.omega_running.proofs.Lists.{each_append}
+use Rattle.omega_model.proofs.Lists.{each_append}
 use Rattle.omega_model.specs.Feed.{by_time, put_by_time, time_of}
 use Rattle.omega_model.specs.Fields.{MachineFields, AttrFields, TaskFields}
 use Rattle.omega_model.specs.declared.rows.Row.{Row}

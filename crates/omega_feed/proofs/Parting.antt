@@ -1,14 +1,13 @@
 -- To cut three tables where the round changes is to gather the rows of each round.
 use Rattle.std.proofs.Common.{◌≡◌, ℕ, ◌+◌, ◌-◌, ◌/◌, ◌<◌, ◌≤◌, ◌==◌, ◌⊎◌, Bool, true, false, List, [], ◌∷◌, ◌++◌, Option, Some, None, zero, suc, drop, get_or, length, map, take, refl, sym, ap, subst, ◌∙◌, inl, inr, arith, append-nil, append_assoc}
 use Rattle.std.specs.Prelude.{IfSome, min, option_map}
-use Rattle.std.specs.List.{filter}
+use Rattle.std.specs.List.{filter, AllByRecursion as Each}
 use Rattle.std.proofs.Math.Nat.{min-eq_left, min-eq_right}
 use Rattle.std.proofs.Math.Seq.{drop-append_seam, take-append_seam}
 use Rattle.std.proofs.lemmas.List.{drop-drop, length-append, length-drop, map-append}
 use Rattle.std.proofs.lemmas.Bool.{cases_lt, eqb-true, eqb-false, ne_eqb}
 use Rattle.std.proofs.lemmas.List.Elements.{filter-append}
-use Rattle.omega_running.specs.Order.{Each}
-use Rattle.omega_running.proofs.Lists.{each_append, each_map, filter_none}
+use Rattle.omega_model.proofs.Lists.{each_append, each_map, filter_none}
 use Rattle.omega_model.specs.Feed.{round_number, time_of}
 use Rattle.omega_model.specs.Fields.{MachineFields, AttrFields, TaskFields}
 use Rattle.omega_model.specs.declared.rows.Row.{Row}

@@ -1,11 +1,11 @@
 -- The wanted tasks of many jobs, those of each job by themselves: what changes at the place of one, and what is found there.
 use Rattle.std.proofs.Common.{◌≡◌, ℕ, ◌<◌, ◌≤◌, Bool, true, false, cond, not, ◌&&◌, ◌||◌, ◌==◌, List, [], ◌∷◌, ◌++◌, length, get_or, set, take, drop, zero, suc, refl, ap, sym, subst, ◌∙◌, inl, inr, arith, append_assoc, append-nil, nat_lt}
-use Rattle.std.specs.List.{All, filter, flat_map, insert, list_any}
+use Rattle.std.specs.List.{All, filter, flat_map, insert, list_any, AllByRecursion as Each}
 use Rattle.std.specs.Prelude.{is_some}
 use Rattle.std.proofs.lemmas.Bool.{and_parts, both_ways, cases_Bool, eq-eqb, ne_eqb}
 use Rattle.std.proofs.lemmas.List.{set-get_or, take-append-drop}
 use Rattle.std.proofs.lemmas.List.Elements.{All-cons, All-head, All-nil, All-tail, filter-append}
-use Rattle.omega_model.proofs.Lists.{by_answer}
+use Rattle.omega_model.proofs.Lists.{by_answer, each_filter, each_passes, all_of_each, each_append, each_back, each_front, each_map, filter_every, filter_none, each_at}
 use Rattle.omega_model.specs.ExtraTasks.{HasLowIndex, first_extra, is_wanted, wanted_of}
 use Rattle.omega_model.specs.Cell.{task_at}
 use Rattle.omega_model.specs.Keys.{key_lt}
@@ -13,18 +13,11 @@ use Rattle.omega_model.specs.Wanted.{WantedTask, with_wanted, is_named}
 use Rattle.omega_model.specs.declared.cells.Spec.{Spec}
 use Rattle.omega_model.specs.declared.cells.Task.{Task}
 use Rattle.omega_model.specs.declared.cells.TaskKey.{TaskKey}
-use Rattle.omega_running.specs.Order.{Each}
-use Rattle.omega_running.proofs.Kept.{each_filter, each_passes}
-use Rattle.omega_running.proofs.Lists.{all_of_each, each_append, each_back, each_front, each_map, filter_every, filter_left, filter_none, filter_right}
+use Rattle.omega_running.proofs.Lists.{filter_left, filter_right}
 use Rattle.omega_feed.specs.Asked.{is_task_of}
 use Rattle.omega_feed.specs.Open.{RunsIfOf}
 use Rattle.omega_feed.specs.Parts.{AreParts, BelongsAt, IsPlainTaskOf, NeverFall, StandsAt, joined, waiting_jobs}
 use Rattle.omega_feed.proofs.KeyOrder.{by_job}
-
-pub each_at : {X : Type 0} (P : X → Type 0) (xs : List X) (i : ℕ) (d : X) → Each P xs → i < length xs → P (get_or xs i d)
-each_at P [] i d e less = absurd (omega (arith, less))
-each_at P (x ∷ xs) zero d e less = e.0
-each_at P (x ∷ xs) (suc i) d e less = each_at P xs i d e.1 (omega (arith, less))
 
 each_insert : (P : ℕ → Type 0) (ns : List ℕ) (i n : ℕ) → Each P ns → P n → Each P (insert ns i n)
 each_insert P ns i n e h =

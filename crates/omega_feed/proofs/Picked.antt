@@ -4,15 +4,13 @@ use Rattle.std.specs.Prelude.{slice_get, option_and_then, option_map, is_some}
 use Rattle.std.specs.BTreeMap.{is_at}
 use Rattle.std.specs.BTreeSet as set
 use Rattle.std.specs.BTreeSet.{BTreeSet}
-use Rattle.std.specs.List.{AllByRecursion, filter, filter_map, list_any, cons_option}
+use Rattle.std.specs.List.{filter, filter_map, list_any, cons_option, AllByRecursion as Each}
 use Rattle.std.specs.List.Sorted.{IsStrictlySortedBy}
 use Rattle.std.specs.Ordering.{nat_cmp}
 use Rattle.std.specs.declared.cmp.Ordering.TheVariants.{Less, Equal, Greater}
 use Rattle.std.proofs.lemmas.Map.Keys.{sorted_head, sorted_tail}
 use Rattle.std.proofs.lemmas.Bool.{lt-ltb, le-ltb, eq-eqb, ne_eqb, eqb-true, cases_eq, cases_order, cases_Bool, both_ways, or_cases}
-use Rattle.omega_model.proofs.Lists.{by_answer}
-use Rattle.omega_running.specs.Order.{Each}
-use Rattle.omega_running.proofs.Lists.{any_none, each_map, each_of_all, filter_none}
+use Rattle.omega_model.proofs.Lists.{by_answer, any_none, each_map, each_of_all, filter_none}
 use Rattle.omega_model.specs.Cell.{Cell}
 use Rattle.omega_model.specs.ExtraTasks.{capacity_in_all, free_indexes, running_extras, used_in, wanted_of}
 use Rattle.omega_model.specs.Extras.{extras, target}
@@ -123,7 +121,7 @@ less_is p q e =
 up_from : (ps : List ℕ) → IsStrictlySortedBy nat_cmp ps → Up ps
 up_from [] s = tt
 up_from (p ∷ ps) s = (bounds ps (sorted_head nat_cmp p ps s), up_from ps (sorted_tail nat_cmp p ps s)) where
-  bounds : (qs : List ℕ) → AllByRecursion (λ q. nat_cmp p q ≡ Less) qs → Each (λ q. p < q) qs
+  bounds : (qs : List ℕ) → Each (λ q. nat_cmp p q ≡ Less) qs → Each (λ q. p < q) qs
   bounds [] h = tt
   bounds (q ∷ qs) h = (less_is p q h.0, bounds qs h.1)
 

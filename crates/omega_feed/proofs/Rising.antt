@@ -1,13 +1,12 @@
 -- Items in order of a number: there is one such list in which those of one number stand as they stood.
 use Rattle.std.proofs.Common.{◌≡◌, ℕ, suc, ◌<◌, ◌≤◌, Bool, true, false, cond, not, ◌&&◌, eqb, ltb, List, [], ◌∷◌, ◌++◌, length, get_or, refl, ap, sym, ◌∙◌, inl, inr, arith}
-use Rattle.std.specs.List.{filter}
+use Rattle.std.specs.List.{filter, AllByRecursion as Each}
 use Rattle.std.specs.List.Sorted.{IsSortedByKey, IsStableByKey, IsNonDecreasingBy, ties}
 use Rattle.std.specs.Ordering.{nat_cmp, is_lt}
 use Rattle.std.proofs.lemmas.Bool.{lt-ltb, le-ltb, eq-eqb, ne_eqb, ltb-true, ltb-false, eqb-true, cases_order}
 use Rattle.std.proofs.lemmas.List.Elements.{filter_agree}
 use Rattle.std.proofs.lemmas.List.Sorted.{IsNonDecreasingBy-from_sort}
-use Rattle.omega_running.specs.Order.{Each}
-use Rattle.omega_running.proofs.Lists.{each_append, each_map, filter_none}
+use Rattle.omega_model.proofs.Lists.{each_append, each_map, filter_none}
 use Rattle.omega_model.specs.Feed.{time_of, put_by_time, by_time}
 use Rattle.omega_model.specs.declared.rows.Row.{Row}
 use Rattle.omega_feed.specs.Events.{Rise, has_time}

@@ -1,7 +1,7 @@
 -- The slots of one job's tasks: what is found there, and what changes at the place of one.
 use Rattle.std.proofs.Common.{◌≡◌, ◌<◌, ◌≤◌, ℕ, Bool, true, false, cond, not, ◌&&◌, ◌||◌, ◌==◌, List, [], ◌∷◌, ◌++◌, Option, Some, None, map, length, get_or, set, take, drop, zero, suc, refl, ap, sym, subst, ◌∙◌, arith, append-nil}
 use Rattle.std.specs.Prelude.{Result, Ok, Err, MatchResult, is_some}
-use Rattle.std.specs.List.{All, cons_option, filter, filter_map, insert, list_any}
+use Rattle.std.specs.List.{All, cons_option, filter, filter_map, insert, list_any, AllByRecursion as Each}
 use Rattle.std.specs.List.Sorted.{IsBinarySearchResult, IsNonDecreasingBy, IsSearchInRange}
 use Rattle.std.specs.Ordering.{ordering_index}
 use Rattle.std.specs.declared.cmp.Ordering.{Ordering}
@@ -11,7 +11,7 @@ use Rattle.std.proofs.lemmas.List.{take-append-drop}
 use Rattle.std.proofs.lemmas.List.Elements.{All-cons, All-head, All-nil, All-tail, filter-append, filter_map-append}
 use Rattle.std.proofs.lemmas.List.Folds.{list_any-append}
 use Rattle.omega_model.proofs.InOrder.{key_asym, key_differs, key_itself, key_trans, same_key-sym}
-use Rattle.omega_model.proofs.Lists.{by_answer}
+use Rattle.omega_model.proofs.Lists.{by_answer, each_filter, any_none, each_append, each_back, each_front, each_map, filter_every, filter_none, each_at}
 use Rattle.omega_model.specs.Cell.{task_at}
 use Rattle.omega_model.specs.ExtraTasks.{HasLowIndex, first_extra, is_wanted, wanted_of}
 use Rattle.omega_model.specs.Keys.{key_lt}
@@ -19,9 +19,7 @@ use Rattle.omega_model.specs.Wanted.{WantedTask, with_wanted, is_named}
 use Rattle.omega_model.specs.declared.cells.Spec.{Spec}
 use Rattle.omega_model.specs.declared.cells.Task.{Task}
 use Rattle.omega_model.specs.declared.cells.TaskKey.{TaskKey}
-use Rattle.omega_running.specs.Order.{Each}
-use Rattle.omega_running.proofs.Kept.{each_filter}
-use Rattle.omega_running.proofs.Lists.{any_none, each_append, each_back, each_front, each_map, filter_every, filter_none, filter_right}
+use Rattle.omega_running.proofs.Lists.{filter_right}
 use Rattle.omega_feed.specs.Asked.{is_task_of}
 use Rattle.omega_feed.specs.Index.{key_cmp, wanted_task}
 use Rattle.omega_feed.specs.Open.{RunsIfOf}
@@ -29,7 +27,6 @@ use Rattle.omega_feed.specs.Parts.{waiting_jobs}
 use Rattle.omega_feed.specs.Slots.{GetsSlotAt, HasSlotAt, SlotsRise, entry_of, is_idle, is_idle_of, task_in, tasks_in}
 use Rattle.omega_feed.specs.declared.task_list.Slot.{Slot}
 use Rattle.omega_feed.proofs.KeyOrder.{Facts, as_facts, facts, greater, key_irrefl}
-use Rattle.omega_feed.proofs.Parts.{each_at}
 
 -- a task's slot
 abbrev pub slot_of : TaskKey → Option Spec → Slot

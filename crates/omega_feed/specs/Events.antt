@@ -1,7 +1,6 @@
 -- The rows of the three tables of events, each table in order of time.
 use Rattle.std.specs.Prelude.{◌≡◌, ℕ, ◌≤◌, ◌==◌, Bool, List, [], ◌∷◌, ◌++◌, Option, Some, None, map}
-use Rattle.std.specs.List.{filter_map}
-use Rattle.omega_running.specs.Order.{Each}
+use Rattle.std.specs.List.{filter_map, AllByRecursion as Each}
 use Rattle.omega_model.specs.Feed.{by_time}
 use Rattle.omega_model.specs.Fields.{MachineFields, AttrFields, TaskFields}
 use Rattle.omega_model.specs.declared.rows.Row.{Row}

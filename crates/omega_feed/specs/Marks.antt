@@ -1,7 +1,8 @@
 -- Marks of numbers.
 use Rattle.std.specs.Prelude.{◌≡◌, ℕ, ◌%◌, Bool, true, false, List, get_or}
 use Rattle.omega_model.specs.Fields.{ActivityFields, ConstraintFields}
-use Rattle.omega_running.specs.Order.{Each, job_and_index}
+use Rattle.omega_running.specs.Order.{job_and_index}
+use Rattle.std.specs.List.{AllByRecursion as Each}
 
 -- whether a number has a mark
 abbrev pub is_marked : List Bool → ℕ → Bool

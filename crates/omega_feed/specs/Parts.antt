@@ -1,11 +1,10 @@
 -- The wanted tasks of many jobs, those of each job by themselves.
 use Rattle.std.specs.Prelude.{◌≡◌, ◌<◌, ◌≤◌, ◌++◌, ℕ, List, [], ◌∷◌, get_or, is_some, length, map, not}
-use Rattle.std.specs.List.{filter}
+use Rattle.std.specs.List.{filter, AllByRecursion as Each}
 use Rattle.omega_model.specs.Cell.{task_at}
 use Rattle.omega_model.specs.ExtraTasks.{HasLowIndex}
 use Rattle.omega_model.specs.Wanted.{WantedTask}
 use Rattle.omega_model.specs.declared.cells.Task.{Task}
-use Rattle.omega_running.specs.Order.{Each}
 
 -- the tasks of all jobs
 abbrev pub joined : List (List WantedTask) → List WantedTask

@@ -1,6 +1,6 @@
 -- The wanted tasks of one job, each in its slot.
 use Rattle.std.specs.Prelude.{◌≡◌, ◌≤◌, ◌&&◌, ◌==◌, ℕ, Bool, true, List, [], ◌∷◌, Option, None, Some, drop, is_some, length, not, option_map, slice_get, take, if◌then◌else◌}
-use Rattle.std.specs.List.{filter_map}
+use Rattle.std.specs.List.{filter_map, AllByRecursion as Each}
 use Rattle.omega_model.specs.Cell.{task_at}
 use Rattle.omega_model.specs.ExtraTasks.{HasLowIndex}
 use Rattle.omega_model.specs.Keys.{key_lt}
@@ -8,7 +8,7 @@ use Rattle.omega_model.specs.Wanted.{WantedTask}
 use Rattle.omega_model.specs.declared.cells.Spec.{Spec}
 use Rattle.omega_model.specs.declared.cells.Task.{Task}
 use Rattle.omega_model.specs.declared.cells.TaskKey.{TaskKey}
-use Rattle.omega_running.specs.Order.{Each, Rises}
+use Rattle.omega_running.specs.Order.{Rises}
 use Rattle.omega_feed.specs.declared.task_list.Slot.{Slot}
 
 -- the task of a slot, while it is wanted

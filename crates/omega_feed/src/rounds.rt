@@ -1,6 +1,6 @@
 //! The rounds of a trace, each of which is a piece of each table of events.
 ghost use Rattle.std.specs.Prelude.{◌≡◌, ◌≤◌, ◌<◌, ◌/◌, ◌++◌, drop, length, map, option_map, slice_get, take, IfOk};
-ghost use Rattle.omega_running.specs.Order.{Each};
+ghost use Rattle.std.specs.List.{AllByRecursion as Each};
 ghost use Rattle.omega_feed.specs.Events.{AreInOrder, Rise, merged};
 ghost use Rattle.omega_feed.specs.Rounds.{HavePart, first_time, gathered, least, next_number, part_round};
 
@@ -37,7 +37,7 @@ pub struct EventRounds {
 
 impl Model for EventRounds {
     ghost use Rattle.std.specs.Prelude.{List, map};
-    ghost use Rattle.omega_running.specs.Order.{Each};
+    ghost use Rattle.std.specs.List.{AllByRecursion as Each};
     ghost use Rattle.omega_model.specs.declared.rows.Round.{Round};
     ghost use Rattle.omega_feed.specs.Rounds.{HavePart, part_round};
 

@@ -1,6 +1,6 @@
 //! The wanted tasks of one job.
 ghost use Rattle.std.specs.Prelude.{◌≡◌, ◌↔◌, ◌++◌, ◌+◌, ◌*◌, ℕ, [], true, All, not, map, ◌<◌, ◌≤◌, IfOk, IsTrue, MatchResult, OnOk, OnErr, is_some, length, cond};
-ghost use Rattle.std.specs.List.{count_by, filter, list_any};
+ghost use Rattle.std.specs.List.{count_by, filter, list_any, AllByRecursion as Each};
 ghost use Rattle.omega_model.specs.ExtraTasks.{HasLowIndex, first_extra, is_wanted, wanted_of};
 ghost use Rattle.omega_model.specs.Wanted.{with_wanted, is_named};
 ghost use Rattle.omega_feed.specs.Asked.{is_task_of};
@@ -8,7 +8,6 @@ ghost use Rattle.omega_feed.specs.Index.{wanted_task};
 ghost use Rattle.omega_feed.specs.Open.{RunsIfOf};
 ghost use Rattle.omega_feed.specs.Parts.{waiting_jobs};
 ghost use Rattle.omega_feed.specs.Slots.{AreCounted, GetsSlotAt, HasSlotAt, SlotsRise, block, entry_of, is_idle, is_idle_of, tasks_in};
-ghost use Rattle.omega_running.specs.Order.{Each};
 
 use omega_model::{NoMemory, Spec, TaskKey};
 use omega_running::Running;

@@ -3,7 +3,7 @@ ghost use Rattle.std.specs.Prelude.{◌≡◌, ◌+◌, ◌++◌, ◌∷◌, ◌
 ghost use Rattle.omega_fit.specs.Needs.{IsFirstWithRoom, IsNextWithRoom};
 ghost use Rattle.omega_fit.specs.Tree.{frees};
 
-use crate::nodes::{Slot, put_in, settle, settle_last};
+use crate::nodes::{FitNode, put_in, settle, settle_last};
 use crate::searching::{search_between, search_wrapped};
 use omega_model::{Need, NoMemory};
 use std::alloc::Global;
@@ -13,7 +13,7 @@ use std::marker::Model;
 /// contract sees that list, and `spare`, for how many more positions there is room.
 #[derive(Debug, Drop)]
 pub struct FitIndex {
-    slots: Vec<Slot>,
+    nodes: Vec<FitNode>,
 }
 
 impl Model for FitIndex {
@@ -23,9 +23,9 @@ impl Model for FitIndex {
 
     ghost Value = { Positions };
 
-    ghost view = { λ index. record { free = frees index.slots.items; spare = vec_capacity index.slots - vec_len index.slots } };
+    ghost view = { λ index. record { free = frees index.nodes.items; spare = vec_capacity index.nodes - vec_len index.nodes } };
 
-    ghost invariant = { λ index. Tree index.slots.items };
+    ghost invariant = { λ index. Tree index.nodes.items };
 }
 
 impl FitIndex {
@@ -36,7 +36,7 @@ impl FitIndex {
         ensures spare { result.spare ≡ 0 }
     {
         FitIndex {
-            slots: Vec::new(alloc),
+            nodes: Vec::new(alloc),
         }
     }
 
@@ -45,16 +45,16 @@ impl FitIndex {
         ensures free { IfOk result (λ index. index.free ≡ free.now) }
         ensures spare { IfOk result (λ index. index.spare ≡ 0) }
     {
-        let mut slots = slots_of(alloc, free)?;
-        settle(&mut slots);
-        Ok(FitIndex { slots })
+        let mut nodes = nodes_of(alloc, free)?;
+        settle(&mut nodes);
+        Ok(FitIndex { nodes })
     }
 
     /// How many positions there are.
     pub fn len(&self) -> usize
         ensures { result ≡ length self.now.free }
     {
-        self.slots.len()
+        self.nodes.len()
     }
 
     /// Makes room for at least `n` more positions. What is free stays as it is, also where memory
@@ -65,7 +65,7 @@ impl FitIndex {
         ensures kept { self.old.spare ≤ self.new.spare }
         ensures enough { n ≤ self.old.spare → IsOk result }
     {
-        self.slots.reserve(n)?;
+        self.nodes.reserve(n)?;
         Ok(())
     }
 
@@ -76,8 +76,8 @@ impl FitIndex {
         ensures free { self.new.free ≡ self.old.free ++ free ∷ [] }
         ensures spare { self.new.spare + 1 ≡ self.old.spare }
     {
-        self.slots.push_reserved(Slot { free, most: None });
-        settle_last(&mut self.slots);
+        self.nodes.push_reserved(FitNode { free, most: None });
+        settle_last(&mut self.nodes);
     }
 
     /// Writes what is free at a position. Takes time logarithmic in the number of positions.
@@ -86,7 +86,7 @@ impl FitIndex {
         ensures free { self.new.free ≡ set self.old.free position free }
         ensures spare { self.new.spare ≡ self.old.spare }
     {
-        put_in(&mut self.slots, position, free);
+        put_in(&mut self.nodes, position, free);
     }
 
     /// What is free at a position.
@@ -94,7 +94,7 @@ impl FitIndex {
         requires { position < length self.now.free }
         ensures { result ≡ get_or self.now.free position None }
     {
-        self.slots[position].free
+        self.nodes[position].free
     }
 
     /// The first position of `from..to` whose amount holds `need`; `None` exactly where there is none.
@@ -104,7 +104,7 @@ impl FitIndex {
         ensures next { IsNextWithRoom self.now.free need from to result }
         ensures below { IfSome result (λ position. position < to) }
     {
-        search_between(&self.slots, from, to, need)
+        search_between(&self.nodes, from, to, need)
     }
 
     /// The first position whose amount holds `need` and that passes the test, from `start` up to the
@@ -118,21 +118,21 @@ impl FitIndex {
         ensures first { IsFirstWithRoom self.now.free need (F.post test) start result }
         ensures below { IfSome result (λ position. position < length self.now.free) }
     {
-        search_wrapped(&self.slots, start, need, &test)
+        search_wrapped(&self.nodes, start, need, &test)
     }
 }
 
-/// The slots of a list, of which no node is told yet.
-fn slots_of(alloc: Global, free: &[Option<Need>]) -> Result<Vec<Slot>, NoMemory>
-    ensures free { IfOk result (λ slots. frees slots.items ≡ free.now) }
-    ensures full { IfOk result (λ slots. vec_capacity slots ≡ vec_len slots) }
+/// The nodes of a list, of which none is told yet.
+fn nodes_of(alloc: Global, free: &[Option<Need>]) -> Result<Vec<FitNode>, NoMemory>
+    ensures free { IfOk result (λ nodes. frees nodes.items ≡ free.now) }
+    ensures full { IfOk result (λ nodes. vec_capacity nodes ≡ vec_len nodes) }
 {
-    let mut slots = Vec::with_capacity(alloc, free.len())?;
+    let mut nodes = Vec::with_capacity(alloc, free.len())?;
     for amount in free {
-        slots.push_reserved(Slot {
+        nodes.push_reserved(FitNode {
             free: *amount,
             most: None,
         });
     }
-    Ok(slots)
+    Ok(nodes)
 }

@@ -14,7 +14,7 @@ use omega_model::Need;
 /// A position: what is free there, and the greatest amount, component by component, of the tree whose
 /// root it is.
 #[derive(Clone, Copy, Debug, PartialEq, Eq)]
-pub(crate) struct Slot {
+pub(crate) struct FitNode {
     pub free: Option<Need>,
     pub most: Option<Need>,
 }
@@ -34,46 +34,46 @@ pub(crate) fn middle(len: usize) -> usize
 }
 
 /// The greatest of a whole tree.
-pub(crate) fn root_of(slots: &[Slot]) -> Option<Need>
-    ensures { result ≡ root slots.now }
+pub(crate) fn root_of(nodes: &[FitNode]) -> Option<Need>
+    ensures { result ≡ root nodes.now }
 {
-    match &slots[middle(slots.len())..] {
+    match &nodes[middle(nodes.len())..] {
         [] => None,
-        [slot, ..] => slot.most,
+        [node, ..] => node.most,
     }
 }
 
 /// The greatest of a tree by its left part, what is free at its root, and its right part.
-fn most_of(left: &[Slot], free: Option<Need>, right: &[Slot]) -> Option<Need>
+fn most_of(left: &[FitNode], free: Option<Need>, right: &[FitNode]) -> Option<Need>
     ensures { result ≡ greater (root left.now) (greater free (root right.now)) }
 {
     greater(root_of(left), greater(free, root_of(right)))
 }
 
 /// A tree's left part, its root and its right part.
-pub(crate) fn parted(slots: &[Slot]) -> (&[Slot], &Slot, &[Slot])
-    requires tree { Tree slots.now }
-    requires some { 0 < length slots.now }
-    ensures whole { slots.now ≡ result.0.now ++ result.1.now ∷ result.2.now }
-    ensures middle { length result.0.now ≡ middle (length slots.now) }
+pub(crate) fn parted(nodes: &[FitNode]) -> (&[FitNode], &FitNode, &[FitNode])
+    requires tree { Tree nodes.now }
+    requires some { 0 < length nodes.now }
+    ensures whole { nodes.now ≡ result.0.now ++ result.1.now ∷ result.2.now }
+    ensures middle { length result.0.now ≡ middle (length nodes.now) }
     ensures left { Tree result.0.now }
     ensures right { Tree result.2.now }
 {
-    let (left, rest) = slots.split_at(middle(slots.len()));
-    let Some((slot, right)) = rest.split_first() else {
+    let (left, rest) = nodes.split_at(middle(nodes.len()));
+    let Some((node, right)) = rest.split_first() else {
         unreachable!()
     };
-    (left, slot, right)
+    (left, node, right)
 }
 
 /// Tells a root the greatest of its tree. Answers whether it is another than before.
-fn tell(slot: &mut Slot, left: &[Slot], right: &[Slot]) -> bool
-    ensures told { slot.new ≡ record slot.old { most = greater (root left.now) (greater slot.old.free (root right.now)) } }
-    ensures kept { result ≡ false → slot.new.most ≡ slot.old.most }
+fn tell(node: &mut FitNode, left: &[FitNode], right: &[FitNode]) -> bool
+    ensures told { node.new ≡ record node.old { most = greater (root left.now) (greater node.old.free (root right.now)) } }
+    ensures kept { result ≡ false → node.new.most ≡ node.old.most }
 {
-    let most = most_of(left, slot.free, right);
-    let changes = most != slot.most;
-    slot.most = most;
+    let most = most_of(left, node.free, right);
+    let changes = most != node.most;
+    node.most = most;
     changes
 }
 
@@ -81,62 +81,62 @@ fn tell(slot: &mut Slot, left: &[Slot], right: &[Slot]) -> bool
 /// greatest stays: none where the same was free before. Answers whether that of the whole tree is another than
 /// before.
 #[tactic(auto, using(crate::proofs::Trees::tree_fork, crate::proofs::Trees::tree_parts, crate::proofs::Trees::tree_nil))]
-pub(crate) fn put_in(slots: &mut [Slot], position: usize, free: Option<Need>) -> bool
-    requires position { position < length slots.old }
-    requires tree { Tree slots.old }
-    ensures tree { Tree slots.new }
-    ensures value { frees slots.new ≡ set (frees slots.old) position free }
-    ensures kept { result ≡ false → root slots.new ≡ root slots.old }
+pub(crate) fn put_in(nodes: &mut [FitNode], position: usize, free: Option<Need>) -> bool
+    requires position { position < length nodes.old }
+    requires tree { Tree nodes.old }
+    ensures tree { Tree nodes.new }
+    ensures value { frees nodes.new ≡ set (frees nodes.old) position free }
+    ensures kept { result ≡ false → root nodes.new ≡ root nodes.old }
 {
-    let half = middle(slots.len());
-    let (left, rest) = slots.split_at_mut(half);
-    let Some((slot, right)) = rest.split_first_mut() else {
+    let half = middle(nodes.len());
+    let (left, rest) = nodes.split_at_mut(half);
+    let Some((node, right)) = rest.split_first_mut() else {
         unreachable!()
     };
     let changes = if position < half {
         put_in(left, position, free)
     } else if position == half {
-        let changes = slot.free != free;
-        slot.free = free;
+        let changes = node.free != free;
+        node.free = free;
         changes
     } else {
         put_in(right, position - half - 1, free)
     };
-    changes && tell(slot, left, right)
+    changes && tell(node, left, right)
 }
 
-/// Makes a tree of any slots, in time linear in their number.
+/// Makes a tree of any nodes, in time linear in their number.
 #[tactic(auto, using(crate::proofs::Trees::tree_fork, crate::proofs::Trees::tree_parts, crate::proofs::Trees::tree_nil))]
-pub(crate) fn settle(slots: &mut [Slot])
-    ensures tree { Tree slots.new }
-    ensures value { frees slots.new ≡ frees slots.old }
+pub(crate) fn settle(nodes: &mut [FitNode])
+    ensures tree { Tree nodes.new }
+    ensures value { frees nodes.new ≡ frees nodes.old }
 {
-    if slots.is_empty() {
+    if nodes.is_empty() {
         return;
     }
-    let half = middle(slots.len());
-    let (left, rest) = slots.split_at_mut(half);
-    if let Some((slot, right)) = rest.split_first_mut() {
+    let half = middle(nodes.len());
+    let (left, rest) = nodes.split_at_mut(half);
+    if let Some((node, right)) = rest.split_first_mut() {
         settle(left);
         settle(right);
-        slot.most = most_of(left, slot.free, right);
+        node.most = most_of(left, node.free, right);
     }
 }
 
-/// Makes a tree of a tree and one more slot behind it, by telling the nodes above the new one.
+/// Makes a tree of a tree and one more node behind it, by telling the nodes above the new one.
 #[tactic(auto, using(crate::proofs::Trees::tree_nil))]
-pub(crate) fn settle_last(slots: &mut [Slot])
-    requires tree { Tree (take (length slots.old - 1) slots.old) }
-    ensures tree { Tree slots.new }
-    ensures value { frees slots.new ≡ frees slots.old }
+pub(crate) fn settle_last(nodes: &mut [FitNode])
+    requires tree { Tree (take (length nodes.old - 1) nodes.old) }
+    ensures tree { Tree nodes.new }
+    ensures value { frees nodes.new ≡ frees nodes.old }
 {
-    if slots.is_empty() {
+    if nodes.is_empty() {
         return;
     }
-    let half = middle(slots.len());
-    let (left, rest) = slots.split_at_mut(half);
-    if let Some((slot, right)) = rest.split_first_mut() {
+    let half = middle(nodes.len());
+    let (left, rest) = nodes.split_at_mut(half);
+    if let Some((node, right)) = rest.split_first_mut() {
         settle_last(right);
-        slot.most = most_of(left, slot.free, right);
+        node.most = most_of(left, node.free, right);
     }
 }

@@ -10,6 +10,7 @@ use Rattle.csv.specs.declared.parser.State.TheVariants as st
 use Rattle.omega_model.specs.Columns.{BadColumn}
 use Rattle.omega_model.specs.Generated.{row_text}
 use Rattle.omega_model.specs.Rows.{rows_by, rows_in, records_of}
+use Rattle.omega_model.proofs.Lists.{each_append}
 use Rattle.omega_model.proofs.Records.{are_all}
 
 -- the text of some fields is read as these fields, is no byte order mark, is short, and is a row of its table
@@ -59,10 +60,6 @@ more_rows row_of text few most less rows =
     let count = rows.few in
     record { fields = rows.fields; made = rows.made; each = rows.each; few = omega arith }
 
-each_both : {X : Type 0} (P : X → Type 0) (xs ys : List X) → Each P xs → Each P ys → Each P (xs ++ ys)
-each_both P [] ys first second = second
-each_both P (x ∷ xs) ys first second = (first.0, each_both P xs ys first.1 second)
-
 pub both_rows : {A : Type 0} (row_of : List (List ℕ) → Result A BadColumn) (one other : List ℕ) (m n : ℕ)
     → AreRows row_of one m → AreRows row_of other n → AreRows row_of (one ++ other) (m + n)
 both_rows row_of one other m n first second =
@@ -75,7 +72,7 @@ both_rows row_of one other m n first second =
           ap (λ text. text ++ other) first.made
           ∙ ap (λ text. flat_map row_text first.fields ++ text) second.made
           ∙ sym (flat_map-append row_text first.fields second.fields);
-      each = each_both (IsRow row_of) first.fields second.fields first.each second.each;
+      each = each_append (IsRow row_of) first.fields second.fields first.each second.each;
       few = omega arith;
     }
 

@@ -6,7 +6,7 @@ ghost use Rattle.rand_core.specs.Stream.{Stream};
 ghost use Rattle.omega_model.specs.Generated.{job_at, job_text, made_job, submit_time, task_text, tasks_text, thousandths};
 ghost use Rattle.omega_gen.specs.Words.{left_after, word_of};
 
-use crate::words::draw;
+use crate::drawing::draw;
 use omega_model::{Bytes, NoMemory, Seq};
 use rand_core::Rng;
 use std::alloc::Global;

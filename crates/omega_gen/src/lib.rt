@@ -8,10 +8,10 @@ ghost use Rattle.omega_model.specs.Generated.{generated, made_of};
 ghost use Rattle.omega_io.specs.Edge.{Tells};
 ghost use Rattle.omega_gen.specs.Words.{left_after, word_of};
 
+mod drawing;
 mod jobs;
 mod laws;
 mod machines;
-mod words;
 
 pub use laws::generated_tables_are_never_refused;
 use omega_io::{SteadyTables, Tables};

@@ -1,7 +1,7 @@
 -- A gate that holds schedulers.
 use Rattle.std.specs.Prelude.{ℕ, List}
 use Rattle.omega_io.specs.declared.edges.Point.{Point}
-use Rattle.omega_io.specs.declared.held.Hold.{Hold}
+use Rattle.omega_io.specs.declared.held_gate.Hold.{Hold}
 
 -- a gate's order: each scheduler that is held, at which point, and until which scheduler has come to which
 -- point; and how often a caller looks at most in one hold

@@ -8,9 +8,9 @@ use crate::edges::{Failed, Tables};
 use omega_model::{NoMemory, Table};
 use std::alloc::Global;
 use std::fs::File;
-use std::io;
 use std::io::{ErrorKind, Read};
 use std::path::{Path, PathBuf};
+use std::{fs, io};
 
 /// Whether a table's file was opened. `Missing` is an empty table.
 #[derive(Drop)]
@@ -18,6 +18,14 @@ enum Access {
     Unopened,
     Open(File),
     Missing,
+}
+
+/// Whether no name stands at a path, not even a link that leads to nothing.
+fn is_free(rt: &HostRuntime, path: Path) -> bool {
+    match fs::symlink_metadata(rt, path) {
+        Ok(_) => false,
+        Err(error) => error.kind() == ErrorKind::NotFound,
+    }
 }
 
 /// The file of one table.
@@ -38,11 +46,16 @@ impl TableFile {
         })
     }
 
-    /// Opens the file. One that is missing and isn't needed is an empty table.
+    /// Opens the file. One that is missing and isn't needed is an empty table; a link that leads to nothing isn't
+    /// missing.
     fn open(&self, rt: &HostRuntime) -> io::Result<Access> {
-        match File::open(rt, self.path.as_path()) {
+        let path = self.path.as_path();
+        match File::open(rt, path) {
             Ok(file) => Ok(Access::Open(file)),
-            Err(error) if !self.needed && error.kind() == ErrorKind::NotFound => {
+            Err(error) if error.kind() == ErrorKind::NotFound => {
+                if self.needed || !is_free(rt, path) {
+                    return Err(error);
+                }
                 Ok(Access::Missing)
             }
             Err(error) => Err(error),
@@ -81,7 +94,8 @@ fn files_in(alloc: Global, folder: &str) -> Result<ByTable<TableFile>, NoMemory>
 ///
 /// Each file is opened at the first read after `enter` and read on from there. A missing file of
 /// attributes, constraints, jobs or disks is an empty table. A missing file of the other two is a
-/// fault, as is a read before the first `enter`. The counts of faults stop at 2^64 - 1.
+/// fault, as are a link that leads to nothing and a read before the first `enter`. The counts of
+/// faults stop at 2^64 - 1.
 #[derive(Drop)]
 pub struct FolderTables<'a> {
     rt: &'a HostRuntime,

@@ -10,7 +10,7 @@ mod by_table;
 mod calls;
 mod edges;
 mod folder;
-mod held;
+mod held_gate;
 mod memory;
 mod processors;
 mod stdout;
@@ -20,7 +20,7 @@ mod writing;
 
 pub use edges::{Failed, Gate, PassGate, Point, Sink, Tables};
 pub use folder::FolderTables;
-pub use held::HeldGate;
+pub use held_gate::HeldGate;
 pub use memory::{MemorySink, MemoryTables};
 pub use processors::pieces_on;
 pub use stdout::StdoutSink;

@@ -9,19 +9,19 @@ use std::alloc::Global;
 
 /// How many loads and appends were made, and which of them fails, counted from 0.
 #[derive(Clone, Copy)]
-pub struct Calls {
+pub struct KeeperCalls {
     made: u64,
     failing: Option<u64>,
     faults: u64,
 }
 
-impl Calls {
+impl KeeperCalls {
     /// No call was made and none fails.
-    fn new() -> Calls
+    fn new() -> KeeperCalls
         ensures failing { result.failing ≡ None }
         ensures faults { result.faults ≡ 0 }
     {
-        Calls {
+        KeeperCalls {
             made: 0,
             failing: None,
             faults: 0,
@@ -49,7 +49,7 @@ impl Calls {
 #[derive(Drop)]
 pub struct MemoryKeeper {
     listed: Listed,
-    calls: Calls,
+    calls: KeeperCalls,
 }
 
 impl MemoryKeeper {
@@ -70,7 +70,7 @@ impl MemoryKeeper {
     {
         MemoryKeeper {
             listed: Listed::new(alloc, lines),
-            calls: Calls::new(),
+            calls: KeeperCalls::new(),
         }
     }
 

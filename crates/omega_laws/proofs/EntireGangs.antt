@@ -28,7 +28,7 @@ use Rattle.omega_model.specs.declared.rows.TraceTables.{TraceTables}
 use Rattle.omega_model.specs.declared.settings.Settings.{Settings}
 use Rattle.omega_model.specs.declared.wishes.Request.{Request}
 use Rattle.omega_model.specs.declared.wishes.Wish.{Wish}
-use Rattle.omega_model.proofs.Lists.{by_answer, each_map, each_of, filter_none}
+use Rattle.omega_model.proofs.Lists.{by_answer, each_map, each_of, filter_every, filter_none}
 use Rattle.omega_model.proofs.Standing.{after_entry-other, standing_push}
 use Rattle.omega_laws.specs.WholeCommits.{claimed, wished}
 use Rattle.omega_laws.proofs.OneJob.{AllAsk, AsksForItsJob, plan_of_request, standing_asks}
@@ -85,10 +85,6 @@ all_placed (claim ∷ claims) (judgement ∷ reply) long all =
           (λ key t. rw t (or_true (is_placed judgement.verdict && same_key claim.key key))) (claimed claims) (all_placed claims reply rest all.1),
     )
 
-filter_all : {X : Type 0} (test : X → Bool) (xs : List X) → AllByRecursion (λ x. test x ≡ true) xs → filter test xs ≡ xs
-filter_all test [] all = refl
-filter_all test (x ∷ xs) all = rw all.0 (ap (λ (ys : List _). x ∷ ys) (filter_all test xs all.1))
-
 -- nothing was placed and nothing is empty, where a request goes on
 goes_on : (a b c d : Bool) → (a || b || c || d) ≡ false → (a ≡ false) × (b ≡ false)
 goes_on true true c d is = absurd (cc)
@@ -122,7 +118,7 @@ module _ (settings : Settings) (taken failing : ℕ) (request : Request) where
         kept : (reply : List Judgement) → AllByRecursion Refuses reply → rest_of request (outcomes_of claims reply) ≡ request
         kept reply none =
             ap (λ (wishes : List Wish). record { job = request.job; wishes = wishes })
-            (filter_all (λ (wish : Wish). not (places_wish (outcomes_of claims reply) wish)) request.wishes
+            (filter_every (λ (wish : Wish). not (places_wish (outcomes_of claims reply) wish)) request.wishes
             (each_of (λ (wish : Wish). not (places_wish (outcomes_of claims reply) wish) ≡ true)
             (λ wish. ap not (none_placed claims reply wish.key none)) request.wishes))
 

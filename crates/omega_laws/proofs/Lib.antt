@@ -7,6 +7,7 @@ pub mod RoundsAdd
 pub mod AnyOrder
 pub mod CommitsRead
 pub mod TurnOrder
+pub mod FirstRounds
 pub mod Suited
 pub mod MachinesStay
 pub mod OtherJobs
@@ -23,3 +24,4 @@ pub mod ExamplesTime
 mod ExamplesLate
 pub mod OnlyTimes
 mod ConstraintExamples
+pub mod AnyCommand

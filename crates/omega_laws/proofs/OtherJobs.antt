@@ -15,9 +15,9 @@ use Rattle.omega_model.specs.declared.claims.Mode.{Mode}
 use Rattle.omega_model.specs.declared.claims.Mode.TheVariants.{Incremental, Gang}
 use Rattle.omega_model.specs.declared.claims.Policy.{Policy}
 use Rattle.omega_model.specs.declared.wishes.Wish.{Wish}
-use Rattle.omega_model.proofs.Lists.{by_answer, each_map, each_of, each_passes}
+use Rattle.omega_model.proofs.Lists.{by_answer, each_map, each_of, each_passes, each_take}
 use Rattle.omega_laws.specs.WholeCommits.{claimed, wished}
-use Rattle.omega_laws.proofs.Suited.{OfValue, each_mapped, each_take, first_of, found, of_map, or_both}
+use Rattle.omega_laws.proofs.Suited.{OfValue, each_mapped, first_of, found, of_map, or_both}
 
 module _ {X Y : Type 0} (P : Y → Type 0) where
   pub each_image : (f : X → Y) → (xs : List X) → Each (λ x. P (f x)) xs → Each P (map f xs)

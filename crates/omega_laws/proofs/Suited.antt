@@ -15,7 +15,7 @@ use Rattle.omega_model.specs.declared.claims.Mode.{Mode}
 use Rattle.omega_model.specs.declared.claims.Mode.TheVariants.{Incremental, Gang}
 use Rattle.omega_model.specs.declared.claims.Policy.{Policy}
 use Rattle.omega_model.specs.declared.wishes.Wish.{Wish}
-use Rattle.omega_model.proofs.Lists.{by_answer, each_append, each_both, each_filter, each_map, each_passes}
+use Rattle.omega_model.proofs.Lists.{by_answer, each_append, each_both, each_drop, each_filter, each_map, each_passes, each_take}
 use Rattle.omega_laws.specs.Constraints.{SuitsItsWish}
 
 -- what holds of a value, if there is one
@@ -24,18 +24,8 @@ OfValue P None = Unit {0}
 OfValue P (Some x) = P x
 
 module _ {X : Type 0} (P : X → Type 0) where
-  pub each_take : (n : ℕ) (xs : List X) → Each P xs → Each P (take n xs)
-  each_take zero xs each = tt
-  each_take (suc n) [] each = tt
-  each_take (suc n) (x ∷ xs) each = (each.0, each_take n xs each.1)
-
-  each_drop : (n : ℕ) (xs : List X) → Each P xs → Each P (drop n xs)
-  each_drop zero xs each = each
-  each_drop (suc n) [] each = tt
-  each_drop (suc n) (x ∷ xs) each = each_drop n xs each.1
-
   each_wrapped_from : (n : ℕ) (xs : List X) → Each P xs → Each P (wrapped_from n xs)
-  each_wrapped_from n xs each = each_append P (drop n xs) (take n xs) (each_drop n xs each) (each_take n xs each)
+  each_wrapped_from n xs each = each_append P (drop n xs) (take n xs) (each_drop P n xs each) (each_take P n xs each)
 
   pub found : (test : X → Bool) (xs : List X) → Each P xs → OfValue P (find test xs)
   found test [] each = tt

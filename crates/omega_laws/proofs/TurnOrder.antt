@@ -109,14 +109,22 @@ pub one_comes_next_in_turns : (settings : Settings) (trace : TraceTables) (rows 
 one_comes_next_in_turns settings trace rows opened_at =
     one_comes_next settings trace rows opened_at KeepsTurns GoesEarlier LostItsTurn sees_in_turn (turns_order settings trace rows opened_at)
 
+-- a history that is made of these rounds in turns is the only one after their start
+pub only_in_turns : (settings : Settings) (trace : TraceTables) (rows : List Row) (start : List Entry) (some : List Round) (one other : List Entry)
+    → Rounds settings trace rows start some one → InTurns one
+    → Rounds settings trace rows start some other → InTurns other
+    → one ≡ other
+only_in_turns settings trace rows start some one other whole_one turns_one whole_other turns_other =
+    only_rounds settings trace (λ rows start round. KeepsTurns) (λ rows start round. GoesEarlier) (λ rows start round. LostItsTurn) (λ rows start round. sees_in_turn)
+    (λ rows start round. turns_order settings trace (rows ++ round.rows) (length (opened trace rows start round).history))
+    rows start some one other
+    (rounds_in_turns settings trace rows start some one whole_one turns_one)
+    (rounds_in_turns settings trace rows start some other whole_other turns_other)
+
 -- a lawful history in turns is the only one for these settings and this trace
 pub only_history : (settings : Settings) (trace : TraceTables) (one other : List Entry)
     → Lawful settings trace one → InTurns one
     → Lawful settings trace other → InTurns other
     → one ≡ other
 only_history settings trace one other lawful_one turns_one lawful_other turns_other =
-    only_rounds settings trace (λ rows start round. KeepsTurns) (λ rows start round. GoesEarlier) (λ rows start round. LostItsTurn) (λ rows start round. sees_in_turn)
-    (λ rows start round. turns_order settings trace (rows ++ round.rows) (length (opened trace rows start round).history))
-    [] [] (rounds trace settings.window) one other
-    (rounds_in_turns settings trace [] [] (rounds trace settings.window) one lawful_one turns_one)
-    (rounds_in_turns settings trace [] [] (rounds trace settings.window) other lawful_other turns_other)
+    only_in_turns settings trace [] [] (rounds trace settings.window) one other lawful_one turns_one lawful_other turns_other

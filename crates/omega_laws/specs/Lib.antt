@@ -8,3 +8,5 @@ pub mod VirtualTime
 pub mod Simulated
 pub mod Ticking
 pub mod TimeReport
+pub mod AsReplay
+pub mod FirstRounds

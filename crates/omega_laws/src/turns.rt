@@ -1,5 +1,7 @@
-//! What comes next in a round, that nothing else could, and that a history in turns is the only one.
-ghost use Rattle.std.specs.Prelude.{◌≡◌, ℕ, List, Option, length, drop};
+//! What comes next in a round, that nothing else could, and that a history in turns is the only one, of a
+//! whole run and of its first rounds.
+ghost use Rattle.std.specs.Prelude.{◌≡◌, ◌≤◌, ℕ, List, [], Option, length, take, drop};
+ghost use Rattle.omega_model.specs.Feed.{rounds};
 ghost use Rattle.omega_model.specs.Lawful.{Lawful, RoundOf, RoundSoFar, opened};
 ghost use Rattle.omega_model.specs.Turns.{InTurns};
 ghost use Rattle.omega_model.specs.Work.{commits_of};
@@ -8,6 +10,7 @@ ghost use Rattle.omega_model.specs.declared.rows.Round.{Round};
 ghost use Rattle.omega_model.specs.declared.rows.Row.{Row};
 ghost use Rattle.omega_model.specs.declared.rows.TraceTables.{TraceTables};
 ghost use Rattle.omega_model.specs.declared.settings.Settings.{Settings};
+ghost use Rattle.omega_laws.specs.FirstRounds.{AreFirstInTurns};
 ghost use Rattle.omega_laws.specs.NextCommit.{ComesNext};
 ghost use Rattle.omega_laws.specs.Orders.{EachComesNext, Rule, RuleBefore, RuleOrders, RuleOrdersRound, RuledRound, RuledRounds};
 ghost use Rattle.omega_laws.specs.TurnOrder.{GoesEarlier, sees_in_turn, turn_of};
@@ -66,4 +69,20 @@ pub fn rounds_in_any_order()
         → RuledRounds settings trace rule rows start some one
         → RuledRounds settings trace rule rows start some other
         → one ≡ other }
+{}
+
+/// Of the first rounds of a trace, in which the schedulers take turns, there is one history for each
+/// number of rounds at most; that of fewer rounds is the beginning of that of more. That of none is
+/// empty, and that of all is the whole run's. Does nothing: the contract is the law.
+pub fn first_rounds_in_turns()
+    ensures only { (settings : Settings) (trace : TraceTables) (count : ℕ) (one other : List Entry)
+        → AreFirstInTurns settings trace count one → AreFirstInTurns settings trace count other
+        → one ≡ other }
+    ensures begins { (settings : Settings) (trace : TraceTables) (fewer more : ℕ)
+        (one other : List Entry) → fewer ≤ more → AreFirstInTurns settings trace fewer one
+        → AreFirstInTurns settings trace more other → take (length one) other ≡ one }
+    ensures none { (settings : Settings) (trace : TraceTables) → AreFirstInTurns settings trace 0 [] }
+    ensures all { (settings : Settings) (trace : TraceTables) (history : List Entry)
+        → Lawful settings trace history → InTurns history
+        → AreFirstInTurns settings trace (length (rounds trace settings.window)) history }
 {}

@@ -10,7 +10,7 @@ use native.Mathlib.Decide.{ℕ_discrete}
 use lib.ListN.{get_elem?}
 use Rattle.atomic_table.specs.Table.{State, Final, Seen}
 use Rattle.atomic_table.specs.Seated.{TableId}
-use Rattle.omega_lock.specs.declared.view.View.{View}
+use Rattle.omega_lock.specs.declared.seat_view.SeatView.{SeatView}
 use Rattle.omega_lock.specs.declared.rule.Terms.{Terms}
 use Rattle.omega_lock.specs.Lists.{EachBelow, EachHasItsEntries, StartsWith, StartsWithEach, EachIs, entries_since, same}
 use Rattle.omega_lock.specs.Views.{Rests, answers, holding, joined, lists, own_list}
@@ -44,7 +44,7 @@ module _ {A : Type 0} where
 
 module _ {E : Type 0} where
   -- what a view keeps of a seat it keeps after one more join
-  pub has_joined : (v w : View E) (s : SeatState E) → Has v s → Has (joined v w) s
+  pub has_joined : (v w : SeatView E) (s : SeatState E) → Has v s → Has (joined v w) s
   has_joined v w s h = (
     subst (In (s.number, s.own)) (append_assoc (own_list v) v.kept (lists w)) (in_left (s.number, s.own) (lists v) (lists w) h.0),
     inr (⊎_elim (λ (e : s.seen ≡ v.seen). inl e) (λ (r : In s.seen v.also_seen). inr (inr (in_left s.seen v.also_seen w.also_seen r))) h.1),
@@ -52,7 +52,7 @@ module _ {E : Type 0} where
   )
 
   -- so it does of all seats that it keeps
-  pub gathered_joined : (v w : View E) (ss : List (SeatState E)) → HasAll v ss → HasAll (joined v w) ss
+  pub gathered_joined : (v w : SeatView E) (ss : List (SeatState E)) → HasAll v ss → HasAll (joined v w) ss
   gathered_joined v w [] g = tt
   gathered_joined v w (s ∷ ss) g = (has_joined v w s g.0, gathered_joined v w ss g.1)
 
@@ -80,7 +80,7 @@ is_each n x (y ∷ ys) a h = ⊎_elim (λ (e : x ≡ y). e ∙ a.0) (λ (r : In 
 
 module _ {T E : Type 0} (entries : T → List E) (number : E → Option ℕ) where
   -- the seat has all number_keeps and rests: nobody holds the turn
-  pub closes : (k : Terms T) (s : State (Option T) (View E)) (r : LockRule entries number k s) (id : ℕ) (v : View E)
+  pub closes : (k : Terms T) (s : State (Option T) (SeatView E)) (r : LockRule entries number k s) (id : ℕ) (v : SeatView E)
       → get_elem? s.views id ≡ some v → Rests v → k.callers ≤ length (lists v)
       → ((y : T) × (get_elem? s.homes 0 ≡ some (some (Some y))) × (entries y ≡ r.log)) × ((n : ℕ) → n < get_or s.words 0 0 → 1 ≤ answers n v)
   closes k s r id v at quiet all = (r.home nobody, all_there)
@@ -94,17 +94,17 @@ module _ {T E : Type 0} (entries : T → List E) (number : E → Option ℕ) whe
           (λ m. let a = term_le (answers m) s.views id v at in let b = r.numbers m in let c = below_le m x in omega (arith, a, b, c))
           (let f = r.few in omega (arith, f, all)) lt
 
-      answers_own : (u : View E) → u.has_number ≡ true → 1 ≤ answers u.number u
+      answers_own : (u : SeatView E) → u.has_number ≡ true → 1 ≤ answers u.number u
       answers_own u is = let c = sum_by-cons (λ (p : ℕ × List E). same u.number p.0) (u.number, u.own) u.kept in let one = same-same u.number in
           let l : answers u.number u ≡ sum_by (λ (p : ℕ × List E). same u.number p.0) ((u.number, u.own) ∷ u.kept) = ap (λ (z : Bool). sum_by (λ (p : ℕ × List E). same u.number p.0) ((if z then (u.number, u.own) ∷ [] else []) ++ u.kept)) is in
           omega (arith, c, one, l)
 
-      no_holder : (j : ℕ) (u : View E) → get_elem? s.views j ≡ some u → (has_number holds : Bool)
+      no_holder : (j : ℕ) (u : SeatView E) → get_elem? s.views j ≡ some u → (has_number holds : Bool)
           → u.has_number ≡ has_number → u.holds ≡ holds → holding u ≤ 0
       no_holder j u e has_number false is h = rw h (omega arith)
       no_holder j u e false true is h = let f = r.fits j u e in let a = (f.turn h).0 in let b = (f.idle is).1 in absurd (cc (sym a ∙ b))
       no_holder j u e true true is h = dite (ℕ_discrete j id)
-          (λ q. let z : u ≡ v = some-injective u v (sym e ∙ ap (λ i. get_elem? s.views i) q ∙ at) in let b : v.holds ≡ true = ap (λ (y : View E). y.holds) (sym z) ∙ h in absurd (cc (sym b ∙ quiet.1)))
+          (λ q. let z : u ≡ v = some-injective u v (sym e ∙ ap (λ i. get_elem? s.views i) q ∙ at) in let b : v.holds ≡ true = ap (λ (y : SeatView E). y.holds) (sym z) ∙ h in absurd (cc (sym b ∙ quiet.1)))
           (λ ne.
           let a = answers_own u is in
           let both = terms_le (answers u.number) s.views id j v u ne at e in
@@ -119,7 +119,7 @@ module _ {T E : Type 0} (entries : T → List E) (number : E → Option ℕ) whe
 
 module _ {E : Type 0} where
   -- a seat that was just joined is kept
-  pub has_new : (of : TableId) (v w : View E) (s : SeatState E)
+  pub has_new : (of : TableId) (v w : SeatView E) (s : SeatState E)
       → w.has_number ≡ true → seat_state of w ≡ s → Has (joined v w) s
   has_new of v w s is same_seat = subst (Has (joined v w)) same_seat (
     subst (In (w.number, w.own)) (append_assoc (own_list v) v.kept (lists w)) (in_right (w.number, w.own) (lists v) (lists w) (subst (λ (z : Bool). In (w.number, w.own) ((if z then (w.number, w.own) ∷ [] else []) ++ w.kept)) (sym is) (inl refl))),
@@ -128,7 +128,7 @@ module _ {E : Type 0} where
   )
 
   -- two lists of kept seats together
-  pub gathered_more : (v : View E) (ss ts : List (SeatState E)) → HasAll v ss → HasAll v ts
+  pub gathered_more : (v : SeatView E) (ss ts : List (SeatState E)) → HasAll v ss → HasAll v ts
       → HasAll v (ss ++ ts)
   gathered_more v [] ts a b = b
   gathered_more v (s ∷ ss) ts a b = (a.0, gathered_more v ss ts a.1 b)
@@ -182,17 +182,17 @@ module _ {E : Type 0} where
       omega (arith, a, b, c, d, g)
 
   -- one more pair after a join
-  pub joined_pairs : (of : TableId) (v w : View E) (s : SeatState E)
+  pub joined_pairs : (of : TableId) (v w : SeatView E) (s : SeatState E)
       → w.has_number ≡ true → w.kept ≡ [] → seat_state of w ≡ s
       → lists (joined v w) ≡ lists v ++ pair_of s ∷ []
   joined_pairs of v w s is nothing same_seat = sym (append_assoc (own_list v) v.kept (lists w)) ∙ ap (λ l. lists v ++ l) (only w is nothing ∙ ap (λ (t : SeatState E). pair_of t ∷ []) same_seat)
     where
-      only : (w : View E) → w.has_number ≡ true → w.kept ≡ [] → lists w ≡ (w.number, w.own) ∷ []
+      only : (w : SeatView E) → w.has_number ≡ true → w.kept ≡ [] → lists w ≡ (w.number, w.own) ∷ []
       only w is nothing = rw (is, nothing) refl
 
 -- what is known of the value at the end, where the seat's view is v
 module _ {T E : Type 0} (entries : T → List E) (number : E → Option ℕ) where
-  abbrev pub Ended : LockState E → View E → T → Type 0
+  abbrev pub Ended : LockState E → SeatView E → T → Type 0
   Ended l v y = EachIsKnown number (lists v) (drop (length l.first) (entries y)) × StartsWith (entries y) l.first
       × ((s : SeatState E) → Has v s → StartsWith (entries y) s.seen × (s.first_length ≡ length l.first) × (s.own ≡ entries_since number (length l.first) s.number (entries y)))
 
@@ -201,7 +201,7 @@ module _ {T E : Type 0} (entries : T → List E) (number : E → Option ℕ) whe
   value_in None d = d
   value_in (Some y) d = y
 
-  pub ended : (of : TableId) (k : Terms T) (id : ℕ) (v : View E) (ws : List ℕ) (xs : List (Option T))
+  pub ended : (of : TableId) (k : Terms T) (id : ℕ) (v : SeatView E) (ws : List ℕ) (xs : List (Option T))
       → Final (Seen (LockRule entries number k) id v) ws xs → v.has_number ≡ true → Rests v → k.callers ≤ length (lists v)
       → (y : T) × (get_elem? xs 0 ≡ some (Some y)) × Ended (record { of = of; callers = k.callers; turns = k.turns; first = first_list entries k }) v y
   ended of k id v ws xs (s, (r, at), words, slots, homes) is quiet all =
@@ -230,13 +230,13 @@ module _ {T E : Type 0} (entries : T → List E) (number : E → Option ℕ) whe
 
 module _ {E : Type 0} where
   -- what holds of each kept seat holds of all
-  pub gathered_all : (v : View E) (Q : SeatState E → Type 0) → ((s : SeatState E) → Has v s → Q s)
+  pub gathered_all : (v : SeatView E) (Q : SeatState E → Type 0) → ((s : SeatState E) → Has v s → Q s)
       → (ss : List (SeatState E)) → HasAll v ss → All Q ss
   gathered_all v Q h [] g = All-nil Q
   gathered_all v Q h (s ∷ ss) g = All-cons Q s ss (h s g.0) (gathered_all v Q h ss g.1)
 
   -- the seats as they were before the last was taken
-  pub all_seats : (v : View E) (Q : SeatState E → Type 0) (all rest : List (SeatState E)) (first : SeatState E)
+  pub all_seats : (v : SeatView E) (Q : SeatState E → Type 0) (all rest : List (SeatState E)) (first : SeatState E)
       → ((s : SeatState E) → Has v s → Q s) → all ≡ rest ++ first ∷ [] → HasAll v (first ∷ rest)
       → All Q all
   all_seats v Q all rest first h is g = All-same Q all (rest ++ first ∷ []) is (All-push Q rest first (gathered_all v Q h rest g.1) (h first g.0))

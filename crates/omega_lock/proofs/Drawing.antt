@@ -4,7 +4,7 @@ use Rattle.std.proofs.Common.{◌≡◌, ℕ, ◌+◌, ◌-◌, ◌*◌, ◌%◌
 use Rattle.std.specs.Prelude.{sum_by}
 use mathlib.Core.Option.{none}
 use Rattle.atomic_table.specs.Table.{Me, step, keeps, Allows}
-use Rattle.omega_lock.specs.declared.view.View.{View}
+use Rattle.omega_lock.specs.declared.seat_view.SeatView.{SeatView}
 use Rattle.omega_lock.specs.declared.rule.Terms.{Terms}
 use Rattle.omega_lock.specs.Views.{answers, holding, telling, ticket_is, ticketed}
 use Rattle.omega_lock.specs.Rule.{Fits, LockRule, first_list}
@@ -12,17 +12,17 @@ use Rattle.omega_lock.specs.Steps.{Draws}
 use Rattle.omega_lock.proofs.Sums.{below_more, total_set, term_le, each_set}
 
 module _ {T E : Type 0} (entries : T → List E) (number : E → Option ℕ) where
-  pub draw_keeps : (k : Terms T) (n id : ℕ) (me : Me (Option T) (View E))
+  pub draw_keeps : (k : Terms T) (n id : ℕ) (me : Me (Option T) (SeatView E))
       → k.callers * k.turns < 2 ^ 62 → me.0.has_number ≡ true → me.0.has_ticket ≡ false
       → me.0.holds ≡ false → 0 < me.0.turns
       → Allows (LockRule entries number k) n id me 1 (λ m. (m + 1) % 2 ^ 64) (Draws (step n 1 1 0 none) me)
   draw_keeps k n id me small is idle free left s r one at fits =
       let x : ℕ = get_or s.words 1 0 in
-      let v : View E = me.0 in
-      let w : View E = record v { turns = v.turns - 1; has_ticket = true; ticket = x } in
+      let v : SeatView E = me.0 in
+      let w : SeatView E = record v { turns = v.turns - 1; has_ticket = true; ticket = x } in
       -- the word stays below its end
       let most : get_or s.words 0 0 * k.turns ≤ k.callers * k.turns = mul-le-mul_right k.turns r.few in
-      let mine : v.turns ≤ sum_by (λ (u : View E). u.turns) s.views = term_le (λ (u : View E). u.turns) s.views id v at in
+      let mine : v.turns ≤ sum_by (λ (u : SeatView E). u.turns) s.views = term_le (λ (u : SeatView E). u.turns) s.views id v at in
       let room : x + 1 < 2 ^ 64 = omega (arith, r.turns, most, mine, small, left) in
       let next : (x + 1) % 2 ^ 64 ≡ x + 1 = omega (arith, room) in
       -- the words after
@@ -32,7 +32,7 @@ module _ {T E : Type 0} (entries : T → List E) (number : E → Option ℕ) whe
       let w2 : get_or (set s.words 1 (x + 1)) 2 0 ≡ get_or s.words 2 0 = get_or-set_other s.words 1 2 (x + 1) 0 (λ e. omega arith) in
       let w3 : get_or (set s.words 1 (x + 1)) 3 0 ≡ get_or s.words 3 0 = get_or-set_other s.words 1 3 (x + 1) 0 (λ e. omega arith) in
       -- the sums after
-      let turns = total_set (λ (u : View E). u.turns) s.views id v w at in
+      let turns = total_set (λ (u : SeatView E). u.turns) s.views id v w at in
       let holders = total_set holding s.views id v w at in
       let told_sum = total_set telling s.views id v w at in
       let f = r.fits id v at in

@@ -10,7 +10,7 @@ use native.Mathlib.Decide.{dec_le}
 use lib.ListN.{get_elem?}
 use Rattle.atomic_table.specs.Table.{Joins}
 use Rattle.atomic_table.proofs.Lists.{set_else}
-use Rattle.omega_lock.specs.declared.view.View.{View}
+use Rattle.omega_lock.specs.declared.seat_view.SeatView.{SeatView}
 use Rattle.omega_lock.specs.declared.rule.Terms.{Terms}
 use Rattle.omega_lock.specs.Lists.{StartsWith, entries_since, same}
 use Rattle.omega_lock.specs.Views.{Rests, answers, holding, joined, lists, longer, own_list, spent, telling, ticket_is, ticketed}
@@ -48,18 +48,18 @@ module _ {E : Type 0} where
       head (x ∷ xs) d = x
 
 module _ {T E : Type 0} (entries : T → List E) (number : E → Option ℕ) where
-  pub join_keeps : (k : Terms T) (id other : ℕ) (v w : View E) → v.has_number ≡ true → w.has_number ≡ true → Rests v → Rests w
+  pub join_keeps : (k : Terms T) (id other : ℕ) (v w : SeatView E) → v.has_number ≡ true → w.has_number ≡ true → Rests v → Rests w
       → Joins (LockRule entries number k) id v other w (joined v w) spent
   join_keeps k id other v w is has quiet still s r at ne at' =
       let b : ℕ = length (first_list entries k) in
       let x : ℕ = get_or s.words 2 0 in
-      let both : View E = joined v w in
+      let both : SeatView E = joined v w in
       let there : get_elem? s.views other ≡ some w = sym (set_else s.views id other both ne) ∙ at' in
       let f = r.fits id v at in
       let g = r.fits other w there in
       -- the sums after
-      let turns = total_set (λ (u : View E). u.turns) s.views id v both at in
-      let turns' = total_set (λ (u : View E). u.turns) (set s.views id both) other w spent at' in
+      let turns = total_set (λ (u : SeatView E). u.turns) s.views id v both at in
+      let turns' = total_set (λ (u : SeatView E). u.turns) (set s.views id both) other w spent at' in
       let holders = total_set holding s.views id v both at in
       let holders' = total_set holding (set s.views id both) other w spent at' in
       let w_holds : holding w ≡ 0 = rw still.1 refl in

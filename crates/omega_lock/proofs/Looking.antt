@@ -8,7 +8,7 @@ use native.Mathlib.Decide.{ℕ_discrete}
 use lib.ListN.{get_elem?}
 use Rattle.atomic_table.specs.Table.{Me, State, step, keeps, takes, Allows}
 use Rattle.atomic_table.proofs.Lists.{set_again}
-use Rattle.omega_lock.specs.declared.view.View.{View}
+use Rattle.omega_lock.specs.declared.seat_view.SeatView.{SeatView}
 use Rattle.omega_lock.specs.declared.rule.Terms.{Terms}
 use Rattle.omega_lock.specs.Views.{answers, holding, telling, ticket_is, ticketed}
 use Rattle.omega_lock.specs.Rule.{Fits, LockRule, first_list}
@@ -17,7 +17,7 @@ use Rattle.omega_lock.proofs.Sums.{same-same, below_le, total_set, sum_gap, set_
 
 module _ {T E : Type 0} (entries : T → List E) (number : E → Option ℕ) where
   -- the seat whose ticket is served takes the slot
-  served_now : (k : Terms T) (s : State (Option T) (View E)) (r : LockRule entries number k s) (id : ℕ) (v : View E)
+  served_now : (k : Terms T) (s : State (Option T) (SeatView E)) (r : LockRule entries number k s) (id : ℕ) (v : SeatView E)
       → get_elem? s.views id ≡ some v → v.has_ticket ≡ true → v.holds ≡ false → v.read ≡ false
       → get_or s.words 2 0 ≡ v.ticket
       → (y : T) × (get_elem? s.homes 0 ≡ some (some (Some y))) × LockRule entries number k (record { words = s.words; homes = set s.homes 0 none; views = set s.views id (record v { holds = true; held = entries y }) })
@@ -25,7 +25,7 @@ module _ {T E : Type 0} (entries : T → List E) (number : E → Option ℕ) whe
       let b : ℕ = length (first_list entries k) in
       let x : ℕ = get_or s.words 2 0 in
       let f = r.fits id v at in
-      let holder_has : (j : ℕ) (u : View E) → get_elem? s.views j ≡ some u → holding u ≤ ticket_is x u = λ j u e. bounded u (r.fits j u e) u.holds refl in
+      let holder_has : (j : ℕ) (u : SeatView E) → get_elem? s.views j ≡ some u → holding u ≤ ticket_is x u = λ j u e. bounded u (r.fits j u e) u.holds refl in
       let gap = sum_gap holding (ticket_is x) s.views id v at holder_has in
       let mine : ticket_is x v ≡ 1 = rw (has_ticket, hit) (same-same v.ticket) in
       let zero_here : holding v ≡ 0 = rw free refl in
@@ -33,9 +33,9 @@ module _ {T E : Type 0} (entries : T → List E) (number : E → Option ℕ) whe
       let bound = below_le x (get_or s.words 1 0) in
       let nobody : sum_by holding s.views ≡ 0 = omega (arith, gap, mine, zero_here, t, bound) in
       let home = r.home nobody in
-      let w : View E = record v { holds = true; held = entries home.0 } in
+      let w : SeatView E = record v { holds = true; held = entries home.0 } in
       -- the sums after
-      let turns = total_set (λ (u : View E). u.turns) s.views id v w at in
+      let turns = total_set (λ (u : SeatView E). u.turns) s.views id v w at in
       let holders = total_set holding s.views id v w at in
       let told_sum = total_set telling s.views id v w at in (
         home.0,
@@ -70,13 +70,13 @@ module _ {T E : Type 0} (entries : T → List E) (number : E → Option ℕ) whe
         },
       )
     where
-      bounded : (u : View E)
+      bounded : (u : SeatView E)
           → Fits number (length (first_list entries k)) (get_or s.words 2 0) r.log u → (h : Bool)
           → u.holds ≡ h → holding u ≤ ticket_is (get_or s.words 2 0) u
       bounded u g false is = rw is (omega arith)
       bounded u g true is = let t = g.turn is in let c = same-same (get_or s.words 2 0) in rw (is, t.0, t.1) (omega (arith, c))
 
-  pub look_keeps : (k : Terms T) (n id : ℕ) (me : Me (Option T) (View E)) → me.0.has_ticket ≡ true
+  pub look_keeps : (k : Terms T) (n id : ℕ) (me : Me (Option T) (SeatView E)) → me.0.has_ticket ≡ true
       → me.0.holds ≡ false → me.0.read ≡ false
       → Allows (LockRule entries number k) n id me 2 (λ m. m) (Looks entries (step n 2 0 0 none) me)
   look_keeps k n id me has_ticket free unread s r one at fits =

@@ -5,7 +5,7 @@ use Rattle.std.proofs.lemmas.List.{drop_all, append-nil}
 use mathlib.Core.Option.{some, some-injective, some-ne-none}
 use lib.ListN.{get_elem?}
 use Rattle.atomic_table.specs.Table.{opening}
-use Rattle.omega_lock.specs.declared.view.View.{View}
+use Rattle.omega_lock.specs.declared.seat_view.SeatView.{SeatView}
 use Rattle.omega_lock.specs.declared.rule.Terms.{Terms}
 use Rattle.omega_lock.specs.Lists.{EachBelow}
 use Rattle.omega_lock.specs.Views.{first_view}
@@ -23,7 +23,7 @@ module _ {T E : Type 0} (entries : T → List E) (number : E → Option ℕ) whe
       → LockRule entries number k (opening (0 ∷ 0 ∷ 0 ∷ n ∷ []) xs (first_view k.turns (entries k.first.value)))
   opening_keeps k y n xs long slots same =
       let es : List E = entries y in
-      let v : View E = first_view k.turns es in
+      let v : SeatView E = first_view k.turns es in
       let anew : Fits number (length es) 0 es v = record {
         seen = ([], sym (append-nil es));
         idle = λ _. (refl, refl);

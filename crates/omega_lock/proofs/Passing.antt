@@ -4,7 +4,7 @@ use Rattle.std.proofs.Common.{◌≡◌, ℕ, ◌+◌, ◌*◌, ◌%◌, ◌^◌
 use mathlib.Core.Option.{some, none}
 use Rattle.atomic_table.specs.Table.{Me, step, gives, Allows}
 use Rattle.atomic_table.proofs.Lists.{set_here}
-use Rattle.omega_lock.specs.declared.view.View.{View}
+use Rattle.omega_lock.specs.declared.seat_view.SeatView.{SeatView}
 use Rattle.omega_lock.specs.declared.rule.Terms.{Terms}
 use Rattle.omega_lock.specs.Lists.{same}
 use Rattle.omega_lock.specs.Views.{answers, holding, telling, ticket_is, ticketed}
@@ -14,17 +14,17 @@ use Rattle.omega_lock.proofs.Holders.{one_holder, telling_le}
 use Rattle.omega_lock.proofs.Sums.{same-same, below_more, below_is, total_set, term_le, each_set}
 
 module _ {T E : Type 0} (entries : T → List E) (number : E → Option ℕ) where
-  pub pass_keeps : (k : Terms T) (n id : ℕ) (me : Me (Option T) (View E)) (y : T)
+  pub pass_keeps : (k : Terms T) (n id : ℕ) (me : Me (Option T) (SeatView E)) (y : T)
       → k.callers * k.turns < 2 ^ 62
       → me.1 ≡ (0, Some y) ∷ [] → me.0.has_number ≡ true → me.0.holds ≡ true → entries y ≡ me.0.held
       → Allows (LockRule entries number k) n id me 2 (λ m. (m + 1) % 2 ^ 64) (Passes (step n 2 1 0 none) me)
   pass_keeps k n id me y small slot is holds same_list s r one at fits =
       let x : ℕ = get_or s.words 2 0 in
       let b : ℕ = length (first_list entries k) in
-      let v : View E = me.0 in
+      let v : SeatView E = me.0 in
       let f = r.fits id v at in
       let turn = f.turn holds in
-      let w : View E = record v { has_ticket = false; holds = false; read = false; told = false; held = [] } in
+      let w : SeatView E = record v { has_ticket = false; holds = false; read = false; told = false; held = [] } in
       -- the word stays below its end
       let most : get_or s.words 0 0 * k.turns ≤ k.callers * k.turns = mul-le-mul_right k.turns r.few in
       let here_ticket : ticket_is x v ≡ 1 = rw (turn.0, turn.1) (same-same x) in
@@ -39,7 +39,7 @@ module _ {T E : Type 0} (entries : T → List E) (number : E → Option ℕ) whe
       let w1 : get_or (set s.words 2 (x + 1)) 1 0 ≡ get_or s.words 1 0 = get_or-set_other s.words 2 1 (x + 1) 0 (λ e. omega arith) in
       let w3 : get_or (set s.words 2 (x + 1)) 3 0 ≡ get_or s.words 3 0 = get_or-set_other s.words 2 3 (x + 1) 0 (λ e. omega arith) in
       -- the sums after
-      let turns = total_set (λ (u : View E). u.turns) s.views id v w at in
+      let turns = total_set (λ (u : SeatView E). u.turns) s.views id v w at in
       let holders = total_set holding s.views id v w at in
       let told_sum = total_set telling s.views id v w at in
       let one_here : holding v ≡ 1 = rw holds refl in

@@ -6,7 +6,7 @@ use Rattle.std.proofs.lemmas.List.Sums.{sum_by-cons}
 use mathlib.Core.Option.{some, none}
 use lib.ListN.{get_elem?}
 use Rattle.atomic_table.specs.Table.{Me, step, keeps, Allows}
-use Rattle.omega_lock.specs.declared.view.View.{View}
+use Rattle.omega_lock.specs.declared.seat_view.SeatView.{SeatView}
 use Rattle.omega_lock.specs.declared.rule.Terms.{Terms}
 use Rattle.omega_lock.specs.Lists.{EachHasItsEntries, StartsWith, entries_since, same}
 use Rattle.omega_lock.specs.Views.{answers, holding, lists, telling, ticket_is, ticketed}
@@ -33,7 +33,7 @@ last_append [] e d = refl
 last_append (x ∷ xs) e d = last_append xs e x
 
 module _ {T E : Type 0} (entries : T → List E) (number : E → Option ℕ) where
-  pub publish_keeps : (k : Terms T) (n id : ℕ) (me : Me (Option T) (View E)) (y : T) (e : E)
+  pub publish_keeps : (k : Terms T) (n id : ℕ) (me : Me (Option T) (SeatView E)) (y : T) (e : E)
       → k.callers * k.turns < 2 ^ 62 → length (first_list entries k) < 2 ^ 63
       → me.1 ≡ (0, Some y) ∷ [] → me.0.has_number ≡ true → me.0.holds ≡ true → me.0.read ≡ true
       → me.0.told ≡ false → entries y ≡ me.0.held ++ e ∷ [] → number e ≡ Some me.0.number
@@ -41,12 +41,12 @@ module _ {T E : Type 0} (entries : T → List E) (number : E → Option ℕ) whe
   publish_keeps k n id me y e small short slot is holds read untold more by s r one at fits =
       let x : ℕ = get_or s.words 3 0 in
       let b : ℕ = length (first_list entries k) in
-      let v : View E = me.0 in
+      let v : SeatView E = me.0 in
       let f = r.fits id v at in
       let log : List E = r.log in
       let held : v.held ≡ log = (f.turn holds).2 in
       let new : entries y ≡ log ++ e ∷ [] = more ∙ ap (λ l. l ++ e ∷ []) held in
-      let w : View E = record v { told = true; held = log ++ e ∷ []; seen = log ++ e ∷ []; own = v.own ++ e ∷ [] } in
+      let w : SeatView E = record v { told = true; held = log ++ e ∷ []; seen = log ++ e ∷ []; own = v.own ++ e ∷ [] } in
       -- the word stays below its end
       let most : get_or s.words 0 0 * k.turns ≤ k.callers * k.turns = mul-le-mul_right k.turns r.few in
       let few_told : sum_by telling s.views ≤ sum_by holding s.views = sum_le telling holding s.views (λ j u h. tellers u (r.fits j u h) u.told refl) in
@@ -59,7 +59,7 @@ module _ {T E : Type 0} (entries : T → List E) (number : E → Option ℕ) whe
       let w1 : get_or (set s.words 3 (x + 1)) 1 0 ≡ get_or s.words 1 0 = get_or-set_other s.words 3 1 (x + 1) 0 (λ e. omega arith) in
       let w2 : get_or (set s.words 3 (x + 1)) 2 0 ≡ get_or s.words 2 0 = get_or-set_other s.words 3 2 (x + 1) 0 (λ e. omega arith) in
       -- the sums after
-      let turns = total_set (λ (u : View E). u.turns) s.views id v w at in
+      let turns = total_set (λ (u : SeatView E). u.turns) s.views id v w at in
       let holders = total_set holding s.views id v w at in
       let told_sum = total_set telling s.views id v w at in
       let told_before : telling v ≡ 0 = rw untold refl in
@@ -76,7 +76,7 @@ module _ {T E : Type 0} (entries : T → List E) (number : E → Option ℕ) whe
       let least = term_le (answers v.number) s.views id v at in
       let given_it : v.number < get_or s.words 0 0 = below_is v.number (get_or s.words 0 0) (omega (arith, mine, total, least)) in
       let kept_none : sum_by (λ (p : ℕ × List E). same v.number p.0) v.kept ≡ 0 = omega (arith, mine, total, bound, least) in
-      let others_none : (j : ℕ) (u : View E) → j ≢ id → get_elem? s.views j ≡ some u → answers v.number u ≡ 0 = λ j u ne g. let both = terms_le (answers v.number) s.views id j v u ne at g in omega (arith, both, mine, total, bound) in
+      let others_none : (j : ℕ) (u : SeatView E) → j ≢ id → get_elem? s.views j ≡ some u → answers v.number u ≡ 0 = λ j u ne g. let both = terms_le (answers v.number) s.views id j v u ne at g in omega (arith, both, mine, total, bound) in
       rw next (
         w,
         keeps,
@@ -131,11 +131,11 @@ module _ {T E : Type 0} (entries : T → List E) (number : E → Option ℕ) whe
       )
     where
       -- only who holds the turn has told
-      tellers : {b x : ℕ} {log : List E} (u : View E) → Fits number b x log u → (h : Bool)
+      tellers : {b x : ℕ} {log : List E} (u : SeatView E) → Fits number b x log u → (h : Bool)
           → u.told ≡ h → telling u ≤ holding u
       tellers u g false t = rw t (omega arith)
       tellers u g true t = let h = (g.read (g.tells t)).0 in rw (t, h) (omega arith)
 
       -- it answers for the same numbers
-      same_answers : (m : ℕ) (v : View E) (e : E) → v.has_number ≡ true → answers m (record v { own = v.own ++ e ∷ [] }) ≡ answers m v
+      same_answers : (m : ℕ) (v : SeatView E) (e : E) → v.has_number ≡ true → answers m (record v { own = v.own ++ e ∷ [] }) ≡ answers m v
       same_answers m v e is = rw is refl

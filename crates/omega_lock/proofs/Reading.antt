@@ -3,7 +3,7 @@
 use Rattle.std.proofs.Common.{◌≡◌, ℕ, List, length, get_or, sym, refl, ap, ◌∙◌, arith, true, Option}
 use mathlib.Core.Option.{none}
 use Rattle.atomic_table.specs.Table.{Me, step, keeps, Allows}
-use Rattle.omega_lock.specs.declared.view.View.{View}
+use Rattle.omega_lock.specs.declared.seat_view.SeatView.{SeatView}
 use Rattle.omega_lock.specs.declared.rule.Terms.{Terms}
 use Rattle.omega_lock.specs.Lists.{entries_since}
 use Rattle.omega_lock.specs.Views.{answers, holding, telling, ticket_is, ticketed}
@@ -14,17 +14,17 @@ use Rattle.omega_lock.proofs.Entries.{starts_self}
 use Rattle.omega_lock.proofs.SeatLists.{own_is_all}
 
 module _ {T E : Type 0} (entries : T → List E) (number : E → Option ℕ) where
-  pub read_keeps : (k : Terms T) (n id : ℕ) (me : Me (Option T) (View E)) → me.0.has_number ≡ true
+  pub read_keeps : (k : Terms T) (n id : ℕ) (me : Me (Option T) (SeatView E)) → me.0.has_number ≡ true
       → me.0.holds ≡ true
       → Allows (LockRule entries number k) n id me 3 (λ m. m) (Reads number (step n 3 0 0 none) me)
   read_keeps k n id me is holds s r one at fits =
       let b : ℕ = length (first_list entries k) in
-      let v : View E = me.0 in
+      let v : SeatView E = me.0 in
       let f = r.fits id v at in
       let held : v.held ≡ r.log = (f.turn holds).2 in
-      let w : View E = record v { read = true; seen = v.held } in
+      let w : SeatView E = record v { read = true; seen = v.held } in
       -- the sums after
-      let turns = total_set (λ (u : View E). u.turns) s.views id v w at in
+      let turns = total_set (λ (u : SeatView E). u.turns) s.views id v w at in
       let holders = total_set holding s.views id v w at in
       let told_sum = total_set telling s.views id v w at in
       let own : v.own ≡ entries_since number b v.number r.log = own_is_all number v b r.log is f.listed in

@@ -1,7 +1,7 @@
 -- A value that is put back with one more entry.
 use Rattle.std.proofs.Common.{◌≡◌, ℕ, ap, sym, ◌∙◌, ◌∷◌, ◌++◌, [], List, Some, Option, true, ⊎_elim, length}
 use Rattle.atomic_table.specs.Table.{Me}
-use Rattle.omega_lock.specs.declared.view.View.{View}
+use Rattle.omega_lock.specs.declared.seat_view.SeatView.{SeatView}
 use Rattle.omega_lock.specs.Seats.{AddsAtMostOne}
 
 module _ {E : Type 0} (number : E → Option ℕ) where
@@ -13,11 +13,11 @@ module _ {E : Type 0} (number : E → Option ℕ) where
       (λ (h : (e : E) × (new ≡ old ++ e ∷ []) × (number e ≡ Some n)). h) may
 
 -- what a seat knows that has put the value back and then told of its entry
-pub has_told : {T E : Type 0} (v : View E) (slot : List (ℕ × Option T)) (mid new : Me (Option T) (View E)) (es own own' : List E)
+pub has_told : {T E : Type 0} (v : SeatView E) (slot : List (ℕ × Option T)) (mid new : Me (Option T) (SeatView E)) (es own own' : List E)
     → mid ≡ (v, slot)
     → new ≡ (record mid.0 { told = true; held = es; seen = es; own = own }, mid.1) → own ≡ own'
     → new ≡ (record v { told = new.0.told; held = es; seen = es; own = own' }, slot)
 has_told {T} {E} v slot mid new es own own' put told is =
-    let now = told ∙ ap (λ (m : Me (Option T) (View E)). (record m.0 { told = true; held = es; seen = es; own = own }, m.1)) put in
+    let now = told ∙ ap (λ (m : Me (Option T) (SeatView E)). (record m.0 { told = true; held = es; seen = es; own = own }, m.1)) put in
     now ∙ ap (λ o. (record v { told = true; held = es; seen = es; own = o }, slot)) is
-    ∙ ap (λ t. (record v { told = t; held = es; seen = es; own = own' }, slot)) (sym (ap (λ (m : Me (Option T) (View E)). m.0.told) told))
+    ∙ ap (λ t. (record v { told = t; held = es; seen = es; own = own' }, slot)) (sym (ap (λ (m : Me (Option T) (SeatView E)). m.0.told) told))

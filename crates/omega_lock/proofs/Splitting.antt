@@ -7,19 +7,19 @@ use mathlib.Core.Option.{some}
 use lib.ListN.{get_elem?}
 use Rattle.atomic_table.specs.Table.{Splits}
 use Rattle.atomic_table.proofs.Lists.{set_again, at_snoc}
-use Rattle.omega_lock.specs.declared.view.View.{View}
+use Rattle.omega_lock.specs.declared.seat_view.SeatView.{SeatView}
 use Rattle.omega_lock.specs.declared.rule.Terms.{Terms}
 use Rattle.omega_lock.specs.Views.{answers, holding, split_off, telling, ticket_is, ticketed}
 use Rattle.omega_lock.specs.Rule.{Fits, LockRule, first_list}
 
 module _ {T E : Type 0} (entries : T → List E) (number : E → Option ℕ) where
-  pub split_keeps : (k : Terms T) (id : ℕ) (v : View E)
+  pub split_keeps : (k : Terms T) (id : ℕ) (v : SeatView E)
       → Splits (LockRule entries number k) id v v (split_off v)
   split_keeps k id v s r at =
-      let w : View E = split_off v in
+      let w : SeatView E = split_off v in
       let b : ℕ = length (first_list entries k) in
       let f = r.fits id v at in
-      let more : (g : View E → ℕ) → g w ≡ 0 → sum_by g (s.views ++ w ∷ []) ≡ sum_by g s.views = λ g z. let p = sum_by-append g s.views (w ∷ []) in let q = sum_by-cons g w [] in omega (arith, p, q, z) in
+      let more : (g : SeatView E → ℕ) → g w ≡ 0 → sum_by g (s.views ++ w ∷ []) ≡ sum_by g s.views = λ g z. let p = sum_by-append g s.views (w ∷ []) in let q = sum_by-cons g w [] in omega (arith, p, q, z) in
       let anew : Fits number b (get_or s.words 2 0) r.log w = record {
         seen = f.seen;
         idle = λ _. (refl, refl);
@@ -38,7 +38,7 @@ module _ {T E : Type 0} (entries : T → List E) (number : E → Option ℕ) whe
         one_slot = r.one_slot;
         from_first = r.from_first;
         few = r.few;
-        turns = rw (more (λ (u : View E). u.turns) refl) r.turns;
+        turns = rw (more (λ (u : SeatView E). u.turns) refl) r.turns;
         tickets = λ m. rw (more (ticket_is m) refl) (r.tickets m);
         queue = rw (more ticketed refl) r.queue;
         numbers = λ m. rw (more (answers m) refl) (r.numbers m);

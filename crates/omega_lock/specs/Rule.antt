@@ -4,34 +4,34 @@ use mathlib.Core.Option.{some}
 use lib.ListN.{get_elem?}
 use Rattle.atomic_table.specs.Table.{State}
 use Rattle.omega_lock.specs.declared.rule.Terms.{Terms}
-use Rattle.omega_lock.specs.declared.view.View.{View}
+use Rattle.omega_lock.specs.declared.seat_view.SeatView.{SeatView}
 use Rattle.omega_lock.specs.Lists.{StartsWith, StartsWithEach, below, entries_since, EachHasItsEntries, EachBelow, EachIs}
 use Rattle.omega_lock.specs.Views.{lists, answers, ticket_is, ticketed, holding, telling}
 
 module _ {T E : Type 0} where
   -- word 0: how many numbers were given to seats
-  abbrev pub numbers_given : State (Option T) (View E) → ℕ
+  abbrev pub numbers_given : State (Option T) (SeatView E) → ℕ
   numbers_given s = slice_index_or s.words 0 0
 
   -- word 1: the ticket that is drawn next
-  abbrev pub next_ticket : State (Option T) (View E) → ℕ
+  abbrev pub next_ticket : State (Option T) (SeatView E) → ℕ
   next_ticket s = slice_index_or s.words 1 0
 
   -- word 2: the ticket that is served
-  abbrev pub served : State (Option T) (View E) → ℕ
+  abbrev pub served : State (Option T) (SeatView E) → ℕ
   served s = slice_index_or s.words 2 0
 
   -- word 3: the length of the list
-  abbrev pub list_length : State (Option T) (View E) → ℕ
+  abbrev pub list_length : State (Option T) (SeatView E) → ℕ
   list_length s = slice_index_or s.words 3 0
 
   -- the turns that all seats have left
-  abbrev pub turns_left : State (Option T) (View E) → ℕ
-  turns_left s = sum_by (λ (v : View E). v.turns) s.views
+  abbrev pub turns_left : State (Option T) (SeatView E) → ℕ
+  turns_left s = sum_by (λ (v : SeatView E). v.turns) s.views
 
 module _ {E : Type 0} (number : E → Option ℕ) where
   -- what the rule says of one seat, where the list behind the lock is `log`
-  pub record Fits (first_length served : ℕ) (log : List E) (v : View E) : Type 0 where
+  pub record Fits (first_length served : ℕ) (log : List E) (v : SeatView E) : Type 0 where
     -- the list goes on from what the seat has seen
     pub seen : StartsWith log v.seen
     -- without a number the seat has neither turns nor a ticket
@@ -59,7 +59,7 @@ first_list entries terms = entries terms.first.value
 
 module _ {T E : Type 0} (entries : T → List E) (number : E → Option ℕ) where
   -- the rule, for a lock that was made under these terms
-  pub record LockRule (terms : Terms T) (s : State (Option T) (View E)) : Type 0 where
+  pub record LockRule (terms : Terms T) (s : State (Option T) (SeatView E)) : Type 0 where
     -- there is one list, which goes on from the first
     pub log : List E
     pub from_first : StartsWith log (first_list entries terms)
@@ -86,5 +86,5 @@ module _ {T E : Type 0} (entries : T → List E) (number : E → Option ℕ) whe
     -- each entry since the beginning has a number that was given
     pub given : EachBelow number (numbers_given s) (drop (length (first_list entries terms)) log)
     -- each seat fits
-    pub fits : (j : ℕ) (v : View E) → get_elem? s.views j ≡ some v
+    pub fits : (j : ℕ) (v : SeatView E) → get_elem? s.views j ≡ some v
         → Fits number (length (first_list entries terms)) (served s) log v

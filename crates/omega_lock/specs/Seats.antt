@@ -3,7 +3,7 @@ use Rattle.std.specs.Prelude.{◌≡◌, ℕ, zero, suc, ◌*◌, ◌<◌, ◌�
 use Rattle.atomic_table.specs.Seated.{TableId}
 use Rattle.atomic_table.specs.Table.{Me}
 use Rattle.omega_lock.specs.declared.rule.Terms.{Terms}
-use Rattle.omega_lock.specs.declared.view.View.{View}
+use Rattle.omega_lock.specs.declared.seat_view.SeatView.{SeatView}
 use Rattle.omega_lock.specs.Lists.{entries_since}
 
 -- a seat: the lock that it is of, its number, and how long the list was when the lock began, which never
@@ -43,7 +43,7 @@ pub record IsLock {T E : Type 0} (entries : T → List E) (of : TableId) (terms 
   pub short : length (entries terms.first.value) < 2 ^ 63
 
 -- a seat at the table `of`, by what it knows
-abbrev pub seat_state : {E : Type 0} → TableId → View E → SeatState E
+abbrev pub seat_state : {E : Type 0} → TableId → SeatView E → SeatState E
 seat_state of v = record {
   of = of;
   number = v.number;
@@ -86,7 +86,7 @@ new_seats of turns es zero = []
 new_seats of turns es (suc n) = new_seats of turns es n ++ new_seat of turns es n ∷ []
 
 -- what every seat keeps between calls, where `count` is how long the list was when it was handed out last
-pub record IsSeat {T E : Type 0} (number : E → Option ℕ) (me : Me (Option T) (View E)) (count : ℕ) : Type 0 where
+pub record IsSeat {T E : Type 0} (number : E → Option ℕ) (me : Me (Option T) (SeatView E)) (count : ℕ) : Type 0 where
   pub has_number : me.0.has_number ≡ true
   -- no seat was joined to it
   pub kept : me.0.kept ≡ []

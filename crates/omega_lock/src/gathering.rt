@@ -9,7 +9,7 @@ use crate::counted::Counted;
 use crate::lock::Lock;
 use crate::rule::{Together, VALUE};
 use crate::seat::Seat;
-use crate::view::View;
+use crate::seat_view::SeatView;
 use atomic_table::Seat as Token;
 
 impl<T: Counted> Lock<T> {
@@ -18,7 +18,7 @@ impl<T: Counted> Lock<T> {
         &self,
         first: Seat<T>,
         seats: Vec<Seat<T>>,
-    ) -> Token<Option<T>, View<T::Entry>>
+    ) -> Token<Option<T>, SeatView<T::Entry>>
         requires first { (first.of ≡ self.now.of) × (first.holds ≡ false) }
         requires of { All (λ seat. seat.of ≡ self.now.of) seats.items }
         requires free { All (λ seat. seat.holds ≡ false) seats.items }
@@ -36,7 +36,7 @@ impl<T: Counted> Lock<T> {
     }
 
     /// Joins a seat to another.
-    fn take_in(&self, all: &mut Token<Option<T>, View<T::Entry>>, seat: Seat<T>)
+    fn take_in(&self, all: &mut Token<Option<T>, SeatView<T::Entry>>, seat: Seat<T>)
         requires of { (all.old.table_id ≡ self.now.of) × (seat.of ≡ self.now.of) }
         requires rest { (all.old.me.0.has_number ≡ true) × Rests all.old.me.0 × (all.old.me.1 ≡ []) }
         requires free { seat.holds ≡ false }
@@ -52,7 +52,7 @@ impl<T: Counted> Lock<T> {
     }
 
     /// Closes the table with the seat that all others were joined to, and takes the value out.
-    pub(crate) fn end(self, all: Token<Option<T>, View<T::Entry>>) -> T
+    pub(crate) fn end(self, all: Token<Option<T>, SeatView<T::Entry>>) -> T
         requires of { all.table_id ≡ self.of }
         requires rest { (all.me.0.has_number ≡ true) × Rests all.me.0 × (all.me.1 ≡ []) }
         requires all { self.callers ≤ length (lists all.me.0) }

@@ -43,9 +43,9 @@ mod gathering;
 mod lock;
 mod rule;
 mod seat;
+mod seat_view;
 mod seating;
 mod taking;
-mod view;
 
 pub use counted::Counted;
 pub use lock::{Lock, NoMemory};

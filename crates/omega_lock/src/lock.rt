@@ -7,7 +7,7 @@ use crate::bells::Bells;
 use crate::counted::Counted;
 use crate::rule::{Draw, LENGTH, Read, TICKETS, Terms, Turns, VALUE};
 use crate::seat::Seat;
-use crate::view::View;
+use crate::seat_view::SeatView;
 use atomic_table::Table;
 use std::alloc::Global;
 use std::marker::Model;
@@ -24,7 +24,7 @@ pub struct NoMemory;
 /// value's list when it began.
 #[derive(Drop)]
 pub struct Lock<T: Counted> {
-    pub(crate) table: Table<Option<T>, View<T::Entry>, Terms<T>, Turns<T>, Global>,
+    pub(crate) table: Table<Option<T>, SeatView<T::Entry>, Terms<T>, Turns<T>, Global>,
     // Where callers sleep whose turn isn't near.
     pub(crate) bells: Bells,
 }

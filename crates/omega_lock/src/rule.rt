@@ -1,6 +1,6 @@
 //! The rule of the lock, and the kinds of step under it.
 use crate::counted::Counted;
-use crate::view::View;
+use crate::seat_view::SeatView;
 use atomic_table::{Join, Play, Split, TableRule};
 use std::marker::PhantomData;
 use std::snapshot::Snapshot;
@@ -33,7 +33,7 @@ pub struct Turns<T> {
     of: PhantomData<T>,
 }
 
-impl<T: Counted> TableRule<Option<T>, View<T::Entry>, Terms<T>> for Turns<T> {
+impl<T: Counted> TableRule<Option<T>, SeatView<T::Entry>, Terms<T>> for Turns<T> {
     ghost use Rattle.omega_lock.specs.Rule.{LockRule};
     ghost use Rattle.omega_lock.specs.Views.{first_view};
 
@@ -45,7 +45,7 @@ impl<T: Counted> TableRule<Option<T>, View<T::Entry>, Terms<T>> for Turns<T> {
 /// A seat is split off another.
 pub(crate) struct SplitOff;
 
-impl<E> Split<View<E>> for SplitOff {
+impl<E> Split<SeatView<E>> for SplitOff {
     ghost use Rattle.omega_lock.specs.Views.{split_off};
 
     ghost left = { λ v. v };
@@ -56,7 +56,7 @@ impl<E> Split<View<E>> for SplitOff {
 /// A seat asks for a number: word 0 goes from that number to the next, if it is that number.
 pub(crate) struct Number;
 
-impl<T: Counted> Play<Option<T>, View<T::Entry>> for Number {
+impl<T: Counted> Play<Option<T>, SeatView<T::Entry>> for Number {
     ghost use Rattle.omega_lock.specs.Steps.{Numbers};
 
     ghost then = { Numbers };
@@ -65,7 +65,7 @@ impl<T: Counted> Play<Option<T>, View<T::Entry>> for Number {
 /// A seat draws a ticket: word 1 is raised.
 pub(crate) struct Draw;
 
-impl<T: Counted> Play<Option<T>, View<T::Entry>> for Draw {
+impl<T: Counted> Play<Option<T>, SeatView<T::Entry>> for Draw {
     ghost use Rattle.omega_lock.specs.Steps.{Draws};
 
     ghost then = { Draws };
@@ -74,7 +74,7 @@ impl<T: Counted> Play<Option<T>, View<T::Entry>> for Draw {
 /// A seat looks at word 2 whether its ticket is served.
 pub(crate) struct Look;
 
-impl<T: Counted> Play<Option<T>, View<T::Entry>> for Look {
+impl<T: Counted> Play<Option<T>, SeatView<T::Entry>> for Look {
     ghost use Rattle.omega_lock.specs.Steps.{Looks};
 
     ghost then = { Looks T.entries };
@@ -83,7 +83,7 @@ impl<T: Counted> Play<Option<T>, View<T::Entry>> for Look {
 /// The seat that holds the turn reads the length in word 3.
 pub(crate) struct Read;
 
-impl<T: Counted> Play<Option<T>, View<T::Entry>> for Read {
+impl<T: Counted> Play<Option<T>, SeatView<T::Entry>> for Read {
     ghost use Rattle.omega_lock.specs.Steps.{Reads};
 
     ghost then = { Reads T.number };
@@ -92,7 +92,7 @@ impl<T: Counted> Play<Option<T>, View<T::Entry>> for Read {
 /// The seat that holds the turn tells of one more entry: word 3 is raised.
 pub(crate) struct Publish;
 
-impl<T: Counted> Play<Option<T>, View<T::Entry>> for Publish {
+impl<T: Counted> Play<Option<T>, SeatView<T::Entry>> for Publish {
     ghost use Rattle.omega_lock.specs.Steps.{Publishes};
 
     ghost then = { Publishes T.entries T.number };
@@ -101,7 +101,7 @@ impl<T: Counted> Play<Option<T>, View<T::Entry>> for Publish {
 /// The seat that holds the turn passes it on: word 2 is raised.
 pub(crate) struct HandOn;
 
-impl<T: Counted> Play<Option<T>, View<T::Entry>> for HandOn {
+impl<T: Counted> Play<Option<T>, SeatView<T::Entry>> for HandOn {
     ghost use Rattle.omega_lock.specs.Steps.{Passes};
 
     ghost then = { Passes };
@@ -110,7 +110,7 @@ impl<T: Counted> Play<Option<T>, View<T::Entry>> for HandOn {
 /// A seat is joined to another.
 pub(crate) struct Together;
 
-impl<E> Join<View<E>> for Together {
+impl<E> Join<SeatView<E>> for Together {
     ghost use Rattle.omega_lock.specs.Views.{joined, spent};
 
     ghost both = { joined };

@@ -3,7 +3,7 @@ ghost use Rattle.std.specs.Prelude.{◌≡◌};
 ghost use Rattle.omega_lock.specs.Seats.{OwnIsSeen};
 
 use crate::counted::Counted;
-use crate::view::View;
+use crate::seat_view::SeatView;
 use atomic_table::Seat as Token;
 use std::marker::Model;
 
@@ -14,7 +14,7 @@ use std::marker::Model;
 /// entries since the lock began.
 #[derive(Drop)]
 pub struct Seat<T: Counted> {
-    pub(crate) token: Token<Option<T>, View<T::Entry>>,
+    pub(crate) token: Token<Option<T>, SeatView<T::Entry>>,
     pub(crate) number: u32,
     pub(crate) turns: u32,
     // How long the list was when it was handed out last.

@@ -7,7 +7,7 @@ use crate::counted::Counted;
 use crate::lock::Lock;
 use crate::rule::{NUMBERS, Number, SplitOff};
 use crate::seat::Seat;
-use crate::view::View;
+use crate::seat_view::SeatView;
 use atomic_table::Seat as Token;
 use std::sync::Wait;
 
@@ -16,7 +16,7 @@ impl<T: Counted> Lock<T> {
     pub(crate) fn seats<R: Wait>(
         &self,
         rt: &R,
-        mut first: Token<Option<T>, View<T::Entry>>,
+        mut first: Token<Option<T>, SeatView<T::Entry>>,
         mut seats: Vec<Seat<T>>,
         callers: u32,
         turns: u32,
@@ -39,7 +39,7 @@ impl<T: Counted> Lock<T> {
     fn seat<R: Wait>(
         &self,
         rt: &R,
-        first: &mut Token<Option<T>, View<T::Entry>>,
+        first: &mut Token<Option<T>, SeatView<T::Entry>>,
         number: u32,
         turns: u32,
     ) -> Seat<T>
@@ -63,7 +63,7 @@ impl<T: Counted> Lock<T> {
 
     /// Gives a seat that was split off its number, once the word says that this number is the next.
     /// No other thread gives numbers, so the first try succeeds, which no clause says.
-    fn name<R: Wait>(&self, rt: &R, token: &mut Token<Option<T>, View<T::Entry>>, number: u32)
+    fn name<R: Wait>(&self, rt: &R, token: &mut Token<Option<T>, SeatView<T::Entry>>, number: u32)
         requires of { token.old.table_id ≡ self.now.of }
         requires first { token.old.me ≡ (first_view self.now.turns self.now.first, []) }
         requires number { number < self.now.callers }

@@ -7,7 +7,7 @@ ghost use Rattle.omega_lock.specs.Steps.{turned_over, HasPublished};
 use crate::counted::Counted;
 use crate::lock::Lock;
 use crate::rule::{HandOn, LENGTH, Look, Publish, SERVED, TICKETS, VALUE};
-use crate::view::View;
+use crate::seat_view::SeatView;
 use atomic_table::Seat as Token;
 use std::hint::spin_loop;
 use std::sync::Wait;
@@ -25,7 +25,7 @@ impl<T: Counted> Lock<T> {
     pub(crate) fn wait<R: Wait>(
         &self,
         rt: &R,
-        token: &mut Token<Option<T>, View<T::Entry>>,
+        token: &mut Token<Option<T>, SeatView<T::Entry>>,
         ticket: u64,
     )
         requires of { token.old.table_id ≡ self.now.of }
@@ -53,7 +53,7 @@ impl<T: Counted> Lock<T> {
     /// seen the whole list, and its own list is what that has of its number.
     pub(crate) fn put_back(
         &self,
-        token: &mut Token<Option<T>, View<T::Entry>>,
+        token: &mut Token<Option<T>, SeatView<T::Entry>>,
         value: T,
         count: u64,
     )
@@ -84,7 +84,7 @@ impl<T: Counted> Lock<T> {
     }
 
     /// Puts the value into the slot, which is plain memory.
-    fn put(&self, token: &mut Token<Option<T>, View<T::Entry>>, value: T)
+    fn put(&self, token: &mut Token<Option<T>, SeatView<T::Entry>>, value: T)
         requires of { token.old.table_id ≡ self.now.of }
         requires slot { token.old.me.1 ≡ (0, None) ∷ [] }
         ensures of { token.new.table_id ≡ token.old.table_id }
@@ -97,7 +97,7 @@ impl<T: Counted> Lock<T> {
     }
 
     /// Tells of the one entry that the value in the slot has more.
-    fn publish(&self, token: &mut Token<Option<T>, View<T::Entry>>)
+    fn publish(&self, token: &mut Token<Option<T>, SeatView<T::Entry>>)
         requires of { token.old.table_id ≡ self.now.of }
         requires turn { (token.old.me.0.has_number ≡ true) × (token.old.me.0.holds ≡ true) }
         requires once { (token.old.me.0.read ≡ true) × (token.old.me.0.told ≡ false) }
@@ -111,7 +111,7 @@ impl<T: Counted> Lock<T> {
     }
 
     /// Passes the turn on to the next ticket, and gives the slot back.
-    pub(crate) fn pass(&self, token: &mut Token<Option<T>, View<T::Entry>>)
+    pub(crate) fn pass(&self, token: &mut Token<Option<T>, SeatView<T::Entry>>)
         requires of { token.old.table_id ≡ self.now.of }
         requires turn { (token.old.me.0.has_number ≡ true) × (token.old.me.0.holds ≡ true) }
         requires slot { (y : T) × (token.old.me.1 ≡ (0, Some y) ∷ [])

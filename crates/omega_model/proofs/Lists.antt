@@ -1,8 +1,9 @@
 -- Lists of which each element has a property, and what a filter or a search makes of them.
-use Rattle.std.proofs.Common.{◌≡◌, ℕ, zero, suc, ◌+◌, Bool, true, false, ◌&&◌, List, [], ◌∷◌, ◌++◌, map, length, take, Some, None, refl, sym, ap, subst, ◌∙◌, arith}
-use Rattle.std.specs.List.{filter, find, list_any, range_with_len, AllByRecursion as Each}
-use Rattle.std.proofs.lemmas.Bool.{or_from}
+use Rattle.std.proofs.Common.{◌≡◌, ◌<◌, ℕ, zero, suc, ◌+◌, Bool, true, false, ◌&&◌, cond, List, [], ◌∷◌, ◌++◌, map, length, get_or, take, drop, Some, None, refl, sym, ap, subst, ◌∙◌, arith}
+use Rattle.std.specs.List.{All, filter, find, list_any, range_with_len, AllByRecursion as Each}
+use Rattle.std.proofs.lemmas.Bool.{both_ways, or_from}
 use Rattle.std.proofs.lemmas.List.{take_all}
+use Rattle.std.proofs.lemmas.List.Elements.{All-head, All-tail, All-cons, All-nil}
 use Rattle.std.proofs.lemmas.Option.{none-some, same_Some}
 use Rattle.omega_model.specs.Keys.{beginnings}
 use Rattle.omega_model.specs.declared.cells.TaskKey.{TaskKey}
@@ -29,6 +30,39 @@ module _ {X : Type 0} where
   each_append P [] ys e f = f
   each_append P (x ∷ xs) ys e f = (e.0, each_append P xs ys e.1 f)
 
+  pub each_front : (P : X → Type 0) (xs ys : List X) → Each P (xs ++ ys) → Each P xs
+  each_front P [] ys e = tt
+  each_front P (x ∷ xs) ys e = (e.0, each_front P xs ys e.1)
+
+  pub each_back : (P : X → Type 0) (xs ys : List X) → Each P (xs ++ ys) → Each P ys
+  each_back P [] ys e = e
+  each_back P (x ∷ xs) ys e = each_back P xs ys e.1
+
+  pub each_take : (P : X → Type 0) (n : ℕ) (xs : List X) → Each P xs → Each P (take n xs)
+  each_take P zero xs e = tt
+  each_take P (suc n) [] e = tt
+  each_take P (suc n) (x ∷ xs) e = (e.0, each_take P n xs e.1)
+
+  pub each_drop : (P : X → Type 0) (n : ℕ) (xs : List X) → Each P xs → Each P (drop n xs)
+  each_drop P zero xs e = e
+  each_drop P (suc n) [] e = tt
+  each_drop P (suc n) (x ∷ xs) e = each_drop P n xs e.1
+
+  -- what holds of each element holds of the one at a place
+  pub each_at : (P : X → Type 0) (xs : List X) (i : ℕ) (d : X) → Each P xs → i < length xs → P (get_or xs i d)
+  each_at P [] i d e below = absurd (omega (arith, below))
+  each_at P (x ∷ xs) zero d e below = e.0
+  each_at P (x ∷ xs) (suc i) d e below = each_at P xs i d e.1 (omega (arith, below))
+
+  -- each element by recursion, and each by its place
+  pub each_of_all : (P : X → Type 0) (xs : List X) → All P xs → Each P xs
+  each_of_all P [] all = tt
+  each_of_all P (x ∷ xs) all = (All-head P x xs all, each_of_all P xs (All-tail P x xs all))
+
+  pub all_of_each : (P : X → Type 0) (xs : List X) → Each P xs → All P xs
+  all_of_each P [] each = All-nil P
+  all_of_each P (x ∷ xs) each = All-cons P x xs each.0 (all_of_each P xs each.1)
+
   -- what holds of each element holds of each that a filter leaves
   pub each_filter : (P : X → Type 0) (p : X → Bool) (xs : List X) → Each P xs → Each P (filter p xs)
   each_filter P p [] e = tt
@@ -40,9 +74,59 @@ module _ {X : Type 0} where
   each_passes p [] = tt
   each_passes p (x ∷ xs) = by_answer (p x) (λ t. rw t (t, each_passes p xs)) (λ f. rw f (each_passes p xs))
 
+  -- what holds of all that a filter leaves holds of all where they pass
+  pub each_where : (P : X → Type 0) (p : X → Bool) (xs : List X) → Each P (filter p xs) → Each (λ x. p x ≡ true → P x) xs
+  each_where P p [] e = tt
+  each_where P p (x ∷ xs) e =
+      by_answer (p x)
+      (λ t. let all : Each P (x ∷ filter p xs) = rw t at e in (λ _. all.0, each_where P p xs all.1))
+      (λ f. (λ passes. absurd (both_ways (p x) f passes), each_where P p xs (rw f at e)))
+
+  -- what a search finds is an element that passes
+  pub each_found : (P : X → Type 0) (p : X → Bool) (xs : List X) (y : X) → Each P xs → find p xs ≡ Some y → P y × (p y ≡ true)
+  each_found P p [] y e found = absurd (none-some y found)
+  each_found P p (x ∷ xs) y e found =
+      by_answer (p x)
+      (λ t. let same : x ≡ y = same_Some x y (rw t at found) in (subst P same e.0, ap p (sym same) ∙ t))
+      (λ f. each_found P p xs y e.1 (rw f at found))
+
+  -- where a search finds nothing, no element passes
+  pub each_absent : (p : X → Bool) (xs : List X) → find p xs ≡ None → Each (λ x. p x ≡ false) xs
+  each_absent p [] none = tt
+  each_absent p (x ∷ xs) none =
+      by_answer (p x) (λ t. absurd (none-some x (sym (rw t at none)))) (λ f. (f, each_absent p xs (rw f at none)))
+
   pub filter_none : (p : X → Bool) (xs : List X) → Each (λ x. p x ≡ false) xs → filter p xs ≡ []
   filter_none p [] e = refl
   filter_none p (x ∷ xs) e = rw e.0 (filter_none p xs e.1)
+
+  pub filter_every : (p : X → Bool) (xs : List X) → Each (λ x. p x ≡ true) xs → filter p xs ≡ xs
+  filter_every p [] e = refl
+  filter_every p (x ∷ xs) e = rw e.0 (ap (λ ys. x ∷ ys) (filter_every p xs e.1))
+
+  -- two filters that agree on each element, and two that agree everywhere
+  pub filter_where : (p q : X → Bool) (xs : List X) → Each (λ x. p x ≡ q x) xs → filter p xs ≡ filter q xs
+  filter_where p q [] e = refl
+  filter_where p q (x ∷ xs) e = rw (e.0, filter_where p q xs e.1) refl
+
+  pub filter_alike : (p q : X → Bool) → ((x : X) → p x ≡ q x) → (xs : List X) → filter p xs ≡ filter q xs
+  filter_alike p q same xs = filter_where p q xs (each_of (λ x. p x ≡ q x) same xs)
+
+  pub find_none : (p : X → Bool) (xs : List X) → Each (λ x. p x ≡ false) xs → find p xs ≡ None
+  find_none p [] e = refl
+  find_none p (x ∷ xs) e = rw e.0 (find_none p xs e.1)
+
+  pub any_none : (p : X → Bool) (xs : List X) → Each (λ x. p x ≡ false) xs → list_any p xs ≡ false
+  any_none p [] e = refl
+  any_none p (x ∷ xs) e = rw e.0 (any_none p xs e.1)
+
+  -- a search for what a filter leaves
+  pub find_filtered : (q s : X → Bool) → ((x : X) → q x ≡ true → s x ≡ true) → (xs : List X) → find q (filter s xs) ≡ find q xs
+  find_filtered q s leaves [] = refl
+  find_filtered q s leaves (x ∷ xs) =
+      by_answer (s x)
+      (λ t. rw t (ap (λ o. cond (q x) (Some x) o) (find_filtered q s leaves xs)))
+      (λ f. by_answer (q x) (λ u. absurd (both_ways (s x) f (leaves x u))) (λ u. rw (f, u) (find_filtered q s leaves xs)))
 
   -- a filter after a filter
   pub filter_and : (p q : X → Bool) (xs : List X) → filter p (filter q xs) ≡ filter (λ x. p x && q x) xs

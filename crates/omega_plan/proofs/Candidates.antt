@@ -1,6 +1,6 @@
 -- The tasks of a machine that may be evicted for a wish.
 use Rattle.std.proofs.Common.{nat_lt, ◌≡◌, ℕ, Bool, true, false, not, List, [], ◌∷◌, ◌&&◌, nat_le, ◌<◌, ◌≤◌, Option, Some, None, arith, refl, sym, ap, subst, ◌∙◌, ◌==◌, inl, inr}
-use Rattle.std.specs.List.{filter}
+use Rattle.std.specs.List.{filter, AllByRecursion as Each}
 use Rattle.std.specs.Option.{option_map_or}
 use Rattle.std.proofs.lemmas.Bool.{and_parts, both_ways, false_from_ne_true, leb-true, ltb-true, not-true, not_from_false, or_cases}
 use Rattle.omega_model.specs.Cell.{Cell, by_rank, goes_before, is_on, keys_of, put_by_rank, task_at}
@@ -12,16 +12,14 @@ use Rattle.omega_model.specs.declared.cells.Task.{Task}
 use Rattle.omega_model.specs.declared.cells.TaskKey.{TaskKey}
 use Rattle.omega_model.specs.declared.wishes.Wish.{Wish}
 use Rattle.omega_model.proofs.InOrder.{same_key-sym}
-use Rattle.omega_model.proofs.Lists.{by_answer, filter_and, filter_turned}
-use Rattle.omega_running.specs.Order.{Each, IsInOrder, Rises}
+use Rattle.omega_model.proofs.Lists.{by_answer, filter_and, filter_turned, each_map, each_of, filter_none, each_filter, each_passes}
+use Rattle.omega_running.specs.Order.{IsInOrder, Rises}
 use Rattle.omega_running.specs.declared.orders.Order.TheVariants.{ByKey}
 use Rattle.omega_running.proofs.InOrder.{rank_strict}
-use Rattle.omega_running.proofs.Lists.{each_map, each_of, filter_none}
 use Rattle.omega_running.proofs.Ranked.{each_put}
 use Rattle.omega_board.proofs.Parts.{withstands_is}
 use Rattle.omega_board.proofs.Ranks.{Apart, ranked_apart, ranked_found}
 use Rattle.omega_board.proofs.Standing.{Once, filter_once}
-use Rattle.omega_board.proofs.Tasks.{each_filter, each_passes}
 use Rattle.omega_board.proofs.Untouched.{each_keys, ranked_run}
 
 -- whether the running task of this name gives way to a wish

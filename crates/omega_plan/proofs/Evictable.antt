@@ -1,6 +1,6 @@
 -- Where all that evictions could free is too little for a wish, the machine gets no claim of it.
 use Rattle.std.proofs.Common.{◌≡◌, ◌+◌, ◌<◌, ◌≤◌, ℕ, Bool, true, false, List, [], ◌∷◌, get_or, nat_eq, slice_get, Option, Some, None, is_some, arith, refl, sym, ap, subst, ◌∙◌, not}
-use Rattle.std.specs.List.{IsDistinct, filter, find}
+use Rattle.std.specs.List.{IsDistinct, filter, find, AllByRecursion as Each}
 use Rattle.std.specs.Prelude.{option_map}
 use Rattle.std.proofs.lemmas.Bool.{and_from, and_parts, both_ways, false_from_ne_true, or_left, or_right}
 use Rattle.std.proofs.lemmas.Option.{get_or_from_slice_get, none-some, slice_get-map}
@@ -21,14 +21,12 @@ use Rattle.omega_model.specs.declared.wishes.Wish.{Wish}
 use Rattle.omega_model.proofs.Admitted.{Refuses, refuses_if, refuses_rank, refuses_running}
 use Rattle.omega_model.proofs.Amounts.{fits_part, fits_plus, fits_same, fits_tested, fits_trans}
 use Rattle.omega_model.proofs.InOrder.{key_itself, key_same}
-use Rattle.omega_model.proofs.Lists.{by_answer}
+use Rattle.omega_model.proofs.Lists.{by_answer, each_map}
 use Rattle.omega_running.specs.Staying.{staying_on, stays_against}
-use Rattle.omega_running.specs.Order.{Each}
-use Rattle.omega_running.proofs.Lists.{each_map}
 use Rattle.omega_board.proofs.Numbered.{machine_there}
 use Rattle.omega_board.proofs.Parts.{not_refused}
 use Rattle.omega_board.proofs.Placed.{is_placed-Placed, passes, placeable_fine}
-use Rattle.omega_copy.specs.Telling.{freed_of, freed_on}
+use Rattle.omega_plan.specs.Telling.{freed_of, freed_on}
 use Rattle.omega_fit.proofs.Middles.{below_or_not}
 use Rattle.omega_fit.specs.Needs.{Holds, IsNextWithRoom}
 use Rattle.omega_fit.specs.Wrapped.{FirstBetween}

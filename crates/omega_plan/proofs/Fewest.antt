@@ -17,13 +17,12 @@ use Rattle.omega_model.specs.declared.claims.Claim.{Claim}
 use Rattle.omega_model.specs.declared.claims.Verdict.TheVariants.{AlreadyRunning, Full, NoMachine, SameJob, VictimRank}
 use Rattle.omega_model.specs.declared.wishes.Wish.{Wish}
 use Rattle.omega_model.proofs.Amounts.{fits_tested, total_fewer}
-use Rattle.omega_model.proofs.Lists.{by_answer}
-use Rattle.omega_running.proofs.Lists.{filter_every, find_none}
+use Rattle.omega_model.proofs.Lists.{by_answer, filter_every, find_none, each_take}
 use Rattle.omega_board.proofs.Evicted.{any_more, same_answer}
 use Rattle.omega_board.proofs.Parts.{not_refused}
 use Rattle.omega_board.proofs.Placed.{is_placed-Placed, placeable_fine}
 use Rattle.omega_board.proofs.Ranks.{fits_true}
-use Rattle.omega_board.proofs.Standing.{each_take, mentions_once, once_take}
+use Rattle.omega_board.proofs.Standing.{mentions_once, once_take}
 use Rattle.omega_plan.proofs.Candidates.{AreCandidates}
 
 -- of a claim that names candidates all stand

@@ -1,6 +1,6 @@
 -- What is left on a machine once the first of the candidates go.
 use Rattle.std.proofs.Common.{◌≡◌, ◌+◌, ◌-◌, ◌<◌, ◌≤◌, ℕ, zero, suc, Bool, true, false, not, ◌&&◌, ◌||◌, ◌==◌, List, [], ◌∷◌, ◌++◌, length, get_or, map, take, drop, position, slice_get, Option, Some, None, is_some, arith, refl, sym, ap, ap₂, ◌∙◌}
-use Rattle.std.specs.List.{filter, find, list_any, range_with_len}
+use Rattle.std.specs.List.{filter, find, list_any, range_with_len, AllByRecursion as Each}
 use Rattle.std.specs.Option.{option_map, option_map_or}
 use Rattle.std.proofs.lemmas.Bool.{and_from, both_ways, false_from_ne_true, eqb-true, not_from_false, not-true}
 use Rattle.std.proofs.lemmas.List.{drop_more, length-map, take-append-drop}
@@ -20,14 +20,11 @@ use Rattle.omega_model.specs.declared.cells.Task.{Task}
 use Rattle.omega_model.specs.declared.cells.TaskKey.{TaskKey}
 use Rattle.omega_model.specs.declared.wishes.Wish.{Wish}
 use Rattle.omega_model.proofs.Amounts.{fits_part, fits_same, fits_tested, fits_trans, need_is, plus-swap, rest_is, share, total-cons}
-use Rattle.omega_model.proofs.Lists.{by_answer, filter_and, filter_turned}
-use Rattle.omega_running.specs.Order.{Each, IsInOrder, precedes}
+use Rattle.omega_model.proofs.Lists.{by_answer, filter_and, filter_turned, each_both, each_map, filter_every, each_take, each_filter, each_passes, found_passes}
+use Rattle.omega_running.specs.Order.{IsInOrder, precedes}
 use Rattle.omega_running.specs.declared.orders.Order.TheVariants.{ByKey}
 use Rattle.omega_running.proofs.Kept.{rises_filter}
-use Rattle.omega_running.proofs.Lists.{each_both, each_map, filter_every}
 use Rattle.omega_board.proofs.Ranks.{each_here, fits_true, use-without}
-use Rattle.omega_board.proofs.Standing.{each_take}
-use Rattle.omega_board.proofs.Tasks.{each_filter, each_passes, found_passes}
 use Rattle.omega_board.proofs.Untouched.{among_each}
 use Rattle.omega_fit.proofs.Middles.{below_or_not}
 use Rattle.omega_plan.specs.Leaving.{evictable, leaves_enough, need_staying, stays, staying}

@@ -1,3 +1,17 @@
+pub mod Tells
+pub mod TellsAfter
+pub mod Told
+pub mod Noted
+pub mod Applied
+pub mod Changing
+pub mod Leading
+pub mod GoingOn
+pub mod Besides
+pub mod Hosting
+pub mod Placing
+pub mod Listed
+pub mod Claimed
+pub mod Overlaid
 pub mod AsIs
 pub mod Begins
 pub mod Candidates

@@ -16,7 +16,7 @@ use Rattle.omega_plan.specs.Kinds.{Serves}
 use Rattle.omega_plan.specs.Steps.{IsStep}
 use Rattle.omega_plan.specs.declared.progress.Progress.{Progress}
 use Rattle.omega_plan.specs.declared.progress.Step.{Step}
-use Rattle.omega_copy.specs.Overlays.{OverlayState, cell_after}
+use Rattle.omega_plan.specs.Overlays.{OverlayState, cell_after}
 
 -- a claim, if there is one, would be placed
 abbrev GoesIn : Cell → Option Claim → Type 0

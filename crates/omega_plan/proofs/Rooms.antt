@@ -20,7 +20,7 @@ use Rattle.omega_board.proofs.Claims.{without_none}
 use Rattle.omega_board.proofs.Numbered.{machine_there}
 use Rattle.omega_board.proofs.Parts.{not_refused}
 use Rattle.omega_board.proofs.Placed.{is_placed-Placed, placeable_fine}
-use Rattle.omega_copy.specs.Telling.{free_on, frees_of}
+use Rattle.omega_plan.specs.Telling.{free_on, frees_of}
 use Rattle.omega_board.proofs.Ranks.{fits_true}
 use Rattle.omega_fit.proofs.Found.{first_follows, room_or_not}
 use Rattle.omega_fit.specs.Needs.{Holds, IsFirstWithRoom, WithRoom}

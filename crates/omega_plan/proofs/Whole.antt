@@ -19,7 +19,7 @@ use Rattle.omega_model.proofs.Lists.{by_answer}
 use Rattle.omega_running.specs.Order.{IsInOrder}
 use Rattle.omega_running.specs.declared.orders.Order.TheVariants.{ByKey}
 use Rattle.omega_board.proofs.Placed.{is_placed-Placed}
-use Rattle.omega_copy.specs.Overlays.{GoesInWhole}
+use Rattle.omega_plan.specs.Overlays.{GoesInWhole}
 use Rattle.omega_plan.proofs.Candidates.{AreCandidates, are_candidates}
 use Rattle.omega_plan.proofs.Fewest.{all_stand, first_candidates, goes_with, may_go, victims_by_room}
 

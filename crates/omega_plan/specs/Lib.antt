@@ -1,3 +1,10 @@
+pub mod Levels
+pub mod Telling
+pub mod Indexes
+pub mod Overlays
+pub mod Placed
+pub mod Tenants
+pub mod Beside
 pub mod Kinds
 pub mod Steps
 pub mod Trying

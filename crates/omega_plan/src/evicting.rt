@@ -1,9 +1,9 @@
 //! The tasks that make room for a wish, and the first machine on which they do.
 ghost use Rattle.std.specs.Prelude.{◌≡◌, ◌≤◌, ◌<◌, ◌+◌, None, Some, IfOk, IfSome, IsTrue, option_map, length};
 ghost use Rattle.omega_board.specs.Board.{cell_of};
-ghost use Rattle.omega_copy.specs.Indexes.{TellAll};
-ghost use Rattle.omega_copy.specs.Overlays.{cell_after, tasks_claimed};
-ghost use Rattle.omega_copy.specs.Telling.{freed_of};
+ghost use Rattle.omega_plan.specs.Indexes.{TellAll};
+ghost use Rattle.omega_plan.specs.Overlays.{cell_after, tasks_claimed};
+ghost use Rattle.omega_plan.specs.Telling.{freed_of};
 ghost use Rattle.std.specs.List.{filter, find, range_with_len};
 ghost use Rattle.omega_model.specs.Cell.{machine_at, task_at, total};
 ghost use Rattle.omega_model.specs.Legal.{Sound};
@@ -15,11 +15,12 @@ ghost use Rattle.omega_plan.specs.Trying.{AreVictimsAt, IsFirstToYield, Yields};
 ghost use Rattle.omega_plan.specs.Leaving.{leaves_enough, need_staying, stays};
 ghost use Rattle.omega_fit.specs.Wrapped.{FirstBetween};
 
+use crate::indexes::Indexes;
+use crate::overlay::Overlay;
 use crate::progress::Progress;
 use crate::trying::has_rival;
 use omega_attrs::eligible;
 use omega_board::Board;
-use omega_copy::{Indexes, Overlay};
 use omega_fit::FitIndex;
 use omega_model::{Keys, Machine, Need, NoMemory, Task, Wish};
 use omega_running::keys_of;
@@ -36,7 +37,7 @@ pub(crate) struct Candidate {
 /// make room, with the victims. Begins where the progress says. Looks at the root of the level alone
 /// where evictions could nowhere free enough of one component. Else it looks for victims on the machines
 /// where evictions could free enough and which suit, one after the other, and at worst at all positions.
-/// Costs that, and the first time for a precedence the making of its level from all machines and tasks.
+/// Costs that, and what `Indexes::lend_level` costs.
 pub(crate) fn first_to_yield(
     alloc: Global,
     overlay: &Overlay,

@@ -1,8 +1,8 @@
 //! The plan of a request.
 ghost use Rattle.std.specs.Prelude.{◌≡◌, ◌≤◌, ◌+◌, ◌++◌, [], None, length, IfOk, IfSome, OnOk};
 ghost use Rattle.omega_board.specs.Board.{cell_of};
-ghost use Rattle.omega_copy.specs.Indexes.{TellAll};
-ghost use Rattle.omega_copy.specs.Overlays.{GoesInWhole, cell_after, tasks_claimed};
+ghost use Rattle.omega_plan.specs.Indexes.{TellAll};
+ghost use Rattle.omega_plan.specs.Overlays.{GoesInWhole, cell_after, tasks_claimed};
 ghost use Rattle.omega_model.specs.Plan.{after_planned, and_claims, whole_or_none};
 ghost use Rattle.omega_model.specs.Cell.{task_at};
 ghost use Rattle.omega_model.specs.Legal.{Sound};
@@ -13,10 +13,11 @@ ghost use Rattle.omega_plan.specs.Steps.{IsStep};
 ghost use Rattle.omega_plan.specs.Trying.{IsFirstToTake};
 
 use crate::evicting::first_to_yield;
+use crate::indexes::Indexes;
+use crate::overlay::Overlay;
 use crate::progress::{Progress, Step};
 use crate::trying::{claim_at, first_to_take};
 use omega_board::Board;
-use omega_copy::{Indexes, Overlay};
 use omega_model::{Claim, Mode, NoMemory, Policy, Request, Seq, Txn, Wish};
 use std::alloc::Global;
 
@@ -30,8 +31,7 @@ use std::alloc::Global;
 /// Takes memory for the claims, and for what all of them but the last change beside the board; the answer
 /// holds that of its claims alone, since a history keeps it. Each wish costs a search; wishes in a row that
 /// differ in the task's index alone cost one pass over the machines together. A wish whose key isn't greater
-/// than those before it costs up to a pass over the claims beside the board too. In the end each level costs the
-/// tasks on the machines of all claims but the last.
+/// than those before it costs up to a pass over the claims beside the board too.
 pub fn plan(
     alloc: Global,
     board: &Board,

@@ -1,7 +1,7 @@
 //! Wishes that are tried on machines.
 ghost use Rattle.std.specs.Prelude.{◌≡◌, ◌≤◌, ◌<◌, [], None, IfSome, length};
-ghost use Rattle.omega_copy.specs.Overlays.{cell_after, tasks_claimed};
-ghost use Rattle.omega_copy.specs.Telling.{frees_of};
+ghost use Rattle.omega_plan.specs.Overlays.{cell_after, tasks_claimed};
+ghost use Rattle.omega_plan.specs.Telling.{frees_of};
 ghost use Rattle.omega_model.specs.Cell.{task_at};
 ghost use Rattle.omega_model.specs.Legal.{Sound};
 ghost use Rattle.omega_model.specs.Judge.{has_rival};
@@ -9,9 +9,9 @@ ghost use Rattle.omega_model.specs.Plan.{claim_of};
 ghost use Rattle.omega_plan.specs.Kinds.{Serves};
 ghost use Rattle.omega_plan.specs.Trying.{IsClaimAt, IsFirstToTake, SuitsAlone};
 
+use crate::overlay::Overlay;
 use crate::progress::Progress;
 use omega_attrs::eligible;
-use omega_copy::Overlay;
 use omega_fit::FitIndex;
 use omega_model::{Claim, Keys, Wish};
 

@@ -7,7 +7,7 @@ use Rattle.omega_model.specs.declared.claims.Judgement.{Judgement}
 use Rattle.omega_model.specs.declared.entries.Entry.{Entry}
 use Rattle.omega_model.specs.declared.entries.Entry.TheVariants.{Round, MachineAdd, MachineUpdate, MachineRemove, AttrSet, AttrDelete, End, Commit}
 use Rattle.omega_keep.specs.KeptLines.{IsAnswered}
-use Rattle.omega_rounds.proofs.CommitCounts.{length-reply_of}
+use Rattle.omega_workers.proofs.CommitCounts.{length-reply_of}
 
 is_answered : (before : List Entry) (entry : Entry) → Follows before entry → IsAnswered entry
 is_answered before (Round number) follows = tt

@@ -17,8 +17,9 @@ use Rattle.omega_model.specs.declared.settings.Settings.{Settings}
 use Rattle.omega_model.specs.declared.wishes.Request.{Request}
 use Rattle.omega_desk.specs.Desks.{IsSameDesk, left_at, still_tried}
 use Rattle.omega_desk.specs.Walks.{HasDistinctWishes}
-use Rattle.omega_rounds.specs.Opening.{BeginAll, BeginsWorker, HaveNoWork, IsAsked}
-use Rattle.omega_rounds.specs.declared.worker.Worker.{Worker}
+use Rattle.omega_rounds.specs.Beginning.{BeginAll, BeginsWorker, IsAsked}
+use Rattle.omega_workers.specs.Workers.{HaveNoWork}
+use Rattle.omega_workers.specs.declared.worker.Worker.{Worker}
 use Rattle.omega_rounds.proofs.Requested.{open_distinct}
 use Rattle.omega_rounds.proofs.WorkerLists.{set_cases, set-other}
 

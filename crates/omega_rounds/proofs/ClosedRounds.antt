@@ -20,10 +20,10 @@ use Rattle.omega_rounds.specs.Closed.{AreBack, IsBack, IsCommitOfOne, IsDone}
 use Rattle.omega_laws.specs.InRound.{rows_before, rows_now}
 use Rattle.omega_rounds.specs.Keeping.{HasBegun, IsLawful, IsWorld, world_at}
 use Rattle.omega_rounds.specs.Players.{IsOwnDesk, MayStand, OwnMayStand}
-use Rattle.omega_rounds.specs.Workers.{IsDeskOf, synced_of}
+use Rattle.omega_workers.specs.Workers.{IsDeskOf, synced_of}
 use Rattle.omega_rounds.specs.Stages.{IsInRunOf, Stage, rows_begun}
-use Rattle.omega_rounds.specs.declared.worker.Worker.{Worker}
-use Rattle.omega_rounds.proofs.PlansKept.{plan_none}
+use Rattle.omega_workers.specs.declared.worker.Worker.{Worker}
+use Rattle.omega_workers.proofs.HavingPlans.{plan_none}
 use Rattle.omega_rounds.proofs.DeskCommits.{desk_with_failures, own_desk}
 use Rattle.omega_rounds.proofs.RoundFailures.{counted_so_far}
 use Rattle.omega_rounds.proofs.WorkerLists.{seen_at, seen_none}

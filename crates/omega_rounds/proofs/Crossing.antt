@@ -1,43 +1,15 @@
--- A player may go to another thread, and so may workers and indexes that are lent.
+-- A player may go to another thread.
 use denote.Param.Send.{IsSend, recorded_send, sendable, struct_send}
 use denote.Struct.Declared.{shape}
-use Rattle.std.proofs.Crossing.{Vec-send}
-use Rattle.std.specs.contracts.alloc.Global as Heap
-use Rattle.std.specs.contracts.impls.GlobalAllocator.TheImpl.{ghosts}
-use Rattle.std.specs.contracts.vec.Vec as Vec
-use Rattle.omega_copy.proofs.levels.Level.TheSendSync as level
-use Rattle.omega_copy.specs.contracts.indexes.Indexes as Indexes
-use Rattle.omega_copy.specs.contracts.levels.Level as Level
-use Rattle.omega_desk.proofs.desk.Desk.TheSendSync as desk
-use Rattle.omega_fit.proofs.index.FitIndex.TheSendSync as index
 use Rattle.omega_shared.proofs.Crossing.{pass_send}
-use Rattle.omega_rounds.proofs.plans.Planned.TheSendSync as planned
-use Rattle.omega_rounds.specs.contracts.player.Player as Player
-use Rattle.omega_rounds.specs.contracts.worker.Worker as Worker
 use Rattle.omega_shared.specs.contracts.pass.Pass as Pass
+use Rattle.omega_workers.proofs.Crossing.{worker_send}
+use Rattle.omega_rounds.specs.contracts.threads.player.Player as Player
 
--- the levels of indexes
-levels_send : IsSend (Vec.the_row Level.the_row Heap.the_row ghosts)
-levels_send = Vec-send Level.the_row level.the_send
-
--- the indexes of a worker
-indexes_send : IsSend (Indexes.the_field).row
-indexes_send = search (index.the_send, levels_send, sendable) depth 20
-
--- what a worker and a pass hold goes to another thread with them
-worker_send : IsSend (Worker.the_field).row
-worker_send = search (indexes_send, planned.the_send, desk.the_send, sendable) depth 40
-
+-- what a pass holds goes to another thread with it
 pass_field_send : IsSend (Pass.the_field).row
 pass_field_send = search (pass_send, sendable) depth 20
 
 -- a player, with its worker
 pub player_send : IsSend Player.the_row
 player_send = recorded_send (Player.the_field).row _ _ (Player.the_type).to_one (struct_send (shape Player.the_type) (worker_send, (pass_field_send, (search sendable, tt))))
-
--- a worker and indexes that are lent to another thread
-pub lent_worker_send : IsSend Worker.the_row
-lent_worker_send = search (indexes_send, planned.the_send, desk.the_send, sendable) depth 40
-
-pub lent_indexes_send : IsSend Indexes.the_row
-lent_indexes_send = search (index.the_send, levels_send, sendable) depth 20

@@ -22,11 +22,11 @@ use Rattle.omega_desk.specs.Counts.{count_of}
 use Rattle.omega_desk.specs.Desks.{DeskState, left_at}
 use Rattle.omega_laws.specs.NextCommit.{attempt, attempt_txn}
 use Rattle.omega_rounds.specs.Players.{IsOwnDesk}
-use Rattle.omega_rounds.specs.Workers.{IsDeskOf, IsRoutedTo}
-use Rattle.omega_rounds.specs.WorkerSteps.{attempt_outcomes}
+use Rattle.omega_workers.specs.Workers.{IsDeskOf, IsRoutedTo}
+use Rattle.omega_workers.specs.WorkerSteps.{attempt_outcomes}
 use Rattle.omega_laws.proofs.Agreeing.{agrees_first}
-use Rattle.omega_rounds.proofs.CommitCounts.{failed_commit, failed_other, length-reply_of}
-use Rattle.omega_rounds.proofs.WorkerCommits.{moved_to}
+use Rattle.omega_workers.proofs.CommitCounts.{failed_commit, failed_other, length-reply_of}
+use Rattle.omega_workers.proofs.WorkerCommits.{moved_to}
 
 -- whether an attempt ends the first request of a standing
 abbrev pub ends_at : Settings → Standing → Request → List Outcome → Bool

@@ -20,8 +20,8 @@ use Rattle.omega_rounds.specs.Going.{answer_of}
 use Rattle.omega_rounds.specs.InTime.{BeginsInTime, EndsInTime, GoesByClock, HasWishesLeft, StandsInTime, rows_time, times_so_far}
 use Rattle.omega_rounds.specs.Playing.{IsRoundNow}
 use Rattle.omega_rounds.specs.Stages.{IsInRunOf, Stage, WorldState, rows_begun, world_of}
-use Rattle.omega_rounds.specs.declared.steps.Stepped.{Stepped}
-use Rattle.omega_rounds.specs.declared.steps.Stepped.TheVariants.{Synced, Committed, Idle}
+use Rattle.omega_workers.specs.declared.steps.Stepped.{Stepped}
+use Rattle.omega_workers.specs.declared.steps.Stepped.TheVariants.{Synced, Committed, Idle}
 use Rattle.omega_rounds.proofs.ClockSteps.{clocked_all, clocked_commit, clocked_first, clocked_over, clocked_same, clocked_set, has_due, set_same_history}
 use Rattle.omega_rounds.proofs.PlayedTurns.{StepsFrom, over_now, step_now}
 

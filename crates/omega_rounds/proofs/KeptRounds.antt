@@ -1,6 +1,6 @@
 -- Kept lines beside a history that grows.
 use Rattle.std.proofs.Common.{◌≡◌, ◌≤◌, ◌<◌, ◌+◌, ℕ, zero, suc, true, false, List, [], ◌∷◌, ◌++◌, length, take, drop, Option, Some, None, refl, sym, ap, ap₂, subst, arith, ◌∙◌}
-use Rattle.std.specs.Prelude.{slice_get, ◌==◌, ◌||◌, if◌then◌else◌}
+use Rattle.std.specs.Prelude.{slice_get, ◌⊎◌, ◌==◌, ◌||◌, if◌then◌else◌}
 use Rattle.std.specs.Str.{bytes_eq}
 use Rattle.std.proofs.lemmas.Bool.{eq-eqb, ne_eqb}
 use Rattle.std.proofs.Math.ListN.{drop_of_length-le}
@@ -21,6 +21,22 @@ pub drop_next : {X : Type 0} (xs : List X) (n : ℕ) (x : X) → slice_get xs n 
 drop_next [] n x is = absurd (cc)
 drop_next (y ∷ xs) zero x is = let same : y ≡ x = cc in ap (λ z. z ∷ xs) same
 drop_next (y ∷ xs) (suc n) x is = drop_next xs n x is
+
+-- of two numbers one is no greater, or the other is less
+pub cases_le : (m n : ℕ) → (m ≤ n) ⊎ (n < m)
+cases_le m n = grind (arith)
+
+-- the item at a place within a list
+pub item_within : {X : Type 0} (xs : List X) (place : ℕ) → place < length xs → (x : X) × (slice_get xs place ≡ Some x)
+item_within [] place within = absurd (omega (arith, within))
+item_within (x ∷ xs) zero within = (x, refl)
+item_within (x ∷ xs) (suc place) within = item_within xs place (omega (arith, within))
+
+-- it stands there in a longer list
+pub get_front : {X : Type 0} (xs ys : List X) (place : ℕ) (x : X) → slice_get xs place ≡ Some x → slice_get (xs ++ ys) place ≡ Some x
+get_front [] ys place x is = absurd (cc)
+get_front (y ∷ xs) ys zero x is = is
+get_front (y ∷ xs) ys (suc place) x is = get_front xs ys place x is
 
 -- of no entries none is kept
 pub none_kept : (kept : List (List ℕ)) → in_common kept [] ≡ 0

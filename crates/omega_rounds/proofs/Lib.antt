@@ -3,19 +3,11 @@ mod SyncedTogether
 mod PlayersTogether
 pub mod TurnsTaken
 pub mod Taking
-pub mod AttemptsLeft
-mod Examples
 pub mod Worlds
 pub mod TwoHalves
-pub mod Attempted
 pub mod WorkerLists
-pub mod Answering
 pub mod Requested
-pub mod Fed
-pub mod Applying
 pub mod NewWorkers
-pub mod CommitCounts
-pub mod WorkerCommits
 pub mod DeskCommits
 pub mod WorldSteps
 pub mod WorldWaiting
@@ -34,10 +26,10 @@ pub mod PlayingOn
 pub mod RoundFailures
 pub mod ClosedRounds
 pub mod PlayersBack
-pub mod RunOn
 pub mod Reopened
 pub mod PlansKept
 pub mod KeptRounds
 pub mod RoundStarts
+pub mod Departing
 pub mod ResumedRounds
 pub mod AnsweredEntries

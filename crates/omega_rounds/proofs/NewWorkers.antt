@@ -17,11 +17,11 @@ use Rattle.omega_model.specs.declared.wishes.Request.{Request}
 use Rattle.omega_desk.specs.Counts.{count_of}
 use Rattle.omega_desk.specs.Desks.{DeskState, left_at}
 use Rattle.omega_rounds.specs.Keeping.{IsNew, IsWorld, world_at}
-use Rattle.omega_rounds.specs.Opening.{AreNewWorkers}
-use Rattle.omega_rounds.specs.Workers.{IsDeskOf, IsRoutedTo, IsWorker, synced_of, to_do_of}
+use Rattle.omega_rounds.specs.Beginning.{AreNewWorkers}
+use Rattle.omega_workers.specs.Workers.{IsDeskOf, IsRoutedTo, IsWorker, synced_of, to_do_of}
 use Rattle.omega_rounds.specs.Stages.{IsInRunOf, Source, stage_of}
-use Rattle.omega_rounds.specs.declared.worker.Worker.{Worker}
-use Rattle.omega_rounds.proofs.PlansKept.{plan_none}
+use Rattle.omega_workers.specs.declared.worker.Worker.{Worker}
+use Rattle.omega_workers.proofs.HavingPlans.{plan_none}
 use Rattle.omega_rounds.proofs.Requested.{requests_none}
 use Rattle.omega_rounds.proofs.WorkerLists.{push_cases, seen_none}
 use Rattle.omega_rounds.proofs.WorldBegins.{none_to_do}

@@ -17,9 +17,9 @@ use Rattle.omega_model.specs.declared.rows.Row.{Row}
 use Rattle.omega_model.specs.declared.rows.Round.{Round}
 use Rattle.omega_model.specs.declared.rows.TraceTables.{TraceTables}
 use Rattle.omega_model.specs.Touches.{is_commit}
-use Rattle.omega_copy.specs.Indexes.{AreIndexesOf}
-use Rattle.omega_copy.specs.declared.indexes.Indexes.{Indexes}
-use Rattle.omega_rounds.proofs.CommitCounts.{commits_other, indexes_on}
+use Rattle.omega_plan.specs.Indexes.{AreIndexesOf}
+use Rattle.omega_plan.specs.declared.indexes.Indexes.{Indexes}
+use Rattle.omega_workers.proofs.CommitCounts.{commits_other, indexes_on}
 use Rattle.omega_laws.proofs.RowEntries.{IsOfRow, are_of_row}
 
 -- an entry of a row is no commit

@@ -12,24 +12,24 @@ use Rattle.omega_model.specs.declared.rows.Row.{Row}
 use Rattle.omega_model.specs.declared.rows.TraceTables.{TraceTables}
 use Rattle.omega_model.specs.declared.settings.Settings.{Settings}
 use Rattle.omega_model.specs.Lawful.{opened}
-use Rattle.omega_running.proofs.Lists.{each_map}
-use Rattle.omega_running.specs.Order.{Each}
-use Rattle.omega_copy.specs.Indexes.{AreIndexesOf}
-use Rattle.omega_copy.specs.declared.indexes.Indexes.{Indexes}
+use Rattle.omega_model.proofs.Lists.{each_map}
+use Rattle.std.specs.List.{AllByRecursion as Each}
+use Rattle.omega_plan.specs.Indexes.{AreIndexesOf}
+use Rattle.omega_plan.specs.declared.indexes.Indexes.{Indexes}
 use Rattle.omega_desk.specs.Desks.{DeskState}
 use Rattle.omega_lock.specs.Lists.{StartsWith}
 use Rattle.omega_shared.specs.Commits.{GoesOnWithout}
 use Rattle.omega_laws.specs.NextCommit.{attempt}
-use Rattle.omega_rounds.specs.Forked.{AreAllIndexesOf}
-use Rattle.omega_rounds.specs.Plans.{HasPlan, HasPlanAfter, IsPlan, IsReady}
-use Rattle.omega_rounds.specs.Workers.{IsWorker}
-use Rattle.omega_rounds.specs.WorkerSteps.{WorkerSteps}
-use Rattle.omega_rounds.specs.declared.forked.PieceIndexes.{PieceIndexes}
-use Rattle.omega_rounds.specs.declared.plans.Planned.{Planned}
-use Rattle.omega_rounds.specs.declared.worker.Worker.{Worker}
-use Rattle.omega_rounds.specs.declared.steps.Stepped.{Stepped}
-use Rattle.omega_rounds.specs.declared.steps.Stepped.TheVariants.{Synced, Committed, Idle}
-use Rattle.omega_rounds.proofs.CommitCounts.{commits_other, indexes_on}
+use Rattle.omega_workers.specs.Forked.{AreAllIndexesOf}
+use Rattle.omega_workers.specs.Plans.{HasPlan, HasPlanAfter, IsPlan, IsReady}
+use Rattle.omega_workers.specs.Workers.{IsWorker}
+use Rattle.omega_workers.specs.WorkerSteps.{WorkerSteps}
+use Rattle.omega_workers.specs.declared.forked.PieceIndexes.{PieceIndexes}
+use Rattle.omega_workers.specs.declared.plans.Planned.{Planned}
+use Rattle.omega_workers.specs.declared.worker.Worker.{Worker}
+use Rattle.omega_workers.specs.declared.steps.Stepped.{Stepped}
+use Rattle.omega_workers.specs.declared.steps.Stepped.TheVariants.{Synced, Committed, Idle}
+use Rattle.omega_workers.proofs.CommitCounts.{commits_other, indexes_on}
 use Rattle.omega_rounds.proofs.OpenedEntries.{indexes_opened}
 use Rattle.omega_rounds.proofs.WorkerLists.{set_cases}
 use Rattle.omega_rounds.proofs.Without.{attempt_without, front_without, longer_without}
@@ -50,34 +50,6 @@ all_indexes_opened trace rows start round indexes are = record {
   first = indexes_opened trace rows start round indexes.first are.first;
   further = each_map (AreIndexesOf start) (AreIndexesOf (opened trace rows start round).history) (indexes_opened trace rows start round) indexes.further.items are.further;
 }
-
--- who hasn't synced needs no plan
-pub plan_none : (history : List Entry) (worker : Worker) → worker.synced ≡ None → HasPlan history worker
-plan_none history worker none = subst (λ (synced : Option ℕ). IfSome synced (HasPlanAfter history worker)) (sym none) tt
-
-module _ (history : List Entry) (worker : Worker) (seen : ℕ) where
-  -- who has synced has this plan
-  pub has_plan : (plan : Planned) → worker.synced ≡ Some seen → worker.planned ≡ Some plan → seen ≤ length history → IsPlan history seen worker.desk plan
-      → HasPlan history worker
-  has_plan plan synced there within is =
-      subst (λ (o : Option ℕ). IfSome o (HasPlanAfter history worker)) (sym synced)
-      (record { within = within; plan = plan; there = there; is_plan = is })
-
-  has_after : worker.synced ≡ Some seen → HasPlan history worker → HasPlanAfter history worker seen
-  has_after synced has = subst (λ (o : Option ℕ). IfSome o (HasPlanAfter history worker)) synced has
-
-  -- which isn't missing
-  pub plan_missing : worker.synced ≡ Some seen → HasPlan history worker → None ≡ worker.planned → ⊥
-  plan_missing synced has none = let clash : None ≡ Some (has_after synced has).plan = none ∙ (has_after synced has).there in absurd (cc)
-
-  -- and is the one that it has
-  pub plan_there : (plan : Planned) → worker.synced ≡ Some seen → HasPlan history worker → Some plan ≡ worker.planned
-      → (seen ≤ length history) × IsPlan history seen worker.desk plan
-  plan_there plan synced has there =
-      let after = has_after synced has in
-      let both : Some after.plan ≡ Some plan = sym after.there ∙ sym there in
-      let same : after.plan ≡ plan = cc in
-      (after.within, subst (IsPlan history seen worker.desk) same after.is_plan)
 
 if_some : (P Q : ℕ → Type 0) → ((n : ℕ) → P n → Q n) → (o : Option ℕ) → IfSome o P → IfSome o Q
 if_some P Q f None holds = tt

@@ -13,11 +13,12 @@ use Rattle.omega_model.specs.declared.settings.Settings.{Settings}
 use Rattle.omega_rounds.specs.Going.{IsRoundOver, LeavesToDo, answer_of}
 use Rattle.omega_laws.specs.NextCommit.{NobodyHasWork}
 use Rattle.omega_rounds.specs.Halves.{Committing, IdleBelow, Syncing}
-use Rattle.omega_rounds.specs.Playing.{BeginsTurn, CommitsInTurn, CommitsTurn, IsRoundNow, PlaysRound, SyncsTurn, TakesTurnFrom, is_committed}
+use Rattle.omega_rounds.specs.Playing.{BeginsTurn, CommitsInTurn, CommitsTurn, IsRoundNow, PlaysRound, SyncsTurn, TakesTurnFrom}
+use Rattle.omega_workers.specs.WorkerSteps.{is_committed}
 use Rattle.omega_rounds.specs.Stages.{IsInRunOf, Stage, WorldState, rows_begun, world_of}
 use Rattle.omega_rounds.specs.Taking.{Taking}
-use Rattle.omega_rounds.specs.declared.steps.Stepped.{Stepped}
-use Rattle.omega_rounds.specs.declared.steps.Stepped.TheVariants.{Synced, Committed, Idle}
+use Rattle.omega_workers.specs.declared.steps.Stepped.{Stepped}
+use Rattle.omega_workers.specs.declared.steps.Stepped.TheVariants.{Synced, Committed, Idle}
 use Rattle.omega_laws.proofs.RoundGrows.{round_ends}
 use Rattle.omega_rounds.proofs.TwoHalves.{commit_last, commit_step, commits_only, idle_more, sync_first, sync_last, sync_step}
 

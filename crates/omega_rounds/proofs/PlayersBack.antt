@@ -17,12 +17,12 @@ use Rattle.omega_model.specs.declared.settings.Settings.{Settings}
 use Rattle.omega_model.proofs.Lists.{by_answer}
 use Rattle.omega_shared.specs.Commits.{GoesOnWithout}
 use Rattle.omega_shared.specs.Passes.{PassState, new_pass}
-use Rattle.omega_rounds.specs.AttemptsLeft.{attempts_left}
+use Rattle.omega_workers.specs.AttemptsLeft.{attempts_left}
 use Rattle.omega_rounds.specs.Closed.{AreBack, IsBack, IsCommitOfOne, Suffice}
 use Rattle.omega_rounds.specs.Players.{HasPlayed, HavePlayed, IsOwnDesk, MayPlay, OwnMayStand}
-use Rattle.omega_rounds.specs.Workers.{IsWorker, to_do_of}
-use Rattle.omega_rounds.specs.declared.player.Player.{Player}
-use Rattle.omega_rounds.specs.declared.worker.Worker.{Worker}
+use Rattle.omega_workers.specs.Workers.{IsWorker, to_do_of}
+use Rattle.omega_rounds.specs.declared.threads.player.Player.{Player}
+use Rattle.omega_workers.specs.declared.worker.Worker.{Worker}
 use Rattle.omega_desk.specs.Desks.{left_at}
 use Rattle.omega_rounds.proofs.Without.{desk_without, worker_without, stand_without}
 

@@ -8,8 +8,8 @@ use Rattle.std.proofs.lemmas.List.Folds.{list_any_at}
 use Rattle.std.proofs.lemmas.Option.{get_or_from_slice_get, slice_get_within}
 use Rattle.atomic_table.specs.Seated.{TableId}
 use Rattle.omega_model.proofs.Lists.{by_answer}
-use Rattle.omega_rounds.specs.declared.player.Player.{Player}
-use Rattle.omega_rounds.specs.Opening.{has_work}
+use Rattle.omega_rounds.specs.declared.threads.player.Player.{Player}
+use Rattle.omega_workers.specs.Workers.{has_work}
 use Rattle.omega_rounds.specs.Players.{HasPlayed, HavePlayed, MayPlay}
 use Rattle.omega_rounds.proofs.WorldGoes.{not_first}
 

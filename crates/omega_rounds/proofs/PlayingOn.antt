@@ -14,24 +14,24 @@ use Rattle.omega_model.specs.declared.rows.Row.{Row}
 use Rattle.omega_model.specs.declared.rows.TraceTables.{TraceTables}
 use Rattle.omega_model.specs.declared.settings.Settings.{Settings}
 use Rattle.omega_model.specs.declared.wishes.Request.{Request}
-use Rattle.omega_copy.specs.Indexes.{AreIndexesOf}
+use Rattle.omega_plan.specs.Indexes.{AreIndexesOf}
 use Rattle.omega_desk.specs.Desks.{AnswersFirst, DeskState, IsSameDesk, left_at}
 use Rattle.omega_shared.specs.Commits.{GoesOnWithout, commit_after}
 use Rattle.omega_shared.specs.Passes.{PassState}
 use Rattle.omega_shared.specs.Turns.{Commits, SpendsTurn}
 use Rattle.omega_laws.specs.NextCommit.{attempt}
-use Rattle.omega_rounds.specs.AttemptsLeft.{attempts_left}
+use Rattle.omega_workers.specs.AttemptsLeft.{attempts_left}
 use Rattle.omega_rounds.specs.Players.{HasPlayed, IsOwnDesk, MayPlay, MayStand, OwnMayStand}
 use Rattle.omega_rounds.specs.PlayingOn.{IsSynced, PlansFirst, PlaysOn}
-use Rattle.omega_rounds.specs.Workers.{IsWorker, synced_of, to_do_of, SyncedWithin}
-use Rattle.omega_rounds.specs.WorkerSteps.{CommitsFirst, IsFirstAttempt}
-use Rattle.omega_rounds.specs.Plans.{IsPlan}
-use Rattle.omega_rounds.specs.declared.plans.Planned.{Planned}
-use Rattle.omega_rounds.specs.declared.player.Player.{Player}
-use Rattle.omega_rounds.specs.declared.worker.Worker.{Worker}
+use Rattle.omega_workers.specs.Workers.{IsWorker, synced_of, to_do_of, SyncedWithin}
+use Rattle.omega_workers.specs.WorkerSteps.{CommitsFirst, IsFirstAttempt}
+use Rattle.omega_workers.specs.Plans.{IsPlan}
+use Rattle.omega_workers.specs.declared.plans.Planned.{Planned}
+use Rattle.omega_rounds.specs.declared.threads.player.Player.{Player}
+use Rattle.omega_workers.specs.declared.worker.Worker.{Worker}
 use Rattle.omega_rounds.proofs.DeskCommits.{own_desk_own}
 use Rattle.omega_laws.proofs.LastCommits.{after_last-within}
-use Rattle.omega_rounds.proofs.WorkerCommits.{IsCommitting, answers_first, commits_first, fewer_left, worker_after}
+use Rattle.omega_workers.proofs.WorkerCommits.{IsCommitting, answers_first, commits_first, fewer_left, worker_after}
 use Rattle.omega_rounds.proofs.Without.{after_last-without, attempt_without, desk_without, longer_without, worker_without, stand_without}
 
 -- a turn after which the pass has seen commits of others, the desk is as before, and the indexes are those of

@@ -24,7 +24,7 @@ use Rattle.omega_model.proofs.Lists.{by_answer, each_map, each_passes}
 use Rattle.omega_model.proofs.OpenRequests.{requests_from_open}
 use Rattle.omega_desk.proofs.Asked.{requests_distinct}
 use Rattle.omega_desk.specs.Walks.{HasDistinctWishes}
-use Rattle.omega_rounds.specs.Workers.{IsRoutedTo}
+use Rattle.omega_workers.specs.Workers.{IsRoutedTo}
 use Rattle.omega_laws.proofs.Suited.{OfValue, each_mapped}
 
 -- the request of a job

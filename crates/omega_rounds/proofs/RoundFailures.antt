@@ -25,8 +25,8 @@ use Rattle.omega_model.specs.declared.rows.Round.{Round}
 use Rattle.omega_model.specs.declared.rows.TraceTables.{TraceTables}
 use Rattle.omega_model.specs.declared.settings.Settings.{Settings}
 use Rattle.omega_model.specs.declared.wishes.Request.{Request}
-use Rattle.omega_rounds.specs.Workers.{IsRoutedTo}
-use Rattle.omega_rounds.proofs.CommitCounts.{failed_commit, failed_other, length-reply_of}
+use Rattle.omega_workers.specs.Workers.{IsRoutedTo}
+use Rattle.omega_workers.proofs.CommitCounts.{failed_commit, failed_other, length-reply_of}
 use Rattle.omega_rounds.proofs.DeskCommits.{ends_at, moved_failing, moved_requests, own_after}
 use Rattle.omega_laws.proofs.Places.{at_seam_from, front_push, longer}
 use Rattle.omega_rounds.proofs.Requested.{requests_own}

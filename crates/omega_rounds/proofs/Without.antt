@@ -12,15 +12,15 @@ use Rattle.omega_model.specs.declared.rows.Row.{Row}
 use Rattle.omega_model.specs.declared.rows.TraceTables.{TraceTables}
 use Rattle.omega_model.specs.declared.settings.Settings.{Settings}
 use Rattle.omega_model.specs.declared.wishes.Request.{Request}
-use Rattle.omega_copy.specs.Indexes.{AreIndexesOf}
-use Rattle.omega_copy.specs.declared.indexes.Indexes.{Indexes}
+use Rattle.omega_plan.specs.Indexes.{AreIndexesOf}
+use Rattle.omega_plan.specs.declared.indexes.Indexes.{Indexes}
 use Rattle.omega_desk.specs.Desks.{DeskState}
 use Rattle.omega_shared.specs.Commits.{GoesOnWithout}
 use Rattle.omega_laws.specs.NextCommit.{attempt_txn}
 use Rattle.omega_rounds.specs.Players.{IsOwnDesk, MayStand, OwnMayStand}
-use Rattle.omega_rounds.specs.Workers.{IsWorker}
-use Rattle.omega_rounds.specs.declared.worker.Worker.{Worker}
-use Rattle.omega_rounds.proofs.CommitCounts.{commits_other, indexes_on, synced_longer}
+use Rattle.omega_workers.specs.Workers.{IsWorker}
+use Rattle.omega_workers.specs.declared.worker.Worker.{Worker}
+use Rattle.omega_workers.proofs.CommitCounts.{commits_other, indexes_on, synced_longer}
 use Rattle.omega_rounds.proofs.DeskCommits.{own_desk_other}
 use Rattle.omega_laws.proofs.LastCommits.{after_last-none}
 

@@ -7,8 +7,7 @@ use Rattle.std.proofs.lemmas.Option.{slice_get_cases, slice_get_within}
 use Rattle.std.proofs.Math.Seq.{take-length}
 use Rattle.std.proofs.Math.ListN.{drop_of_length-le}
 use Rattle.omega_feed.specs.Asked.{Asked, asked_after}
-use Rattle.omega_running.proofs.Lists.{filter_where}
-use Rattle.omega_model.proofs.Lists.{each_map}
+use Rattle.omega_model.proofs.Lists.{each_map, filter_where}
 use Rattle.omega_model.proofs.OpenRequests.{requests_from_open}
 use Rattle.omega_model.specs.Feed.{rounds}
 use Rattle.omega_model.specs.Lawful.{opened, rows_of}
@@ -27,22 +26,23 @@ use Rattle.omega_model.specs.declared.rows.Round.{Round}
 use Rattle.omega_model.specs.declared.rows.TraceTables.{TraceTables}
 use Rattle.omega_model.specs.declared.settings.Settings.{Settings}
 use Rattle.omega_model.specs.declared.wishes.Request.{Request}
-use Rattle.omega_copy.specs.Indexes.{AreIndexesOf}
-use Rattle.omega_copy.specs.declared.indexes.Indexes.{Indexes}
+use Rattle.omega_plan.specs.Indexes.{AreIndexesOf}
+use Rattle.omega_plan.specs.declared.indexes.Indexes.{Indexes}
 use Rattle.omega_desk.specs.Counts.{count_of}
 use Rattle.omega_desk.specs.Desks.{DeskState, left_at, still_tried}
-use Rattle.omega_rounds.specs.AttemptsLeft.{attempts_left}
-use Rattle.omega_rounds.specs.Forked.{AreAllIndexesOf}
-use Rattle.omega_rounds.specs.declared.forked.PieceIndexes.{PieceIndexes}
+use Rattle.omega_workers.specs.AttemptsLeft.{attempts_left}
+use Rattle.omega_workers.specs.Forked.{AreAllIndexesOf}
+use Rattle.omega_workers.specs.declared.forked.PieceIndexes.{PieceIndexes}
 use Rattle.omega_laws.specs.InRound.{RoundIsOver, rows_now}
 use Rattle.omega_rounds.specs.Keeping.{HasBegun, HasNotBegun, IsLawful, IsWorld, world_at}
 use Rattle.omega_laws.specs.NextCommit.{NobodyHasWork}
-use Rattle.omega_rounds.specs.Opening.{BeginAll, BeginsWorker, HaveNoWork, IsAsked}
+use Rattle.omega_rounds.specs.Beginning.{BeginAll, BeginsWorker, IsAsked}
+use Rattle.omega_workers.specs.Workers.{HaveNoWork, IsDeskOf, IsRoutedTo, IsWorker, synced_of, to_do_of, SyncedWithin}
 use Rattle.omega_rounds.specs.Playing.{IsAtStart}
-use Rattle.omega_rounds.specs.Workers.{IsDeskOf, IsRoutedTo, IsWorker, synced_of, to_do_of, SyncedWithin}
 use Rattle.omega_rounds.specs.Stages.{IsInRunOf, Source, Stage, next_stage, rows_begun, stage_of}
-use Rattle.omega_rounds.specs.declared.worker.Worker.{Worker}
-use Rattle.omega_rounds.proofs.PlansKept.{all_indexes_opened, plan_none}
+use Rattle.omega_workers.specs.declared.worker.Worker.{Worker}
+use Rattle.omega_rounds.proofs.PlansKept.{all_indexes_opened}
+use Rattle.omega_workers.proofs.HavingPlans.{plan_none}
 use Rattle.omega_rounds.proofs.OpenedEntries.{commits_opened, failed_opened, indexes_opened}
 use Rattle.omega_laws.proofs.Places.{take_next}
 use Rattle.omega_rounds.proofs.Requested.{open_own, requests_own}

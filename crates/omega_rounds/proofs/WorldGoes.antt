@@ -18,9 +18,9 @@ use Rattle.omega_rounds.specs.Going.{IsFirstAtWork}
 use Rattle.omega_laws.specs.InRound.{RoundIsOver, rows_now}
 use Rattle.omega_rounds.specs.Keeping.{IsWorld, world_at}
 use Rattle.omega_laws.specs.NextCommit.{NobodyHasWork}
-use Rattle.omega_rounds.specs.Opening.{HaveNoWork, has_work}
+use Rattle.omega_workers.specs.Workers.{HaveNoWork, has_work}
 use Rattle.omega_rounds.specs.Stages.{IsInRunOf, Source, Stage}
-use Rattle.omega_rounds.specs.declared.worker.Worker.{Worker}
+use Rattle.omega_workers.specs.declared.worker.Worker.{Worker}
 use Rattle.omega_rounds.proofs.WorkerLists.{first_past, none_first, some_first}
 use Rattle.omega_rounds.proofs.WorldBegins.{nobody_works}
 use Rattle.omega_rounds.proofs.WorldSteps.{rows_same, state_at}

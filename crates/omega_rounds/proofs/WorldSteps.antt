@@ -20,25 +20,25 @@ use Rattle.omega_model.specs.declared.rows.Round.{Round}
 use Rattle.omega_model.specs.declared.rows.TraceTables.{TraceTables}
 use Rattle.omega_model.specs.declared.settings.Settings.{Settings}
 use Rattle.omega_desk.specs.Desks.{DeskState, left_at}
-use Rattle.omega_rounds.specs.AttemptsLeft.{attempts_left}
+use Rattle.omega_workers.specs.AttemptsLeft.{attempts_left}
 use Rattle.omega_rounds.specs.Going.{answer_of}
 use Rattle.omega_laws.specs.InRound.{StepsInRound, rows_now}
 use Rattle.omega_rounds.specs.Keeping.{HasBegun, HasNotBegun, IsLawful, IsWorld, world_at}
 use Rattle.omega_laws.specs.NextCommit.{attempt, attempt_txn}
-use Rattle.omega_rounds.specs.Plans.{HasPlan}
-use Rattle.omega_rounds.specs.Workers.{IsDeskOf, IsRoutedTo, IsWorker, synced_of, to_do_of}
-use Rattle.omega_rounds.specs.WorkerSteps.{WorkerSteps}
+use Rattle.omega_workers.specs.Plans.{HasPlan}
+use Rattle.omega_workers.specs.Workers.{IsDeskOf, IsRoutedTo, IsWorker, synced_of, to_do_of}
+use Rattle.omega_workers.specs.WorkerSteps.{WorkerSteps}
 use Rattle.omega_rounds.specs.Stages.{IsInRunOf, Source, Stage, WorldState, rows_begun, synced_at}
-use Rattle.omega_rounds.specs.declared.worker.Worker.{Worker}
-use Rattle.omega_rounds.specs.declared.steps.Stepped.{Stepped}
-use Rattle.omega_rounds.specs.declared.steps.Stepped.TheVariants.{Synced, Committed, Idle}
-use Rattle.omega_rounds.proofs.CommitCounts.{commits_other, indexes_on, synced_longer}
+use Rattle.omega_workers.specs.declared.worker.Worker.{Worker}
+use Rattle.omega_workers.specs.declared.steps.Stepped.{Stepped}
+use Rattle.omega_workers.specs.declared.steps.Stepped.TheVariants.{Synced, Committed, Idle}
+use Rattle.omega_workers.proofs.CommitCounts.{commits_other, indexes_on, synced_longer}
 use Rattle.omega_rounds.proofs.DeskCommits.{desk_other, desk_own}
 use Rattle.omega_laws.proofs.Places.{take_next}
 use Rattle.omega_sim.proofs.Arrived.{rows_of_push}
 use Rattle.omega_rounds.proofs.PlansKept.{plans_after}
 use Rattle.omega_rounds.proofs.Requested.{requests_none}
-use Rattle.omega_rounds.proofs.WorkerCommits.{fewer_left}
+use Rattle.omega_workers.proofs.WorkerCommits.{fewer_left}
 use Rattle.omega_rounds.proofs.WorkerLists.{map_set_same, seen-other, seen_at, set-same, set_cases, set_itself, sum_set}
 use Rattle.omega_rounds.proofs.Worlds.{rows_within, steps_done, steps_rows, world_steps}
 

@@ -8,9 +8,9 @@ use Rattle.omega_model.specs.declared.rows.TraceTables.{TraceTables}
 use Rattle.omega_model.specs.declared.settings.Settings.{Settings}
 use Rattle.omega_rounds.specs.Going.{IsRoundOver}
 use Rattle.omega_rounds.specs.Players.{IsOwnDesk, OwnMayStand}
-use Rattle.omega_rounds.specs.Workers.{IsWorker, synced_of}
+use Rattle.omega_workers.specs.Workers.{IsWorker, synced_of}
 use Rattle.omega_rounds.specs.Stages.{IsInRunOf, WorldState}
-use Rattle.omega_rounds.specs.declared.worker.Worker.{Worker}
+use Rattle.omega_workers.specs.declared.worker.Worker.{Worker}
 
 -- so many turns suffice for any attempts that these workers' schedulers can make: two for each try of each request
 abbrev pub Suffice : Settings → List Worker → ℕ → Type 0

@@ -12,8 +12,8 @@ use Rattle.omega_laws.specs.NextCommit.{HasNoWork, NobodyHasWork, WorksOn}
 use Rattle.omega_rounds.specs.Stages.{AllHaveBegun, Stage, WorldState, next_stage, rows_begun, world_of}
 use Rattle.omega_rounds.specs.declared.steps.RoundStep.{RoundStep}
 use Rattle.omega_rounds.specs.declared.steps.RoundStep.TheVariants.{Begun, Unfinished, Over}
-use Rattle.omega_rounds.specs.declared.steps.Stepped.{Stepped}
-use Rattle.omega_rounds.specs.declared.steps.Stepped.TheVariants.{Synced, Committed, Idle}
+use Rattle.omega_workers.specs.declared.steps.Stepped.{Stepped}
+use Rattle.omega_workers.specs.declared.steps.Stepped.TheVariants.{Synced, Committed, Idle}
 
 -- what a step answers, in the words of the definition
 abbrev pub answer_of : Stepped → StepAnswer

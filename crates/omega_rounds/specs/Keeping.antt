@@ -1,21 +1,17 @@
 -- What every world keeps.
-use Rattle.std.specs.Prelude.{◌≡◌, ◌⊎◌, ◌+◌, ◌≤◌, ℕ, List, [], Some, length, map, slice_get, take}
-use Rattle.std.specs.BTreeSet.{BTreeSet}
-use Rattle.omega_feed.specs.Asked.{Asked}
-use Rattle.omega_feed.specs.Open.{OthersAreQuiet}
+use Rattle.std.specs.Prelude.{◌≡◌, ◌⊎◌, ◌+◌, ◌≤◌, ℕ, List, [], Some, length, map, slice_get}
 use Rattle.omega_model.specs.Policy.{schedulers}
 use Rattle.omega_model.specs.Ranges.{IsInRange}
-use Rattle.omega_model.specs.State.{state}
 use Rattle.omega_model.specs.Stepping.{IsInRound, rows_end}
 use Rattle.omega_model.specs.Wanted.{WantedTask, wanted}
 use Rattle.omega_model.specs.World.{NobodySynced, World}
 use Rattle.omega_model.specs.declared.entries.Entry.{Entry}
 use Rattle.omega_model.specs.declared.rows.TraceTables.{TraceTables}
 use Rattle.omega_model.specs.declared.settings.Settings.{Settings}
-use Rattle.omega_rounds.specs.Plans.{HasPlan}
-use Rattle.omega_rounds.specs.Workers.{IsDeskOf, IsWorker, synced_of}
+use Rattle.omega_workers.specs.Plans.{HasPlan}
+use Rattle.omega_workers.specs.Workers.{IsDeskOf, IsWorker, synced_of}
 use Rattle.omega_rounds.specs.Stages.{IsInRunOf, Stage, rows_begun, synced_at}
-use Rattle.omega_rounds.specs.declared.worker.Worker.{Worker}
+use Rattle.omega_workers.specs.declared.worker.Worker.{Worker}
 
 -- a world with the empty history, in which nobody has synced
 pub record IsNew (world : World) : Type 0 where
@@ -62,8 +58,3 @@ pub record IsWorld (stage : Stage) (tasks : List WantedTask) (history : List Ent
   pub each_plan : (scheduler : ℕ) (worker : Worker) → slice_get workers scheduler ≡ Some worker → HasPlan history worker
   pub made : (trace : TraceTables) × IsInRunOf stage trace
   pub lawful : (trace : TraceTables) → IsInRunOf stage trace → IsLawful trace stage history workers
-
--- the jobs that aren't open were quiet where the rows of the last round that has begun end; so they are on
--- the empty history, where none has
-abbrev pub WereQuiet : BTreeSet ℕ → Asked → ℕ → List Entry → Type 0
-WereQuiet open_places asked opened_at history = OthersAreQuiet open_places asked (state (take opened_at history)).tasks

@@ -13,8 +13,8 @@ use Rattle.omega_model.specs.declared.entries.Entry.TheVariants.{Commit}
 use Rattle.omega_model.specs.declared.rows.Row.{Row}
 use Rattle.omega_model.specs.declared.rows.TraceTables.{TraceTables}
 use Rattle.omega_model.specs.declared.settings.Settings.{Settings}
-use Rattle.omega_rounds.specs.Workers.{IsRoutedTo, IsWorker, synced_of, to_do_of}
-use Rattle.omega_rounds.specs.declared.player.Player.{Player}
+use Rattle.omega_workers.specs.Workers.{IsRoutedTo, IsWorker, synced_of, to_do_of}
+use Rattle.omega_rounds.specs.declared.threads.player.Player.{Player}
 
 -- a scheduler's desk after these entries of a round whose rows end at this place, by the scheduler's own
 -- commits alone: its requests are those that it has left, the first of them has had as many attempts, they are

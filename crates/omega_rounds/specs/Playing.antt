@@ -1,5 +1,5 @@
 -- A world in which the schedulers take turns.
-use Rattle.std.specs.Prelude.{◌≡◌, ◌+◌, ℕ, Bool, true, false, List, [], ◌++◌, length}
+use Rattle.std.specs.Prelude.{◌≡◌, ◌+◌, ℕ, Bool, false, List, [], ◌++◌, length}
 use Rattle.omega_model.specs.Lawful.{RoundOf, opened}
 use Rattle.omega_model.specs.Policy.{schedulers}
 use Rattle.omega_model.specs.Turns.{InTurns}
@@ -12,8 +12,6 @@ use Rattle.omega_rounds.specs.Going.{IsRoundOver}
 use Rattle.omega_rounds.specs.Halves.{Committing}
 use Rattle.omega_rounds.specs.Stages.{IsInRunOf, Stage, WorldState, rows_begun, world_of}
 use Rattle.omega_rounds.specs.Taking.{Taking}
-use Rattle.omega_rounds.specs.declared.steps.Stepped.{Stepped}
-use Rattle.omega_rounds.specs.declared.steps.Stepped.TheVariants.{Synced, Committed, Idle}
 
 -- a stage is one in the run of some trace
 abbrev pub IsInSomeRun : Stage → Type 0
@@ -23,12 +21,6 @@ IsInSomeRun stage = (trace : TraceTables) × IsInRunOf stage trace
 pub record IsAtStart (world : WorldState) : Type 0 where
   pub empty : world.history ≡ []
   pub idle : (trace : TraceTables) → IsInRunOf world.stage trace → IsRoundOver trace world
-
--- whether a step was a commit
-abbrev pub is_committed : Stepped → Bool
-is_committed Synced = false
-is_committed (Committed place) = true
-is_committed Idle = false
 
 -- the round that is under way is this one, which follows these rows and this history in the run of a trace
 pub record IsRoundNow (trace : TraceTables) (before : List Row) (start : List Entry) (round : Round) (stage : Stage) : Type 0 where

@@ -7,9 +7,9 @@ use Rattle.omega_model.specs.declared.claims.Txn.{Txn}
 use Rattle.omega_model.specs.declared.rows.Row.{Row}
 use Rattle.omega_model.specs.declared.rows.TraceTables.{TraceTables}
 use Rattle.omega_rounds.specs.Players.{IsOwnDesk, OwnMayStand}
-use Rattle.omega_rounds.specs.WorkerSteps.{IsFirstAttempt}
-use Rattle.omega_rounds.specs.Workers.{IsWorker, synced_of}
-use Rattle.omega_rounds.specs.declared.player.Player.{Player}
+use Rattle.omega_workers.specs.WorkerSteps.{IsFirstAttempt}
+use Rattle.omega_workers.specs.Workers.{IsWorker, synced_of}
+use Rattle.omega_rounds.specs.declared.threads.player.Player.{Player}
 
 -- a player plays on: its pass is the same one and has seen at least as many entries as before. Beside that its worker
 -- is still that of its scheduler. Its desk is right for each trace for which it was; and if all its commits since a

@@ -1,10 +1,9 @@
 -- A run in turns that goes on from kept lines.
-use Rattle.std.specs.Prelude.{◌≡◌, ◌<◌, ◌≤◌, ◌⊎◌, ◌+◌, ℕ, List, [], ◌++◌, Some, None, Option, drop, length, min, take, ⊤}
+use Rattle.std.specs.Prelude.{◌≡◌, ◌<◌, ◌≤◌, ◌⊎◌, ◌+◌, ℕ, List, [], ◌++◌, Some, Option, drop, length, min, take, ⊤}
 use Rattle.omega_keep.specs.Keeping.{Adds}
-use Rattle.omega_keep.specs.Resumed.{AreWholeRounds, in_common, lines_of, refused_for}
+use Rattle.omega_keep.specs.Resumed.{in_common, lines_of, refused_for}
 use Rattle.omega_model.specs.Feed.{rounds}
-use Rattle.omega_model.specs.Lawful.{Lawful, Rounds}
-use Rattle.omega_model.specs.Turns.{InTurns}
+use Rattle.omega_laws.specs.FirstRounds.{AreFirstInTurns}
 use Rattle.omega_model.specs.declared.entries.Entry.{Entry}
 use Rattle.omega_model.specs.declared.results.Status.{Status}
 use Rattle.omega_model.specs.declared.results.Status.TheVariants as status
@@ -17,14 +16,6 @@ use Rattle.omega_rounds.specs.Stages.{IsInRunOf, Stage, WorldState}
 use Rattle.omega_rounds.specs.declared.kept.ResumeRefusal.{ResumeRefusal}
 use Rattle.omega_rounds.specs.declared.kept.ResumeRefusal.TheVariants.{BadKept, KeepFault, NoMemory}
 
--- a history of which the kept lines must be: it is lawful and in turns, for a trace in whose run a world at this
--- stage is
-pub record IsRunOfStage (stage : Stage) (history : List Entry) : Type 0 where
-  pub trace : TraceTables
-  pub made : IsInRunOf stage trace
-  pub lawful : Lawful stage.settings trace history
-  pub turns : InTurns history
-
 -- the lines of a history behind as many as are kept
 abbrev pub lines_behind : List (List ℕ) → List Entry → List (List ℕ)
 lines_behind kept history = drop (length kept) (lines_of history)
@@ -35,26 +26,33 @@ status_of (BadKept place) = status.BadKept place
 status_of KeepFault = status.KeepFault
 status_of NoMemory = status.NoMemory
 
--- why kept lines of a run are refused: for the place at which they are no lines of whole rounds of its
--- history. Where the keeper failed they are such lines
-abbrev pub RefusesKept : Stage → List (List ℕ) → ResumeRefusal → Type 0
-RefusesKept stage kept (BadKept place) = (history : List Entry) → IsRunOfStage stage history → refused_for history kept ≡ Some place
-RefusesKept stage kept KeepFault = (history : List Entry) → IsRunOfStage stage history → refused_for history kept ≡ None
-RefusesKept stage kept NoMemory = ⊤
-
 -- lines are those of the first rounds of a trace, so many of them, in which the schedulers take turns
 pub record AreRoundsInTurns (settings : Settings) (trace : TraceTables) (lines : List (List ℕ)) : Type 0 where
   pub count : ℕ
   pub history : List Entry
-  pub made : Rounds settings trace [] [] (take count (rounds trace settings.window)) history
-  pub turns : InTurns history
+  pub played : AreFirstInTurns settings trace count history
   pub told : lines ≡ lines_of history
 
--- lines are those of the first rounds of a run, and the first lines of its whole history, up to the end of a
--- round
-pub record AreRoundsOfStage (stage : Stage) (lines : List (List ℕ)) : Type 0 where
-  pub played : (trace : TraceTables) → IsInRunOf stage trace → AreRoundsInTurns stage.settings trace lines
-  pub front : (history : List Entry) → IsRunOfStage stage history → AreWholeRounds history lines
+-- so it is for each trace in whose run a world at this stage is
+abbrev pub AreRoundsOfStage : Stage → List (List ℕ) → Type 0
+AreRoundsOfStage stage lines = (trace : TraceTables) → IsInRunOf stage trace → AreRoundsInTurns stage.settings trace lines
+
+-- at this place kept lines are no longer those of whole rounds of a trace in which the schedulers take turns: so
+-- many first rounds of it have this history, for which the lines are refused there. And no more rounds can
+-- change that: the history goes on behind the place, or is that of all rounds
+pub record DepartAt (settings : Settings) (trace : TraceTables) (kept : List (List ℕ)) (place : ℕ) : Type 0 where
+  pub count : ℕ
+  pub history : List Entry
+  pub played : AreFirstInTurns settings trace count history
+  pub refused : refused_for history kept ≡ Some place
+  pub reached : (place < length history) ⊎ (count ≡ length (rounds trace settings.window))
+
+-- why kept lines of a run are refused: for the place at which they depart from it. Where the keeper failed they
+-- are those of its first rounds
+abbrev pub RefusesKept : Stage → List (List ℕ) → ResumeRefusal → Type 0
+RefusesKept stage kept (BadKept place) = (trace : TraceTables) → IsInRunOf stage trace → DepartAt stage.settings trace kept place
+RefusesKept stage kept KeepFault = AreRoundsOfStage stage kept
+RefusesKept stage kept NoMemory = ⊤
 
 -- to a keeper's list some lines were added: none, or such that with the kept ones before them they are those of
 -- the run's first rounds

@@ -10,10 +10,11 @@ ghost use Rattle.omega_rounds.specs.InTime.{BeginsInTime, EndsInTime, GoesByCloc
 ghost use Rattle.omega_rounds.specs.Stages.{AllHaveBegun, IsInRunOf};
 ghost use Rattle.omega_sim.specs.Agenda.{IsFirst};
 
-use crate::steps::{RoundStep, Stepped};
+use crate::steps::RoundStep;
 use crate::world::World;
 use omega_model::{NoMemory, Settings};
 use omega_sim::{Agenda, Timed, Times, last_time};
+use omega_workers::Stepped;
 
 /// Runs all rounds of a new world to their end by a virtual clock. When a round begins all schedulers
 /// that have work sync, and each decides for as long as the settings say for its first request and the

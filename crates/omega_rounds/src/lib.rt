@@ -8,30 +8,18 @@
 #![tactic(auto)]
 
 mod clock;
-mod course;
-mod crew;
-mod forked;
 mod kept;
-mod opening;
-mod planned;
-mod plans;
-mod player;
-mod remains;
-mod reopening;
 mod resume;
 mod steps;
 mod threads;
-mod together;
 mod turns;
-mod worker;
 mod world;
-mod worth;
 
 pub use clock::in_time;
 pub use kept::ResumeRefusal;
-pub use remains::Remains;
-pub use resume::resume_turns;
-pub use steps::{RoundStep, Stepped};
+pub use omega_workers::Stepped;
+pub use resume::{kept_lines_depart_once, resume_turns};
+pub use steps::RoundStep;
 pub use threads::on_threads;
 pub use turns::in_turns;
-pub use world::World;
+pub use world::{Remains, World};

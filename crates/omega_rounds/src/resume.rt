@@ -1,14 +1,15 @@
 //! A run in turns that goes on from the lines that are kept of it.
-ghost use Rattle.std.specs.Prelude.{◌≡◌, ◌≤◌, None, List, IfErr, IfOk, OnErr, OnOk, length};
+ghost use Rattle.std.specs.Prelude.{◌≡◌, ◌≤◌, ℕ, None, Some, List, IfErr, IfOk, OnErr, OnOk, length};
 ghost use Rattle.std.specs.Thread.{IsSync};
 ghost use Rattle.omega_keep.specs.Keeping.{Adds, Rose};
-ghost use Rattle.omega_keep.specs.Resumed.{refused_for};
+ghost use Rattle.omega_keep.specs.Resumed.{AreWholeRounds, refused_for};
 ghost use Rattle.omega_model.specs.Lawful.{Lawful};
 ghost use Rattle.omega_model.specs.Turns.{InTurns};
 ghost use Rattle.omega_model.specs.declared.entries.Entry.{Entry};
 ghost use Rattle.omega_model.specs.declared.rows.TraceTables.{TraceTables};
+ghost use Rattle.omega_model.specs.declared.settings.Settings.{Settings};
 ghost use Rattle.omega_rounds.specs.Playing.{PlaysRound};
-ghost use Rattle.omega_rounds.specs.Resuming.{BeginsAgreed, IsPastEnd, LeavesKept, RefusesKept, StopsRound, TakesRound, lines_behind};
+ghost use Rattle.omega_rounds.specs.Resuming.{AreRoundsInTurns, BeginsAgreed, DepartAt, IsPastEnd, LeavesKept, RefusesKept, StopsRound, TakesRound, lines_behind};
 ghost use Rattle.omega_rounds.specs.Stages.{AllHaveBegun, IsInRunOf};
 ghost use Rattle.omega_rounds.specs.declared.kept.ResumeRefusal.TheVariants.{KeepFault};
 
@@ -25,10 +26,11 @@ use std::thread::Threads;
 /// Nothing is appended before all kept lines are compared.
 ///
 /// The history is the only one that is lawful and in turns for the settings and the trace. `BadKept` names the
-/// first kept line that isn't the history's line at its place; or, where each is, the number of kept lines, if
-/// they end in the middle of a round. `KeepFault` comes only where the keeper's count rose. After a refusal the
-/// world is gone, and the keeper's list has grown by the lines of whole rounds, by none where the kept lines
-/// are refused. Costs what `in_turns` costs and the lines of all entries, of which those of one round are held
+/// first kept line that isn't the run's line at its place; or, where each is, the number of kept lines, if
+/// they end in the middle of a round: the first rounds, played in turns, have a history that shows it, also
+/// where the whole run would never fit into memory. `KeepFault` comes only where the keeper's count rose and
+/// the kept lines are those of first rounds. After a refusal the world is gone, and the keeper's list has grown
+/// by the lines of whole rounds, by none where the kept lines are refused. Costs what `in_turns` costs and the lines of all entries, of which those of one round are held
 /// in memory.
 pub fn resume_turns<R: Threads + Sync, P: Keeper>(
     rt: &R,
@@ -70,6 +72,23 @@ pub fn resume_turns<R: Threads + Sync, P: Keeper>(
         world = next;
     }
 }
+
+/// Kept lines depart from the first rounds of a trace in turns at one place at most, and nowhere where they
+/// are those of first rounds. For the history of the whole run, where there is one, they are refused at just
+/// that place, and lines of first rounds are its first lines, up to the end of a round. Does nothing: the
+/// contract is the law.
+pub fn kept_lines_depart_once()
+    ensures once { (settings : Settings) (trace : TraceTables) (kept : List (List ℕ)) (one other : ℕ)
+        → DepartAt settings trace kept one → DepartAt settings trace kept other → one ≡ other }
+    ensures never { (settings : Settings) (trace : TraceTables) (kept : List (List ℕ)) (place : ℕ)
+        → AreRoundsInTurns settings trace kept → ¬ DepartAt settings trace kept place }
+    ensures whole { (settings : Settings) (trace : TraceTables) (kept : List (List ℕ)) (place : ℕ)
+        (history : List Entry) → DepartAt settings trace kept place
+        → Lawful settings trace history → InTurns history → refused_for history kept ≡ Some place }
+    ensures front { (settings : Settings) (trace : TraceTables) (lines : List (List ℕ))
+        (history : List Entry) → AreRoundsInTurns settings trace lines
+        → Lawful settings trace history → InTurns history → AreWholeRounds history lines }
+{}
 
 /// Plays the round that is under way to its end and takes it. The history before it has so many entries.
 fn resume_round<R: Threads + Sync, P: Keeper>(

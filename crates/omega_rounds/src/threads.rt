@@ -8,22 +8,25 @@ ghost use Rattle.omega_model.specs.Ranges.{IsInRange};
 ghost use Rattle.omega_model.specs.declared.rows.TraceTables.{TraceTables};
 ghost use Rattle.omega_shared.specs.Passes.{new_pass};
 ghost use Rattle.omega_rounds.specs.Closed.{AreBack, Suffice};
-ghost use Rattle.omega_rounds.specs.Workers.{IsWorker};
+ghost use Rattle.omega_workers.specs.Workers.{IsWorker};
 ghost use Rattle.omega_rounds.specs.Stages.{AllHaveBegun, IsInRunOf};
-ghost use Rattle.omega_rounds.specs.declared.worker.Worker.{Worker};
+ghost use Rattle.omega_workers.specs.declared.worker.Worker.{Worker};
 
-use crate::player::Player;
+mod player;
+mod together;
+
 use crate::steps::RoundStep;
-use crate::together::play_all;
-use crate::worker::Worker;
 use crate::world::World;
 use omega_cell::Cell;
 use omega_io::Gate;
 use omega_model::{NoMemory, Settings};
 use omega_shared::{Pass, SharedCell};
+use omega_workers::Worker;
+use player::Player;
 use std::alloc::Global;
 use std::sync::Wait;
 use std::thread::Threads;
+use together::play_all;
 
 /// Runs all rounds of a new world to their end, with a thread for each scheduler that has work. In each
 /// round they share the cell: each makes attempts until it has no work, and an attempt is a look at the cell,

@@ -18,24 +18,27 @@ ghost use Rattle.omega_rounds.specs.Closed.{IsDone};
 ghost use Rattle.omega_rounds.specs.Going.{GoesOn, IsOverAtLast, LeavesToDo, MovesOn, OpensRound, ReachesRound, StepsOn};
 ghost use Rattle.omega_rounds.specs.InTime.{HasWishesLeft, IsNoneWithoutWork, rows_time};
 ghost use Rattle.omega_rounds.specs.Keeping.{IsNew, LawfulWorld};
-ghost use Rattle.omega_rounds.specs.Opening.{AreNewWorkers};
+ghost use Rattle.omega_rounds.specs.Beginning.{AreNewWorkers};
 ghost use Rattle.omega_rounds.specs.Playing.{IsAtStart, IsInSomeRun, SyncsTurn};
 ghost use Rattle.omega_rounds.specs.Stages.{AllHaveBegun, IsInRunOf, first_stage, rows_begun, world_of};
 
-use crate::course::Course;
-use crate::crew::Crew;
-use crate::forked::{PieceIndexes, sync_pieces};
-use crate::opening::{Demand, first_at_work, open_round};
-use crate::remains::Remains;
-use crate::reopening::reopen_since;
-use crate::steps::{RoundStep, Stepped};
-use crate::worker::Worker;
-use crate::worth::are_worth_threads;
+mod beginning;
+mod course;
+mod crew;
+mod remains;
+
+use crate::steps::RoundStep;
+use beginning::open_and_begin;
+use course::Course;
+use crew::Crew;
 use omega_cell::{Cell, Effects};
 use omega_feed::{EventRounds, Events, OpenJobs, WaitingTasks, Wanted};
 use omega_io::Gate;
 use omega_model::{Entries, Entry, NoMemory, Settings, TraceTables};
+use omega_opening::{Demand, reopen_since};
 use omega_sim::greatest_time;
+use omega_workers::{PieceIndexes, Stepped, Worker, are_worth_threads, first_at_work, sync_pieces};
+pub use remains::Remains;
 use std::alloc::Global;
 use std::marker::Model;
 use std::sync::Wait;
@@ -57,9 +60,10 @@ pub struct World {
 impl Model for World {
     ghost use Rattle.std.specs.Prelude.{map};
     ghost use Rattle.std.specs.List.{sum_by};
-    ghost use Rattle.omega_rounds.specs.Forked.{AreAllIndexesOf};
-    ghost use Rattle.omega_rounds.specs.Keeping.{IsWorld, WereQuiet};
-    ghost use Rattle.omega_rounds.specs.Workers.{synced_of, to_do_of};
+    ghost use Rattle.omega_workers.specs.Forked.{AreAllIndexesOf};
+    ghost use Rattle.omega_rounds.specs.Keeping.{IsWorld};
+    ghost use Rattle.omega_opening.specs.Reopening.{WereQuiet};
+    ghost use Rattle.omega_workers.specs.Workers.{synced_of, to_do_of};
     ghost use Rattle.omega_rounds.specs.Stages.{WorldState, stage_of};
 
     ghost Value = { WorldState };
@@ -140,7 +144,8 @@ impl World {
         ensures sound { (n : ℕ) → Sound (state (take n self.history)) }
     {
         let World { crew, .. } = self;
-        crew.into_cell().into_history()
+        let (cell, _workers, _indexes) = crew.into_parts();
+        cell.into_history()
     }
 
     /// The history itself, what its entries did, and what is left of the world.
@@ -208,7 +213,7 @@ impl World {
             unreachable!()
         };
         let number = round.number;
-        open_round(
+        open_and_begin(
             alloc,
             round,
             &mut course.demand,

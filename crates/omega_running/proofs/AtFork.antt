@@ -1,6 +1,6 @@
 -- What is known of a tree in order, once it is a fork: d are its tasks, l and r those at the sides of x.
 use Rattle.std.proofs.Common.{◌≡◌, ℕ, ◌<◌, ◌≤◌, Bool, true, false, ◌&&◌, not, eqb, ltb, List, [], ◌∷◌, ◌++◌, Option, Some, None, Box, refl, ap, sym, ◌∙◌, subst, append_assoc, arith, inl, inr}
-use Rattle.std.specs.List.{filter, find}
+use Rattle.std.specs.List.{filter, find, AllByRecursion as Each}
 use Rattle.std.specs.Option.{option_map, option_or, is_some}
 use Rattle.std.specs.declared.alloc.Global.{Global}
 use Rattle.std.proofs.lemmas.Bool.{ne_eqb, eq-eqb, ltb-true, and_parts, or_cases, or_from, and_left, and_right, not-false}
@@ -16,10 +16,12 @@ use Rattle.omega_running.specs.declared.orders.Order.TheVariants.{ByKey, ByMachi
 use Rattle.omega_running.specs.declared.nodes.Tree.{Tree}
 use Rattle.omega_running.specs.declared.nodes.Node.{Node}
 use Rattle.omega_running.specs.declared.nodes.Tree.TheVariants.{Fork}
-use Rattle.omega_running.specs.Order.{Each, IsInOrder, precedes, lead, put_in, taken_out, at_place, in_share, led_by, is_before, is_behind}
+use Rattle.omega_running.specs.Order.{IsInOrder, precedes, lead, put_in, taken_out, at_place, in_share, led_by, is_before, is_behind}
 use Rattle.omega_running.specs.Others.{stays_in_share, other_in_share}
 use Rattle.omega_running.specs.Tree.{IsTallied, tasks_of}
-use Rattle.omega_running.proofs.Lists.{each_map, each_append, find_left, find_right, filter_left, filter_right}
+use Rattle.omega_running.proofs.Lists.{find_left, find_right, filter_left, filter_right}
+use Rattle.omega_model.proofs.Lists.{each_map}
+use Rattle.omega_model.proofs.Lists.{each_append}
 use Rattle.omega_running.proofs.Strict.{sides, put_left, put_right, keep_left, keep_right, keep_here, look_left, look_right, look_here}
 use Rattle.omega_running.proofs.InOrder.{strict, lead_rises, place_of_key}
 use Rattle.omega_running.proofs.Lex.{lex_trans, lex_apart, lt_trans, trans_lt, lt_apart}

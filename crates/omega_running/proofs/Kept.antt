@@ -1,6 +1,6 @@
 -- What keeps the two lists of tasks the same when one is put in or taken out.
 use Rattle.std.proofs.Common.{◌≡◌, ℕ, Bool, true, false, ◌||◌, not, cond, eqb, List, [], ◌∷◌, ◌++◌, Some, None, refl, ap, ap₂, sym, ◌∙◌, ◌⊎◌, inl, inr}
-use Rattle.std.specs.List.{filter, find}
+use Rattle.std.specs.List.{filter, find, AllByRecursion as Each}
 use Rattle.std.specs.Option.{option_map}
 use Rattle.std.proofs.lemmas.Bool.{both_ways, eqb-true, eq-eqb, and_parts, or_cases, or_left, or_right, or_from, not_from_true, not_from_false, not-false, not-true, false_from_ne_true}
 use Rattle.std.proofs.lemmas.List.Elements.{filter-append, filter_agree}
@@ -11,68 +11,20 @@ use Rattle.omega_model.specs.declared.cells.TaskKey.{TaskKey}
 use Rattle.omega_model.specs.declared.cells.Task.{Task}
 use Rattle.omega_running.specs.declared.orders.Order.{Order}
 use Rattle.omega_running.specs.declared.orders.Order.TheVariants.{ByKey, ByMachine}
-use Rattle.omega_running.specs.Order.{Each, Rises, IsInOrder, precedes, is_apart, at_place, put_in, taken_out}
-use Rattle.omega_running.proofs.Lists.{each_map, each_both, each_append, each_of, filter_every, filter_none, filter_where}
+use Rattle.omega_running.specs.Order.{Rises, IsInOrder, precedes, is_apart, at_place, put_in, taken_out}
+use Rattle.omega_model.proofs.Lists.{each_map, each_both, each_append, each_of, filter_every, filter_none, filter_where, each_absent, each_filter, each_found, each_passes, each_where, filter_turned, find_filtered}
 use Rattle.omega_running.proofs.Strict.{IsStrict, trans, put, apart}
 use Rattle.omega_running.proofs.InOrder.{strict, key_apart, apart-sym, apart_by_machine, place_of_key}
 use Rattle.omega_running.proofs.Lex.{lex_same}
 use Rattle.omega_model.proofs.InOrder.{key_asym}
 
--- a search that finds nothing
-absent_each : {X : Type 0} (p : X → Bool) (xs : List X) → find p xs ≡ None → Each (λ x. p x ≡ false) xs
-absent_each p [] e = tt
-absent_each p (x ∷ xs) e = go (p x) refl (absent_each p xs) e where
-  go : (b : Bool) → p x ≡ b → (find p xs ≡ None → Each (λ y. p y ≡ false) xs) → cond b (Some x) (find p xs) ≡ None → Each (λ y. p y ≡ false) (x ∷ xs)
-  go true h rest e = absurd (cc)
-  go false h rest e = (h, rest e)
-
--- what a filter leaves
-pub each_passes : {X : Type 0} (p : X → Bool) (xs : List X) → Each (λ x. p x ≡ true) (filter p xs)
-each_passes p [] = tt
-each_passes p (x ∷ xs) = go (p x) refl (each_passes p xs) where
-  go : (b : Bool) → p x ≡ b → Each (λ y. p y ≡ true) (filter p xs) → Each (λ y. p y ≡ true) (cond b (x ∷ filter p xs) (filter p xs))
-  go true h rest = (h, rest)
-  go false h rest = rest
-
-pub each_filter : {X : Type 0} (P : X → Type 0) (p : X → Bool) (xs : List X) → Each P xs → Each P (filter p xs)
-each_filter P p [] e = tt
-each_filter P p (x ∷ xs) e = go (p x) (each_filter P p xs e.1) where
-  go : (b : Bool) → Each P (filter p xs) → Each P (cond b (x ∷ filter p xs) (filter p xs))
-  go true rest = (e.0, rest)
-  go false rest = rest
-
--- what holds of all that pass holds of all where they pass
-pub each_where : {X : Type 0} (P : X → Type 0) (p : X → Bool) (xs : List X) → Each P (filter p xs) → Each (λ x. p x ≡ true → P x) xs
-each_where P p [] e = tt
-each_where P p (x ∷ xs) e = go (p x) refl (each_where P p xs) e where
-  go : (b : Bool) → p x ≡ b → (Each P (filter p xs) → Each (λ y. p y ≡ true → P y) xs) → Each P (cond b (x ∷ filter p xs) (filter p xs)) → Each (λ y. p y ≡ true → P y) (x ∷ xs)
-  go true h rest e = (λ _. e.0, rest e.1)
-  go false h rest e = (λ q. absurd (both_ways _ h q), rest e)
-
-pub filter_both : {X : Type 0} (p q : X → Bool) (xs : List X) → filter p (filter q xs) ≡ filter q (filter p xs)
-filter_both p q [] = refl
-filter_both p q (x ∷ xs) = go (p x) (q x) refl refl (filter_both p q xs) where
-  go : (a b : Bool) → p x ≡ a → q x ≡ b → filter p (filter q xs) ≡ filter q (filter p xs) → filter p (cond b (x ∷ filter q xs) (filter q xs)) ≡ filter q (cond a (x ∷ filter p xs) (filter p xs))
-  go true true h k rest = rw (h, k) (ap (λ ys. x ∷ ys) rest)
-  go true false h k rest = rw k rest
-  go false true h k rest = rw h rest
-  go false false h k rest = rest
-
 -- two lists of which the same passes s, filtered by tests that agree there
 filter_same : {X : Type 0} (s p q : X → Bool) (xs ys : List X) → ((x : X) → s x ≡ true → p x ≡ q x) → filter s xs ≡ filter s ys → filter s (filter p xs) ≡ filter s (filter q ys)
 filter_same s p q xs ys f e =
-    filter_both s p xs
+    filter_turned s p xs
     ∙ filter_where p q (filter s xs) (each_map (λ x. s x ≡ true) (λ x. p x ≡ q x) f (filter s xs) (each_passes s xs))
     ∙ ap (filter q) e
-    ∙ filter_both q s ys
-
-pub find_in_filter : {X : Type 0} (q s : X → Bool) (xs : List X) → ((x : X) → q x ≡ true → s x ≡ true) → find q (filter s xs) ≡ find q xs
-find_in_filter q s [] f = refl
-find_in_filter q s (x ∷ xs) f = go (s x) (q x) refl refl (find_in_filter q s xs f) where
-  go : (a b : Bool) → s x ≡ a → q x ≡ b → find q (filter s xs) ≡ find q xs → find q (cond a (x ∷ filter s xs) (filter s xs)) ≡ cond b (Some x) (find q xs)
-  go true b h k rest = rw (k, rest) refl
-  go false true h k rest = absurd (both_ways _ h (f x k))
-  go false false h k rest = rest
+    ∙ filter_turned q s ys
 
 -- the first that passes a test is the first that passes a narrower one, if it passes that too
 find_narrow : {X : Type 0} (p q : X → Bool) (xs : List X) (y : X) → find p xs ≡ Some y → ((x : X) → q x ≡ true → p x ≡ true) → q y ≡ true → find q xs ≡ Some y
@@ -83,13 +35,6 @@ find_narrow p q (x ∷ xs) y e f h = go (p x) (q x) refl refl (λ d. find_narrow
   go true false i k rest e = let same : x ≡ y = cc in absurd (both_ways (q x) k (rw same h))
   go false true i k rest e = absurd (both_ways _ i (f x k))
   go false false i k rest e = rest e
-
-each_found : {X : Type 0} (P : X → Type 0) (p : X → Bool) (xs : List X) (y : X) → Each P xs → find p xs ≡ Some y → P y × (p y ≡ true)
-each_found P p [] y a e = absurd (cc)
-each_found P p (x ∷ xs) y a e = go (p x) refl (each_found P p xs y a.1) e where
-  go : (b : Bool) → p x ≡ b → (find p xs ≡ Some y → P y × (p y ≡ true)) → cond b (Some x) (find p xs) ≡ Some y → P y × (p y ≡ true)
-  go true h rest e = let same : x ≡ y = cc in rw (← same) (a.0, h)
-  go false h rest e = rest e
 
 -- lists in order
 pub rises_filter : {X : Type 0} (lt : X → X → Bool) (p : X → Bool) (xs : List X) → Rises lt xs → Rises lt (filter p xs)
@@ -140,7 +85,7 @@ same_machine machine a b p q = lex_same a.machine b.machine (key_lt a.key b.key)
 pub apart_absent : (t : Task) (tasks : List Task) → task_at tasks t.key ≡ None → Each (λ y. is_apart ByKey t y ≡ true) tasks
 apart_absent t tasks e =
     each_map (λ y. same_key y.key t.key ≡ false) (λ y. is_apart ByKey t y ≡ true)
-    (λ y h. apart-sym ByKey t y ∙ key_apart y.key t.key ∙ not_from_false _ h) tasks (absent_each (λ y. same_key y.key t.key) tasks e)
+    (λ y h. apart-sym ByKey t y ∙ key_apart y.key t.key ∙ not_from_false _ h) tasks (each_absent (λ y. same_key y.key t.key) tasks e)
 
 key_flip : (t y : Task) → is_apart ByKey t y ≡ true → not (precedes ByKey t y) ≡ precedes ByKey y t
 key_flip t y h =
@@ -214,9 +159,9 @@ there_too t by_key by_machine e same =
     let here : Task → Bool = λ y. not (is_apart ByMachine t y) in
     let on : (y : Task) → here y ≡ true → is_on t.machine y ≡ true = λ y q. (place_parts t y q).0 in
     let own = irreflexive (precedes ByMachine) (strict ByMachine) t in
-    sym (find_in_filter here (is_on t.machine) by_machine on)
+    sym (find_filtered here (is_on t.machine) on by_machine)
     ∙ ap (find here) same
-    ∙ find_in_filter here (is_on t.machine) by_key on
+    ∙ find_filtered here (is_on t.machine) on by_key
     ∙ find_narrow (λ y. same_key y.key t.key) here by_key t e (λ y q. (place_parts t y q).1) (not_from_false _ (or_from _ _ own own))
 
 -- a key that is there
@@ -260,7 +205,7 @@ elsewhere t (x ∷ xs) u e = go (same_key x.key t.key) refl (elsewhere t xs u.1)
 -- a filter that passes none of what is taken out
 skip_taken : (order : Order) (s : Task → Bool) (t : Task) (xs : List Task) → Each (λ y. s y ≡ true → is_apart order t y ≡ true) xs → filter s (taken_out order t xs) ≡ filter s xs
 skip_taken order s t xs a =
-    filter_both s (is_apart order t) xs
+    filter_turned s (is_apart order t) xs
     ∙ filter_every (is_apart order t) (filter s xs) (each_both (λ y. s y ≡ true) (λ y. s y ≡ true → is_apart order t y ≡ true) (λ y. is_apart order t y ≡ true) (λ y h f. f h) (filter s xs) (each_passes s xs) (each_filter (λ y. s y ≡ true → is_apart order t y ≡ true) s xs a))
 
 pub taken_same : (t : Task) (by_key by_machine : List Task) → IsInOrder ByKey by_key → task_at by_key t.key ≡ Some t → ((machine : ℕ) → filter (is_on machine) by_machine ≡ filter (is_on machine) by_key) → (machine : ℕ) → filter (is_on machine) (taken_out ByMachine t by_machine) ≡ filter (is_on machine) (taken_out ByKey t by_key)
@@ -278,10 +223,10 @@ pub other_same : (by_key by_machine : List Task) → ((machine : ℕ) → filter
 other_same by_key by_machine same job machine gone =
     let test = stays_of_job job machine gone in
     let on : (task : Task) → test task ≡ true → is_on machine task ≡ true = λ task h. (and_parts _ _ (and_parts _ _ h).1).0 in
-    ap (option_map (λ (task : Task). task.key)) (sym (find_in_filter test (is_on machine) by_machine on) ∙ ap (find test) (same machine) ∙ find_in_filter test (is_on machine) by_key on)
+    ap (option_map (λ (task : Task). task.key)) (sym (find_filtered test (is_on machine) on by_machine) ∙ ap (find test) (same machine) ∙ find_filtered test (is_on machine) on by_key)
 
 -- a key that is absent
 pub without_absent : (key : TaskKey) (tasks : List Task) → task_at tasks key ≡ None → without (key ∷ []) tasks ≡ tasks
 without_absent key tasks e =
     filter_every (λ y. not (is_among y.key (key ∷ []))) tasks
-    (each_map (λ y. same_key y.key key ≡ false) (λ y. not (is_among y.key (key ∷ [])) ≡ true) (λ y h. not_from_false _ (or_from _ _ h refl)) tasks (absent_each (λ y. same_key y.key key) tasks e))
+    (each_map (λ y. same_key y.key key ≡ false) (λ y. not (is_among y.key (key ∷ [])) ≡ true) (λ y h. not_from_false _ (or_from _ _ h refl)) tasks (each_absent (λ y. same_key y.key key) tasks e))

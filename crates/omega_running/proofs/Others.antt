@@ -1,6 +1,6 @@
 -- Other tasks of a job on a machine: the first in one of the machine's trees, and the first in several of them.
 use Rattle.std.proofs.Common.{◌≡◌, ℕ, ◌+◌, ◌%◌, Bool, true, false, ◌&&◌, cond, ltb, List, [], ◌∷◌, Option, Some, None, refl, ap, sym, ◌∙◌, arith, inl, inr}
-use Rattle.std.specs.List.{filter, find}
+use Rattle.std.specs.List.{filter, find, AllByRecursion as Each}
 use Rattle.std.specs.Option.{option_map}
 use Rattle.std.proofs.lemmas.Bool.{eqb-true, eq-eqb, ne_eqb, lt-ltb, le-ltb, and_parts, and_right, cases_order}
 use Rattle.omega_model.specs.Cell.{is_on}
@@ -10,11 +10,11 @@ use Rattle.omega_model.specs.declared.cells.TaskKey.{TaskKey}
 use Rattle.omega_model.specs.declared.cells.Task.{Task}
 use Rattle.omega_model.proofs.InOrder.{key_asym}
 use Rattle.omega_running.specs.declared.orders.Order.TheVariants.{ByMachine}
-use Rattle.omega_running.specs.Order.{Each, IsInOrder, precedes, in_share, share, spread_machine}
+use Rattle.omega_running.specs.Order.{IsInOrder, precedes, in_share, share, spread_machine}
 use Rattle.omega_running.specs.Forest.{is_at}
 use Rattle.omega_running.specs.Others.{first_of, other_in_share, stays_in_share}
-use Rattle.omega_running.proofs.Lists.{each_map, each_of, find_none}
-use Rattle.omega_running.proofs.Kept.{find_in_filter, same_machine}
+use Rattle.omega_model.proofs.Lists.{each_map, each_of, find_none, find_filtered}
+use Rattle.omega_running.proofs.Kept.{same_machine}
 
 -- a task that stays is on the machine
 stays_here : (job machine : ℕ) (gone : List TaskKey) (y : Task) → stays_of_job job machine gone y ≡ true → is_on machine y ≡ true
@@ -24,7 +24,7 @@ stays_here job machine gone y e = (and_parts _ _ (and_parts _ _ e).1).0
 pub other_in_tree : (trees number job machine : ℕ) (gone : List TaskKey) (xs : List Task) → other_in_share number (filter (is_at ByMachine trees (spread_machine machine number % trees)) xs) job machine gone ≡ other_in_share number xs job machine gone
 other_in_tree trees number job machine gone xs =
     ap (option_map (λ (y : Task). y.key))
-    (find_in_filter (stays_in_share number job machine gone) (is_at ByMachine trees (spread_machine machine number % trees)) xs (λ y q. placed y (and_parts (in_share number y) (stays_of_job job machine gone y) q))) where
+    (find_filtered (stays_in_share number job machine gone) (is_at ByMachine trees (spread_machine machine number % trees)) (λ y q. placed y (and_parts (in_share number y) (stays_of_job job machine gone y) q)) xs) where
       placed : (y : Task) → (in_share number y ≡ true) × (stays_of_job job machine gone y ≡ true) → is_at ByMachine trees (spread_machine machine number % trees) y ≡ true
       placed y parts =
           let here : y.machine ≡ machine = eqb-true y.machine machine (stays_here job machine gone y parts.1) in

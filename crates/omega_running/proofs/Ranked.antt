@@ -1,7 +1,7 @@
 -- A list of tasks that is sorted by rank is the list of its tasks in order of eviction, and one that is sorted by key
 -- that of its tasks in order of key.
 use Rattle.std.proofs.Common.{◌≡◌, ℕ, ◌+◌, suc, Bool, true, false, ◌||◌, ◌&&◌, not, cond, eqb, ltb, List, [], ◌∷◌, get_or, refl, ap₂, sym, subst, ◌∙◌, ◌⊎◌, inl, inr, arith}
-use Rattle.std.specs.List.{AllByRecursion, IsDistinct}
+use Rattle.std.specs.List.{IsDistinct, AllByRecursion as Each}
 use Rattle.std.specs.List.Sorted.{IsPermutation, IsSortedBy}
 use Rattle.std.specs.Ordering.{is_lt, ordering_then, nat_cmp}
 use Rattle.std.specs.declared.cmp.Ordering.TheVariants.{Less, Equal, Greater}
@@ -13,8 +13,8 @@ use Rattle.omega_model.specs.Keys.{key_lt, same_key}
 use Rattle.omega_model.specs.Cell.{goes_before, put_by_rank, by_rank}
 use Rattle.omega_model.specs.declared.cells.Task.{Task}
 use Rattle.omega_running.specs.declared.orders.Order.TheVariants.{ByKey}
-use Rattle.omega_running.specs.Order.{Each, Rises, IsInOrder, precedes}
-use Rattle.omega_running.proofs.Lists.{each_map, each_both, each_of_all, all_of_each}
+use Rattle.omega_running.specs.Order.{Rises, IsInOrder, precedes}
+use Rattle.omega_model.proofs.Lists.{each_map, each_both, each_of_all, all_of_each}
 use Rattle.omega_running.proofs.Strict.{IsStrict, trans, apart}
 use Rattle.omega_running.proofs.Lex.{lex_apart}
 use Rattle.omega_running.proofs.InOrder.{rank_strict, strict, key_apart, apart_by_key}
@@ -129,7 +129,7 @@ distinct (x ∷ xs) u =
     IsDistinct-cons (λ a b. same_key a.key b.key) x xs
     (by_recursion (λ y. same_key x.key y.key ≡ false) xs (each_map (λ y. key_lt x.key y.key ≡ true) (λ y. same_key x.key y.key ≡ false) (keys_differ x) xs u.0)) (distinct xs u.1)
   where
-    by_recursion : (P : Task → Type 0) (ys : List Task) → Each P ys → AllByRecursion P ys
+    by_recursion : (P : Task → Type 0) (ys : List Task) → Each P ys → Each P ys
     by_recursion P [] e = tt
     by_recursion P (y ∷ ys) e = (e.0, by_recursion P ys e.1)
 
@@ -141,7 +141,7 @@ rises_strictly lt differ (x ∷ xs) u d =
     (λ y p q. elim (or_cases (lt x y) (lt y x) (differ x y q)) [ inl e ↦ e | inr e ↦ absurd (both_ways _ (not-true _ p) e) ]) xs u.0 head in
     (later, rises_strictly lt differ xs u.1 (IsDistinct-tail (λ a b. same_key a.key b.key) x xs d))
   where
-    from_recursion : (P : Task → Type 0) (ys : List Task) → AllByRecursion P ys → Each P ys
+    from_recursion : (P : Task → Type 0) (ys : List Task) → Each P ys → Each P ys
     from_recursion P [] e = tt
     from_recursion P (y ∷ ys) e = (e.0, from_recursion P ys e.1)
 

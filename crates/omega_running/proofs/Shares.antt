@@ -10,9 +10,8 @@ use Rattle.omega_model.specs.Need.{minus, nothing, plus}
 use Rattle.omega_model.specs.declared.cells.Need.{Need}
 use Rattle.omega_model.specs.declared.cells.Task.{Task}
 use Rattle.omega_model.proofs.Amounts.{need_is, plus-assoc, plus-swap, total-cons, share as taken}
-use Rattle.omega_model.proofs.Lists.{by_answer}
+use Rattle.omega_model.proofs.Lists.{by_answer, each_of, filter_every, filter_none}
 use Rattle.omega_running.specs.Order.{in_share, share}
-use Rattle.omega_running.proofs.Lists.{each_of, filter_every, filter_none}
 use Rattle.omega_running.proofs.Staying.{left_by_both}
 
 -- whether a task stands in a tree of a lower number than this

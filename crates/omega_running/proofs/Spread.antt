@@ -1,6 +1,6 @@
 -- Tasks that are spread over several trees: what is put into one tree, taken out of it or looked up in it is so for all of them.
 use Rattle.std.proofs.Common.{◌≡◌, ℕ, ◌<◌, ◌≤◌, ◌+◌, ◌%◌, Bool, true, false, ◌||◌, not, eqb, cond, List, [], ◌∷◌, ◌++◌, length, length-append, length-set, map, get_or, set, zero, suc, nat_le, nat_lt, Some, refl, ap, ap₂, sym, subst, ◌∙◌, arith}
-use Rattle.std.specs.List.{All, filter}
+use Rattle.std.specs.List.{All, filter, AllByRecursion as Each}
 use Rattle.std.proofs.lemmas.Bool.{both_ways, eqb-true, false_from_ne_true, leb-true, ltb-true, eq-eqb, ne_eqb, and_parts, or_left, or_from, not_from_true, not-false, not-true}
 use Rattle.std.proofs.lemmas.List.{length-map, get_or-map, get_or-set_same, get_or-set_other, map-set}
 use Rattle.std.proofs.lemmas.List.Elements.{All-get_or, All-set, filter-append}
@@ -14,14 +14,13 @@ use Rattle.omega_running.specs.declared.orders.Order.{Order}
 use Rattle.omega_running.specs.declared.orders.Order.TheVariants.{ByKey, ByMachine}
 use Rattle.omega_running.specs.declared.nodes.Tree.{Tree}
 use Rattle.omega_running.specs.declared.nodes.Tree.TheVariants.{Leaf}
-use Rattle.omega_running.specs.Order.{Each, IsInOrder, precedes, is_apart, is_extra, lead, share, share_of, in_share, spread, spread_key, spread_machine, put_in, taken_out, at_place, led_by}
+use Rattle.omega_running.specs.Order.{IsInOrder, precedes, is_apart, is_extra, lead, share, share_of, in_share, spread, spread_key, spread_machine, put_in, taken_out, at_place, led_by}
 use Rattle.omega_running.specs.Tree.{IsTallied, tasks_of}
 use Rattle.omega_running.specs.Forest.{AreTrees, is_at, with_tree, gathered, IsSpread}
-use Rattle.omega_model.proofs.Lists.{by_answer}
-use Rattle.omega_running.proofs.Lists.{all_of_each, each_map, each_both, each_append, filter_none, filter_every}
+use Rattle.omega_model.proofs.Lists.{by_answer, all_of_each, each_map, each_both, each_append, filter_none, filter_every, each_passes, each_filter, filter_turned, find_filtered}
 use Rattle.omega_running.proofs.Strict.{trans, ahead}
 use Rattle.omega_running.proofs.InOrder.{strict, apart_by_key, apart_by_machine}
-use Rattle.omega_running.proofs.Kept.{each_passes, each_filter, filter_both, irreflexive, rises_filter, rises_put, skip_put, find_in_filter}
+use Rattle.omega_running.proofs.Kept.{irreflexive, rises_filter, rises_put, skip_put}
 
 -- a key's tree is named by what stands in the key
 key_spread : (a b : TaskKey) → a.job ≡ b.job → a.index ≡ b.index → spread_key a ≡ spread_key b
@@ -65,7 +64,7 @@ each_with_tree P order (t ∷ l) xs e f = each_put P order t (with_tree order l 
 filter_put : (order : Order) (s : Task → Bool) (t : Task) (xs : List Task) → s t ≡ true → filter s (put_in order t xs) ≡ put_in order t (filter s xs)
 filter_put order s t xs h =
     filter-append s (filter (λ y. not (precedes order t y)) xs) (t ∷ filter (λ y. precedes order t y) xs)
-    ∙ rw (h, filter_both s (λ y. not (precedes order t y)) xs, filter_both s (λ y. precedes order t y) xs) refl
+    ∙ rw (h, filter_turned s (λ y. not (precedes order t y)) xs, filter_turned s (λ y. precedes order t y) xs) refl
 
 first_put : (order : Order) (t : Task) (xs : List Task) → Each (λ y. precedes order t y ≡ true) xs → put_in order t xs ≡ t ∷ xs
 first_put order t xs e =
@@ -257,8 +256,8 @@ taken_from_tree order trees ls t s less =
     } in
     changed order trees ls i (taken_out order t (get_or ls i [])) (taken_out order t all) s less now
     (rises_filter (precedes order) (is_apart order t) all old.rises)
-    (filter_both (is_at order trees i) (is_apart order t) all ∙ ap (filter (is_apart order t)) (all_trees order trees ls s i))
-    (λ j differs. filter_both (is_at order trees j) (is_apart order t) all
+    (filter_turned (is_at order trees i) (is_apart order t) all ∙ ap (filter (is_apart order t)) (all_trees order trees ls s i))
+    (λ j differs. filter_turned (is_at order trees j) (is_apart order t) all
     ∙ filter_every (is_apart order t) (filter (is_at order trees j) all)
     (each_map (λ y. is_at order trees j y ≡ true) (λ y. is_apart order t y ≡ true)
     (λ y q. let e : spread order y % trees ≡ j = eqb-true _ _ q in other_tree order trees i t y (here order trees t) (ne_eqb _ _ (λ d. differs (sym e ∙ d))))
@@ -269,8 +268,8 @@ place_in_tree : (order : Order) (trees : ℕ) (ls : List (List Task)) (t : Task)
 place_in_tree order trees ls t s =
     let i : ℕ = spread order t % trees in
     ap (at_place order t) (sym (all_trees order trees ls s i))
-    ∙ find_in_filter (λ y. not (is_apart order t y)) (is_at order trees i) (gathered order ls)
-    (λ y q. eq-eqb _ _ (ap (λ n. n % trees) (sym (spread_same order t y (not-true _ q)))))
+    ∙ find_filtered (λ y. not (is_apart order t y)) (is_at order trees i)
+    (λ y q. eq-eqb _ _ (ap (λ n. n % trees) (sym (spread_same order t y (not-true _ q))))) (gathered order ls)
 
 -- one task less
 pub length-taken : (order : Order) (t : Task) (xs : List Task) (y : Task) → IsInOrder order xs → at_place order t xs ≡ Some y → length (taken_out order t xs) + 1 ≡ length xs
@@ -348,9 +347,9 @@ same_place order trees number x e = eq-eqb _ _ (ap (λ n. n % trees) e)
 
 pub found_in_tree : (trees : ℕ) (key : TaskKey) (xs : List Task) → task_at (filter (is_at ByKey trees (spread_key key % trees)) xs) key ≡ task_at xs key
 found_in_tree trees key xs =
-    find_in_filter (λ y. same_key y.key key) (is_at ByKey trees (spread_key key % trees)) xs
+    find_filtered (λ y. same_key y.key key) (is_at ByKey trees (spread_key key % trees))
     (λ y q. let parts = and_parts (eqb y.key.job key.job) (eqb y.key.index key.index) q in
-    same_place ByKey trees (spread_key key) y (key_spread y.key key (eqb-true _ _ parts.0) (eqb-true _ _ parts.1)))
+    same_place ByKey trees (spread_key key) y (key_spread y.key key (eqb-true _ _ parts.0) (eqb-true _ _ parts.1))) xs
 
 pub led_in_tree : (trees machine number : ℕ) (xs : List Task)
     → filter (in_share number) (led_by ByMachine machine (filter (is_at ByMachine trees (spread_machine machine number % trees)) xs))
@@ -360,8 +359,8 @@ led_in_tree trees machine number xs =
     let there : Task → Bool = is_at ByMachine trees (spread_machine machine number % trees) in
     let all = filter led xs in
     let own = filter (in_share number) all in
-    ap (filter (in_share number)) (filter_both led there xs)
-    ∙ filter_both (in_share number) there all
+    ap (filter (in_share number)) (filter_turned led there xs)
+    ∙ filter_turned (in_share number) there all
     ∙ filter_every there own
     (each_both (λ y. in_share number y ≡ true) (λ y. led y ≡ true) (λ y. there y ≡ true)
     (λ y p q. same_place ByMachine trees (spread_machine machine number) y (machine_spread y machine number (eqb-true _ _ q) (eqb-true _ _ p)))
@@ -377,7 +376,7 @@ extra_spread job x e =
 
 pub extras_here : (trees job : ℕ) (xs : List Task) → filter (is_extra_of job) (filter (is_at ByKey trees (job % trees)) xs) ≡ filter (is_extra_of job) xs
 extras_here trees job xs =
-    filter_both (is_extra_of job) (is_at ByKey trees (job % trees)) xs
+    filter_turned (is_extra_of job) (is_at ByKey trees (job % trees)) xs
     ∙ filter_every (is_at ByKey trees (job % trees)) (filter (is_extra_of job) xs)
     (each_map (λ y. is_extra_of job y ≡ true) (λ y. is_at ByKey trees (job % trees) y ≡ true) (λ y q. same_place ByKey trees job y (extra_spread job y q)) (filter (is_extra_of job) xs) (each_passes (is_extra_of job) xs))
 

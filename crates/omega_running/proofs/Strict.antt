@@ -1,10 +1,15 @@
 -- Lists that rise in a strict order, round an element in their middle.
 use Rattle.std.proofs.Common.{◌≡◌, Bool, true, false, ◌||◌, not, List, [], ◌∷◌, ◌++◌, refl, ap, sym, ◌∙◌, append_assoc, append-nil, Some, inl, inr}
-use Rattle.std.specs.List.{filter, find}
+use Rattle.std.specs.List.{filter, find, AllByRecursion as Each}
 use Rattle.std.proofs.lemmas.Bool.{both_ways, or_cases, or_left, or_right, or_from, not_from_true, not_from_false, false_from_ne_true}
 use Rattle.std.proofs.lemmas.List.Elements.{filter-append}
-use Rattle.omega_running.specs.Order.{Each, Rises}
-use Rattle.omega_running.proofs.Lists.{each_front, each_back, each_map, filter_none, filter_every, find_left, find_right}
+use Rattle.omega_running.specs.Order.{Rises}
+use Rattle.omega_running.proofs.Lists.{find_left, find_right}
+use Rattle.omega_model.proofs.Lists.{each_front}
+use Rattle.omega_model.proofs.Lists.{each_back}
+use Rattle.omega_model.proofs.Lists.{each_map}
+use Rattle.omega_model.proofs.Lists.{filter_none}
+use Rattle.omega_model.proofs.Lists.{filter_every}
 
 -- an order in which each element stands on one side at least of two that differ
 pub record IsStrict {X : Type 0} (lt : X → X → Bool) : Type 0 where

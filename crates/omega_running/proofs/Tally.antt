@@ -1,6 +1,6 @@
 -- How many extra tasks there are: those that a tree has, as a remainder by 2 ^ 32, and those of one job.
 use Rattle.std.proofs.Common.{◌≡◌, ℕ, ◌+◌, ◌-◌, ◌%◌, ◌^◌, ◌<◌, ◌≤◌, Bool, true, false, List, [], ◌∷◌, ◌++◌, length, refl, ap, ap₂, sym, ◌∙◌, arith, inl, inr}
-use Rattle.std.specs.List.{filter}
+use Rattle.std.specs.List.{filter, AllByRecursion as Each}
 use mir.Val.{bool_byte}
 use Rattle.std.proofs.Math.Nat.{mod-add-mod}
 use Rattle.std.proofs.lemmas.Bool.{both_ways, eq-eqb, false_from_ne_true, le-leb, le-ltb, leb-true, lt-leb, lt-ltb, ltb-true, ne_eqb, cases_order}
@@ -8,11 +8,11 @@ use Rattle.std.proofs.lemmas.List.{length-append}
 use Rattle.std.proofs.lemmas.List.Elements.{filter-append}
 use Rattle.omega_model.specs.ExtraTasks.{is_extra_of}
 use Rattle.omega_model.specs.declared.cells.Task.{Task}
-use Rattle.omega_model.proofs.Lists.{by_answer}
+use Rattle.omega_model.proofs.Lists.{by_answer, each_map, filter_every}
 use Rattle.omega_running.specs.declared.orders.Order.TheVariants.{ByKey}
-use Rattle.omega_running.specs.Order.{Each, is_extra, is_until, precedes}
+use Rattle.omega_running.specs.Order.{is_extra, is_until, precedes}
 use Rattle.omega_running.specs.Tree.{extras_in}
-use Rattle.omega_running.proofs.Lists.{each_map, filter_every, filter_left}
+use Rattle.omega_running.proofs.Lists.{filter_left}
 use Rattle.omega_running.proofs.InOrder.{lead_rises}
 use Rattle.omega_running.proofs.AtFork.{AtFork}
 

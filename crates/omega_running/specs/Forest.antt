@@ -1,10 +1,10 @@
 -- What several trees of tasks in one order stand for.
 use Rattle.std.specs.Prelude.{◌≡◌, ◌+◌, ◌%◌, ◌==◌, ℕ, Bool, true, List, [], ◌∷◌, length, map}
-use Rattle.std.specs.List.{All}
+use Rattle.std.specs.List.{All, AllByRecursion as Each}
 use Rattle.omega_model.specs.declared.cells.Task.{Task}
 use Rattle.omega_running.specs.declared.orders.Order.{Order}
 use Rattle.omega_running.specs.declared.nodes.Tree.{Tree}
-use Rattle.omega_running.specs.Order.{Each, IsInOrder, put_in, spread}
+use Rattle.omega_running.specs.Order.{IsInOrder, put_in, spread}
 use Rattle.omega_running.specs.Tree.{IsTallied, tasks_of}
 
 -- tasks in an order, and among how many trees they are spread

@@ -1,6 +1,6 @@
 -- The two orders in which the running tasks are kept.
 use Rattle.std.specs.Prelude.{◌≡◌, ℕ, ◌+◌, ◌*◌, ◌%◌, ◌^◌, Bool, true, List, [], ◌∷◌, ◌++◌, Option, ◌==◌, ◌&&◌, ◌||◌, not, nat_le, nat_lt, if◌then◌else◌}
-use Rattle.std.specs.List.{filter, find}
+use Rattle.std.specs.List.{filter, find, AllByRecursion as Each}
 use Rattle.omega_model.specs.Keys.{key_lt}
 use Rattle.omega_model.specs.ExtraTasks.{first_extra}
 use Rattle.omega_model.specs.declared.cells.Task.{Task}
@@ -75,11 +75,6 @@ is_before task machine job = nat_lt task.machine machine || (task.machine == mac
 -- whether a task stands behind all of a job's tasks on a machine, by machine and key
 abbrev pub is_behind : Task → ℕ → ℕ → Bool
 is_behind task machine job = nat_lt machine task.machine || (machine == task.machine && nat_lt job task.key.job)
-
--- each element has P
-abbrev pub Each : {X : Type 0} → (X → Type 0) → List X → Type 0
-Each P [] = Unit {0}
-Each P (x ∷ xs) = P x × Each P xs
 
 -- each element stands before all later ones
 abbrev pub Rises : {X : Type 0} → (X → X → Bool) → List X → Type 0

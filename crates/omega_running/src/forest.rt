@@ -1,6 +1,6 @@
 //! Several balanced trees of tasks in one of the two orders.
 ghost use Rattle.std.specs.Prelude.{◌≡◌, ◌<◌, ◌≤◌, ◌%◌, ◌^◌, ◌++◌, [], true, length, option_map, IfOk, IfSome, OnOk, None};
-ghost use Rattle.std.specs.List.{filter};
+ghost use Rattle.std.specs.List.{filter, AllByRecursion as Each};
 ghost use Rattle.omega_model.specs.Cell.{task_at};
 ghost use Rattle.omega_model.specs.Jobs.{other_of_job};
 ghost use Rattle.omega_model.specs.Need.{minus};
@@ -11,7 +11,7 @@ ghost use Rattle.omega_running.specs.Others.{first_of, other_in_share};
 ghost use Rattle.omega_running.specs.Staying.{staying_on, staying_of_share};
 ghost use Rattle.omega_model.specs.ExtraTasks.{is_extra_of};
 ghost use Rattle.std.specs.List.Sorted.{IsPermutation};
-ghost use Rattle.omega_running.specs.Order.{Each, IsInOrder, at_place, in_share, is_apart, led_by, put_in, taken_out};
+ghost use Rattle.omega_running.specs.Order.{IsInOrder, at_place, in_share, is_apart, led_by, put_in, taken_out};
 ghost use Rattle.omega_running.specs.Tree.{IsTallied, tasks_of};
 
 use crate::nodes::{Node, Tree};

@@ -2,18 +2,19 @@
 use Rattle.std.proofs.Common.{◌≡◌, ◌≤◌, ◌+◌, ℕ, List, length, map, take, sym, ap, ◌∙◌, arith, length-append}
 use Rattle.std.specs.Prelude.{Result, Ok, Err, IfOk}
 use Rattle.std.proofs.lemmas.List.{take-append-le}
-use Rattle.omega_copy.specs.Copies.{CopyOf, CopyState}
 use Rattle.omega_lock.specs.Lists.{StartsWith}
+use Rattle.omega_model.specs.Cell.{Cell}
+use Rattle.omega_model.specs.Copy.{StandsFor}
 use Rattle.omega_model.specs.State.{state}
 use Rattle.omega_model.specs.Touches.{seq, copied_seqs}
 use Rattle.omega_model.specs.declared.claims.Claim.{Claim}
 use Rattle.omega_model.specs.declared.entries.Entry.{Entry}
 
 -- a copy that stands for a history stands for it when it has gone on
-pub stands_later : (copy : CopyState) (old new : List Entry) → CopyOf copy old → StartsWith new old → CopyOf copy new
-stands_later copy old new stands on =
+pub stands_later : (cell : Cell) (seqs : ℕ → ℕ) (seen : ℕ) (old new : List Entry) → StandsFor cell seqs seen old → StartsWith new old → StandsFor cell seqs seen new
+stands_later cell seqs seen old new stands on =
     let within = stands.within in
-    let first : take copy.seen new ≡ take copy.seen old = ap (take copy.seen) on.1 ∙ take-append-le copy.seen old on.0 within in
+    let first : take seen new ≡ take seen old = ap (take seen) on.1 ∙ take-append-le seen old on.0 within in
     let longer : length new ≡ length old + length on.0 = ap length on.1 ∙ length-append old on.0 in record {
       within = omega (arith, within, longer);
       machines = stands.machines ∙ ap (λ h. (state h).machines) (sym first);

@@ -1,3 +1,4 @@
+pub mod Copies
 pub mod Commits
 pub mod Held
 pub mod Passes

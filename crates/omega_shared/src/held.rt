@@ -6,8 +6,8 @@ ghost use Rattle.omega_shared.specs.Held.{held_history};
 ghost use Rattle.omega_shared.specs.Planned.{IsPlannedOn};
 ghost use Rattle.omega_shared.specs.Turns.{Answers};
 
-use crate::planned::Planned;
-use crate::view::View;
+use crate::planned::PlannedTxn;
+use crate::view::CellView;
 use omega_cell::Cell;
 use omega_lock::Counted;
 use omega_model::{Entry, NoMemory, Reply, Txn};
@@ -60,7 +60,7 @@ impl Held {
     }
 
     /// Gives out a view of the cell, where there is memory for that. The history stays.
-    pub fn lend(self, alloc: Global) -> (Held, Result<View, NoMemory>)
+    pub fn lend(self, alloc: Global) -> (Held, Result<CellView, NoMemory>)
         ensures history { held_history result.0 ≡ held_history self }
         ensures view { IfOk result.1 (λ view. view ≡ held_history self) }
     {
@@ -72,7 +72,7 @@ impl Held {
             Held::Lent(lent) => lent,
         };
         let view = match Arc::try_clone(&lent) {
-            Ok(cell) => Ok(View { cell }),
+            Ok(cell) => Ok(CellView { cell }),
             Err(_) => Err(NoMemory),
         };
         (Held::Lent(lent), view)
@@ -84,7 +84,7 @@ impl Held {
         self,
         alloc: Global,
         scheduler: u32,
-        planned: Planned,
+        planned: PlannedTxn,
     ) -> (Held, Result<Reply, (Txn, NoMemory)>)
         requires { IsPlannedOn (held_history self) planned }
         ensures history { OnOk result.1 (held_history result.0

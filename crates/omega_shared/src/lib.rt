@@ -1,9 +1,9 @@
 //! A cell that schedulers share on threads of their own.
 //!
 //! The cell lies behind a lock whose turns go by tickets. Each scheduler has a pass. With it a
-//! scheduler syncs, which takes its private copy up to the history, or looks at the cell itself, in a
+//! scheduler syncs, which takes a copy of its own up to the history, or looks at the cell itself, in a
 //! view that all who look share; and it commits a transaction that it has planned on its copy or its
-//! view. The program's schedulers look; private copies are for other callers.
+//! view. The program's schedulers look; copies, of whatever kind, are for other callers.
 //!
 //! Each sync, look and commit takes one turn. Under the turn a sync only puts together what is new, and
 //! the copy takes it in after the turn; a look only gives out the view; a commit waits a while for those
@@ -18,12 +18,14 @@
 //! Nothing is said of time: not who comes first, nor that a turn comes soon, nor that it comes.
 #![tactic(auto)]
 
+mod copies;
 mod held;
 mod pass;
 mod planned;
 mod shared;
 mod view;
 
+pub use copies::CellCopy;
 pub use pass::Pass;
 pub use shared::SharedCell;
-pub use view::View;
+pub use view::CellView;

@@ -11,13 +11,13 @@ use std::alloc::Global;
 /// A transaction that was planned on a copy or a view: after how many entries, and for each claim the sequence
 /// number that its machine had there, if there was memory for these.
 #[derive(Drop)]
-pub(crate) struct Planned {
+pub(crate) struct PlannedTxn {
     pub txn: Txn,
     pub seen: u64,
     pub seqs: Result<Vec<u64>, NoMemory>,
 }
 
-impl Planned {
+impl PlannedTxn {
     /// Makes room on a cell for the commit of the transaction, as a scheduler's, and appends it. Where memory
     /// runs out the history stays, and the transaction is handed back.
     pub fn commit(
@@ -33,7 +33,7 @@ impl Planned {
         ensures err { OnErr result (cell.new.history ≡ cell.old.history) }
         ensures back { IfErr result (λ refused. refused.0 ≡ self.txn) }
     {
-        let Planned { txn, seen, seqs } = self;
+        let PlannedTxn { txn, seen, seqs } = self;
         let Ok(seqs) = seqs else {
             return Err((txn, NoMemory));
         };

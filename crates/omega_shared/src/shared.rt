@@ -1,24 +1,22 @@
 //! The shared cell.
-ghost use Rattle.std.specs.Prelude.{◌≡◌, ℕ, ◌<◌, ◌≤◌, ◌+◌, ◌^◌, List, [], Some, true, length, drop, map, All, Any, IfOk, IfErr, OnOk, OnErr, slice_get, vec_capacity};
-ghost use Rattle.omega_copy.specs.Copies.{CopyOf};
+ghost use Rattle.std.specs.Prelude.{◌≡◌, ℕ, ◌<◌, ◌≤◌, ◌^◌, [], Some, true, length, drop, map, All, Any, IfOk, IfErr, OnOk, OnErr, slice_get, vec_capacity};
 ghost use Rattle.omega_lock.specs.Lists.{StartsWith};
 ghost use Rattle.omega_model.specs.Applying.{EachMayApply};
-ghost use Rattle.omega_model.specs.Copy.{Carries};
+ghost use Rattle.omega_model.specs.Copy.{Carries, StandsFor};
 ghost use Rattle.omega_model.specs.Touches.{copied_seqs};
 ghost use Rattle.omega_model.specs.Work.{is_commit_of};
-ghost use Rattle.omega_model.specs.declared.entries.Entry.{Entry};
 ghost use Rattle.omega_shared.specs.Commits.{GoesOnWithout, commits_since};
 ghost use Rattle.omega_shared.specs.Held.{held_history};
 ghost use Rattle.omega_shared.specs.Passes.{IsPassSeat, new_pass, new_passes, pass_at};
 ghost use Rattle.omega_shared.specs.Planned.{IsPlannedOn};
 ghost use Rattle.omega_shared.specs.Turns.{Commits, SpendsTurn};
 
+use crate::copies::CellCopy;
 use crate::held::Held;
 use crate::pass::Pass;
-use crate::planned::Planned;
-use crate::view::View;
+use crate::planned::PlannedTxn;
+use crate::view::CellView;
 use omega_cell::Cell;
-use omega_copy::PrivateCopy;
 use omega_lock::{Lock, Seat};
 use omega_model::{Delta, NoMemory, Reply, Txn};
 use std::alloc::Global;
@@ -90,21 +88,21 @@ impl SharedCell {
     ///
     /// Under the turn only what is new is put together, which costs the entries that the copy hasn't
     /// seen and the machines that they touch, with their tasks.
-    pub fn sync<R: Wait>(
+    pub fn sync<R: Wait, C: CellCopy>(
         &self,
         rt: &R,
         alloc: Global,
         pass: &mut Pass,
-        copy: &mut PrivateCopy,
+        copy: &mut C,
     ) -> Result<(), NoMemory>
         requires of { pass.old.of ≡ self.now.of }
         requires left { 0 < pass.old.turns }
-        requires stands { CopyOf copy.old pass.old.seen }
+        requires stands { StandsFor (C.cell_of copy.old) (C.seq_of copy.old) (C.seen_of copy.old) pass.old.seen }
         ensures turn { SpendsTurn pass.old pass.new }
         ensures seen { GoesOnWithout pass.old.number pass.old.seen pass.new.seen }
         ensures own { pass.new.own ≡ pass.old.own }
-        ensures stands { CopyOf copy.new pass.new.seen }
-        ensures all { OnOk result (copy.new.seen ≡ length pass.new.seen) }
+        ensures stands { StandsFor (C.cell_of copy.new) (C.seq_of copy.new) (C.seen_of copy.new) pass.new.seen }
+        ensures all { OnOk result (C.seen_of copy.new ≡ length pass.new.seen) }
         ensures err { OnErr result (copy.new ≡ copy.old) }
     {
         let delta = self.news(rt, alloc, &mut pass.seat, copy.seen())?;
@@ -119,35 +117,40 @@ impl SharedCell {
     ///
     /// Costs the claims, whose machines are sorted, and their victims; where one still looks after that while,
     /// a copy of the cell.
-    pub fn commit<R: Wait>(
+    pub fn commit<R: Wait, C: CellCopy>(
         &self,
         rt: &R,
         alloc: Global,
         pass: &mut Pass,
-        copy: &PrivateCopy,
+        copy: &C,
         txn: Txn,
     ) -> Result<Reply, (Txn, NoMemory)>
         requires of { pass.old.of ≡ self.now.of }
         requires left { 0 < pass.old.turns }
-        requires stands { CopyOf copy.now pass.old.seen }
+        requires stands { StandsFor (C.cell_of copy.now) (C.seq_of copy.now) (C.seen_of copy.now) pass.old.seen }
         requires few { length txn.claims < 2 ^ 32 }
         ensures turn { SpendsTurn pass.old pass.new }
-        ensures commits { IfOk result (Commits pass.old pass.new copy.now.seen txn) }
+        ensures commits { IfOk result (Commits pass.old pass.new (C.seen_of copy.now) txn) }
         ensures seen { OnErr result (GoesOnWithout pass.old.number pass.old.seen pass.new.seen) }
         ensures own { OnErr result (pass.new.own ≡ pass.old.own) }
-        ensures stands { CopyOf copy.now pass.new.seen }
+        ensures stands { StandsFor (C.cell_of copy.now) (C.seq_of copy.now) (C.seen_of copy.now) pass.new.seen }
         ensures back { IfErr result (λ refused. refused.0 ≡ txn) }
     {
         let seqs = copy.seqs(alloc, txn.claims.as_slice());
         let seen = copy.seen();
-        self.append(rt, alloc, &mut pass.seat, Planned { txn, seen, seqs })
+        self.append(rt, alloc, &mut pass.seat, PlannedTxn { txn, seen, seqs })
     }
 
     /// Takes a turn, and looks at the cell as the turn finds it. The pass has then seen its history. Where
     /// memory runs out the turn is spent, and the pass may have seen more. May wait.
     ///
     /// Costs the same however long the history is and however many machines there are.
-    pub fn look<R: Wait>(&self, rt: &R, alloc: Global, pass: &mut Pass) -> Result<View, NoMemory>
+    pub fn look<R: Wait>(
+        &self,
+        rt: &R,
+        alloc: Global,
+        pass: &mut Pass,
+    ) -> Result<CellView, NoMemory>
         requires of { pass.old.of ≡ self.now.of }
         requires left { 0 < pass.old.turns }
         ensures turn { SpendsTurn pass.old pass.new }
@@ -182,7 +185,7 @@ impl SharedCell {
         ensures back { IfErr result (λ refused. refused.0 ≡ txn) }
     {
         let seqs = Ok(seqs);
-        self.append(rt, alloc, &mut pass.seat, Planned { txn, seen, seqs })
+        self.append(rt, alloc, &mut pass.seat, PlannedTxn { txn, seen, seqs })
     }
 
     /// Takes all passes back, and hands out the cell. Its history goes on from what each pass had seen,
@@ -247,7 +250,12 @@ impl SharedCell {
     }
 
     /// Takes a turn, and gives out a view of the cell.
-    fn lend<R: Wait>(&self, rt: &R, alloc: Global, seat: &mut Seat<Held>) -> Result<View, NoMemory>
+    fn lend<R: Wait>(
+        &self,
+        rt: &R,
+        alloc: Global,
+        seat: &mut Seat<Held>,
+    ) -> Result<CellView, NoMemory>
         requires of { seat.old.of ≡ self.now.of }
         requires left { 0 < seat.old.turns }
         requires pass { IsPassSeat seat.old }
@@ -269,7 +277,7 @@ impl SharedCell {
         rt: &R,
         alloc: Global,
         seat: &mut Seat<Held>,
-        planned: Planned,
+        planned: PlannedTxn,
     ) -> Result<Reply, (Txn, NoMemory)>
         requires of { seat.old.of ≡ self.now.of }
         requires left { 0 < seat.old.turns }

@@ -11,11 +11,11 @@ use std::sync::Arc;
 ///
 /// A contract sees the history.
 #[derive(Drop)]
-pub struct View {
+pub struct CellView {
     pub(crate) cell: Arc<Cell, Global>,
 }
 
-impl Model for View {
+impl Model for CellView {
     ghost use Rattle.std.specs.Prelude.{List};
     ghost use Rattle.std.specs.Arc.{arc_value};
     ghost use Rattle.omega_model.specs.declared.entries.Entry.{Entry};
@@ -25,7 +25,7 @@ impl Model for View {
     ghost view = { λ v. (arc_value v.cell).history };
 }
 
-impl View {
+impl CellView {
     /// The cell.
     pub fn cell(&self) -> &Cell
         ensures { result.now.history ≡ self.now }

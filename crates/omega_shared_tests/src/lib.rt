@@ -4,4 +4,6 @@
 #![tactic(auto)]
 
 #[cfg(test)]
+mod planning;
+#[cfg(test)]
 mod shared;

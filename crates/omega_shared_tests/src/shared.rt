@@ -89,7 +89,7 @@ fn both<T: Drop>(mut items: Vec<T>) -> Option<(T, T)>
 }
 
 /// A cell that is shared by two callers with so many turns each, and their passes, if there is memory.
-fn share_by_two<R: Wait>(
+pub(crate) fn share_by_two<R: Wait>(
     rt: &R,
     alloc: Global,
     cell: Cell,
@@ -142,7 +142,7 @@ fn two_passes_on_threads(rt: HostRuntime) {
 }
 
 /// What each task needs that is claimed. Machine 1 has room for ten of them.
-const SPEC: Spec = Spec {
+pub(crate) const SPEC: Spec = Spec {
     need: Need {
         cpu: 1,
         mem: 1,
@@ -153,7 +153,7 @@ const SPEC: Spec = Spec {
 };
 
 /// A cell with machine 1, which is up, as its only entry, if there is memory.
-fn one_machine(alloc: Global) -> Option<Cell>
+pub(crate) fn one_machine(alloc: Global) -> Option<Cell>
     ensures { IfSome result (λ cell. length cell.history ≡ 1) }
 {
     let mut cell = Cell::new(alloc);

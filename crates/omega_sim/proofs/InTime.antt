@@ -10,7 +10,7 @@ use Rattle.std.proofs.lemmas.List.Elements.{All-cons, All-head, All-tail}
 use Rattle.omega_feed.proofs.Cutting.{rounds_have}
 use Rattle.omega_laws.specs.Simulated.{HasTimes, TimedRounds, base_of, greatest_time, round_times, rows_place, until_after}
 use Rattle.omega_laws.specs.VirtualTime.{Timed, clock_of, tick}
-use Rattle.omega_model.proofs.Lists.{each_append, each_filter, each_map}
+use Rattle.omega_model.proofs.Lists.{each_append, each_filter, each_map, each_of_all}
 use Rattle.omega_model.specs.Feed.{each_once, feed, is_of_round, round_at, round_number, rounds, time_of}
 use Rattle.omega_model.specs.Lawful.{RoundOf, opened, rows_of}
 use Rattle.omega_model.specs.Ranges.{IsInRange}
@@ -37,10 +37,6 @@ whole_round = 402000200000000000000000
 -- all rows are earlier
 abbrev latest : ℕ
 latest = 18446744073709551616
-
-each_from : {X : Type 0} (P : X → Type 0) (xs : List X) → All P xs → Each P xs
-each_from P [] all = tt
-each_from P (x ∷ xs) all = (All-head P x xs all, each_from P xs (All-tail P x xs all))
 
 within_more : (less more : ℕ) (times : List Timed) → less ≤ more → Each (IsWithin less) times → Each (IsWithin more) times
 within_more less more times further each =
@@ -139,7 +135,7 @@ module _ (settings : Settings) (trace : TraceTables) (range : IsInRange settings
   rounds_early window [] = tt
   rounds_early window (number ∷ numbers) = (
     greatest_early (filter (is_of_round window number) (feed trace)) 0 (omega arith)
-        (each_filter (λ row. time_of row < latest) (is_of_round window number) (feed trace) (each_from (λ row. time_of row < latest) (feed trace) bounds.times)),
+        (each_filter (λ row. time_of row < latest) (is_of_round window number) (feed trace) (each_of_all (λ row. time_of row < latest) (feed trace) bounds.times)),
     rounds_early window numbers,
   )
 

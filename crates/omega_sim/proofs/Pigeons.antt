@@ -4,6 +4,7 @@ use Rattle.std.specs.List.{filter, IsDistinct, AllByRecursion as Each}
 use Rattle.std.proofs.lemmas.Bool.{both_ways, eqb-true, eq-eqb, ne_eqb}
 use Rattle.std.proofs.lemmas.Map.Keys.{IsDistinct-cons, IsDistinct-head, IsDistinct-tail}
 use Rattle.omega_model.specs.Feed.{each_once}
+use Rattle.omega_feed.proofs.Cutting.{each_of_once}
 use Rattle.omega_model.proofs.Lists.{by_answer, each_both, each_filter, each_map, each_passes}
 use Rattle.omega_sim.proofs.Asked.{IsIn}
 
@@ -65,10 +66,6 @@ once_distinct (n ∷ ns) =
     (filter (λ m. not (m == n)) (each_once ns)) (each_passes (λ m. not (m == n)) (each_once ns)))
     (distinct_filter (λ m. not (m == n)) (each_once ns) (once_distinct ns))
 
-once_each : (P : ℕ → Type 0) (ns : List ℕ) → Each P ns → Each P (each_once ns)
-once_each P [] all = tt
-once_each P (n ∷ ns) all = (all.0, each_filter P (λ m. not (m == n)) (each_once ns) (once_each P ns all.1))
-
 -- numbers that all stand in a list are, each once, no more than that list has
 pub once_fits : (ns ms : List ℕ) → Each (IsIn ms) ns → length (each_once ns) ≤ length ms
-once_fits ns ms all = pigeons (each_once ns) ms (once_distinct ns) (once_each (IsIn ms) ns all)
+once_fits ns ms all = pigeons (each_once ns) ms (once_distinct ns) (each_of_once (IsIn ms) ns all)

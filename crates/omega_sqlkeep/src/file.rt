@@ -1,81 +1,105 @@
 //! A keeper over a file.
 ghost use Rattle.std.specs.Prelude.{◌≡◌, None, Some, OnErr};
 
-use crate::database::{append_to, load_from};
+use crate::database::{Expected, append_to, look_into};
+use crate::paths::{Paths, cannot_open, looks_begun};
 use crate::refusals::{counted, refusal_of};
 use omega_keep::{KeepRefusal, Keeper, Lines};
 use omega_model::{NoMemory, Seq, Text};
-use sqlite::{Connection, Error, ErrorCode, File, FileStore};
-use std::io::ErrorKind;
-use std::{fs, io};
+use sqlite::{Connection, Error, File, FileStore};
 
 /// A connection to a file and its log.
 type FileConnection = Connection<FileStore<File>>;
 
-/// A file that is open.
+/// A file that is open, with its paths once they are noted.
 struct OpenFile {
     connection: FileConnection,
+    paths: Option<Paths>,
 }
 
 // It is written out, so that nobody else proves how each part of a connection to a file is dropped.
 impl Drop for OpenFile {
     fn drop(self) {
-        let OpenFile { connection: _ } = self;
+        let OpenFile {
+            connection: _,
+            paths: _,
+        } = self;
     }
 }
 
 impl OpenFile {
-    /// Hands the connection back.
-    fn into_connection(self) -> FileConnection {
-        let OpenFile { connection } = self;
-        connection
+    /// Hands the connection and the paths back.
+    fn into_parts(self) -> (FileConnection, Option<Paths>) {
+        let OpenFile { connection, paths } = self;
+        (connection, paths)
     }
-}
 
-const CANNOT_OPEN: Error = Error::SqliteFailure(ErrorCode::CannotOpen);
+    /// Notes the paths of the file, if that isn't done yet.
+    fn note_paths(&mut self, rt: &HostRuntime, path: &str) -> Result<(), Error> {
+        if self.paths.is_none() {
+            self.paths = Some(Paths::of(rt, path)?);
+        }
+        Ok(())
+    }
 
-/// Whether nothing stands at a path.
-fn is_missing(rt: &HostRuntime, path: &str) -> bool {
-    match fs::metadata(rt, path) {
-        Ok(_) => false,
-        Err(error) => error.kind() == ErrorKind::NotFound,
+    /// Refuses to go on where another file stands at the path now, or another log beside it, or none.
+    fn see_in_place(&self, rt: &HostRuntime) -> Result<(), Error> {
+        match &self.paths {
+            Some(paths) if paths.are_as_noted(rt)? => Ok(()),
+            _ => Err(cannot_open()),
+        }
+    }
+
+    /// Puts lines at the end, and sees before and after that the file stands where it did.
+    fn append(&mut self, rt: &HostRuntime, lines: &Lines, expected: Expected) -> Result<(), Error> {
+        self.see_in_place(rt)?;
+        append_to(&mut self.connection, lines, expected)?;
+        self.see_in_place(rt)
     }
 }
 
 /// The file at a path, opened where it isn't yet.
 fn open_at(rt: &HostRuntime, path: &str) -> Result<OpenFile, Error> {
     let connection = Connection::open(rt, path)?;
-    Ok(OpenFile { connection })
+    Ok(OpenFile {
+        connection,
+        paths: None,
+    })
 }
 
-/// The connection to the file at a path, which is opened where it isn't yet.
+/// The file at a path, which is opened where it isn't yet, with its paths noted.
 fn opened<'c>(
     rt: &HostRuntime,
     path: &str,
     file: &'c mut Option<OpenFile>,
-) -> Result<&'c mut FileConnection, Error> {
+) -> Result<&'c mut OpenFile, Error> {
     if file.is_none() {
+        looks_begun(rt, path)?;
         *file = Some(open_at(rt, path)?);
     }
     match file {
-        Some(open) => Ok(&mut open.connection),
-        None => Err(CANNOT_OPEN),
+        Some(open) => {
+            open.note_paths(rt, path)?;
+            Ok(open)
+        }
+        None => Err(cannot_open()),
     }
 }
 
-/// The lines of the file at a path. A file that isn't there has none, and isn't made.
+/// The lines of the file at a path, where it has the table. Nothing is written, and a file that isn't there isn't
+/// made.
 fn load_at(
     rt: &HostRuntime,
     path: &Option<Text>,
     file: &mut Option<OpenFile>,
-) -> Result<Lines, Error> {
+) -> Result<Option<Lines>, Error> {
     let Some(path) = path else {
-        return Err(CANNOT_OPEN);
+        return Err(cannot_open());
     };
-    if file.is_none() && is_missing(rt, path.as_str()) {
-        return Ok(Seq::new(rt.alloc()));
+    if file.is_none() && !looks_begun(rt, path.as_str())? {
+        return Ok(None);
     }
-    load_from(rt.alloc(), opened(rt, path.as_str(), file)?)
+    look_into(rt.alloc(), &mut opened(rt, path.as_str(), file)?.connection)
 }
 
 /// Puts lines at the end of the file at a path, which is made where it isn't there.
@@ -84,32 +108,23 @@ fn append_at(
     path: &Option<Text>,
     file: &mut Option<OpenFile>,
     lines: &Lines,
+    expected: Expected,
 ) -> Result<(), Error> {
     let Some(path) = path else {
-        return Err(CANNOT_OPEN);
+        return Err(cannot_open());
     };
-    append_to(opened(rt, path.as_str(), file)?, lines)
-}
-
-/// A log of fewer bytes than this has no page, so that nothing is lost with it.
-const SHORT_LOG: u64 = 512;
-
-/// Removes the log of the file at a path where it has no page.
-fn remove_log(rt: &HostRuntime, path: &str) -> io::Result<()> {
-    let real = fs::canonicalize(rt, path)?;
-    let log = format!(in rt.alloc(); "{}-wal", real.as_str())?;
-    if fs::metadata(rt, log.as_str())?.len() < SHORT_LOG {
-        fs::remove_file(rt, log.as_str())?;
-    }
-    Ok(())
+    opened(rt, path.as_str(), file)?.append(rt, lines, expected)
 }
 
 /// Copies the log into the file and removes it, while nobody else can have the file. A log that can't be
 /// removed stays.
-fn close_at(rt: &HostRuntime, path: &str, file: OpenFile) -> Result<(), Error> {
-    match file.into_connection().close_files() {
+fn close_open(rt: &HostRuntime, file: OpenFile) -> Result<(), Error> {
+    let (connection, paths) = file.into_parts();
+    match connection.close_files() {
         Ok(files) => {
-            let _ = remove_log(rt, path);
+            if let Some(paths) = paths {
+                let _ = paths.remove_log(rt);
+            }
             drop(files);
             Ok(())
         }
@@ -122,19 +137,26 @@ fn close_at(rt: &HostRuntime, path: &str, file: OpenFile) -> Result<(), Error> {
 
 /// A keeper of the lines in the table `kept` of the database in a file.
 ///
-/// The file is opened at the first load or append after `enter`, and works as a `SqlKeeper` over it from
-/// then on. No other connection, and no other program, can have it open meanwhile. A load where no file
-/// stands answers no lines and makes no file; the first append makes it. Beside the file stands its log,
-/// whose name ends in `-wal`: until `close` the newest lines may be in it alone. Another `enter` lets go of
-/// the file that was open, without `close`.
+/// The file is opened at the first load or append after `enter`, and no other connection, and no other
+/// program, can have it open from then on. A load writes nothing: where no file stands, or one of no bytes, it
+/// answers no lines and makes no file, and a database without the table has no lines. Where the last load has
+/// found no table the first append behind it goes only into a table without rows, so that of two runs that
+/// begin in the same file one is refused. An append makes the file and the table where they are absent.
+/// Whatever else has the table's name is refused, as `SqlKeeper` says, and so are a link to nothing and a file
+/// of one byte, unless a log beside it shows that it was begun here.
+///
+/// Beside the file stands its log, whose name ends in `-wal`: until `close` the newest lines may be in it
+/// alone. Before and after each append the file has to stand at its path, and the log beside it, as they did
+/// when the file was opened. Another `enter` lets go of the file that was open, without `close`.
 ///
 /// It tells the path and not its list. Whatever the database refuses is a fault, and so are a file that
-/// can't be opened and a load or an append before the first `enter`. Want of memory is no fault, and is
-/// answered as `NoMemory`. The count of faults stops at 2^64 - 1.
+/// can't be opened or isn't at its path any more, and a load or an append before the first `enter`. Want of
+/// memory is no fault, and is answered as `NoMemory`. The count of faults stops at 2^64 - 1.
 pub struct FileKeeper<'a> {
     rt: &'a HostRuntime,
     path: Option<Text>,
     file: Option<OpenFile>,
+    expected: Expected,
     faults: u64,
 }
 
@@ -145,6 +167,7 @@ impl<'a> Drop for FileKeeper<'a> {
             rt: _,
             path: _,
             file: _,
+            expected: _,
             faults: _,
         } = self;
     }
@@ -162,6 +185,7 @@ impl<'a> FileKeeper<'a> {
             rt,
             path: None,
             file: None,
+            expected: Expected::AnyRows,
             faults: 0,
         }
     }
@@ -174,16 +198,17 @@ impl<'a> FileKeeper<'a> {
     {
         let FileKeeper {
             rt,
-            path,
+            path: _,
             file,
+            expected: _,
             faults: _,
         } = self;
-        match (path, file) {
-            (Some(path), Some(open)) => match close_at(rt, path.as_str(), open) {
+        match file {
+            Some(open) => match close_open(rt, open) {
                 Ok(()) => Ok(()),
                 Err(error) => Err(refusal_of(error)),
             },
-            _ => Ok(()),
+            None => Ok(()),
         }
     }
 }
@@ -201,19 +226,30 @@ impl<'a> Keeper for FileKeeper<'a> {
         let path = String::from_str(self.rt.alloc(), path)?;
         self.path = Some(Text::of(path));
         self.file = None;
+        self.expected = Expected::AnyRows;
         Ok(())
     }
 
     fn load(&mut self) -> Result<Lines, KeepRefusal> {
         match load_at(self.rt, &self.path, &mut self.file) {
-            Ok(lines) => Ok(lines),
+            Ok(Some(lines)) => {
+                self.expected = Expected::AnyRows;
+                Ok(lines)
+            }
+            Ok(None) => {
+                self.expected = Expected::NoRows;
+                Ok(Seq::new(self.rt.alloc()))
+            }
             Err(error) => Err(counted(error, &mut self.faults)),
         }
     }
 
     fn append(&mut self, lines: &Lines) -> Result<(), KeepRefusal> {
-        match append_at(self.rt, &self.path, &mut self.file, lines) {
-            Ok(()) => Ok(()),
+        match append_at(self.rt, &self.path, &mut self.file, lines, self.expected) {
+            Ok(()) => {
+                self.expected = Expected::AnyRows;
+                Ok(())
+            }
             Err(error) => Err(counted(error, &mut self.faults)),
         }
     }

@@ -11,6 +11,7 @@
 
 mod database;
 mod file;
+mod paths;
 mod refusals;
 mod sql;
 

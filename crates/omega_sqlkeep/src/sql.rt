@@ -5,7 +5,7 @@ ghost use Rattle.sqlite.specs.Held.{state};
 ghost use Rattle.sqlite.specs.State.{HasCleanDisk};
 ghost use Rattle.omega_sqlkeep.specs.Appends.{IsAsBefore};
 
-use crate::database::{append_to, load_from};
+use crate::database::{Expected, append_to, load_from};
 use crate::refusals::counted;
 use omega_keep::{KeepRefusal, Keeper, Lines};
 use omega_model::NoMemory;
@@ -20,7 +20,9 @@ use std::alloc::Global;
 /// committed what it did before. It tells neither its list nor a path, and a path that is entered means
 /// nothing to it.
 ///
-/// Each statement that is refused, and each row that isn't bytes, is a fault. Want of memory is no
+/// Each statement that is refused, and each row that isn't bytes, is a fault. So is something else that has
+/// the table's name: a view, or a table without a column `line` or whose integer key isn't `place`. It is
+/// looked at in the schema, before any statement runs. Want of memory is no
 /// fault, and is answered as `NoMemory`. The count of faults stops at 2^64 - 1.
 pub struct SqlKeeper<S: Alter + Drop> {
     alloc: Global,
@@ -94,7 +96,7 @@ impl<S: Alter + Drop> Keeper for SqlKeeper<S> {
         ensures cause { IfErr result (FailsFor (faults_of self.old) (faults_of self.new)) }
         ensures later { faults_of self.old ≤ faults_of self.new }
     {
-        match append_to(&mut self.connection, lines) {
+        match append_to(&mut self.connection, lines, Expected::AnyRows) {
             Ok(()) => Ok(()),
             Err(error) => Err(counted(error, &mut self.faults)),
         }

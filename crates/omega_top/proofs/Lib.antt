@@ -10,6 +10,7 @@ pub mod Ordering
 pub mod Unread
 pub mod Timing
 pub mod Written
+pub mod Replayed
 pub mod GoneOn
 pub mod NewWorlds
 pub mod Runs

@@ -9,7 +9,7 @@ use Rattle.omega_top.specs.Answers.{IfReported, IsWritten, Writes}
 use Rattle.omega_top.specs.Reports.{IsReport}
 
 -- what holds, holds of a run that reached its report
-if_reported : (Fact : Type 0) (status : Status) → Fact → IfReported Fact status
+pub if_reported : (Fact : Type 0) (status : Status) → Fact → IfReported Fact status
 if_reported Fact Done fact = fact
 if_reported Fact WriteFault fact = fact
 if_reported Fact NoMemory fact = tt

@@ -7,5 +7,6 @@ pub mod Chosen
 pub mod Reads
 pub mod Unread
 pub mod SoundHistory
+pub mod Replayed
 pub mod Resumes
 pub mod Runs

@@ -1,10 +1,8 @@
 -- What a run answers that goes on from the lines that a keeper has, and what it leaves there.
 use Rattle.std.specs.Prelude.{◌≡◌, ◌⊎◌, ℕ, List, [], Option, Some, None, IfSome, option_map, ⊤}
 use Rattle.omega_keep.specs.Keeping.{Adds}
-use Rattle.omega_keep.specs.Resumed.{AreWholeRounds, lines_of, refused_for}
-use Rattle.omega_model.specs.Lawful.{Lawful}
+use Rattle.omega_keep.specs.Resumed.{lines_of, refused_for}
 use Rattle.omega_model.specs.Limits.{IsWithinLimits}
-use Rattle.omega_model.specs.Turns.{InTurns}
 use Rattle.omega_model.specs.declared.entries.Entry.{Entry}
 use Rattle.omega_model.specs.declared.results.Status.{Status}
 use Rattle.omega_model.specs.declared.results.Status.TheVariants.{Done, Usage, ReadFault, TooLong, BadRow, TooMany, BadKept, KeepFault, WriteFault, NoMemory}
@@ -12,20 +10,15 @@ use Rattle.omega_model.specs.declared.rows.TraceTables.{TraceTables}
 use Rattle.omega_model.specs.declared.settings.Command.{Command}
 use Rattle.omega_model.specs.declared.settings.Command.TheVariants.{Audit, Generate, Replay, Resume, Run, Simulate}
 use Rattle.omega_model.specs.declared.settings.Settings.{Settings}
-use Rattle.omega_rounds.specs.Resuming.{AreRoundsInTurns}
-
--- a history is the run of a trace in which the schedulers take turns: there is no other
-pub record IsRunInTurns (settings : Settings) (trace : TraceTables) (history : List Entry) : Type 0 where
-  pub lawful : Lawful settings trace history
-  pub turns : InTurns history
+use Rattle.omega_rounds.specs.Resuming.{AreRoundsInTurns, DepartAt}
+use Rattle.omega_top.specs.Replayed.{IsReplayed}
 
 -- what may be answered to kept lines of a run: that they are those of whole rounds of the history, from the
--- first one on; or the place at which they aren't
+-- first one on; or the place at which they depart from the run, as its first rounds tell
 abbrev pub ResumeAnswers : Settings → TraceTables → List (List ℕ) → List Entry → Status → Type 0
 ResumeAnswers settings trace kept history Done = refused_for history kept ≡ None
 ResumeAnswers settings trace kept history WriteFault = refused_for history kept ≡ None
-ResumeAnswers settings trace kept history (BadKept place) =
-    (whole : List Entry) → IsRunInTurns settings trace whole → refused_for whole kept ≡ Some place
+ResumeAnswers settings trace kept history (BadKept place) = DepartAt settings trace kept place
 ResumeAnswers settings trace kept history KeepFault = ⊤
 ResumeAnswers settings trace kept history NoMemory = ⊤
 ResumeAnswers settings trace kept history Usage = ⊤
@@ -34,18 +27,12 @@ ResumeAnswers settings trace kept history (TooLong table) = ⊤
 ResumeAnswers settings trace kept history (BadRow table row column cause) = ⊤
 ResumeAnswers settings trace kept history (TooMany kind number) = ⊤
 
--- lines are those of the first rounds of the run, and the first lines of its whole history, up to the end of a
--- round
-pub record AreRoundsOf (settings : Settings) (trace : TraceTables) (lines : List (List ℕ)) : Type 0 where
-  pub played : AreRoundsInTurns settings trace lines
-  pub front : (history : List Entry) → IsRunInTurns settings trace history → AreWholeRounds history lines
-
 -- to a keeper's list some lines were added, if it is told: none, or such that it is now that of the first rounds
 -- of the run
 pub record GrowsByRounds (settings : Settings) (trace : TraceTables) (before now : Option (List (List ℕ))) : Type 0 where
   pub added : List (List ℕ)
   pub adds : Adds added before now
-  pub whole : (added ≡ []) ⊎ IfSome now (AreRoundsOf settings trace)
+  pub whole : (added ≡ []) ⊎ IfSome now (AreRoundsInTurns settings trace)
 
 -- what a keeper's list is after such a run: the lines of the whole history, where that is answered; where the
 -- run stopped in the middle, those of more whole rounds; and else as it was
@@ -61,26 +48,29 @@ LeavesList settings trace history before now (TooLong table) = now ≡ before
 LeavesList settings trace history before now (BadRow table row column cause) = now ≡ before
 LeavesList settings trace history before now (TooMany kind number) = now ≡ before
 
--- a run that goes on from some lines, which are the keeper's list where it tells that
-pub record IsResume (settings : Settings) (trace : TraceTables) (before now : Option (List (List ℕ))) (history : List Entry) (status : Status) : Type 0 where
+-- a run that goes on from some lines, which are the keeper's list where it tells that, and that is for the rest one
+-- of `replay`
+pub record IsResume (settings : Settings) (trace : TraceTables) (list list_now : Option (List (List ℕ))) (history : List Entry) (status : Status)
+    (written written_now : Option (List ℕ)) : Type 0 where
   pub kept : List (List ℕ)
-  pub told : IfSome before (λ list. kept ≡ list)
+  pub told : IfSome list (λ lines. kept ≡ lines)
   pub answers : ResumeAnswers settings trace kept history status
-  pub leaves : LeavesList settings trace history before now status
+  pub leaves : LeavesList settings trace history list list_now status
+  pub replayed : IsReplayed settings trace history status written written_now
 
--- whatever the tables tell, there is a trace within the limits of which it is such a run
-pub record IsSomeResume (settings : Settings) (before now : Option (List (List ℕ))) (history : List Entry) (status : Status) : Type 0 where
+-- whatever the tables tell, there is a trace within the limits of which it is such a run: the one trace of the
+-- history, the report and the kept lines
+pub record IsSomeResume (settings : Settings) (list list_now : Option (List (List ℕ))) (history : List Entry) (status : Status)
+    (written written_now : Option (List ℕ)) : Type 0 where
   pub trace : TraceTables
   pub within : IsWithinLimits trace
-  pub resume : IsResume settings trace before now history status
+  pub resume : IsResume settings trace list list_now history status written written_now
 
--- the list of a keeper is told, and is that of whole rounds of the run of a trace in turns, from the first one on
-pub record KeepsRounds (settings : Settings) (trace : TraceTables) (before : Option (List (List ℕ))) : Type 0 where
+-- the list of a keeper is told, and has no line yet or those of the first rounds of a trace in turns
+pub record KeepsRounds (settings : Settings) (trace : TraceTables) (list : Option (List (List ℕ))) : Type 0 where
   pub kept : List (List ℕ)
-  pub history : List Entry
-  pub told : before ≡ Some kept
-  pub run : IsRunInTurns settings trace history
-  pub accepted : refused_for history kept ≡ None
+  pub told : list ≡ Some kept
+  pub rounds : (kept ≡ []) ⊎ AreRoundsInTurns settings trace kept
 
 -- why a keeper's lines aren't loaded: it failed, or memory ran out
 abbrev pub StopsLoading : Status → Type 0

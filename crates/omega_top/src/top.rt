@@ -38,9 +38,9 @@ use std::sync::Wait;
 use std::thread::Threads;
 
 /// Does what the words say with the tables of their folder, or with those that it makes on
-/// `generate`: replays them and writes the report of the history that it answers. On `resume` it compares the
-/// lines that the keeper hands out with those of the history, and appends the others to the keeper's list,
-/// round by round. On `audit` it reads no tables: it replays the lines that the keeper hands out, and writes
+/// `generate`: replays them and writes the report of the history that it answers. On `resume` it does what it
+/// does on `replay`, to the byte, and compares the lines that the keeper hands out with those of the history,
+/// and appends the others to the keeper's list, round by round. On `audit` it reads no tables: it replays the lines that the keeper hands out, and writes
 /// how many entries they are and what is used after the last one.
 ///
 /// Of the refusals the first that stands is answered: that of the words, then for each table in
@@ -116,9 +116,9 @@ pub fn omega<R: Threads + Wait + Sync, T: Tables, K: Sink, G: Gate + Sync, P: Ke
         → AreTaken (map (λ word. word.now) words.now) → (result.status ≡ Status.Done) ⊎ (result.status ≡ NoMemory) }
     ensures resume { (bytes : Table → List ℕ) → IfSome result.settings
         (λ settings. settings.command ≡ Resume → Reads settings (T.rest tables.old) bytes
-        → IsResume settings (trace_of bytes) (P.kept keeper.old) (P.kept keeper.new) result.history result.status) }
+        → IsResume settings (trace_of bytes) (P.kept keeper.old) (P.kept keeper.new) result.history result.status (K.written out.old) (K.written out.new)) }
     ensures some_resume { IfSome result.settings (λ settings. settings.command ≡ Resume
-        → IsSomeResume settings (P.kept keeper.old) (P.kept keeper.new) result.history result.status) }
+        → IsSomeResume settings (P.kept keeper.old) (P.kept keeper.new) result.history result.status (K.written out.old) (K.written out.new)) }
     ensures complete_resume { (bytes : Table → List ℕ) → Resumes (map (λ word. word.now) words.now)
         → Reads (settings_in built_words (map (λ word. word.now) words.now)) (T.rest tables.old) bytes
         → first_refusal bytes ≡ None → KeepsRounds (settings_in built_words (map (λ word. word.now) words.now)) (trace_of bytes) (P.kept keeper.old)
@@ -197,9 +197,9 @@ pub fn omega_with<R: Threads + Wait + Sync, T: Tables, K: Sink, G: Gate + Sync, 
     ensures audit { settings.now.command ≡ Audit
         → IsAudit settings.now.format (P.kept keeper.old) result.history result.status (K.written out.old) (K.written out.new) }
     ensures resume { settings.now.command ≡ Resume → (bytes : Table → List ℕ) → Reads settings.now (T.rest tables.old) bytes
-        → IsResume settings.now (trace_of bytes) (P.kept keeper.old) (P.kept keeper.new) result.history result.status }
+        → IsResume settings.now (trace_of bytes) (P.kept keeper.old) (P.kept keeper.new) result.history result.status (K.written out.old) (K.written out.new) }
     ensures some_resume { settings.now.command ≡ Resume
-        → IsSomeResume settings.now (P.kept keeper.old) (P.kept keeper.new) result.history result.status }
+        → IsSomeResume settings.now (P.kept keeper.old) (P.kept keeper.new) result.history result.status (K.written out.old) (K.written out.new) }
     ensures not_kept { uses_keeper settings.now.command ≡ false → IsNotOfKept result.status }
     ensures keep_fault { result.status ≡ KeepFault → RoseOfKeeper (P.faults keeper.old) (P.faults keeper.new) }
     ensures kept { settings.now.command ≢ Resume → P.kept keeper.new ≡ P.kept keeper.old }
@@ -253,7 +253,7 @@ fn replay_and_write<R: Threads + Wait + Sync, K: Sink, G: Gate + Sync, P: Keeper
     ensures settings { result.settings ≡ Some input.settings }
     ensures ends { EndsBy input.settings.command result.status }
     ensures resume { input.settings.command ≡ Resume
-        → IsResume input.settings input.trace (P.kept keeper.old) (P.kept keeper.new) result.history result.status }
+        → IsResume input.settings input.trace (P.kept keeper.old) (P.kept keeper.new) result.history result.status (K.written out.old) (K.written out.new) }
     ensures keeper { input.settings.command ≢ Resume
         → StaysAtKeeper (P.kept keeper.old) (P.kept keeper.new) (P.faults keeper.old) (P.faults keeper.new) }
     ensures keep_fault { result.status ≡ KeepFault → RoseOfKeeper (P.faults keeper.old) (P.faults keeper.new) }

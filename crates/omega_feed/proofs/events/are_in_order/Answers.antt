@@ -1,7 +1,7 @@
 use Rattle.std.proofs.Common.{◌≡◌, ◌+◌, ◌≤◌, ◌++◌, ◌∷◌, [], ap, arith, subst, sym, take, ◌∙◌}
 use Rattle.std.proofs.lemmas.List.{take_more}
-use Rattle.omega_running.specs.Order.{Each}
-use Rattle.omega_running.proofs.Lists.{each_append, each_map}
+use Rattle.std.specs.List.{AllByRecursion as Each}
+use Rattle.omega_model.proofs.Lists.{each_append, each_map}
 use Rattle.omega_feed.specs.Events.{Rise}
 use Rattle.omega_feed.proofs.Rising.{rise_push}
 use Rattle.omega_feed.proofs.events.are_in_order.Goals as goal

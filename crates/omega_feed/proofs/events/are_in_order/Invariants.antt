@@ -1,5 +1,5 @@
 use Rattle.std.proofs.Common.{◌≤◌, take}
-use Rattle.omega_running.specs.Order.{Each}
+use Rattle.std.specs.List.{AllByRecursion as Each}
 use Rattle.omega_feed.specs.Events.{Rise}
 use Rattle.omega_feed.proofs.events.are_in_order.Given as goal
 

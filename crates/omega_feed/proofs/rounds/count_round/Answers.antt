@@ -1,7 +1,7 @@
 use Rattle.std.proofs.Common.{◌≡◌, ◌<◌, ◌≤◌, ◌/◌, ap, arith, drop, get_or, subst, sym, ◌∙◌}
-use Rattle.omega_running.specs.Order.{Each}
+use Rattle.std.specs.List.{AllByRecursion as Each}
 use Rattle.omega_feed.proofs.Parting.{later_from}
-use Rattle.omega_feed.proofs.Parts.{each_at}
+use Rattle.omega_model.proofs.Lists.{each_at}
 use Rattle.omega_feed.proofs.rounds.count_round.Goals as goal
 
 pub returns-then-time-window-clause-later : goal.returns-then-time-window-clause-later

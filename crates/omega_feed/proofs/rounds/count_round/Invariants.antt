@@ -1,5 +1,5 @@
 use Rattle.std.proofs.Common.{◌≡◌, take}
-use Rattle.omega_running.specs.Order.{Each}
+use Rattle.std.specs.List.{AllByRecursion as Each}
 use Rattle.omega_feed.proofs.Parting.{IsOf}
 use Rattle.omega_feed.proofs.rounds.count_round.Given as goal
 

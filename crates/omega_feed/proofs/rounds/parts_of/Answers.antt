@@ -1,6 +1,6 @@
 use Rattle.std.proofs.Common.{◌≡◌, ◌+◌, ◌++◌, ◌∷◌, [], List, append-nil, ap, length, map, refl, subst, sym, ◌∙◌}
-use Rattle.omega_running.specs.Order.{Each}
-use Rattle.omega_running.proofs.Lists.{each_append}
+use Rattle.std.specs.List.{AllByRecursion as Each}
+use Rattle.omega_model.proofs.Lists.{each_append}
 use Rattle.omega_model.specs.declared.rows.Round.{Round}
 use Rattle.omega_model.specs.declared.rows.Row.{Row}
 use Rattle.omega_feed.specs.Events.{Rise, merged}

@@ -1,5 +1,5 @@
 use Rattle.std.proofs.Common.{◌≡◌, ◌≤◌, ◌+◌, ◌++◌, drop, length, map}
-use Rattle.omega_running.specs.Order.{Each}
+use Rattle.std.specs.List.{AllByRecursion as Each}
 use Rattle.omega_feed.specs.Events.{AreInOrder, merged}
 use Rattle.omega_feed.specs.Rounds.{HavePart, gathered, part_round}
 use Rattle.omega_feed.proofs.rounds.parts_of.Given as goal

@@ -2,4 +2,4 @@ use Rattle.std.proofs.Common.{length}
 use Rattle.omega_fit.proofs.nodes.+put_in.Given as goal
 
 abbrev pub decreases-put_in : goal.decreases-put_in
-decreases-put_in l = length l.slots.now
+decreases-put_in l = length l.nodes.now

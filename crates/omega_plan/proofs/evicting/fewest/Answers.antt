@@ -6,7 +6,7 @@ use Rattle.omega_model.specs.Need.{Fits, fits, minus}
 use Rattle.omega_model.specs.declared.cells.Task.{Task}
 use Rattle.omega_model.proofs.Amounts.{fits_tested}
 use Rattle.omega_board.proofs.Ranks.{fits_true}
-use Rattle.omega_copy.proofs.Listed.{minus_nothing}
+use Rattle.omega_plan.proofs.Listed.{minus_nothing}
 use Rattle.omega_plan.specs.Leaving.{leaves_enough}
 use Rattle.omega_plan.proofs.Leaving.{find_least, less_before, little_before}
 use Rattle.omega_plan.proofs.evicting.fewest.Goals as goal

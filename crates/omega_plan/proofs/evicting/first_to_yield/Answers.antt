@@ -1,7 +1,7 @@
 use Rattle.std.proofs.Common.{ℕ, length, Option, Some, None, subst}
 use Rattle.std.specs.Prelude.{option_map}
 use Rattle.std.proofs.lemmas.Result.{IfOk-weaker}
-use Rattle.omega_copy.specs.Overlays.{cell_after}
+use Rattle.omega_plan.specs.Overlays.{cell_after}
 use Rattle.omega_plan.specs.Kinds.{MayBegin, StaysFull}
 use Rattle.omega_plan.specs.Trying.{IsFirstToYield, Yields}
 use Rattle.omega_plan.specs.declared.evicting.Candidate.{Candidate}

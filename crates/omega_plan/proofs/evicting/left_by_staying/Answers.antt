@@ -5,7 +5,7 @@ use Rattle.omega_model.specs.Cell.{total}
 use Rattle.omega_model.specs.Need.{minus}
 use Rattle.omega_model.specs.declared.cells.Task.{Task}
 use Rattle.omega_plan.specs.Leaving.{stays}
-use Rattle.omega_copy.proofs.Listed.{minus_nothing}
+use Rattle.omega_plan.proofs.Listed.{minus_nothing}
 use Rattle.omega_plan.proofs.Leaving.{staying_more}
 use Rattle.omega_plan.proofs.evicting.left_by_staying.Goals as goal
 

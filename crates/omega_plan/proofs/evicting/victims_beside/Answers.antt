@@ -8,7 +8,7 @@ use Rattle.omega_model.specs.Plan.{victims}
 use Rattle.omega_model.specs.declared.cells.Machine.{Machine}
 use Rattle.omega_model.specs.declared.cells.TaskKey.{TaskKey}
 use Rattle.omega_board.specs.Board.{BoardState}
-use Rattle.omega_copy.specs.Overlays.{cell_after}
+use Rattle.omega_plan.specs.Overlays.{cell_after}
 use Rattle.omega_plan.proofs.Leaving.{listed_at, listed_own, none_listed, victims_down, victims_running}
 use Rattle.omega_plan.proofs.evicting.victims_beside.Goals as goal
 

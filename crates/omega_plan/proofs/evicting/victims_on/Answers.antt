@@ -16,7 +16,7 @@ use Rattle.omega_running.specs.declared.orders.Order.TheVariants.{ByKey}
 use Rattle.omega_running.specs.Order.{IsInOrder, precedes}
 use Rattle.omega_running.proofs.Kept.{rises_filter}
 use Rattle.omega_running.proofs.Ranked.{by_rank_is, ranks_by_key}
-use Rattle.omega_copy.specs.Overlays.{cell_after}
+use Rattle.omega_plan.specs.Overlays.{cell_after}
 use Rattle.omega_board.proofs.Ranks.{fits_true}
 use Rattle.omega_plan.specs.Leaving.{evictable, leaves_enough, stays, staying}
 use Rattle.omega_plan.proofs.Moved.{filter_moved, total_moved}

@@ -1,5 +1,5 @@
 use Rattle.std.proofs.Common.{arith}
-use Rattle.omega_copy.specs.Overlays.{cell_after}
+use Rattle.omega_plan.specs.Overlays.{cell_after}
 use Rattle.omega_fit.specs.Needs.{IsNextWithRoom}
 use Rattle.omega_plan.proofs.Evictable.{yields_between, yields_none_between, yields_past}
 use Rattle.omega_plan.proofs.FirstYields.{yields_none, yields_some}

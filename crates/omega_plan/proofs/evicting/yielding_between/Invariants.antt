@@ -1,5 +1,5 @@
 use Rattle.std.proofs.Common.{◌≤◌, ◌-◌}
-use Rattle.omega_copy.specs.Overlays.{cell_after}
+use Rattle.omega_plan.specs.Overlays.{cell_after}
 use Rattle.omega_plan.proofs.Evictable.{YieldsNowhere}
 use Rattle.omega_plan.proofs.evicting.yielding_between.Given as goal
 

@@ -2,8 +2,8 @@ use Rattle.std.proofs.Common.{◌≡◌, ℕ, Option, Some, None, length, ap, su
 use Rattle.std.specs.Prelude.{option_map}
 use Rattle.std.proofs.lemmas.List.{length-map}
 use Rattle.std.proofs.lemmas.Result.{IfOk-weaker}
-use Rattle.omega_copy.specs.Overlays.{cell_after}
-use Rattle.omega_copy.specs.Telling.{freed_on}
+use Rattle.omega_plan.specs.Overlays.{cell_after}
+use Rattle.omega_plan.specs.Telling.{freed_on}
 use Rattle.omega_fit.specs.Wrapped.{FirstBetween}
 use Rattle.omega_fit.proofs.Firsts.{found_from_start, none_from_start}
 use Rattle.omega_plan.specs.Trying.{IsFirstToYield, Yields}

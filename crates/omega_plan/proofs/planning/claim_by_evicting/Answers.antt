@@ -2,7 +2,7 @@ use Rattle.std.proofs.Common.{◌<◌, Bool, true, Option, Some, None, IfSome, l
 use Rattle.std.specs.Prelude.{option_map}
 use Rattle.std.proofs.lemmas.List.{length-map}
 use Rattle.omega_machines.specs.declared.MachineState.{MachineState}
-use Rattle.omega_copy.specs.Overlays.{cell_after}
+use Rattle.omega_plan.specs.Overlays.{cell_after}
 use Rattle.omega_plan.specs.Steps.{IsStep}
 use Rattle.omega_plan.specs.Trying.{AreVictimsAt, IsFirstToYield}
 use Rattle.omega_plan.specs.declared.evicting.Candidate.{Candidate}

@@ -2,7 +2,7 @@ use Rattle.std.proofs.Common.{◌<◌, List, [], Some, length, sym, subst, ◌�
 use Rattle.std.proofs.lemmas.List.{length-map}
 use Rattle.omega_machines.specs.declared.MachineState.{MachineState}
 use Rattle.omega_model.specs.declared.cells.TaskKey.{TaskKey}
-use Rattle.omega_copy.specs.Overlays.{cell_after}
+use Rattle.omega_plan.specs.Overlays.{cell_after}
 use Rattle.omega_plan.specs.Kinds.{Serves}
 use Rattle.omega_plan.specs.Steps.{IsStep}
 use Rattle.omega_plan.specs.Trying.{IsClaimAt}

@@ -1,6 +1,6 @@
 use Rattle.std.proofs.Common.{◌∙◌, ap, sym, subst}
-use Rattle.omega_copy.specs.Indexes.{TellAll}
-use Rattle.omega_copy.specs.Overlays.{OverlayState, cell_after}
+use Rattle.omega_plan.specs.Indexes.{TellAll}
+use Rattle.omega_plan.specs.Overlays.{OverlayState, cell_after}
 use Rattle.omega_model.specs.Planning.{claims_for_wishes}
 use Rattle.omega_plan.proofs.Planned.{Planned, planned_last, planned_more}
 use Rattle.omega_plan.proofs.Whole.{planned_whole}

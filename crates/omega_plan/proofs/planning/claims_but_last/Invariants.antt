@@ -1,6 +1,6 @@
 use Rattle.std.proofs.Common.{◌≡◌}
-use Rattle.omega_copy.specs.Indexes.{TellAll}
-use Rattle.omega_copy.specs.Overlays.{cell_after}
+use Rattle.omega_plan.specs.Indexes.{TellAll}
+use Rattle.omega_plan.specs.Overlays.{cell_after}
 use Rattle.omega_plan.proofs.Planned.{Planned}
 use Rattle.omega_plan.proofs.planning.claims_but_last.Given as goal
 

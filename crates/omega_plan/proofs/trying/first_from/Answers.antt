@@ -1,5 +1,5 @@
 use Rattle.std.proofs.Common.{rules}
-use Rattle.omega_copy.specs.Overlays.{cell_after}
+use Rattle.omega_plan.specs.Overlays.{cell_after}
 use Rattle.omega_plan.proofs.Rooms.{takes_first}
 use Rattle.omega_plan.proofs.trying.first_from.Goals as goal
 

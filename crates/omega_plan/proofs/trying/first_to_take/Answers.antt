@@ -1,5 +1,5 @@
 use Rattle.std.proofs.Common.{ℕ, Option, Some, None, length, subst}
-use Rattle.omega_copy.specs.Overlays.{cell_after}
+use Rattle.omega_plan.specs.Overlays.{cell_after}
 use Rattle.omega_plan.specs.Kinds.{IsFull, MayBegin}
 use Rattle.omega_plan.specs.Trying.{IsFirstToTake, Takes}
 use Rattle.omega_plan.proofs.Begins.{begins_within, found_from, found_nowhere}

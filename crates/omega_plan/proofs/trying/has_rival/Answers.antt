@@ -1,7 +1,7 @@
 use Rattle.std.proofs.Common.{◌&&◌, [], ap, sym, ◌∙◌}
 use Rattle.std.specs.List.{list_any}
 use Rattle.omega_model.specs.Jobs.{stays_of_job}
-use Rattle.omega_copy.specs.Overlays.{tasks_claimed}
+use Rattle.omega_plan.specs.Overlays.{tasks_claimed}
 use Rattle.omega_plan.proofs.trying.has_rival.Goals as goal
 
 pub returns-then-wish : goal.returns-then-wish

@@ -1,7 +1,7 @@
 use Rattle.std.proofs.Common.{◌≡◌, List, sym, subst, length}
 use Rattle.omega_laws.specs.VirtualTime.{Timed}
 use Rattle.omega_rounds.specs.InTime.{StandsInTime}
-use Rattle.omega_rounds.specs.declared.steps.Stepped.{Stepped}
+use Rattle.omega_workers.specs.declared.steps.Stepped.{Stepped}
 use Rattle.omega_rounds.proofs.InTime.{first_commits, first_committed, is_commit_at, wait_within}
 use Rattle.omega_rounds.proofs.PlayedTurns.{StepsFrom}
 use Rattle.omega_rounds.proofs.clock.commit_first.Goals as goal

@@ -118,7 +118,6 @@ returns-in-Over-clause-agreed g c =
     end_agreed c.args.kept.now (g.P.Keeper.kept c.args.keeper.now) c.args.world now next (g.P.Keeper.kept c.loop-next.keeper)
     c.loop-next.invariant.resumed c.next_round.ensures.start same all
     c.in_ok-end_kept-in-Over.ensures.all c.next_round.ensures.made
-    (subst (λ (step : RoundStep). (trace : TraceTables) → IsInRunOf now.stage trace → GoesOn trace now next step) c.in-Over.is c.in_ok-next.ensures.run)
 
 pub returns-in-Over-clause-kept : goal.returns-in-Over-clause-kept
 returns-in-Over-clause-kept g c =

@@ -1,7 +1,7 @@
 use Rattle.std.proofs.Common.{◌≡◌, ◌∙◌, [], ◌∷◌, ◌++◌, ap, sym, append_assoc}
 use Rattle.std.specs.Vec.Iter.{into_iter_items}
 use Rattle.std.proofs.lemmas.List.{map-append}
-use Rattle.omega_rounds.specs.declared.player.Player.{Player}
+use Rattle.omega_rounds.specs.declared.threads.player.Player.{Player}
 use Rattle.omega_rounds.proofs.threads.apart.Goals as goal
 
 pub loop-player-preserved : goal.loop-player-preserved

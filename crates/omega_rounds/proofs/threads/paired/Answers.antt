@@ -3,8 +3,8 @@ use Rattle.std.specs.Vec.Iter.{into_iter_items}
 use Rattle.std.proofs.lemmas.List.{map-append}
 use Rattle.std.proofs.lemmas.List.Elements.{All-push, All-same}
 use Rattle.omega_shared.specs.Passes.{PassState}
-use Rattle.omega_rounds.specs.declared.player.Player.{Player}
-use Rattle.omega_rounds.specs.declared.worker.Worker.{Worker}
+use Rattle.omega_rounds.specs.declared.threads.player.Player.{Player}
+use Rattle.omega_workers.specs.declared.worker.Worker.{Worker}
 use Rattle.omega_rounds.proofs.threads.paired.Goals as goal
 
 pub loop-worker-preserved : goal.loop-worker-preserved

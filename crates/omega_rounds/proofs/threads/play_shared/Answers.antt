@@ -9,7 +9,7 @@ use Rattle.omega_shared.specs.Commits.{GoesOnWithout}
 use Rattle.omega_shared.specs.Passes.{PassState}
 use Rattle.omega_rounds.specs.Closed.{AreBack}
 use Rattle.omega_rounds.specs.Players.{HavePlayed, MayPlay}
-use Rattle.omega_rounds.specs.declared.player.Player.{Player}
+use Rattle.omega_rounds.specs.declared.threads.player.Player.{Player}
 use Rattle.omega_rounds.proofs.PlayersBack.{are_back, may_play, none_failed, of_cell}
 use Rattle.omega_rounds.proofs.threads.play_shared.Goals as goal
 

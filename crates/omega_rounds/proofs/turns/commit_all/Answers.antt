@@ -1,7 +1,7 @@
 use Rattle.std.proofs.Common.{◌≡◌, ◌<◌, ◌+◌, ◌∙◌, Bool, sym, ap, subst, arith}
 use Rattle.std.specs.Prelude.{◌||◌}
 use Rattle.omega_model.specs.Policy.{schedulers}
-use Rattle.omega_rounds.specs.Playing.{is_committed}
+use Rattle.omega_workers.specs.WorkerSteps.{is_committed}
 use Rattle.omega_rounds.proofs.PlayedTurns.{IsCommitting, committing_all, committing_more}
 use Rattle.omega_rounds.proofs.turns.commit_all.Goals.{then-is_committed, else-is_committed}
 use Rattle.omega_rounds.proofs.turns.commit_all.Goals as goal

@@ -1,5 +1,5 @@
 use Rattle.std.proofs.Common.{sym, subst}
-use Rattle.omega_rounds.specs.Opening.{AreNewWorkers}
+use Rattle.omega_rounds.specs.Beginning.{AreNewWorkers}
 use Rattle.omega_rounds.proofs.NewWorkers.{workers_more}
 use Rattle.omega_rounds.proofs.world.new_workers.Goals as goal
 

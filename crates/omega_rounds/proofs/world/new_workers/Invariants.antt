@@ -1,4 +1,4 @@
-use Rattle.omega_rounds.specs.Opening.{AreNewWorkers}
+use Rattle.omega_rounds.specs.Beginning.{AreNewWorkers}
 use Rattle.omega_rounds.proofs.world.new_workers.Given as goal
 
 abbrev pub invariant-loop-scheduler : goal.invariant-loop-scheduler

@@ -38,7 +38,6 @@ returns-clause-refused g c =
     (subst (λ (list : Option (List (List ℕ))). Adds (lines_behind c.in_ok-kept.kept history) list now) c.load.ensures.list c.in_ok-world.ensures.kept))
     (subst (λ (stage : Stage). Lawful stage.settings trace history) new (c.in_ok-world.ensures.lawful trace made))
     c.in_ok-world.ensures.turns
-    (λ other lawful turns. c.in_ok-world.ensures.only trace made other (subst (λ (stage : Stage). Lawful stage.settings trace other) (sym new) lawful) turns)
 
 pub returns-in-Ok-whole_run-clause-run : goal.returns-in-Ok-whole_run-clause-run
 returns-in-Ok-whole_run-clause-run g c =

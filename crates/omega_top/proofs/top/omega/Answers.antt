@@ -73,7 +73,7 @@ returns-clause-complete_resume g c bytes resumes reads clean keeps stays none ta
     let chosen = subst (λ (settings : Settings). Reads settings (g.T.Tables.rest c.args.tables.now) bytes) (sym c.in-Ok.ensures.settings) reads in
     let entered = entered_reads settings _ _ bytes c.enter.ensures.rests chosen in
     let is = ap (λ (settings : Settings). settings.command) c.in-Ok.ensures.settings ∙ resumes in
-    completes_resume bytes _ _ _ _ _ clean none c.enter.ensures.counts settings (trace_of bytes) _ _ c.omega_with.result.history c.omega_with.result.status _ _
+    completes_resume bytes _ _ _ _ _ clean none c.enter.ensures.counts settings (trace_of bytes) _ _ c.omega_with.result.history c.omega_with.result.status _ _ _ _
     (c.omega_with.ensures.resume is bytes entered)
     (subst (KeepsRounds settings (trace_of bytes)) (sym c.enter-2.ensures.list)
     (subst (λ (settings : Settings). KeepsRounds settings (trace_of bytes) (g.P.Keeper.kept c.args.keeper.now)) (sym c.in-Ok.ensures.settings) keeps))
@@ -87,25 +87,26 @@ returns-clause-resume g c bytes =
     let settings = c.in-Ok.parsed.settings in
     let done = c.omega_with.result in
     rw c.omega_with.ensures.settings
-    (λ is reads. subst (λ (list : Option (List (List ℕ))). IsResume settings (trace_of bytes) list (g.P.Keeper.kept c.omega_with.new.keeper) done.history done.status)
+    (λ is reads. subst (λ (list : Option (List (List ℕ))). IsResume settings (trace_of bytes) list (g.P.Keeper.kept c.omega_with.new.keeper) done.history done.status
+    (g.K.Sink.written c.args.out.now) (g.K.Sink.written c.omega_with.new.out))
     c.enter-2.ensures.list
     (c.omega_with.ensures.resume is bytes (entered_reads settings _ _ bytes c.enter.ensures.rests reads)))
 
 pub returns-then-is_err-clause-resume : goal.returns-then-is_err-clause-resume
 returns-then-is_err-clause-resume g c bytes =
-    rw (c.refused-then-is_err.ensures.settings, c.refused-then-is_err.ensures.nothing, c.refused-then-is_err.ensures.status) (λ is reads. no_memory_resume c.in-Ok.parsed.settings (trace_of bytes) _ _ refl)
+    rw (c.refused-then-is_err.ensures.settings, c.refused-then-is_err.ensures.nothing, c.refused-then-is_err.ensures.status) (λ is reads. no_memory_resume c.in-Ok.parsed.settings (trace_of bytes) _ _ _ refl)
 
 pub returns-then-is_err-2-clause-resume : goal.returns-then-is_err-2-clause-resume
 returns-then-is_err-2-clause-resume g c bytes =
-    rw (c.refused-then-is_err-2.ensures.settings, c.refused-then-is_err-2.ensures.nothing, c.refused-then-is_err-2.ensures.status) (λ is reads. no_memory_resume c.in-Ok.parsed.settings (trace_of bytes) _ _ c.enter-2.ensures.list)
+    rw (c.refused-then-is_err-2.ensures.settings, c.refused-then-is_err-2.ensures.nothing, c.refused-then-is_err-2.ensures.status) (λ is reads. no_memory_resume c.in-Ok.parsed.settings (trace_of bytes) _ _ _ c.enter-2.ensures.list)
 
 pub returns-then-is_err-clause-some_resume : goal.returns-then-is_err-clause-some_resume
 returns-then-is_err-clause-some_resume g c =
-    rw (c.refused-then-is_err.ensures.settings, c.refused-then-is_err.ensures.nothing, c.refused-then-is_err.ensures.status) (λ is. no_memory_some_resume c.in-Ok.parsed.settings _ _ refl)
+    rw (c.refused-then-is_err.ensures.settings, c.refused-then-is_err.ensures.nothing, c.refused-then-is_err.ensures.status) (λ is. no_memory_some_resume c.in-Ok.parsed.settings _ _ _ refl)
 
 pub returns-then-is_err-2-clause-some_resume : goal.returns-then-is_err-2-clause-some_resume
 returns-then-is_err-2-clause-some_resume g c =
-    rw (c.refused-then-is_err-2.ensures.settings, c.refused-then-is_err-2.ensures.nothing, c.refused-then-is_err-2.ensures.status) (λ is. no_memory_some_resume c.in-Ok.parsed.settings _ _ c.enter-2.ensures.list)
+    rw (c.refused-then-is_err-2.ensures.settings, c.refused-then-is_err-2.ensures.nothing, c.refused-then-is_err-2.ensures.status) (λ is. no_memory_some_resume c.in-Ok.parsed.settings _ _ _ c.enter-2.ensures.list)
 
 pub returns-clause-complete_made : goal.returns-clause-complete_made
 returns-clause-complete_made g c makes stays taken =

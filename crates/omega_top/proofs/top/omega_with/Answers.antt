@@ -176,9 +176,9 @@ returns-in-Ok-clause-written g c bytes told =
 pub returns-in-Err-clause-resume : goal.returns-in-Err-clause-resume
 returns-in-Err-clause-resume g c =
     rw (c.refused.ensures.nothing, c.refused.ensures.status, c.from.ensures)
-    (λ is bytes told. refused_resume c.args.settings.now (trace_of bytes) (g.P.Keeper.kept c.args.keeper.now) c.in-Err.refusal)
+    (λ is bytes told. refused_resume c.args.settings.now (trace_of bytes) (g.P.Keeper.kept c.args.keeper.now) c.in-Err.refusal _)
 
 pub returns-in-Err-clause-some_resume : goal.returns-in-Err-clause-some_resume
 returns-in-Err-clause-some_resume g c =
     rw (c.refused.ensures.nothing, c.refused.ensures.status, c.from.ensures)
-    (λ is. refused_some_resume c.args.settings.now (g.P.Keeper.kept c.args.keeper.now) c.in-Err.refusal)
+    (λ is. refused_some_resume c.args.settings.now (g.P.Keeper.kept c.args.keeper.now) c.in-Err.refusal _)

@@ -2,7 +2,7 @@ use Rattle.std.proofs.Common.{◌≡◌, ◌≤◌, List, length, sym, ap, ◌�
 use Rattle.omega_model.specs.Cell.{keys_of}
 use Rattle.omega_model.specs.declared.delta.Part.{Part}
 use Rattle.omega_running.specs.Kept.{KeysRise}
-use Rattle.omega_running.specs.Order.{Each}
+use Rattle.std.specs.List.{AllByRecursion as Each}
 use Rattle.omega_board.specs.Board.{BoardState, cell_of}
 use Rattle.omega_board.specs.Putting.{gone_of, came_of, listed_parts, with_tasks_of, MayStartAll}
 use Rattle.omega_board.proofs.Boards.{at_now}

@@ -1,9 +1,8 @@
 use Rattle.std.proofs.Common.{◌≡◌, ℕ}
-use Rattle.std.specs.List.{fold}
+use Rattle.std.specs.List.{fold, AllByRecursion as Each}
 use Rattle.std.specs.Vec.Iter.{into_iter_items}
 use Rattle.omega_machines.specs.Table.{machines_of, seq_at}
 use Rattle.omega_model.specs.Machines.{numbers_of}
-use Rattle.omega_running.specs.Order.{Each}
 use Rattle.omega_board.specs.Putting.{with_row, seq_put, MayPutRow}
 use Rattle.omega_board.proofs.board.Board.put_rows.Given as goal
 

@@ -5,13 +5,10 @@ use Rattle.omega_model.specs.declared.delta.Part.{Part}
 use Rattle.omega_machines.specs.Table.{seq_at}
 use Rattle.omega_board.specs.Board.{cell_of}
 use Rattle.omega_board.specs.Parts.{MayPut, LeadTo}
-use Rattle.omega_running.proofs.Lists.{each_both}
-use Rattle.omega_copy.specs.Indexes.{TellAll}
-use Rattle.omega_copy.specs.Levels.{NearParts, Tells}
-use Rattle.omega_copy.specs.declared.levels.Level.{Level}
-use Rattle.omega_copy.proofs.Told.{same_cell}
+use Rattle.omega_plan.specs.Indexes.{TellAll}
+use Rattle.omega_plan.proofs.Told.{same_cell}
 use Rattle.omega_copy.specs.Copies.{CopyState, CopyOf, MayCatchUp}
-use Rattle.omega_copy.proofs.Leading.{target_of, leads, stands_at, near_parts}
+use Rattle.omega_plan.proofs.Leading.{target_of, leads, stands_at, may_tell_parts}
 use Rattle.omega_copy.proofs.copy.PrivateCopy.catch_up.Goals as goal
 
 pub put_parts-requires : goal.put_parts-requires
@@ -31,37 +28,20 @@ invariant_of-self-in_err-put_parts c =
     subst (λ (cell : Cell). TellAll cell c.reserve.new.self) (same_cell board after c.in_err-put_parts.ensures.table c.in_err-put_parts.ensures.tasks)
     (c.reserve.ensures.kept (cell_of board) c.self.invariant)
 
-pub tell_machines-requires-clause-index : goal.tell_machines-requires-clause-index
-tell_machines-requires-clause-index c =
+pub tell_machines-requires : goal.tell_machines-requires
+tell_machines-requires c =
     let board = c.self.inside.board in
     let delta = c.args.delta in
-    let tell = c.reserve.ensures.kept (cell_of board) c.self.invariant in
     let may = subst (λ (copy : CopyState). MayCatchUp copy delta) (sym c.self.view_is) c.requires.history in
     let target = target_of may.history c.self.inside.indexes.seen delta.to in
     let lead = leads may.history c.self.inside.indexes.seen delta.to may.carries.order may.applied board delta may.stands may.carries in
     let at = c.in_ok-put_parts.ensures.put target (subst (λ (parts : List Part). LeadTo board parts target) (sym c.into_parts-parts.ensures) lead) in
     let many : c.len.result ≡ length delta.parts = c.len.ensures ∙ ap length c.into_parts-parts.ensures in
-    near_parts board c.put_parts.new.self delta.parts target lead at 0 c.reserve.new.self.index c.deref.result.now tell.free
-    (subst (λ n. n ≤ c.reserve.new.self.index.spare) many c.in_ok-reserve.ensures.room.free)
-    (c.deref.ensures.value ∙ c.in_ok-machines.ensures ∙ ap (map (λ (part : Part). part.machine.id)) (c.as_slice.ensures ∙ c.into_parts-parts.ensures))
-
-pub tell_machines-requires-clause-levels : goal.tell_machines-requires-clause-levels
-tell_machines-requires-clause-levels c =
-    let board = c.self.inside.board in
-    let after = c.put_parts.new.self in
-    let ids = c.deref.result.now in
-    let delta = c.args.delta in
-    let tell = c.reserve.ensures.kept (cell_of board) c.self.invariant in
-    let may = subst (λ (copy : CopyState). MayCatchUp copy delta) (sym c.self.view_is) c.requires.history in
-    let target = target_of may.history c.self.inside.indexes.seen delta.to in
-    let lead = leads may.history c.self.inside.indexes.seen delta.to may.carries.order may.applied board delta may.stands may.carries in
-    let at = c.in_ok-put_parts.ensures.put target (subst (λ (parts : List Part). LeadTo board parts target) (sym c.into_parts-parts.ensures) lead) in
-    let many : c.len.result ≡ length delta.parts = c.len.ensures ∙ ap length c.into_parts-parts.ensures in
-    let named : ids ≡ map (λ (part : Part). part.machine.id) delta.parts =
-    c.deref.ensures.value ∙ c.in_ok-machines.ensures ∙ ap (map (λ (part : Part). part.machine.id)) (c.as_slice.ensures ∙ c.into_parts-parts.ensures) in
-    each_both (Tells (cell_of board)) (λ (level : Level). c.len.result ≤ level.index.spare) (λ (level : Level). NearParts after ids level.prec level.index)
-    (λ level told room. near_parts board after delta.parts target lead at level.prec level.index ids told (subst (λ n. n ≤ level.index.spare) many room) named)
-    c.reserve.new.self.levels.items tell.levels c.in_ok-reserve.ensures.room.levels
+    record {
+      may = may_tell_parts board c.put_parts.new.self delta.parts target lead at c.reserve.new.self c.deref.result.now (c.reserve.ensures.kept (cell_of board) c.self.invariant)
+          (subst (λ n. n ≤ c.reserve.new.self.index.spare) many c.in_ok-reserve.ensures.room.free)
+          (c.deref.ensures.value ∙ c.in_ok-machines.ensures ∙ ap (map (λ (part : Part). part.machine.id)) (c.as_slice.ensures ∙ c.into_parts-parts.ensures));
+    }
 
 pub returns-clause-stands : goal.returns-clause-stands
 returns-clause-stands c = λ history stands carries applied.
@@ -73,5 +53,5 @@ returns-clause-stands c = λ history stands carries applied.
     let target = target_of history seen delta.to in
     let lead = leads history seen delta.to carried.order applied board delta here carried in
     let at = c.in_ok-put_parts.ensures.put target (subst (λ (parts : List Part). LeadTo board parts target) (sym c.into_parts-parts.ensures) lead) in
-    subst (λ n. StandsFor (cell_of c.put_parts.new.self) (seq_at c.put_parts.new.self.table) n history) (sym c.to-to.ensures)
+    subst (λ n. StandsFor (cell_of c.put_parts.new.self) (seq_at c.put_parts.new.self.table) n history) (sym (c.tell_machines.ensures.seen ∙ c.to-to.ensures))
     (stands_at c.put_parts.new.self history seen delta.to carried.within at)

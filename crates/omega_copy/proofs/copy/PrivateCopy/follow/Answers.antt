@@ -1,5 +1,4 @@
-use Rattle.omega_copy.proofs.Applied.{next_ordered}
-use Rattle.omega_copy.proofs.Follows.{next_may, follows_more}
+use Rattle.omega_copy.proofs.Follows.{next_may, next_ordered, follows_more}
 use Rattle.omega_copy.proofs.copy.PrivateCopy.follow.Goals as goal
 
 pub take_in-requires-clause-may : goal.take_in-requires-clause-may

@@ -3,7 +3,7 @@ use Rattle.std.specs.Prelude.{◌↔◌}
 use Rattle.std.specs.List.{All}
 use Rattle.std.proofs.lemmas.List.Elements.{All-append, All-nil}
 use Rattle.omega_model.specs.Wanted.{WantedTask}
-use Rattle.omega_running.proofs.Lists.{all_of_each, each_back, each_front, each_of_all}
+use Rattle.omega_model.proofs.Lists.{all_of_each, each_back, each_front, each_of_all}
 use Rattle.omega_feed.specs.Open.{RunsIfOf}
 use Rattle.omega_feed.specs.Slots.{tasks_in}
 use Rattle.omega_feed.proofs.Blocks.{nothing_in, turn}

@@ -1,6 +1,6 @@
 use Rattle.std.proofs.Common.{◌==◌, ◌∙◌, ℕ, ap, length, not, subst}
 use Rattle.omega_model.specs.ExtraTasks.{HasLowIndex}
-use Rattle.omega_running.specs.Order.{Each}
+use Rattle.std.specs.List.{AllByRecursion as Each}
 use Rattle.omega_feed.proofs.Slots.{any_there, low_wanted}
 use Rattle.omega_feed.proofs.task_list.TaskList.has_any.Goals as goal
 

@@ -1,8 +1,8 @@
 use Rattle.std.proofs.Common.{◌≡◌, ◌+◌, ◌∙◌, ℕ, ap, arith, cond, length, subst, sym}
 use Rattle.omega_model.specs.ExtraTasks.{HasLowIndex}
 use Rattle.omega_model.specs.Wanted.{with_wanted}
-use Rattle.omega_running.specs.Order.{Each}
-use Rattle.omega_running.proofs.Lists.{all_of_each}
+use Rattle.std.specs.List.{AllByRecursion as Each}
+use Rattle.omega_model.proofs.Lists.{all_of_each}
 use Rattle.omega_feed.specs.Slots.{tasks_in}
 use Rattle.omega_feed.proofs.Slots.{low_with, no_more}
 use Rattle.omega_feed.proofs.task_list.TaskList.insert.Goals as goal

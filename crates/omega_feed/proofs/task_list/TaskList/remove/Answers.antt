@@ -1,9 +1,8 @@
 use Rattle.std.proofs.Common.{◌≡◌, ◌+◌, ◌∙◌, arith, cond, length, not, subst, sym}
 use Rattle.omega_model.specs.ExtraTasks.{HasLowIndex}
 use Rattle.omega_model.specs.Wanted.{is_named}
-use Rattle.omega_running.specs.Order.{Each}
-use Rattle.omega_running.proofs.Kept.{each_filter}
-use Rattle.omega_running.proofs.Lists.{all_of_each}
+use Rattle.std.specs.List.{AllByRecursion as Each}
+use Rattle.omega_model.proofs.Lists.{each_filter, all_of_each}
 use Rattle.omega_feed.specs.Slots.{tasks_in}
 use Rattle.omega_feed.proofs.task_list.TaskList.remove.Goals as goal
 

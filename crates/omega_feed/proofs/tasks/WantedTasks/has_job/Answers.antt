@@ -1,10 +1,9 @@
 use Rattle.std.proofs.Common.{◌≡◌, ℕ, List, true, ap, sym, subst, ◌∙◌}
-use Rattle.std.specs.List.{filter, list_any}
+use Rattle.std.specs.List.{filter, list_any, AllByRecursion as Each}
 use Rattle.omega_model.specs.Wanted.{WantedTask}
 use Rattle.omega_model.specs.ExtraTasks.{is_wanted}
 use Rattle.omega_feed.specs.Asked.{is_task_of}
-use Rattle.omega_running.specs.Order.{Each}
-use Rattle.omega_running.proofs.Kept.{each_passes}
+use Rattle.omega_model.proofs.Lists.{each_passes}
 use Rattle.omega_feed.proofs.Parts.{any_of_part, wanted_in_part}
 use Rattle.omega_feed.proofs.tasks.WantedTasks.has_job.Goals as goal
 

@@ -6,10 +6,10 @@ use Rattle.omega_model.specs.declared.entries.Entry.{Entry}
 use Rattle.omega_model.specs.declared.rows.TraceTables.{TraceTables}
 use Rattle.omega_rounds.specs.Going.{IsFirstAtWork}
 use Rattle.omega_rounds.specs.Keeping.{IsWorld}
-use Rattle.omega_rounds.specs.Opening.{HaveNoWork, has_work}
+use Rattle.omega_workers.specs.Workers.{HaveNoWork, has_work}
 use Rattle.omega_rounds.specs.Playing.{IsAtStart}
 use Rattle.omega_rounds.specs.Stages.{IsInRunOf, Stage, WorldState, stage_of}
-use Rattle.omega_rounds.specs.declared.worker.Worker.{Worker}
+use Rattle.omega_workers.specs.declared.worker.Worker.{Worker}
 use Rattle.omega_rounds.proofs.WorldBegins.{none_to_do, world_start}
 use Rattle.omega_rounds.proofs.WorldGoes.{first_works, idle_first, run_over}
 use Rattle.omega_rounds.proofs.WorldSteps.{state_at}

@@ -2,10 +2,10 @@ use Rattle.std.proofs.Common.{◌<◌, ◌∙◌, List, ap, subst, sym}
 use Rattle.std.specs.List.{position}
 use Rattle.omega_model.specs.World.{NobodySynced}
 use Rattle.omega_rounds.specs.Closed.{IsDone}
-use Rattle.omega_rounds.specs.Forked.{AreAllIndexesOf}
-use Rattle.omega_rounds.specs.Opening.{HaveNoWork, has_work}
+use Rattle.omega_workers.specs.Forked.{AreAllIndexesOf}
+use Rattle.omega_workers.specs.Workers.{HaveNoWork, has_work}
 use Rattle.omega_rounds.specs.Stages.{WorldState, stage_of, world_of}
-use Rattle.omega_rounds.specs.declared.worker.Worker.{Worker}
+use Rattle.omega_workers.specs.declared.worker.Worker.{Worker}
 use Rattle.omega_rounds.proofs.ClosedRounds.{closed_done, world_closed}
 use Rattle.omega_rounds.proofs.PlansKept.{all_indexes_on}
 use Rattle.omega_rounds.proofs.Reopened.{were_quiet}

@@ -5,9 +5,9 @@ use Rattle.omega_model.specs.Policy.{schedulers}
 use Rattle.omega_model.specs.declared.rows.TraceTables.{TraceTables}
 use Rattle.omega_rounds.specs.Going.{LeavesToDo, StepsOn}
 use Rattle.omega_rounds.specs.Stages.{IsInRunOf, WorldState, rows_begun, stage_of}
-use Rattle.omega_rounds.specs.declared.worker.Worker.{Worker}
-use Rattle.omega_rounds.specs.declared.steps.Stepped.{Stepped}
-use Rattle.omega_rounds.specs.declared.steps.Stepped.TheVariants.{Synced, Committed, Idle}
+use Rattle.omega_workers.specs.declared.worker.Worker.{Worker}
+use Rattle.omega_workers.specs.declared.steps.Stepped.{Stepped}
+use Rattle.omega_workers.specs.declared.steps.Stepped.TheVariants.{Synced, Committed, Idle}
 use Rattle.omega_rounds.proofs.PlansKept.{further_on, ready_at, ready_for, steps_for}
 use Rattle.omega_rounds.proofs.Reopened.{goes_on_same, goes_on_step, were_quiet}
 use Rattle.omega_rounds.proofs.WorldSteps.{LeavesAt, seen_as, state_at, step_is, to_do_after, world_after, world_kept}

@@ -1,16 +1,16 @@
 use Rattle.std.proofs.Common.{◌≡◌, ◌++◌, ◌∙◌, List, length, take, drop, Result, Ok, Err, sym, ap, subst}
 use Rattle.std.specs.Prelude.{OnOk}
-use Rattle.std.specs.List.{sum_by}
-use Rattle.omega_copy.proofs.Tells.{written_back}
-use Rattle.omega_copy.specs.Indexes.{AreIndexesOf}
-use Rattle.omega_running.specs.Order.{Each}
-use Rattle.omega_rounds.specs.Forked.{AllHaveSyncedOrStay, AreReady}
+use Rattle.std.specs.List.{sum_by, AllByRecursion as Each}
+use Rattle.omega_plan.proofs.Tells.{written_back}
+use Rattle.omega_plan.specs.Indexes.{AreIndexesOf}
+use Rattle.omega_workers.specs.Forked.{AllHaveSyncedOrStay, AreReady}
 use Rattle.omega_rounds.specs.Keeping.{IsWorld}
 use Rattle.omega_rounds.specs.Playing.{SyncsTurn}
 use Rattle.omega_rounds.specs.Stages.{WorldState, stage_of}
-use Rattle.omega_rounds.specs.Workers.{to_do_of}
-use Rattle.omega_rounds.specs.declared.worker.Worker.{Worker}
-use Rattle.omega_rounds.proofs.SyncedTogether.{are_ready, same_to_do, turn_synced, world_synced}
+use Rattle.omega_workers.specs.Workers.{to_do_of}
+use Rattle.omega_workers.specs.declared.worker.Worker.{Worker}
+use Rattle.omega_rounds.proofs.SyncedTogether.{are_ready, turn_synced, world_synced}
+use Rattle.omega_workers.proofs.SyncedOrNot.{same_to_do}
 use Rattle.omega_rounds.proofs.WorldSteps.{state_at}
 use Rattle.omega_rounds.proofs.world.World.sync_together.Goals as goal
 

@@ -1,6 +1,7 @@
 use Rattle.std.proofs.Common.{◌≡◌, ◌<◌, ◌%◌, true, length, map, set}
 use Rattle.omega_running.specs.Forest.{gathered}
-use Rattle.omega_running.specs.Order.{Each, is_apart, put_in, spread}
+use Rattle.omega_running.specs.Order.{is_apart, put_in, spread}
+use Rattle.std.specs.List.{AllByRecursion as Each}
 use Rattle.omega_running.specs.Tree.{tasks_of}
 use Rattle.omega_running.proofs.Spread.{AreNow, one_tree, put_at}
 use Rattle.omega_running.proofs.forest.Forest.insert.Goals as goal

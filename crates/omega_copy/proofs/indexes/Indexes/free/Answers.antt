@@ -1,6 +1,0 @@
-use Rattle.std.proofs.Common.{◌∙◌}
-use Rattle.omega_copy.proofs.Tells.{frees_least}
-use Rattle.omega_copy.proofs.indexes.Indexes.free.Goals as goal
-
-pub returns : goal.returns
-returns c = λ cell tell. tell.free ∙ frees_least cell

@@ -1,0 +1,12 @@
+pub mod Lives
+pub mod Readings
+pub mod StillWanted
+pub mod Passes
+pub mod NextStep
+pub mod FreeSteps
+pub mod Free
+pub mod FreeLaws
+pub mod CrewLaws
+pub mod StepsLeft
+pub mod LivesLaws
+pub mod LawsOfRuns

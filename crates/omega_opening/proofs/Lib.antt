@@ -1,0 +1,4 @@
+pub mod RunOn
+pub mod Reopened
+pub mod Fed
+pub mod Applying

@@ -1,0 +1,16 @@
+//! How the rows of a round open: what they do to the cell, and what they ask for.
+//!
+//! A round's entry and those of its rows are appended to the cell, while what the trace asks for follows them, with
+//! the jobs of which something may have to be placed. Such a job is open; the others are quiet, and nobody looks at
+//! them. Since commits evict tasks, the jobs of these are opened again before the next rows.
+//!
+//! Nothing is said here of schedulers, nor of when a round opens: a run says that.
+#![tactic(auto)]
+
+mod demand;
+mod opening;
+mod reopening;
+
+pub use demand::Demand;
+pub use opening::open_round;
+pub use reopening::reopen_since;

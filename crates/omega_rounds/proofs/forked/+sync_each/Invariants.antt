@@ -1,5 +1,0 @@
-use Rattle.std.proofs.Common.{length}
-use Rattle.omega_rounds.proofs.forked.+sync_each.Given as goal
-
-abbrev pub decreases-sync_each : goal.decreases-sync_each
-decreases-sync_each l = length l.workers.now

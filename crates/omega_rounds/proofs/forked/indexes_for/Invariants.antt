@@ -1,8 +1,0 @@
-use Rattle.std.proofs.Common.{List}
-use Rattle.omega_copy.specs.Indexes.{AreIndexesOf}
-use Rattle.omega_model.specs.declared.entries.Entry.{Entry}
-use Rattle.omega_running.specs.Order.{Each}
-use Rattle.omega_rounds.proofs.forked.indexes_for.Given as goal
-
-abbrev pub invariant-loop : goal.invariant-loop
-invariant-loop l = (history : List Entry) → Each (AreIndexesOf history) l.all.items

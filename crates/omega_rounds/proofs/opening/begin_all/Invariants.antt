@@ -1,5 +1,0 @@
-use Rattle.omega_rounds.proofs.Beginning.{HaveBegun}
-use Rattle.omega_rounds.proofs.opening.begin_all.Given as goal
-
-abbrev pub invariant-loop-i : goal.invariant-loop-i
-invariant-loop-i l = HaveBegun l.wanted l.cell.history l.fn.workers.items l.workers.items l.i

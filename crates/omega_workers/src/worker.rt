@@ -1,0 +1,193 @@
+//! A scheduler's worker: its desk, its indexes of the cell, and its plan.
+ghost use Rattle.std.specs.Prelude.{◌≡◌, ◌≢◌, [], None, Some, position, IfOk, OnOk, OnErr};
+ghost use Rattle.std.specs.List.{All};
+ghost use Rattle.omega_plan.specs.Indexes.{AreIndexesOf};
+ghost use Rattle.omega_desk.specs.Desks.{IsSameDesk, left_at, still_tried};
+ghost use Rattle.omega_desk.specs.Walks.{HasDistinctWishes};
+ghost use Rattle.omega_laws.specs.VirtualTime.{first_wishes};
+ghost use Rattle.omega_model.specs.Ranges.{IsInRange};
+ghost use Rattle.omega_model.specs.Work.{fresh};
+ghost use Rattle.omega_workers.specs.Forked.{IsNotDue, HasSyncedOrStays};
+ghost use Rattle.omega_workers.specs.Workers.{has_work, IsWorker};
+ghost use Rattle.omega_workers.specs.Plans.{IsReady};
+ghost use Rattle.omega_workers.specs.WorkerSteps.{CommitsFirst, WorkerSteps, SyncsWorker};
+
+use crate::plans::{Planned, plan_first};
+use crate::steps::Stepped;
+use omega_cell::Cell;
+use omega_desk::Desk;
+use omega_model::{NoMemory, Requests, Settings};
+use omega_plan::Indexes;
+use std::alloc::Global;
+
+/// What belongs to one scheduler of a world.
+#[derive(Drop)]
+pub struct Worker {
+    pub desk: Desk,
+    /// What it plans by beside the cell, where it has a thread of its own.
+    pub indexes: Indexes,
+    /// How many entries the scheduler has seen, if it has synced since its last commit.
+    pub synced: Option<u64>,
+    /// Its plan after these entries, where it takes steps of a world.
+    pub planned: Option<Planned>,
+}
+
+impl Worker {
+    /// The worker of a scheduler that has no work and has seen nothing.
+    pub fn new(alloc: Global, settings: &Settings, scheduler: u32) -> Worker
+        requires { IsInRange settings.now }
+        ensures worker { IsWorker settings.now [] scheduler result }
+        ensures synced { result.synced ≡ None }
+        ensures left { left_at result.desk ≡ fresh (λ job. 0) [] }
+    {
+        Worker {
+            desk: Desk::new(alloc, settings, scheduler),
+            indexes: Indexes::new(alloc),
+            synced: None,
+            planned: None,
+        }
+    }
+
+    /// Takes a round's requests in order, but for those of jobs that are given up; the scheduler
+    /// hasn't synced then.
+    pub fn begin(&mut self, requests: Requests) -> Result<(), NoMemory>
+        requires no_work { self.old.desk.requests ≡ [] }
+        requires distinct { All HasDistinctWishes requests }
+        ensures desk { IsSameDesk self.old.desk self.new.desk }
+        ensures attempts { self.new.desk.attempts ≡ self.old.desk.attempts }
+        ensures left { OnOk result (left_at self.new.desk ≡ fresh (left_at self.old.desk).failing
+            (still_tried self.old.desk.settings (left_at self.old.desk).failing requests)) }
+        ensures indexes { self.new.indexes ≡ self.old.indexes }
+        ensures synced { OnOk result (self.new.synced ≡ None) }
+    {
+        self.desk.begin(requests)?;
+        self.synced = None;
+        Ok(())
+    }
+
+    /// Whether its scheduler has work: a request is left at its desk.
+    pub fn has_work(&self) -> bool
+        ensures { result ≡ has_work self.now }
+    {
+        self.desk.present().is_some()
+    }
+
+    /// How many wishes of its first request are left, 0 where no request is.
+    pub fn left(&self) -> usize
+        ensures { result ≡ first_wishes (Some self.now.desk.requests) }
+    {
+        match self.desk.present() {
+            Some(request) => request.wishes.len(),
+            None => 0,
+        }
+    }
+
+    /// One step of the worker's scheduler over a cell, beside which indexes of its history stand that all may
+    /// use. Where memory runs out, the history, the desk and whether the scheduler has synced are as before.
+    pub fn step(
+        &mut self,
+        alloc: Global,
+        indexes: &mut Indexes,
+        cell: &mut Cell,
+    ) -> Result<Stepped, NoMemory>
+        requires ready { IsReady self.old.desk cell.old.history self.old }
+        requires indexes { AreIndexesOf cell.old.history indexes.old }
+        ensures ready { IsReady self.old.desk cell.new.history self.new }
+        ensures indexes { AreIndexesOf cell.new.history indexes.new }
+        ensures step { IfOk result (λ stepped.
+            WorkerSteps self.old.desk.settings self.old.desk.scheduler cell.old.history self.old cell.new.history self.new stepped) }
+        ensures err { OnErr result (cell.new.history ≡ cell.old.history) }
+        ensures desk { OnErr result (self.new.desk ≡ self.old.desk) }
+        ensures synced { OnErr result (self.new.synced ≡ self.old.synced) }
+    {
+        if !self.has_work() {
+            return Ok(Stepped::Idle);
+        }
+        let Some(seen) = self.synced else {
+            self.sync(alloc, indexes, cell)?;
+            return Ok(Stepped::Synced);
+        };
+        let place = self.commit(alloc, seen, cell)?;
+        Ok(Stepped::Committed(place))
+    }
+
+    /// Syncs if its scheduler has work and hasn't synced. Where memory runs out neither the desk has changed
+    /// nor whether the scheduler has synced.
+    pub fn sync_if_due(
+        &mut self,
+        alloc: Global,
+        indexes: &mut Indexes,
+        cell: &Cell,
+    ) -> Result<(), NoMemory>
+        requires ready { IsReady self.old.desk cell.now.history self.old }
+        requires indexes { AreIndexesOf cell.now.history indexes.old }
+        ensures may { HasSyncedOrStays cell.now.history self.old self.new }
+        ensures indexes { AreIndexesOf cell.now.history indexes.new }
+        ensures synced { OnOk result (IsNotDue self.new) }
+    {
+        if !self.has_work() {
+            return Ok(());
+        }
+        if self.synced.is_some() {
+            return Ok(());
+        }
+        self.sync(alloc, indexes, cell)?;
+        Ok(())
+    }
+
+    /// The scheduler has seen the history to its end, and plans its attempt on the first request that is left.
+    /// Where memory runs out it hasn't synced.
+    fn sync(&mut self, alloc: Global, indexes: &mut Indexes, cell: &Cell) -> Result<(), NoMemory>
+        requires ready { IsReady self.old.desk cell.now.history self.old }
+        requires indexes { AreIndexesOf cell.now.history indexes.old }
+        requires synced { self.old.synced ≡ None }
+        requires work { self.old.desk.requests ≢ [] }
+        ensures ready { IsReady self.old.desk cell.now.history self.new }
+        ensures indexes { AreIndexesOf cell.now.history indexes.new }
+        ensures syncs { OnOk result (SyncsWorker cell.now.history self.old cell.now.history self.new) }
+        ensures desk { OnErr result (self.new.desk ≡ self.old.desk) }
+        ensures unsynced { OnErr result (self.new.synced ≡ self.old.synced) }
+    {
+        let plan = plan_first(alloc, &self.desk, indexes, cell)?;
+        self.planned = Some(plan);
+        self.synced = Some(cell.history().len() as u64);
+        Ok(())
+    }
+
+    /// Commits the plan, which was made after so many entries that were seen. Answers the place of the commit.
+    /// Where memory runs out nothing has changed but the cell's room.
+    fn commit(&mut self, alloc: Global, seen: u64, cell: &mut Cell) -> Result<u64, NoMemory>
+        requires ready { IsReady self.old.desk cell.old.history self.old }
+        requires synced { self.old.synced ≡ Some seen }
+        ensures ready { IsReady self.old.desk cell.new.history self.new }
+        ensures commits { IfOk result (λ place.
+            CommitsFirst self.old.desk.settings self.old.desk.scheduler cell.old.history self.old cell.new.history self.new place) }
+        ensures err { OnErr result (cell.new.history ≡ cell.old.history) }
+        ensures desk { OnErr result (self.new.desk ≡ self.old.desk) }
+        ensures spent { OnErr result (self.new.synced ≡ self.old.synced) }
+    {
+        let Some(Planned { txn, seqs }) = self.planned.take() else {
+            unreachable!()
+        };
+        match cell.reserve(alloc, txn) {
+            Ok(prepared) => {
+                let scheduler = self.desk.scheduler();
+                let reply = cell.commit(scheduler, seen, &seqs, prepared);
+                self.desk.take(&reply);
+                self.synced = None;
+                Ok(reply.place)
+            }
+            Err((txn, error)) => {
+                self.planned = Some(Planned { txn, seqs });
+                Err(error)
+            }
+        }
+    }
+}
+
+/// The first scheduler that has work.
+pub fn first_at_work(workers: &[Worker]) -> Option<usize>
+    ensures { result ≡ position has_work workers.now }
+{
+    workers.iter().position(|worker| worker.has_work())
+}

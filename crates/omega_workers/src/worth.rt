@@ -1,0 +1,90 @@
+//! What the plans of a turn may cost, before they are made.
+//!
+//! The unit is a look at a machine, or a claim that is made: each is some tenths of a microsecond. A wish
+//! counts one. Where none of the first `LOOKS` machines with room, from where its attempt begins, suits a wish,
+//! the search goes on for long, and the wish counts as `LONG` looks; one in a hundred machines suits the wish
+//! then, or none.
+//!
+//! Threads cost the time to begin and to join them, and to tell the indexes of each further piece what the
+//! entries changed that they haven't seen.
+
+use crate::attempt::start_on;
+use crate::worker::Worker;
+use omega_attrs::eligible;
+use omega_board::Board;
+use omega_fit::FitIndex;
+use omega_model::Wish;
+use omega_plan::Indexes;
+
+/// At how many machines is looked to tell whether a search may be a long one.
+const LOOKS: usize = 12;
+
+/// How many looks a long search is counted as.
+const LONG: u64 = 300;
+
+/// Several times what threads cost, in looks: about a millisecond.
+const THREADS: u64 = 4_000;
+
+/// What an entry costs that the indexes of the further pieces haven't seen, in looks.
+const UNSEEN: u64 = 4;
+
+/// Whether it is quicker to make the next plans of these workers on threads: whether all of them but the longest
+/// take at least as long as threads cost, where the indexes of the further pieces haven't seen `unseen` entries.
+pub fn are_worth_threads(
+    workers: &[Worker],
+    indexes: &Indexes,
+    board: &Board,
+    unseen: u64,
+) -> bool {
+    let mut all: u64 = 0;
+    let mut longest: u64 = 0;
+    for worker in workers {
+        let looks = looks_of(worker, indexes.free(), board);
+        all = all.saturating_add(looks);
+        longest = longest.max(looks);
+    }
+    all.saturating_sub(longest) >= unseen.saturating_mul(UNSEEN).saturating_add(THREADS)
+}
+
+/// About how many looks a worker's next plan takes; 0 where it makes none in this step.
+fn looks_of(worker: &Worker, free: &FitIndex, board: &Board) -> u64 {
+    if worker.synced.is_some() {
+        return 0;
+    }
+    let Some(request) = worker.desk.present() else {
+        return 0;
+    };
+    let wishes = request.wishes.as_slice();
+    let searched = match wishes.first() {
+        Some(wish) if is_long(wish, start_on(&worker.desk, board), free, board) => LONG,
+        _ => 0,
+    };
+    searched + wishes.len() as u64
+}
+
+/// Whether none of the first machines with room for a wish, from a position to the end of the list, suits it.
+/// Where there are few of them the search is a short one.
+fn is_long(wish: &Wish, start: usize, free: &FitIndex, board: &Board) -> bool {
+    if wish.constraints.is_empty() {
+        return false;
+    }
+    let mut from = start;
+    for _ in 0..LOOKS {
+        let Some(position) = free.next(from, free.len(), wish.spec.need) else {
+            return false;
+        };
+        if suits(wish, position, board) {
+            return false;
+        }
+        from = position + 1;
+    }
+    true
+}
+
+/// Whether the machine at a position meets a wish's constraints.
+fn suits(wish: &Wish, position: usize, board: &Board) -> bool {
+    match board.machines().at(position) {
+        Some(machine) => eligible(&wish.constraints, &machine.attrs),
+        None => false,
+    }
+}

@@ -1,0 +1,1 @@
+ln -s not-mounted.db k.db

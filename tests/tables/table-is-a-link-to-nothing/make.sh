@@ -1,0 +1,1 @@
+ln -s not-mounted/task_constraints.csv task_constraints.csv
