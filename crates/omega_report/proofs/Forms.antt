@@ -1,5 +1,5 @@
 -- A line in a format, by its words.
-use Rattle.std.proofs.Common.{◌≡◌, List, ℕ, [], ◌∷◌, ◌++◌, map, refl, sym, ap, ◌∙◌, append_assoc}
+use Rattle.std.proofs.Common.{◌≡◌, List, ℕ, [], ◌∷◌, ◌++◌, map, refl, ap, ◌∙◌, append_assoc}
 use Rattle.std.specs.List.{join_with_byte}
 use Rattle.omega_model.specs.Report.{Line, word_text}
 use Rattle.omega_model.specs.declared.settings.Format.{Format}

@@ -9,13 +9,13 @@ use Rattle.omega_model.specs.Cell.{Cell}
 use Rattle.omega_model.specs.Feed.{rounds}
 use Rattle.omega_model.specs.Fields.{AttrFields, DiskFields, MachineFields}
 use Rattle.omega_model.proofs.RoundsInOrder.{commit_begins_none}
-use Rattle.omega_model.specs.Lawful.{Applied, IsCommitOfRound, Lawful, RoundSoFar, Rounds, begins_round, opened, with_row}
+use Rattle.omega_model.specs.Lawful.{Applied, Lawful, RoundSoFar, Rounds, begins_round, opened, with_row}
 use Rattle.omega_model.specs.State.{state}
 use Rattle.omega_model.specs.RowEntries.{row_entries}
 use Rattle.omega_model.specs.Wanted.{WantedTask, attr_entry, capacity_from, machine_entry, wanted}
 use Rattle.omega_model.specs.declared.cells.Task.{Task}
 use Rattle.omega_model.specs.declared.entries.Entry.{Entry}
-use Rattle.omega_model.specs.declared.entries.Entry.TheVariants.{Round as RoundEntry, MachineAdd, MachineUpdate, MachineRemove, AttrSet, AttrDelete, End, Commit}
+use Rattle.omega_model.specs.declared.entries.Entry.TheVariants.{Round as RoundEntry, MachineAdd, MachineUpdate, MachineRemove, AttrSet, AttrDelete}
 use Rattle.omega_model.specs.declared.rows.Round.{Round}
 use Rattle.omega_model.specs.declared.rows.Row.{Row}
 use Rattle.omega_model.specs.declared.rows.Row.TheVariants.{Machine as MachineEvent, Attr as AttrEvent, Task as TaskEvent}

@@ -7,9 +7,9 @@ ghost use Rattle.omega_model.specs.Touches.{is_placed};
 ghost use Rattle.omega_report.specs.Lines.{refusal_line};
 ghost use Rattle.omega_model.specs.declared.entries.Entry.{Entry};
 
-use crate::page::Page;
 use crate::line_words::Word::{Name, Number};
 use crate::line_words::task_words;
+use crate::page::Page;
 use omega_model::{Claim, Judgement, NoMemory, TaskKey, Txn, Verdict};
 
 impl Page {

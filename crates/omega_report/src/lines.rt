@@ -9,9 +9,9 @@ ghost use Rattle.omega_report.specs.Lines.{end_line, sizes_line, stop_line, unpl
 ghost use Rattle.omega_model.specs.declared.entries.Entry.{Entry};
 
 use crate::counts::Counts;
-use crate::page::Page;
 use crate::line_words::Word::{Name, Number};
 use crate::line_words::task_words;
+use crate::page::Page;
 use omega_model::{Need, NoMemory, TaskKey};
 
 impl Page {

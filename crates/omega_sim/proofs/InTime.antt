@@ -6,7 +6,7 @@ use Rattle.std.proofs.Math.ListN.{drop_of_length-le}
 use Rattle.std.proofs.Math.Nat.{mul-le-mul_left}
 use Rattle.std.proofs.Math.Seq.{take-length}
 use Rattle.std.proofs.lemmas.List.{take-append-drop}
-use Rattle.std.proofs.lemmas.List.Elements.{All-cons, All-head, All-tail}
+use Rattle.std.proofs.lemmas.List.Elements.{All-cons}
 use Rattle.omega_feed.proofs.Cutting.{rounds_have}
 use Rattle.omega_laws.specs.Simulated.{HasTimes, TimedRounds, base_of, greatest_time, round_times, rows_place, until_after}
 use Rattle.omega_laws.specs.VirtualTime.{Timed, clock_of, tick}

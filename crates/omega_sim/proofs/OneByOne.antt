@@ -54,7 +54,7 @@ module _ (settings : Settings) (trace : TraceTables) (arrivals : Arrivals) (sync
       (ap (λ o. unwrap_or o 0) (syncs job))
       (ap (λ o. unwrap_or o 0) (arrive.came job ∙ ap (first_time job) (rounds_have trace settings.window window)))
 
-  with_times : ℕ → ℕ → ℕ → TimeTotals
+  abbrev with_times : ℕ → ℕ → ℕ → TimeTotals
   with_times scheduler whole waits = record {
     scheduler = scheduler;
     busy = busy scheduler times;

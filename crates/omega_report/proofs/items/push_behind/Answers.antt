@@ -1,4 +1,4 @@
-use Rattle.std.proofs.Common.{◌≡◌, ℕ, List, [], ◌∷◌, ◌++◌, ◌==◌, length, map, sym, subst, ◌∙◌}
+use Rattle.std.proofs.Common.{◌≡◌, ℕ, List, [], ◌∷◌, ◌++◌, ◌==◌, length, map, sym, subst}
 use Rattle.omega_report.specs.Pages.{added_bytes, open_form}
 use Rattle.omega_report.specs.Spelling.{word_of}
 use Rattle.omega_report.proofs.Growing.{form_added}

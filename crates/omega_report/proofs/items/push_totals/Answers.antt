@@ -1,6 +1,5 @@
-use Rattle.std.proofs.Common.{◌≡◌, ◌+◌, ◌++◌, ◌∷◌, [], List, take, sym, ap, ◌∙◌, append-nil}
+use Rattle.std.proofs.Common.{◌++◌, List, take, sym, ap, ◌∙◌}
 use Rattle.std.proofs.lemmas.List.{flat_map_more, take_all, take_more}
-use Rattle.omega_model.specs.Report.{Line}
 use Rattle.omega_report.specs.Pages.{open_form}
 use Rattle.omega_sim.specs.TimeLines.{lines_by, lines_of_totals}
 use Rattle.omega_sim.specs.declared.totals.TimeTotals.{TimeTotals}
@@ -10,11 +9,10 @@ pub loop-of_one-preserved : goal.loop-of_one-preserved
 loop-of_one-preserved c lines were =
     let totals = c.args.totals.now in
     let place = c.loop-of_one.of_one-index in
-    let one = c.of_one-item.result in
-    let next : take place totals ++ one ∷ [] ≡ take (place + 1) totals =
-    ap (λ (t : TimeTotals). take place totals ++ t ∷ []) c.of_one-item.is ∙ sym (take_more totals place one c.loop-of_one-test.true) in
     c.in_ok-push_both.ensures (lines ++ lines_of_totals (take place totals)) (c.loop-of_one.invariant lines were)
-    ∙ ap (open_form c.args.format) (flat_map_more lines_by lines (take place totals) one ∙ ap (λ (some : List TimeTotals). lines ++ lines_of_totals some) next)
+    ∙ ap (open_form c.args.format)
+    (flat_map_more lines_by lines (take place totals) _
+    ∙ ap (λ (some : List TimeTotals). lines ++ lines_of_totals some) (sym (take_more totals place _ c.loop-of_one-test.true)))
 
 pub returns : goal.returns
 returns c lines were =

@@ -1,4 +1,4 @@
-use Rattle.std.proofs.Common.{◌≡◌, ℕ, List, [], ◌∷◌, ◌++◌, length, map, refl, sym, ap, ap₂, ◌∙◌, arith}
+use Rattle.std.proofs.Common.{◌≡◌, ℕ, List, [], ◌∷◌, ◌++◌, length, map, sym, ap, ap₂, ◌∙◌, arith}
 use Rattle.std.specs.List.{range_with_len}
 use Rattle.std.proofs.lemmas.List.FromFn.{map-range_with_len_more}
 use Rattle.omega_laws.specs.TimeReport.{committed_jobs}
@@ -14,7 +14,7 @@ pub waited-requires-clause-early : goal.waited-requires-clause-early
 waited-requires-clause-early c =
     are_early c.args.history.now c.args.times.now c.in_ok-synced.synced c.requires.sums.each c.in_ok-synced.ensures
 
-totals_with : ℕ → ℕ → ℕ → ℕ → ℕ → TimeTotals
+abbrev totals_with : ℕ → ℕ → ℕ → ℕ → ℕ → TimeTotals
 totals_with scheduler decided whole jobs waited = record { scheduler = scheduler; busy = decided; span = whole; jobs = jobs; wait = waited }
 
 pub loop-scheduler-preserved : goal.loop-scheduler-preserved
