@@ -30,8 +30,8 @@ use std::thread::Threads;
 /// they end in the middle of a round: the first rounds, played in turns, have a history that shows it, also
 /// where the whole run would never fit into memory. `KeepFault` comes only where the keeper's count rose and
 /// the kept lines are those of first rounds. After a refusal the world is gone, and the keeper's list has grown
-/// by the lines of whole rounds, by none where the kept lines are refused. Costs what `in_turns` costs and the lines of all entries, of which those of one round are held
-/// in memory.
+/// by the lines of whole rounds, by none where the kept lines are refused. Costs what `in_turns` costs and the
+/// lines of all entries, of which those of one round are held in memory.
 pub fn resume_turns<R: Threads + Sync, P: Keeper>(
     rt: &R,
     world: World,

@@ -52,6 +52,7 @@ impl PieceIndexes {
 
     /// How many of so many entries those indexes of further pieces that have seen most haven't seen; all, where
     /// there are none. Where there are fewer workers than processors some of them are never used.
+    /// No clause pins the answer: only what the plans cost hangs on it, and never what they are.
     pub fn unseen(&self, entries: u64) -> u64 {
         let mut seen: u64 = 0;
         for indexes in &self.further {

@@ -30,6 +30,7 @@ const UNSEEN: u64 = 4;
 
 /// Whether it is quicker to make the next plans of these workers on threads: whether all of them but the longest
 /// take at least as long as threads cost, where the indexes of the further pieces haven't seen `unseen` entries.
+/// No clause pins the answer: it decides what the plans cost alone, and they are the same either way.
 pub fn are_worth_threads(
     workers: &[Worker],
     indexes: &Indexes,
