@@ -2,7 +2,6 @@
 use Rattle.std.proofs.Common.{◌≡◌, ◌<◌, ◌+◌, ℕ, List, [], ◌∷◌, ◌++◌, length, map, Option, Some, None, refl, sym, ap, subst, ◌∙◌, arith, inl, inr}
 use Rattle.std.specs.Prelude.{slice_get, option_and_then, option_map}
 use Rattle.std.specs.List.{sum_by, AllByRecursion as Each}
-use Rattle.std.proofs.lemmas.List.Sums.{sum_by-cons}
 use Rattle.std.proofs.lemmas.Option.{slice_get_cases, slice_get_within, slice_get-map}
 use Rattle.omega_board.proofs.Places.{each_get, each_place}
 use Rattle.omega_laws.proofs.LastCommits.{after_last-within}
@@ -15,9 +14,8 @@ use Rattle.omega_model.specs.declared.entries.Entry.{Entry}
 use Rattle.omega_model.specs.declared.rows.Row.{Row}
 use Rattle.omega_model.specs.declared.rows.TraceTables.{TraceTables}
 use Rattle.omega_model.specs.declared.wishes.Request.{Request}
-use Rattle.omega_desk.specs.Desks.{DeskState, left_at}
-use Rattle.omega_workers.specs.AttemptsLeft.{attempts_left}
-use Rattle.omega_workers.specs.Forked.{AllHaveSyncedOrStay, AreReady, IsNotDue, HasSyncedOrStays}
+use Rattle.omega_desk.specs.Desks.{DeskState}
+use Rattle.omega_workers.specs.Forked.{AllHaveSyncedOrStay, AreReady, IsNotDue}
 use Rattle.omega_rounds.specs.Halves.{Syncing}
 use Rattle.omega_rounds.specs.Keeping.{HasBegun, HasNotBegun, IsLawful, IsWorld, world_at}
 use Rattle.omega_workers.specs.Plans.{IsReady}

@@ -1,7 +1,6 @@
 -- Attempts come to an end.
 use Rattle.std.proofs.Common.{◌≡◌, ◌≤◌, ◌<◌, ◌+◌, ◌*◌, ◌-◌, ℕ, suc, Bool, true, false, List, ◌∷◌, length, refl, ap, arith}
 use Rattle.std.specs.Prelude.{if◌then◌else◌}
-use Rattle.omega_model.specs.Requests.{requests}
 use Rattle.omega_model.specs.Work.{Standing, ends_request, failing_after, failing_with, fresh, moved_on, rest_of}
 use Rattle.omega_model.specs.declared.claims.Outcome.{Outcome}
 use Rattle.omega_model.specs.declared.settings.Settings.{Settings}
