@@ -1,5 +1,5 @@
 -- The report of what is held of a run.
-use Rattle.std.proofs.Common.{◌≡◌, ◌∙◌, ◌++◌, ℕ, List, Option, Some, None, ap, subst, sym}
+use Rattle.std.proofs.Common.{◌≡◌, ◌∙◌, ◌++◌, ℕ, List, Option, Some, None, ap, subst}
 use Rattle.omega_model.specs.ReportForms.{printed_report}
 use Rattle.omega_model.specs.ReportLines.{printed_lines}
 use Rattle.omega_model.specs.Report.{Line}
@@ -12,7 +12,7 @@ use Rattle.omega_report.specs.JsonOfText.{in_wide_format}
 use Rattle.omega_sim.proofs.OneByOne.{totals_said}
 use Rattle.omega_sim.specs.TimeLines.{lines_of_totals}
 use Rattle.omega_sim.specs.declared.totals.TimeTotals.{TimeTotals}
-use Rattle.omega_top.specs.Reports.{AreTotalsBy, IsReport, IsSimulatedReport, ReportedBy}
+use Rattle.omega_top.specs.Reports.{AreTotalsBy, IsReport, ReportedBy}
 
 module _ (settings : Settings) (trace : TraceTables) (history : List Entry) where
   plain_by : (command : Command) (report : List ℕ) → AreTotalsBy command settings trace history None

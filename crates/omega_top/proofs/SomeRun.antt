@@ -2,9 +2,7 @@
 use Rattle.std.proofs.Common.{◌≡◌, ℕ, List, [], Option, arith}
 use Rattle.omega_model.specs.Limits.{IsWithinLimits}
 use Rattle.omega_model.specs.Trace.{no_rows}
-use Rattle.omega_model.specs.declared.entries.Entry.{Entry}
 use Rattle.omega_model.specs.declared.results.Status.TheVariants.{NoMemory}
-use Rattle.omega_model.specs.declared.rows.TraceTables.{TraceTables}
 use Rattle.omega_model.specs.declared.settings.Settings.{Settings}
 use Rattle.omega_tables.specs.Reading.{status_of}
 use Rattle.omega_tables.specs.declared.refusal.ReadRefusal.{ReadRefusal}

@@ -1,4 +1,4 @@
-use Rattle.std.proofs.Common.{◌≡◌, ◌∙◌, ◌++◌, ℕ, List, ap, subst, sym}
+use Rattle.std.proofs.Common.{◌≡◌, ◌∙◌, ◌++◌, ℕ, List, ap, subst}
 use Rattle.omega_feed.specs.Left.{IsLeft}
 use Rattle.omega_model.proofs.Answering.{if_ok_weaker}
 use Rattle.omega_model.specs.Lawful.{Lawful}
@@ -38,7 +38,7 @@ returns-in-Some c =
     → bytes ≡ in_wide_format settings.format (printed_lines settings trace c.as_slice-history.result.now ++ lines_of_totals totals))
     (λ (bytes : List ℕ). (trace : TraceTables) → IsRunOf settings trace run → IsReport settings trace run.history bytes) c.timed_report.result
     (λ bytes says trace of.
-    reported_timed settings trace run.history run.totals c.in-Some.totals.now bytes of.totals c.in-Some.is
+    reported_timed settings trace run.history run.totals _ bytes of.totals c.in-Some.is
     (subst (λ (history : List Entry). Lawful settings trace history → IsLeft trace (state history) run.left
     → bytes ≡ in_wide_format settings.format (printed_lines settings trace history ++ lines_of_totals totals))
     c.as_slice-history.ensures (says trace) of.history.lawful of.left

@@ -1,4 +1,4 @@
-use Rattle.std.proofs.Common.{List, Option, ℕ, ap, subst, sym}
+use Rattle.std.proofs.Common.{List, Option, ℕ, ap, subst}
 use Rattle.std.proofs.lemmas.Result.{err_from_is_err_and}
 use Rattle.omega_keep.specs.Keeping.{Adds}
 use Rattle.omega_model.specs.Lawful.{Lawful}

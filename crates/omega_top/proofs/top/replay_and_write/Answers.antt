@@ -12,7 +12,7 @@ use Rattle.omega_top.proofs.top.replay_and_write.Goals as goal
 
 pub returns-clause-run : goal.returns-clause-run
 returns-clause-run g c =
-    let run = c.in-Ok.run in
+    let run = c.in-Ok.run' in
     if_reported (IsRun c.args.input.settings c.args.input.trace run.history) c.write-status.result c.in-Ok.ensures.run.history
 
 pub returns-clause-written : goal.returns-clause-written
@@ -22,7 +22,7 @@ returns-clause-written g c =
     let settings = c.args.input.settings in
     let trace = c.args.input.trace in
     let said = c.in-Ok-report_of_run.ensures trace c.in-Ok.ensures.run in
-    written_if settings trace c.in-Ok.run.history c.write-status.result before now c.in-Ok-report_of_run.bytes said
+    written_if settings trace c.in-Ok.run'.history c.write-status.result before now c.in-Ok-report_of_run.bytes said
     (subst (λ (bytes : List ℕ). Writes bytes before now c.write-status.result) c.as_slice.ensures c.write-status.ensures.written)
 
 pub returns-clause-resume : goal.returns-clause-resume
@@ -31,7 +31,7 @@ returns-clause-resume g c is =
     let trace = c.args.input.trace in
     let before = g.K.Sink.written c.args.out.now in
     let now = g.K.Sink.written c.write-status.new.out in
-    let history = c.in-Ok.run.history in
+    let history = c.in-Ok.run'.history in
     let run = c.in-Ok.ensures.run.history in
     let status = c.write-status.result in
     let said = c.in-Ok-report_of_run.ensures trace c.in-Ok.ensures.run in
@@ -52,7 +52,7 @@ returns-in_default-clause-resume g c =
     let trace = c.args.input.trace in
     let before = g.P.Keeper.kept c.args.keeper.now in
     let now = g.P.Keeper.kept c.run_of.new.keeper in
-    let history = c.in-Ok.run.history in
+    let history = c.in-Ok.run'.history in
     let run = c.in-Ok.ensures.run.history in
     rw (c.refused-in_default.ensures.nothing, c.refused-in_default.ensures.status)
     (λ is. stopped_resume settings trace before now NoMemory _ (stops_whole settings trace before now history (c.in-Ok.ensures.kept is) run.lawful
