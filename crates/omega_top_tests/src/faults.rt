@@ -37,7 +37,7 @@ fn expect_replay<R: Threads + Wait + Sync + Abort, T: Tables + Drop>(
 /// Sees that a run was whole over the machine and its task, and answers these settings.
 fn expect_done(rt: &impl Abort, ran: &Ran, settings: &Settings) {
     assert!(rt; ends_so(ran, &End::done()));
-    assert!(rt; ran.done.settings.as_ref() == Some(settings));
+    assert!(rt; ran.settings.as_ref() == Some(settings));
 }
 
 /// Sees that a run with these words is so, over tables that are dropped then.

@@ -158,10 +158,10 @@ fn all_planned_first(history: &[Entry]) -> bool {
 /// Sees that a run of all three was done, and began and ended so.
 fn expect_three(rt: &impl Abort, ran: &Ran) {
     let report = ran.written.as_slice();
-    assert!(rt; ran.done.status == Status::Done);
+    assert!(rt; ran.status == Status::Done);
     assert!(rt; report.starts_with(BEGINNING_OF_THREE.as_bytes()));
     assert!(rt; report.ends_with(END_OF_THREE.as_bytes()));
-    assert!(rt; all_planned_first(ran.done.history.as_slice()));
+    assert!(rt; all_planned_first(ran.history.as_slice()));
 }
 
 #[test]

@@ -4,7 +4,7 @@ ghost use Rattle.std.specs.Thread.{IsSync};
 
 use omega_io::{Gate, MemorySink, MemoryTables, Tables};
 use omega_keep::{Keeper, SteadyKeeper};
-use omega_model::{Bytes, NoMemory, Seq, Status};
+use omega_model::{Bytes, Entries, NoMemory, Seq, Settings, Status};
 use omega_top::{Done, omega};
 use std::alloc::Global;
 use std::process::Abort;
@@ -29,10 +29,12 @@ use cpu 250000000 500000000 mem 250000000 500000000 disk 1000000 1000000000000
 waiting 0 abandoned 0
 ";
 
-/// What came of a run.
+/// What came of a run: its answer, but for what is left of the world, and what was written.
 #[derive(Drop)]
 pub struct Ran {
-    pub done: Done,
+    pub status: Status,
+    pub settings: Option<Settings>,
+    pub history: Entries,
     pub written: Bytes,
 }
 
@@ -115,17 +117,25 @@ pub fn run_kept<R: Threads + Wait + Sync, T: Tables, G: Gate + Sync, P: Keeper>(
     requires { IsSync R.row × IsSync G.row }
 {
     let mut sink = MemorySink::new(alloc, call.room)?.cut(1);
-    let done = omega(rt, alloc, call.words, tables, &mut sink, gate, keeper);
+    let Done {
+        status,
+        settings,
+        history,
+        remains,
+    } = omega(rt, alloc, call.words, tables, &mut sink, gate, keeper);
+    drop(remains);
     Ok(Ran {
-        done,
+        status,
+        settings,
+        history,
         written: sink.into_bytes(),
     })
 }
 
 /// Whether a run ended so.
 pub fn ends_so(ran: &Ran, end: &End) -> bool {
-    ran.done.status == end.status
-        && ran.done.history.len() == end.entries
+    ran.status == end.status
+        && ran.history.len() == end.entries
         && ran.written.as_slice() == end.report
 }
 
