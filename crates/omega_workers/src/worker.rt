@@ -24,7 +24,7 @@ use std::alloc::Global;
 #[derive(Drop)]
 pub struct Worker {
     pub desk: Desk,
-    /// What it plans by where it has a thread of its own.
+    /// What it plans by on a thread of its own; else those of the empty board, which take no memory.
     pub indexes: Indexes,
     /// What it has planned, if the scheduler has synced since its last commit.
     pub plan: Option<Plan>,
