@@ -25,8 +25,8 @@ returns-in_default-commit_planned-clause-plays_on g c =
     (indexes_without was.pass.number was.pass.seen c.commit_planned.new.pass.seen others was.worker.indexes c.requires.synced.worker.indexes)
     c.take.ensures.after
 
-pub take-requires-in-Ok-clause-answers : goal.take-requires-in-Ok-clause-answers
-take-requires-in-Ok-clause-answers g c =
+pub take-2-requires-clause-answers : goal.take-2-requires-clause-answers
+take-2-requires-clause-answers g c =
     let was : Player = c.args.self.now in
     let plan = c.in-Some.field-0 in
     let all = planned_all c.args.shared.now.of was plan c.requires.synced c.in-Some.ensures.value in
@@ -34,12 +34,12 @@ take-requires-in-Ok-clause-answers g c =
     (plans_first was plan c.requires.synced.worker all (plan_there was.pass.seen was.worker plan c.requires.plan c.in-Some.ensures.value))
     (subst (λ (n : ℕ). Commits was.pass c.commit_planned.new.pass n plan.txn c.in-Ok.reply) all c.in-Ok.ensures.commits)
 
-pub returns-in-Ok-clause-plays_on : goal.returns-in-Ok-clause-plays_on
-returns-in-Ok-clause-plays_on g c =
+pub returns-clause-plays_on : goal.returns-clause-plays_on
+returns-clause-plays_on g c =
     let was : Player = c.args.self.now in
     let plan = c.in-Some.field-0 in
     let all = planned_all c.args.shared.now.of was plan c.requires.synced c.in-Some.ensures.value in
-    let after : Player = record { worker = record { desk = c.take-in-Ok.new.self; indexes = was.worker.indexes; plan = c.take.new.self }; pass = c.commit_planned.new.pass; failed = was.failed } in
+    let after : Player = record { worker = record { desk = c.take-2.new.self; indexes = was.worker.indexes; plan = c.take.new.self }; pass = c.commit_planned.new.pass; failed = was.failed } in
     plays_on_commit was after plan.txn c.in-Ok.reply
     (record {
       shared = c.args.shared.now.of;
@@ -47,13 +47,13 @@ returns-in-Ok-clause-plays_on g c =
       plans = plans_first was plan c.requires.synced.worker all (plan_there was.pass.seen was.worker plan c.requires.plan c.in-Some.ensures.value);
       turn = c.commit_planned.ensures.turn;
       commits = subst (λ (n : ℕ). Commits was.pass c.commit_planned.new.pass n plan.txn c.in-Ok.reply) all c.in-Ok.ensures.commits;
-      same = c.take-in-Ok.ensures.desk;
-      attempts = c.take-in-Ok.ensures.attempts;
-      moved = c.take-in-Ok.ensures.left;
+      same = c.take-2.ensures.desk;
+      attempts = c.take-2.ensures.attempts;
+      moved = c.take-2.ensures.left;
       indexes = refl;
       spent = c.take.ensures.after;
     })
 
-pub returns-in-Ok-clause-spent : goal.returns-in-Ok-clause-spent
-returns-in-Ok-clause-spent g c =
-    unsynced (record { desk = c.take-in-Ok.new.self; indexes = c.args.self.now.worker.indexes; plan = c.take.new.self }) c.take.ensures.after
+pub returns-clause-spent : goal.returns-clause-spent
+returns-clause-spent g c =
+    unsynced (record { desk = c.take-2.new.self; indexes = c.args.self.now.worker.indexes; plan = c.take.new.self }) c.take.ensures.after
