@@ -18,7 +18,7 @@ use Rattle.omega_model.specs.declared.wishes.Request.{Request}
 use Rattle.omega_desk.specs.Desks.{IsSameDesk, left_at, still_tried}
 use Rattle.omega_desk.specs.Walks.{HasDistinctWishes}
 use Rattle.omega_rounds.specs.Beginning.{BeginAll, BeginsWorker, IsAsked}
-use Rattle.omega_workers.specs.Workers.{HaveNoWork}
+use Rattle.omega_workers.specs.Workers.{HaveNoWork, synced_of}
 use Rattle.omega_workers.specs.declared.worker.Worker.{Worker}
 use Rattle.omega_rounds.proofs.Requested.{open_distinct}
 use Rattle.omega_rounds.proofs.WorkerLists.{set_cases, set-other}
@@ -82,7 +82,7 @@ pub worker_begins : (asked : Asked) (history : List Entry) (cell : Cell) (place 
     → ((settings : Settings) (trace : TraceTables) (rows : List Row) → asked ≡ asked_after settings trace rows → all ≡ all_requests settings trace rows cell place)
     → IsSameDesk old.desk new.desk → new.desk.attempts ≡ old.desk.attempts
     → left_at new.desk ≡ fresh (left_at old.desk).failing (still_tried old.desk.settings (left_at old.desk).failing all)
-    → new.indexes ≡ old.indexes → new.synced ≡ None
+    → new.indexes ≡ old.indexes → synced_of new ≡ None
     → BeginsWorker asked history place old new
 worker_begins asked history cell place all old new now are desk attempts left indexes synced = record {
   desk = desk;

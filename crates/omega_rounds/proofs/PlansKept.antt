@@ -21,11 +21,11 @@ use Rattle.omega_lock.specs.Lists.{StartsWith}
 use Rattle.omega_shared.specs.Commits.{GoesOnWithout}
 use Rattle.omega_laws.specs.NextCommit.{attempt}
 use Rattle.omega_workers.specs.Forked.{AreAllIndexesOf}
-use Rattle.omega_workers.specs.Plans.{HasPlan, HasPlanAfter, IsPlan, IsReady}
+use Rattle.omega_workers.specs.Plans.{HasPlan, IsPlan, IsReady}
 use Rattle.omega_workers.specs.Workers.{IsWorker}
 use Rattle.omega_workers.specs.WorkerSteps.{WorkerSteps}
 use Rattle.omega_workers.specs.declared.forked.PieceIndexes.{PieceIndexes}
-use Rattle.omega_workers.specs.declared.plans.Planned.{Planned}
+use Rattle.omega_workers.specs.declared.plans.Plan.{Plan}
 use Rattle.omega_workers.specs.declared.worker.Worker.{Worker}
 use Rattle.omega_workers.specs.declared.steps.Stepped.{Stepped}
 use Rattle.omega_workers.specs.declared.steps.Stepped.TheVariants.{Synced, Committed, Idle}
@@ -51,37 +51,31 @@ all_indexes_opened trace rows start round indexes are = record {
   further = each_map (AreIndexesOf start) (AreIndexesOf (opened trace rows start round).history) (indexes_opened trace rows start round) indexes.further.items are.further;
 }
 
-if_some : (P Q : ℕ → Type 0) → ((n : ℕ) → P n → Q n) → (o : Option ℕ) → IfSome o P → IfSome o Q
+if_some : (P Q : Plan → Type 0) → ((plan : Plan) → P plan → Q plan) → (o : Option Plan) → IfSome o P → IfSome o Q
 if_some P Q f None holds = tt
-if_some P Q f (Some n) holds = f n holds
+if_some P Q f (Some plan) holds = f plan holds
 
 module _ (old new : List Entry) where
-  plan_without : (seen : ℕ) (desk : DeskState) (plan : Planned) → GoesOnWithout desk.scheduler old new → seen ≤ length old
-      → IsPlan old seen desk plan → IsPlan new seen desk plan
-  plan_without seen desk plan on within is = record {
-    txn = record {
-      request = is.txn.request;
-      rest = is.txn.rest;
-      work = is.txn.work;
-      is = is.txn.is ∙ attempt_without desk.scheduler old new on desk.settings seen is.txn.request within;
-    };
-    few = is.few;
-    seqs = is.seqs ∙ ap (λ (h : List Entry). map (λ (claim : Claim). seq h claim.machine) plan.txn.claims) (sym (front_without desk.scheduler old new on seen within));
-  }
+  plan_without : (desk : DeskState) → GoesOnWithout desk.scheduler old new → (plan : Plan) → IsPlan old desk plan → IsPlan new desk plan
+  plan_without desk on plan is =
+      let longer = longer_without desk.scheduler old new on in
+      let within : plan.seen ≤ length old = is.within in
+      record {
+        within = omega (arith, longer, within);
+        txn = record {
+          request = is.txn.request;
+          rest = is.txn.rest;
+          work = is.txn.work;
+          is = is.txn.is ∙ attempt_without desk.scheduler old new on desk.settings plan.seen is.txn.request within;
+        };
+        few = is.few;
+        seqs = is.seqs
+            ∙ ap (λ (h : List Entry). map (λ (claim : Claim). seq h claim.machine) plan.txn.claims) (sym (front_without desk.scheduler old new on plan.seen within));
+      }
 
   -- in a history that goes on without a commit of its scheduler, a worker has its plan still
   pub has_plan_without : (worker : Worker) → GoesOnWithout worker.desk.scheduler old new → HasPlan old worker → HasPlan new worker
-  has_plan_without worker on =
-      if_some (HasPlanAfter old worker) (HasPlanAfter new worker)
-      (λ seen has.
-      let longer = longer_without worker.desk.scheduler old new on in
-      let within : seen ≤ length old = has.within in
-      record {
-        within = omega (arith, longer, within);
-        plan = has.plan;
-        there = has.there;
-        is_plan = plan_without seen worker.desk has.plan on within has.is_plan;
-      }) worker.synced
+  has_plan_without worker on = if_some (IsPlan old worker.desk) (IsPlan new worker.desk) (plan_without worker.desk on) worker.plan
 
 module _ (settings : Settings) (before after : List Entry) (scheduler : ℕ) (old new : Worker) where
   -- another worker has its plan after a step

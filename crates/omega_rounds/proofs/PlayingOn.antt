@@ -26,11 +26,12 @@ use Rattle.omega_rounds.specs.PlayingOn.{IsSynced, PlansFirst, PlaysOn}
 use Rattle.omega_workers.specs.Workers.{IsWorker, synced_of, to_do_of, SyncedWithin}
 use Rattle.omega_workers.specs.WorkerSteps.{CommitsFirst, IsFirstAttempt}
 use Rattle.omega_workers.specs.Plans.{IsPlan}
-use Rattle.omega_workers.specs.declared.plans.Planned.{Planned}
+use Rattle.omega_workers.specs.declared.plans.Plan.{Plan}
 use Rattle.omega_rounds.specs.declared.threads.player.Player.{Player}
 use Rattle.omega_workers.specs.declared.worker.Worker.{Worker}
 use Rattle.omega_rounds.proofs.DeskCommits.{own_desk_own}
 use Rattle.omega_laws.proofs.LastCommits.{after_last-within}
+use Rattle.omega_workers.proofs.HavingPlans.{seen_there, unsynced}
 use Rattle.omega_workers.proofs.WorkerCommits.{IsCommitting, answers_first, commits_first, fewer_left, worker_after}
 use Rattle.omega_rounds.proofs.Without.{after_last-without, attempt_without, desk_without, longer_without, worker_without, stand_without}
 
@@ -39,7 +40,7 @@ use Rattle.omega_rounds.proofs.Without.{after_last-without, attempt_without, des
 pub plays_on_without : (old new : Player) → IsWorker old.worker.desk.settings old.pass.seen old.pass.number old.worker
     → SpendsTurn old.pass new.pass → GoesOnWithout old.pass.number old.pass.seen new.pass.seen
     → new.worker.desk ≡ old.worker.desk → AreIndexesOf new.pass.seen new.worker.indexes
-    → SyncedWithin new.worker.synced (length new.pass.seen)
+    → SyncedWithin (synced_of new.worker) (length new.pass.seen)
     → PlaysOn old new
 plays_on_without old new worker turn on same indexes seen =
     let settings : Settings = old.worker.desk.settings in
@@ -66,11 +67,27 @@ plays_on_without old new worker turn on same indexes seen =
           (stand_without old.pass.number old.pass.seen new.pass.seen on settings opened_at stand);
     }
 
+-- also where it has no plan then
+pub plays_on_none : (old new : Player) → IsWorker old.worker.desk.settings old.pass.seen old.pass.number old.worker
+    → SpendsTurn old.pass new.pass → GoesOnWithout old.pass.number old.pass.seen new.pass.seen
+    → new.worker.desk ≡ old.worker.desk → AreIndexesOf new.pass.seen new.worker.indexes → new.worker.plan ≡ None
+    → PlaysOn old new
+plays_on_none old new worker turn on same indexes none =
+    plays_on_without old new worker turn on same indexes
+    (subst (λ (synced : Option ℕ). SyncedWithin synced (length new.pass.seen)) (sym (unsynced new.worker none)) tt)
+
 -- what is planned at its desk after all that its pass has seen is a player's attempt
-pub plans_first : (player : Player) (plan : Planned) → IsWorker player.worker.desk.settings player.pass.seen player.pass.number player.worker
-    → IsPlan player.pass.seen (length player.pass.seen) player.worker.desk plan → PlansFirst player plan.txn
-plans_first player plan worker is =
-    subst (λ (n : ℕ). IsFirstAttempt player.worker.desk.settings player.pass.seen n (length player.pass.seen) player.worker.desk plan.txn) worker.scheduler is.txn
+pub plans_first : (player : Player) (plan : Plan) → IsWorker player.worker.desk.settings player.pass.seen player.pass.number player.worker
+    → plan.seen ≡ length player.pass.seen → IsPlan player.pass.seen player.worker.desk plan → PlansFirst player plan.txn
+plans_first player plan worker all is =
+    subst (λ (n : ℕ). IsFirstAttempt player.worker.desk.settings player.pass.seen n (length player.pass.seen) player.worker.desk plan.txn) worker.scheduler
+    (subst (λ (seen : ℕ). IsFirstAttempt player.worker.desk.settings player.pass.seen player.worker.desk.scheduler seen player.worker.desk plan.txn) all is.txn)
+
+-- its plan was made after all that its pass has seen
+pub planned_all : (shared : TableId) (player : Player) (plan : Plan) → IsSynced shared player → Some plan ≡ player.worker.plan
+    → plan.seen ≡ length player.pass.seen
+planned_all shared player plan synced there =
+    let both : Some plan.seen ≡ Some (length player.pass.seen) = sym (seen_there player.worker plan there) ∙ synced.all in cc
 
 -- what a commit was answered is for the first request at the desk
 pub takes_answers : (old : Player) → IsWorker old.worker.desk.settings old.pass.seen old.pass.number old.worker
@@ -93,7 +110,7 @@ pub record PlayerCommits (old new : Player) (txn : Txn) (reply : Reply) : Type 0
   pub attempts : new.worker.desk.attempts ≡ old.worker.desk.attempts + 1
   pub moved : after_outcomes old.worker.desk.settings (left_at old.worker.desk) old.worker.desk.requests reply.outcomes ≡ Some (left_at new.worker.desk)
   pub indexes : new.worker.indexes ≡ old.worker.indexes
-  pub spent : new.worker.synced ≡ None
+  pub spent : new.worker.plan ≡ None
 
 module _ (old new : Player) (txn : Txn) (reply : Reply) (did : PlayerCommits old new txn reply) where
   abbrev settings : Settings
@@ -104,12 +121,6 @@ module _ (old new : Player) (txn : Txn) (reply : Reply) (did : PlayerCommits old
 
   abbrev before : List Entry
   before = did.commits.before
-
-  abbrev next : Worker
-  next = record { desk = new.worker.desk; indexes = new.worker.indexes; synced = None; planned = new.worker.planned }
-
-  next_is : next ≡ new.worker
-  next_is = ap (λ (o : Option ℕ). record { desk = new.worker.desk; indexes = new.worker.indexes; synced = o; planned = new.worker.planned }) (sym did.spent)
 
   -- the worker beside what was there before the commit
   worker_before : IsWorker settings before number old.worker
@@ -130,13 +141,14 @@ module _ (old new : Player) (txn : Txn) (reply : Reply) (did : PlayerCommits old
     moved = did.moved;
   }
 
-  worker_next : IsWorker settings new.pass.seen number next
-  worker_next = worker_after settings number before new.pass.seen old.worker new.worker.desk did.plans.request txn reply.outcomes committing new.worker.indexes new.worker.planned (subst (AreIndexesOf before) (sym did.indexes) worker_before.indexes)
+  worker_next : IsWorker settings new.pass.seen number new.worker
+  worker_next = worker_after settings number before new.pass.seen old.worker new.worker.desk did.plans.request txn reply.outcomes committing
+      new.worker.indexes new.worker.plan did.spent (subst (AreIndexesOf before) (sym did.indexes) worker_before.indexes)
 
-  first_next : CommitsFirst settings number before old.worker new.pass.seen next reply.place
+  first_next : CommitsFirst settings number before old.worker new.pass.seen new.worker reply.place
   first_next =
       commits_first settings number before new.pass.seen old.worker new.worker.desk did.plans.request txn reply.outcomes committing
-      new.worker.indexes new.worker.planned reply.place did.commits.answers.place
+      new.worker.indexes new.worker.plan did.spent reply.place did.commits.answers.place
 
   -- it had seen all that its pass had
   seen_all : first_next.seen ≡ length old.pass.seen
@@ -144,9 +156,7 @@ module _ (old new : Player) (txn : Txn) (reply : Reply) (did : PlayerCommits old
 
   -- fewer attempts are left
   pub fewer_after : to_do_of new.worker < to_do_of old.worker
-  fewer_after =
-      subst (λ (worker : Worker). to_do_of worker < to_do_of old.worker) next_is
-      (fewer_left settings number before new.pass.seen old.worker next reply.place did.synced.range.tries.0 worker_before worker_next first_next)
+  fewer_after = fewer_left settings number before new.pass.seen old.worker new.worker reply.place did.synced.range.tries.0 worker_before worker_next first_next
 
   -- the history before the commit is no shorter than what was seen
   longer : length old.pass.seen ≤ length before
@@ -194,8 +204,7 @@ module _ (old new : Player) (txn : Txn) (reply : Reply) (did : PlayerCommits old
         number = did.turn.number;
         first_length = did.turn.first_length;
         within = omega (arith, first, more);
-        worker = subst (λ (n : ℕ). IsWorker settings new.pass.seen n new.worker) (sym did.turn.number)
-            (subst (λ (worker : Worker). IsWorker settings new.pass.seen number worker) next_is worker_next);
+        worker = subst (λ (n : ℕ). IsWorker settings new.pass.seen n new.worker) (sym did.turn.number) worker_next;
         desk = λ trace rows opened_at within is.
             subst (λ (n : ℕ). IsOwnDesk settings trace rows opened_at new.pass.seen n new.worker.desk) (sym did.turn.number)
             (desk_after trace rows opened_at within is);

@@ -18,7 +18,7 @@ use Rattle.omega_desk.specs.Desks.{DeskState}
 use Rattle.omega_shared.specs.Commits.{GoesOnWithout}
 use Rattle.omega_laws.specs.NextCommit.{attempt_txn}
 use Rattle.omega_rounds.specs.Players.{IsOwnDesk, MayStand, OwnMayStand}
-use Rattle.omega_workers.specs.Workers.{IsWorker}
+use Rattle.omega_workers.specs.Workers.{IsWorker, synced_of}
 use Rattle.omega_workers.specs.declared.worker.Worker.{Worker}
 use Rattle.omega_workers.proofs.CommitCounts.{commits_other, indexes_on, synced_longer}
 use Rattle.omega_rounds.proofs.DeskCommits.{own_desk_other}
@@ -84,7 +84,7 @@ module _ (scheduler : ℕ) (old new : List Entry) (on : GoesOnWithout scheduler 
     attempts = is.attempts ∙ sym commits_without;
     tries = is.tries;
     indexes = indexes_without worker.indexes is.indexes;
-    seen = synced_longer worker.synced (length old) (length new) longer_without is.seen;
+    seen = synced_longer (synced_of worker) (length old) (length new) longer_without is.seen;
   }
 
   -- its attempt, after some of the old history, is the same

@@ -92,7 +92,7 @@ module _ (settings : Settings) (before after : List Entry) (scheduler : ℕ) (ol
         attempts = is.attempts ∙ sym (commits_other number before entry (ne_eqb scheduler number (λ same. apart (sym same))));
         tries = is.tries;
         indexes = indexes_on worker.indexes before (before ++ entry ∷ []) (entry ∷ [], refl) is.indexes;
-        seen = synced_longer worker.synced (length before) (length (before ++ entry ∷ []))
+        seen = synced_longer (synced_of worker) (length before) (length (before ++ entry ∷ []))
             (let count = length-append before (entry ∷ []) in omega (arith, count)) is.seen;
       })
 

@@ -28,7 +28,7 @@ pub record BeginsWorker (asked : Asked) (history : List Entry) (number : ℕ) (o
       → left_at new.desk ≡ fresh (left_at old.desk).failing
       (still_tried old.desk.settings (left_at old.desk).failing (all_requests settings trace rows (state history) number))
   pub indexes : new.indexes ≡ old.indexes
-  pub synced : new.synced ≡ None
+  pub synced : synced_of new ≡ None
 
 -- so does each worker
 pub record BeginAll (asked : Asked) (history : List Entry) (old new : List Worker) : Type 0 where

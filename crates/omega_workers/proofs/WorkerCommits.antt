@@ -15,13 +15,14 @@ use Rattle.omega_desk.specs.Desks.{AnswersFirst, DeskState, IsSameDesk, left_at}
 use Rattle.omega_desk.specs.Walks.{are_wished}
 use Rattle.omega_workers.specs.AttemptsLeft.{attempts_left}
 use Rattle.omega_laws.specs.NextCommit.{attempt_txn}
-use Rattle.omega_workers.specs.Workers.{has_work, IsWorker, to_do_of}
+use Rattle.omega_workers.specs.Workers.{has_work, IsWorker, SyncedWithin, synced_of, to_do_of}
 use Rattle.omega_workers.specs.WorkerSteps.{CommitsFirst, attempt_outcomes}
-use Rattle.omega_workers.specs.declared.plans.Planned.{Planned}
+use Rattle.omega_workers.specs.declared.plans.Plan.{Plan}
 use Rattle.omega_workers.specs.declared.worker.Worker.{Worker}
 use Rattle.omega_workers.proofs.Answering.{planned_answers}
 use Rattle.omega_workers.proofs.AttemptsLeft.{attempt_less}
 use Rattle.omega_workers.proofs.CommitCounts.{commits_own, indexes_on}
+use Rattle.omega_workers.proofs.HavingPlans.{unsynced}
 
 -- no request is the first where none is left
 pub first_none : (requests : List Request) → None ≡ slice_get requests 0 → requests ≡ []
@@ -75,7 +76,7 @@ answers_first settings scheduler before held seen requests request txn outcomes 
 pub record IsCommitting (settings : Settings) (scheduler : ℕ) (before after : List Entry) (old : Worker) (desk : DeskState) (request : Request) (txn : Txn) (outcomes : List Outcome) : Type 0 where
   pub worker : IsWorker settings before scheduler old
   pub seen : ℕ
-  pub synced : old.synced ≡ Some seen
+  pub synced : synced_of old ≡ Some seen
   pub tries : 1 ≤ settings.tries
   pub first : Some request ≡ slice_get old.desk.requests 0
   pub is : txn ≡ attempt_txn settings before scheduler seen request
@@ -90,25 +91,25 @@ module _ (settings : Settings) (scheduler : ℕ) (before after : List Entry) (ol
   left_moved : after_outcomes settings (left_at old.desk) old.desk.requests outcomes ≡ Some (left_at desk)
   left_moved = subst (λ (s : Settings). after_outcomes s (left_at old.desk) old.desk.requests outcomes ≡ Some (left_at desk)) on.worker.settings on.moved
 
-  pub worker_after : (indexes : Indexes) (planned : Option Planned) → AreIndexesOf before indexes → IsWorker settings after scheduler (record { desk = desk; indexes = indexes; synced = None; planned = planned })
-  worker_after indexes planned are =
+  pub worker_after : (indexes : Indexes) (plan : Option Plan) → plan ≡ None → AreIndexesOf before indexes → IsWorker settings after scheduler (record { desk = desk; indexes = indexes; plan = plan })
+  worker_after indexes plan none are =
       let parts = first_some old.desk.requests request on.first in
       let next = moved_to settings (left_at old.desk) (left_at desk) old.desk.requests request parts.0 outcomes parts.1 left_moved in
       let less = attempt_less settings (left_at old.desk) request parts.0 outcomes on.tries parts.1 on.worker.tries in
       let entry : Entry = Commit scheduler on.seen txn (reply_of before on.seen txn) in
-      subst (λ (h : List Entry). IsWorker settings h scheduler (record { desk = desk; indexes = indexes; synced = None; planned = planned })) (sym on.appended) (record {
+      subst (λ (h : List Entry). IsWorker settings h scheduler (record { desk = desk; indexes = indexes; plan = plan })) (sym on.appended) (record {
         settings = on.same.settings ∙ on.worker.settings;
         scheduler = on.same.scheduler ∙ on.worker.scheduler;
         attempts = on.attempts ∙ ap (λ (n : ℕ). n + 1) on.worker.attempts
             ∙ sym (commits_own scheduler on.seen txn (reply_of before on.seen txn) before);
         tries = subst (λ (s : Standing). s.taken < settings.tries) (sym next) less.1;
         indexes = indexes_on indexes before (before ++ entry ∷ []) (entry ∷ [], refl) are;
-        seen = tt;
+        seen = subst (λ (o : Option ℕ). SyncedWithin o (length (before ++ entry ∷ []))) (sym (unsynced (record { desk = desk; indexes = indexes; plan = plan }) none)) tt;
       })
 
-  pub commits_first : (indexes : Indexes) (planned : Option Planned) (place : ℕ) → place ≡ length before
-      → CommitsFirst settings scheduler before old after (record { desk = desk; indexes = indexes; synced = None; planned = planned }) place
-  commits_first indexes planned place at_end =
+  pub commits_first : (indexes : Indexes) (plan : Option Plan) → plan ≡ None → (place : ℕ) → place ≡ length before
+      → CommitsFirst settings scheduler before old after (record { desk = desk; indexes = indexes; plan = plan }) place
+  commits_first indexes plan none place at_end =
       let parts = first_some old.desk.requests request on.first in
       record {
         request = request;
@@ -119,7 +120,7 @@ module _ (settings : Settings) (scheduler : ℕ) (before after : List Entry) (ol
         at_end = at_end;
         appended = on.appended
             ∙ ap (λ (t : Txn). before ++ Commit scheduler on.seen t (reply_of before on.seen t) ∷ []) on.is;
-        spent = refl;
+        spent = unsynced (record { desk = desk; indexes = indexes; plan = plan }) none;
         moved = subst (λ (os : List Outcome). after_outcomes settings (left_at old.desk) old.desk.requests os ≡ Some (left_at desk))
             (on.outcome ∙ ap (λ (t : Txn). outcomes_of t.claims (reply_of before on.seen t)) on.is) left_moved;
       }

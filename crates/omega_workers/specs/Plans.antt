@@ -1,5 +1,5 @@
 -- What a scheduler has planned.
-use Rattle.std.specs.Prelude.{◌≡◌, ◌≢◌, ◌≤◌, ◌<◌, ◌^◌, ℕ, List, [], Some, IfSome, length}
+use Rattle.std.specs.Prelude.{◌≡◌, ◌≢◌, ◌≤◌, ◌<◌, ◌^◌, ℕ, List, [], IfSome, length}
 use Rattle.omega_machines.specs.Table.{seq_at}
 use Rattle.omega_board.specs.Board.{BoardState, cell_of}
 use Rattle.omega_desk.specs.Desks.{DeskState}
@@ -12,7 +12,7 @@ use Rattle.omega_model.specs.declared.claims.Txn.{Txn}
 use Rattle.omega_model.specs.declared.entries.Entry.{Entry}
 use Rattle.omega_workers.specs.Workers.{IsWorker}
 use Rattle.omega_workers.specs.WorkerSteps.{IsFirstAttempt}
-use Rattle.omega_workers.specs.declared.plans.Planned.{Planned}
+use Rattle.omega_workers.specs.declared.plans.Plan.{Plan}
 use Rattle.omega_workers.specs.declared.worker.Worker.{Worker}
 
 -- the scheduler of a desk may plan: it is one of those of its settings, and a request is left
@@ -31,26 +31,20 @@ abbrev pub IsPlannedOver : DeskState → BoardState → Txn → Type 0
 IsPlannedOver desk board txn = (history : List Entry) (seen : ℕ) → StandsFor (cell_of board) (seq_at board.table) seen history → IsUpTo history desk
     → IsFirstAttempt desk.settings history desk.scheduler seen desk txn
 
--- a plan is the attempt of the desk's scheduler on the first request that is left there, after so many entries
--- that it has seen, with the sequence numbers that the machines of its claims have there
-pub record IsPlan (history : List Entry) (seen : ℕ) (desk : DeskState) (plan : Planned) : Type 0 where
-  pub txn : IsFirstAttempt desk.settings history desk.scheduler seen desk plan.txn
+-- a plan is the attempt of the desk's scheduler on the first request that is left there, after a front of the
+-- history that it has seen, with the sequence numbers that the machines of its claims have there
+pub record IsPlan (history : List Entry) (desk : DeskState) (plan : Plan) : Type 0 where
+  pub within : plan.seen ≤ length history
+  pub txn : IsFirstAttempt desk.settings history desk.scheduler plan.seen desk plan.txn
   pub few : length plan.txn.claims < 2 ^ 32
-  pub seqs : plan.seqs.items ≡ copied_seqs history seen plan.txn.claims
+  pub seqs : plan.seqs.items ≡ copied_seqs history plan.seen plan.txn.claims
 
--- a worker has its plan, after so many entries that its scheduler has seen
-pub record HasPlanAfter (history : List Entry) (worker : Worker) (seen : ℕ) : Type 0 where
-  pub within : seen ≤ length history
-  pub plan : Planned
-  pub there : worker.planned ≡ Some plan
-  pub is_plan : IsPlan history seen worker.desk plan
-
--- where the scheduler of a worker has synced, the worker has its plan
+-- what a worker has planned is its scheduler's plan
 abbrev pub HasPlan : List Entry → Worker → Type 0
-HasPlan history worker = IfSome worker.synced (HasPlanAfter history worker)
+HasPlan history worker = IfSome worker.plan (IsPlan history worker.desk)
 
 -- a worker beside a history is ready for a step of the scheduler whose desk this is: it is that scheduler's
--- under the desk's settings, and has its plan where it needs one
+-- under the desk's settings, and what it has planned is the scheduler's plan
 pub record IsReady (desk : DeskState) (history : List Entry) (worker : Worker) : Type 0 where
   pub range : IsInRange desk.settings
   pub known : desk.scheduler < schedulers desk.settings

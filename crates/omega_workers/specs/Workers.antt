@@ -1,5 +1,5 @@
--- A scheduler's worker: its desk, and its indexes; what it has planned is in `Plans`.
-use Rattle.std.specs.Prelude.{◌≡◌, ◌<◌, ◌≤◌, ℕ, Bool, List, [], Option, Some, IfSome, All, is_some, length, slice_get}
+-- A scheduler's worker: its desk, its indexes, and how much it has seen; what its plan is stands in `Plans`.
+use Rattle.std.specs.Prelude.{◌≡◌, ◌<◌, ◌≤◌, ℕ, Bool, List, [], Option, Some, IfSome, All, is_some, length, option_map, slice_get}
 use Rattle.omega_model.specs.Requests.{failed}
 use Rattle.omega_model.specs.Routing.{scheduler_of}
 use Rattle.omega_model.specs.Work.{HasLeft, Standing, commits_of, standing_of}
@@ -12,11 +12,12 @@ use Rattle.omega_plan.specs.Indexes.{AreIndexesOf}
 use Rattle.omega_desk.specs.Counts.{count_of}
 use Rattle.omega_desk.specs.Desks.{DeskState, left_at}
 use Rattle.omega_workers.specs.AttemptsLeft.{attempts_left}
+use Rattle.omega_workers.specs.declared.plans.Plan.{Plan}
 use Rattle.omega_workers.specs.declared.worker.Worker.{Worker}
 
--- how many entries its scheduler had seen, if it has synced since its last commit
+-- how many entries its scheduler had seen when it planned, if it has synced since its last commit
 abbrev pub synced_of : Worker → Option ℕ
-synced_of worker = worker.synced
+synced_of worker = option_map (λ (plan : Plan). plan.seen) worker.plan
 
 -- whether a request is left at a worker's desk
 abbrev pub has_work : Worker → Bool
@@ -43,7 +44,7 @@ pub record IsWorker (chosen : Settings) (history : List Entry) (number : ℕ) (w
   pub attempts : worker.desk.attempts ≡ commits_of number history
   pub tries : worker.desk.taken < chosen.tries
   pub indexes : AreIndexesOf history worker.indexes
-  pub seen : SyncedWithin worker.synced (length history)
+  pub seen : SyncedWithin (synced_of worker) (length history)
 
 -- a scheduler works on the job of a request
 abbrev pub IsRoutedTo : Settings → TraceTables → ℕ → Request → Type 0

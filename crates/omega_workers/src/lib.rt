@@ -15,7 +15,7 @@ mod worker;
 mod worth;
 
 pub use forked::{PieceIndexes, sync_pieces};
-pub use plans::{Planned, plan_first};
+pub use plans::{Plan, plan_first};
 pub use steps::Stepped;
 pub use worker::{Worker, first_at_work};
 pub use worth::are_worth_threads;

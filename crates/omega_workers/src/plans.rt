@@ -1,5 +1,5 @@
 //! What a scheduler plans when it syncs, in turns and on threads.
-ghost use Rattle.std.specs.Prelude.{◌≡◌, ℕ, List, length, IfOk};
+ghost use Rattle.std.specs.Prelude.{◌≡◌, List, length, IfOk};
 ghost use Rattle.omega_board.specs.Board.{cell_of};
 ghost use Rattle.omega_plan.specs.Indexes.{AreIndexesOf, TellAll};
 ghost use Rattle.omega_machines.specs.Table.{seq_at};
@@ -15,15 +15,17 @@ use omega_model::{NoMemory, Txn};
 use omega_plan::{Indexes, seqs_on};
 use std::alloc::Global;
 
-/// A transaction that was planned, and for each of its claims the sequence number that the claim's machine
-/// had in what it was planned on.
+/// What a scheduler has planned on what it has seen, and is to commit.
 #[derive(Drop)]
-pub struct Planned {
+pub struct Plan {
+    /// How many entries it had seen.
+    pub seen: u64,
     pub txn: Txn,
+    /// For each claim the sequence number that its machine had after these entries.
     pub seqs: Vec<u64>,
 }
 
-/// The attempt on the first request that is left at a desk, planned on the cell's board with these indexes,
+/// The plan for the first request that is left at a desk, made on the cell's board with these indexes,
 /// which are brought up to it. A transaction of 2^32 claims or more is answered as want of memory. Costs the
 /// plan, and the entries that the indexes haven't seen.
 pub fn plan_first(
@@ -31,35 +33,39 @@ pub fn plan_first(
     desk: &Desk,
     indexes: &mut Indexes,
     cell: &Cell,
-) -> Result<Planned, NoMemory>
+) -> Result<Plan, NoMemory>
     requires may { MayPlan desk.now }
     requires up_to { IsUpTo cell.now.history desk.now }
     requires indexes { AreIndexesOf cell.now.history indexes.old }
     ensures indexes { AreIndexesOf cell.now.history indexes.new }
-    ensures plan { IfOk result (IsPlan cell.now.history (length cell.now.history) desk.now) }
+    ensures plan { IfOk result (IsPlan cell.now.history desk.now) }
+    ensures seen { IfOk result (λ plan. plan.seen ≡ length cell.now.history) }
 {
     let (history, board) = (cell.history(), cell.board());
     let machines = touched(alloc, &history[indexes.seen() as usize..])?;
     indexes.make_room(board)?;
-    indexes.go_on(board, history.len() as u64, &machines);
-    plan_on(alloc, desk, board, indexes)
+    let seen = history.len() as u64;
+    indexes.go_on(board, seen, &machines);
+    plan_on(alloc, desk, seen, board, indexes)
 }
 
-/// The attempt, planned on a board of which these indexes tell.
+/// The plan, made on the board after so many entries, of which these indexes tell.
 fn plan_on(
     alloc: Global,
     desk: &Desk,
+    seen: u64,
     board: &Board,
     indexes: &mut Indexes,
-) -> Result<Planned, NoMemory>
+) -> Result<Plan, NoMemory>
     requires may { MayPlan desk.now }
     requires tell { TellAll (cell_of board.now) indexes.old }
     ensures tell { TellAll (cell_of board.now) indexes.new }
     ensures seen { indexes.new.seen ≡ indexes.old.seen }
-    ensures plan { IfOk result (λ plan. (history : List Entry) (seen : ℕ) → StandsFor (cell_of board.now) (seq_at board.now.table) seen history
-        → IsUpTo history desk.now → IsPlan history seen desk.now plan) }
+    ensures plan { IfOk result (λ plan. (history : List Entry) → StandsFor (cell_of board.now) (seq_at board.now.table) seen history
+        → IsUpTo history desk.now → IsPlan history desk.now plan) }
+    ensures after { IfOk result (λ plan. plan.seen ≡ seen) }
 {
     let txn = attempt_txn(alloc, desk, board, indexes)?;
     let seqs = seqs_on(alloc, board, txn.claims.as_slice())?;
-    Ok(Planned { txn, seqs })
+    Ok(Plan { seen, txn, seqs })
 }

@@ -1,5 +1,5 @@
 //! A scheduler's worker: its desk, its indexes of the cell, and its plan.
-ghost use Rattle.std.specs.Prelude.{◌≡◌, ◌≢◌, [], None, Some, position, IfOk, OnOk, OnErr};
+ghost use Rattle.std.specs.Prelude.{◌≡◌, ◌≢◌, [], None, Some, position, IfOk, IsSome, OnOk, OnErr};
 ghost use Rattle.std.specs.List.{All};
 ghost use Rattle.omega_plan.specs.Indexes.{AreIndexesOf};
 ghost use Rattle.omega_desk.specs.Desks.{IsSameDesk, left_at, still_tried};
@@ -8,11 +8,11 @@ ghost use Rattle.omega_laws.specs.VirtualTime.{first_wishes};
 ghost use Rattle.omega_model.specs.Ranges.{IsInRange};
 ghost use Rattle.omega_model.specs.Work.{fresh};
 ghost use Rattle.omega_workers.specs.Forked.{IsNotDue, HasSyncedOrStays};
-ghost use Rattle.omega_workers.specs.Workers.{has_work, IsWorker};
+ghost use Rattle.omega_workers.specs.Workers.{has_work, IsWorker, synced_of};
 ghost use Rattle.omega_workers.specs.Plans.{IsReady};
 ghost use Rattle.omega_workers.specs.WorkerSteps.{CommitsFirst, WorkerSteps, SyncsWorker};
 
-use crate::plans::{Planned, plan_first};
+use crate::plans::{Plan, plan_first};
 use crate::steps::Stepped;
 use omega_cell::Cell;
 use omega_desk::Desk;
@@ -24,12 +24,10 @@ use std::alloc::Global;
 #[derive(Drop)]
 pub struct Worker {
     pub desk: Desk,
-    /// What it plans by beside the cell, where it has a thread of its own.
+    /// What it plans by on a thread of its own; else those of the empty board, which take no memory.
     pub indexes: Indexes,
-    /// How many entries the scheduler has seen, if it has synced since its last commit.
-    pub synced: Option<u64>,
-    /// Its plan after these entries, where it takes steps of a world.
-    pub planned: Option<Planned>,
+    /// What it has planned, if the scheduler has synced since its last commit.
+    pub plan: Option<Plan>,
 }
 
 impl Worker {
@@ -37,14 +35,13 @@ impl Worker {
     pub fn new(alloc: Global, settings: &Settings, scheduler: u32) -> Worker
         requires { IsInRange settings.now }
         ensures worker { IsWorker settings.now [] scheduler result }
-        ensures synced { result.synced ≡ None }
+        ensures synced { synced_of result ≡ None }
         ensures left { left_at result.desk ≡ fresh (λ job. 0) [] }
     {
         Worker {
             desk: Desk::new(alloc, settings, scheduler),
             indexes: Indexes::new(alloc),
-            synced: None,
-            planned: None,
+            plan: None,
         }
     }
 
@@ -58,10 +55,10 @@ impl Worker {
         ensures left { OnOk result (left_at self.new.desk ≡ fresh (left_at self.old.desk).failing
             (still_tried self.old.desk.settings (left_at self.old.desk).failing requests)) }
         ensures indexes { self.new.indexes ≡ self.old.indexes }
-        ensures synced { OnOk result (self.new.synced ≡ None) }
+        ensures synced { OnOk result (synced_of self.new ≡ None) }
     {
         self.desk.begin(requests)?;
-        self.synced = None;
+        self.plan = None;
         Ok(())
     }
 
@@ -98,16 +95,16 @@ impl Worker {
             WorkerSteps self.old.desk.settings self.old.desk.scheduler cell.old.history self.old cell.new.history self.new stepped) }
         ensures err { OnErr result (cell.new.history ≡ cell.old.history) }
         ensures desk { OnErr result (self.new.desk ≡ self.old.desk) }
-        ensures synced { OnErr result (self.new.synced ≡ self.old.synced) }
+        ensures synced { OnErr result (synced_of self.new ≡ synced_of self.old) }
     {
         if !self.has_work() {
             return Ok(Stepped::Idle);
         }
-        let Some(seen) = self.synced else {
+        if self.plan.is_none() {
             self.sync(alloc, indexes, cell)?;
             return Ok(Stepped::Synced);
-        };
-        let place = self.commit(alloc, seen, cell)?;
+        }
+        let place = self.commit(alloc, cell)?;
         Ok(Stepped::Committed(place))
     }
 
@@ -128,7 +125,7 @@ impl Worker {
         if !self.has_work() {
             return Ok(());
         }
-        if self.synced.is_some() {
+        if self.plan.is_some() {
             return Ok(());
         }
         self.sync(alloc, indexes, cell)?;
@@ -140,33 +137,32 @@ impl Worker {
     fn sync(&mut self, alloc: Global, indexes: &mut Indexes, cell: &Cell) -> Result<(), NoMemory>
         requires ready { IsReady self.old.desk cell.now.history self.old }
         requires indexes { AreIndexesOf cell.now.history indexes.old }
-        requires synced { self.old.synced ≡ None }
+        requires unsynced { self.old.plan ≡ None }
         requires work { self.old.desk.requests ≢ [] }
         ensures ready { IsReady self.old.desk cell.now.history self.new }
         ensures indexes { AreIndexesOf cell.now.history indexes.new }
         ensures syncs { OnOk result (SyncsWorker cell.now.history self.old cell.now.history self.new) }
         ensures desk { OnErr result (self.new.desk ≡ self.old.desk) }
-        ensures unsynced { OnErr result (self.new.synced ≡ self.old.synced) }
+        ensures plan { OnErr result (self.new.plan ≡ self.old.plan) }
     {
         let plan = plan_first(alloc, &self.desk, indexes, cell)?;
-        self.planned = Some(plan);
-        self.synced = Some(cell.history().len() as u64);
+        self.plan = Some(plan);
         Ok(())
     }
 
-    /// Commits the plan, which was made after so many entries that were seen. Answers the place of the commit.
-    /// Where memory runs out nothing has changed but the cell's room.
-    fn commit(&mut self, alloc: Global, seen: u64, cell: &mut Cell) -> Result<u64, NoMemory>
+    /// Commits the plan. Answers the place of the commit. Where memory runs out nothing has changed but the
+    /// cell's room.
+    fn commit(&mut self, alloc: Global, cell: &mut Cell) -> Result<u64, NoMemory>
         requires ready { IsReady self.old.desk cell.old.history self.old }
-        requires synced { self.old.synced ≡ Some seen }
+        requires planned { IsSome self.old.plan }
         ensures ready { IsReady self.old.desk cell.new.history self.new }
         ensures commits { IfOk result (λ place.
             CommitsFirst self.old.desk.settings self.old.desk.scheduler cell.old.history self.old cell.new.history self.new place) }
         ensures err { OnErr result (cell.new.history ≡ cell.old.history) }
         ensures desk { OnErr result (self.new.desk ≡ self.old.desk) }
-        ensures spent { OnErr result (self.new.synced ≡ self.old.synced) }
+        ensures plan { OnErr result (self.new.plan ≡ self.old.plan) }
     {
-        let Some(Planned { txn, seqs }) = self.planned.take() else {
+        let Some(Plan { seen, txn, seqs }) = self.plan.take() else {
             unreachable!()
         };
         match cell.reserve(alloc, txn) {
@@ -174,11 +170,10 @@ impl Worker {
                 let scheduler = self.desk.scheduler();
                 let reply = cell.commit(scheduler, seen, &seqs, prepared);
                 self.desk.take(&reply);
-                self.synced = None;
                 Ok(reply.place)
             }
             Err((txn, error)) => {
-                self.planned = Some(Planned { txn, seqs });
+                self.plan = Some(Plan { seen, txn, seqs });
                 Err(error)
             }
         }

@@ -49,7 +49,7 @@ pub fn are_worth_threads(
 
 /// About how many looks a worker's next plan takes; 0 where it makes none in this step.
 fn looks_of(worker: &Worker, free: &FitIndex, board: &Board) -> u64 {
-    if worker.synced.is_some() {
+    if worker.plan.is_some() {
         return 0;
     }
     let Some(request) = worker.desk.present() else {

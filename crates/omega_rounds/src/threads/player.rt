@@ -1,14 +1,14 @@
 //! A scheduler's part in a round that is played on threads.
-ghost use Rattle.std.specs.Prelude.{◌≡◌, ◌≢◌, ◌<◌, ◌+◌, ◌^◌, [], None, Some, length, IfOk, OnOk};
+ghost use Rattle.std.specs.Prelude.{◌≡◌, ◌≢◌, ◌<◌, ◌+◌, ◌^◌, [], None, Some, length, OnOk};
 ghost use Rattle.omega_rounds.specs.Players.{HasPlayed, MayPlay};
 ghost use Rattle.omega_rounds.specs.PlayingOn.{IsSynced, PlaysOn};
-ghost use Rattle.omega_workers.specs.Plans.{IsPlan};
+ghost use Rattle.omega_workers.specs.Plans.{HasPlan};
 ghost use Rattle.omega_workers.specs.Workers.{synced_of, to_do_of};
 
 use omega_io::{Gate, Point};
 use omega_model::NoMemory;
 use omega_shared::{Pass, SharedCell};
-use omega_workers::{Planned, Worker, plan_first};
+use omega_workers::{Plan, Worker, plan_first};
 use std::alloc::Global;
 use std::sync::Wait;
 
@@ -53,23 +53,23 @@ impl Player {
         ensures failed { self.new.failed ≡ self.old.failed }
     {
         let number = self.pass.number();
-        let plan = self.plan(rt, alloc, shared, gate)?;
+        self.sync(rt, alloc, shared, gate)?;
         gate.at(number, Point::Planned);
-        self.commit(rt, alloc, shared, plan)?;
+        self.commit(rt, alloc, shared)?;
         gate.at(number, Point::Committed);
         Ok(())
     }
 
-    /// A turn in which the scheduler looks at the cell, and its plan of an attempt on the first request that is
-    /// left, on what it saw there. The gate is asked between the two. A transaction of 2^32 claims or more is
-    /// answered as want of memory. Where memory runs out the scheduler hasn't synced.
-    fn plan<R: Wait, G: Gate>(
+    /// A turn in which the scheduler looks at the cell, and its plan for the first request that is left, made on
+    /// what it saw there. The gate is asked between the two. A transaction of 2^32 claims or more is answered as
+    /// want of memory. Where memory runs out the scheduler hasn't synced.
+    fn sync<R: Wait, G: Gate>(
         &mut self,
         rt: &R,
         alloc: Global,
         shared: &SharedCell,
         gate: &G,
-    ) -> Result<Planned, NoMemory>
+    ) -> Result<(), NoMemory>
         requires may_play { MayPlay shared.now.of self.old }
         requires left { 0 < self.old.pass.turns }
         requires work { self.old.worker.desk.requests ≢ [] }
@@ -78,10 +78,10 @@ impl Player {
         ensures desk { self.new.worker.desk ≡ self.old.worker.desk }
         ensures all { OnOk result (synced_of self.new.worker ≡ Some (length self.new.pass.seen)) }
         ensures short { OnOk result (length self.new.pass.seen + 1 < 2 ^ 64) }
-        ensures plan { IfOk result (IsPlan self.new.pass.seen (length self.new.pass.seen) self.new.worker.desk) }
+        ensures plan { OnOk result (HasPlan self.new.pass.seen self.new.worker) }
         ensures failed { self.new.failed ≡ self.old.failed }
     {
-        self.worker.synced = None;
+        self.worker.plan = None;
         let view = shared.look(rt, alloc, &mut self.pass)?;
         gate.at(self.pass.number(), Point::Synced);
         let plan = plan_first(
@@ -90,21 +90,20 @@ impl Player {
             &mut self.worker.indexes,
             view.cell(),
         )?;
-        self.worker.synced = Some(view.cell().history().len() as u64);
-        Ok(plan)
+        self.worker.plan = Some(plan);
+        Ok(())
     }
 
-    /// A turn in which a plan is committed, after which the desk moves on by what was answered. Where memory
-    /// runs out the worker is as before.
+    /// A turn in which the plan is committed, after which the desk moves on by what was answered. Where memory
+    /// runs out the desk is as before, and the plan is gone.
     fn commit<R: Wait>(
         &mut self,
         rt: &R,
         alloc: Global,
         shared: &SharedCell,
-        plan: Planned,
     ) -> Result<(), NoMemory>
         requires synced { IsSynced shared.now.of self.old }
-        requires plan { IsPlan self.old.pass.seen (length self.old.pass.seen) self.old.worker.desk plan }
+        requires plan { HasPlan self.old.pass.seen self.old.worker }
         requires short { length self.old.pass.seen + 1 < 2 ^ 64 }
         ensures plays_on { PlaysOn self.old self.new }
         ensures turn { self.new.pass.turns + 1 ≡ self.old.pass.turns }
@@ -112,15 +111,13 @@ impl Player {
         ensures spent { OnOk result (synced_of self.new.worker ≡ None) }
         ensures failed { self.new.failed ≡ self.old.failed }
     {
-        let Some(seen) = self.worker.synced else {
+        let Some(Plan { seen, txn, seqs }) = self.worker.plan.take() else {
             unreachable!()
         };
-        let Planned { txn, seqs } = plan;
         let Ok(reply) = shared.commit_planned(rt, alloc, &mut self.pass, seen, txn, seqs) else {
             return Err(NoMemory);
         };
         self.worker.desk.take(&reply);
-        self.worker.synced = None;
         Ok(())
     }
 }

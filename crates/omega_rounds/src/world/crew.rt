@@ -22,7 +22,7 @@ use std::thread::Threads;
 pub(crate) struct Crew {
     pub cell: Cell,
     pub workers: Vec<Worker>,
-    /// What a plan needs beside the cell's board.
+    /// What the workers plan by where they take steps of the world.
     pub indexes: PieceIndexes,
 }
 
@@ -37,7 +37,7 @@ impl Drop for Crew {
 }
 
 impl Crew {
-    /// The cell itself, the workers, and what their plans need beside the cell's board.
+    /// The cell itself, the workers, and what they plan by where they take steps of the world.
     pub fn into_parts(self) -> (Cell, Vec<Worker>, PieceIndexes)
         ensures cell { result.0 ≡ self.cell }
         ensures workers { result.1 ≡ self.workers }

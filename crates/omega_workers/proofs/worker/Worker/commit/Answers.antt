@@ -7,15 +7,15 @@ use Rattle.omega_model.specs.declared.entries.Entry.{Entry}
 use Rattle.omega_model.specs.declared.entries.Entry.TheVariants.{Commit}
 use Rattle.omega_model.specs.declared.wishes.Request.{Request}
 use Rattle.omega_desk.specs.Desks.{DeskState}
-use Rattle.omega_workers.proofs.HavingPlans.{plan_there}
+use Rattle.omega_workers.proofs.HavingPlans.{plan_none, plan_there, seen_there, unsynced}
 use Rattle.omega_workers.proofs.WorkerCommits.{answers_first, worker_after}
 use Rattle.omega_workers.proofs.worker.Worker.commit.Goals as goal
 
 pub take-requires-in-Ok-clause-answers : goal.take-requires-in-Ok-clause-answers
 take-requires-in-Ok-clause-answers c =
     let desk : DeskState = c.args.self.now.desk in
-    let first = (plan_there c.args.cell.now.history c.args.self.now c.args.seen c.in-Some.field-0 c.requires.synced c.requires.ready.plan c.in-Some.ensures.value).1.txn in
-    answers_first desk.settings desk.scheduler c.args.cell.now.history c.reserve.new.self.history c.args.seen desk.requests
+    let first = (plan_there c.args.cell.now.history c.args.self.now c.in-Some.field-0 c.requires.ready.plan c.in-Some.ensures.value).txn in
+    answers_first desk.settings desk.scheduler c.args.cell.now.history c.reserve.new.self.history c.in-Some.field-0.seen desk.requests
     first.request c.in-Ok.prepared c.commit-reply.result.outcomes
     (sym (ap (λ (requests : List Request). slice_get requests 0) first.work))
     (c.in-Ok.ensures.txn ∙ first.is) c.commit-reply.ensures.outcomes
@@ -26,25 +26,26 @@ returns-in-Ok-clause-ready c = record {
   known = c.requires.ready.known;
   is_worker =
       (let desk : DeskState = c.args.self.now.desk in
-      let first = (plan_there c.args.cell.now.history c.args.self.now c.args.seen c.in-Some.field-0 c.requires.synced c.requires.ready.plan c.in-Some.ensures.value).1.txn in
+      let first = (plan_there c.args.cell.now.history c.args.self.now c.in-Some.field-0 c.requires.ready.plan c.in-Some.ensures.value).txn in
       let txn : Txn = c.in-Ok.prepared in
       let same = c.reserve.ensures.history in
       worker_after desk.settings desk.scheduler c.args.cell.now.history c.commit-reply.new.self.history c.args.self.now c.take-in-Ok.new.self first.request
       txn c.commit-reply.result.outcomes
       (record {
         worker = c.requires.ready.is_worker;
-        seen = c.args.seen;
-        synced = c.requires.synced;
+        seen = c.in-Some.field-0.seen;
+        synced = seen_there c.args.self.now c.in-Some.field-0 c.in-Some.ensures.value;
         tries = c.requires.ready.range.tries.0;
         first = sym (ap (λ (requests : List Request). slice_get requests 0) first.work);
         is = c.in-Ok.ensures.txn ∙ first.is;
         appended = c.commit-reply.ensures.history
-            ∙ ap (λ (n : ℕ). c.reserve.new.self.history ++ Commit n c.args.seen txn (reply_of c.reserve.new.self.history c.args.seen txn) ∷ []) c.scheduler-scheduler.ensures
-            ∙ ap (λ (h : List Entry). h ++ Commit desk.scheduler c.args.seen txn (reply_of h c.args.seen txn) ∷ []) same;
-        outcome = c.commit-reply.ensures.outcomes ∙ ap (λ (h : List Entry). outcomes_of txn.claims (reply_of h c.args.seen txn)) same;
+            ∙ ap (λ (n : ℕ). c.reserve.new.self.history ++ Commit n c.in-Some.field-0.seen txn (reply_of c.reserve.new.self.history c.in-Some.field-0.seen txn) ∷ []) c.scheduler-scheduler.ensures
+            ∙ ap (λ (h : List Entry). h ++ Commit desk.scheduler c.in-Some.field-0.seen txn (reply_of h c.in-Some.field-0.seen txn) ∷ []) same;
+        outcome = c.commit-reply.ensures.outcomes ∙ ap (λ (h : List Entry). outcomes_of txn.claims (reply_of h c.in-Some.field-0.seen txn)) same;
         same = c.take-in-Ok.ensures.desk;
         attempts = c.take-in-Ok.ensures.attempts;
         moved = c.take-in-Ok.ensures.left;
-      }) c.args.self.now.indexes c.take.new.self c.requires.ready.is_worker.indexes);
-  plan = tt;
+      }) c.args.self.now.indexes c.take.new.self c.take.ensures.after c.requires.ready.is_worker.indexes);
+  plan = plan_none c.commit-reply.new.self.history (record { desk = c.take-in-Ok.new.self; indexes = c.args.self.now.indexes; plan = c.take.new.self })
+      (unsynced (record { desk = c.take-in-Ok.new.self; indexes = c.args.self.now.indexes; plan = c.take.new.self }) c.take.ensures.after);
 }

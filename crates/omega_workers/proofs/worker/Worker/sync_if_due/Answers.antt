@@ -1,4 +1,6 @@
-use Rattle.std.proofs.Common.{◌∙◌, inl, inr, sym}
+use Rattle.std.proofs.Common.{◌∙◌, ap, inl, inr, sym}
+use Rattle.std.specs.Prelude.{option_map}
+use Rattle.omega_workers.specs.declared.plans.Plan.{Plan}
 use Rattle.omega_workers.proofs.SyncedOrNot.{stays}
 use Rattle.omega_workers.proofs.WorkerCommits.{no_work, some_work}
 use Rattle.omega_workers.proofs.worker.Worker.sync_if_due.Goals as goal
@@ -18,7 +20,7 @@ returns-then-is_some-clause-may c = stays c.args.cell.now.history c.args.self.no
 pub returns-in_err-sync-clause-may : goal.returns-in_err-sync-clause-may
 returns-in_err-sync-clause-may c = record {
   ready = c.sync.ensures.ready;
-  does = inl (record { desk = c.in_err-sync.ensures.desk; synced = c.in_err-sync.ensures.unsynced });
+  does = inl (record { desk = c.in_err-sync.ensures.desk; synced = ap (option_map (λ (plan : Plan). plan.seen)) c.in_err-sync.ensures.plan });
 }
 
 pub returns-clause-may : goal.returns-clause-may
