@@ -18,3 +18,5 @@ pub mod Parts
 pub mod Slots
 pub mod Blocks
 pub mod Marking
+pub mod LastTimes
+pub mod Noting

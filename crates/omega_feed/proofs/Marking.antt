@@ -2,14 +2,15 @@
 use Rattle.std.proofs.Common.{◌≡◌, ◌%◌, ◌==◌, ℕ, zero, suc, Bool, true, false, List, [], ◌∷◌, ◌++◌, None, map, take, get_or, ap, sym, ◌∙◌, get_or-take, arith, mod-lt}
 use Rattle.std.specs.List.{last_or}
 use Rattle.std.proofs.lemmas.Bool.{both_ways, false_from_ne_true, ne_eqb}
-use Rattle.omega_model.specs.Fields.{ActivityFields, ConstraintFields}
+use Rattle.omega_model.specs.Fields.{ConstraintFields}
 use Rattle.omega_model.specs.Keys.{same_key}
 use Rattle.omega_model.specs.declared.cells.TaskKey.{TaskKey}
 use Rattle.omega_model.proofs.InOrder.{key_same}
 use Rattle.omega_running.specs.Order.{job_and_index}
 use Rattle.omega_model.proofs.Lists.{each_map, filter_none}
-use Rattle.omega_feed.specs.Asked.{activities_in, constraints_for}
-use Rattle.omega_feed.specs.Marks.{AreMarkedJobs, AreMarkedTasks, is_marked}
+use Rattle.omega_feed.specs.Asked.{constraints_for}
+use Rattle.omega_feed.specs.Last.{last_amount}
+use Rattle.omega_feed.specs.Marks.{AreMarked, AreMarkedTasks, is_marked}
 
 -- what holds at a place of a list holds where the list goes on
 longer : (marks more : List Bool) (place : ℕ) → get_or marks place false ≡ true → get_or (marks ++ more) place false ≡ true
@@ -27,14 +28,14 @@ marked_longer marks more number is =
 differs : (marks : List Bool) (one other : ℕ) → is_marked marks other ≡ false → is_marked marks one ≡ true → one ≡ other → ⊥
 differs marks one other without has same = both_ways (is_marked marks other) without (ap (is_marked marks) (sym same) ∙ has)
 
--- a job without a mark has no activities
-pub unmarked_job : (marks : List Bool) (rows : List ActivityFields) (job : ℕ)
-    → AreMarkedJobs marks rows → is_marked marks job ≡ false → activities_in rows job ≡ None
-unmarked_job marks rows job named without =
-    ap (λ found. last_or None (map (λ (row : ActivityFields). row.activities) found))
-    (filter_none (λ row. row.job == job) rows
-    (each_map _ (λ (row : ActivityFields). (row.job == job) ≡ false)
-    (λ row has. ne_eqb row.job job (differs marks row.job job without has)) rows named))
+-- no row has a name without a mark
+pub unmarked_name : {Row : Type 0} (name amount : Row → ℕ) (marks : List Bool) (rows : List Row) (id : ℕ)
+    → AreMarked name marks rows → is_marked marks id ≡ false → last_amount name amount rows id ≡ None
+unmarked_name {Row} name amount marks rows id named without =
+    ap (λ (found : List Row). last_or None (map amount found))
+    (filter_none (λ row. name row == id) rows
+    (each_map _ (λ row. (name row == id) ≡ false)
+    (λ row has. ne_eqb (name row) id (differs marks (name row) id without has)) rows named))
 
 -- a task without a mark has no constraints
 pub unmarked_task : (marks : List Bool) (rows : List ConstraintFields) (key : TaskKey)

@@ -1,5 +1,6 @@
 -- Rounds as pieces of the three tables of events.
 use Rattle.std.specs.Prelude.{ℕ, ◌≤◌, ◌-◌, ◌/◌, List, Option, Some, None, drop, length, map, min, option_map, slice_get, take}
+use Rattle.std.specs.List.{fold}
 use Rattle.omega_model.specs.Feed.{each_once, round_at, round_number}
 use Rattle.omega_model.specs.Fields.{MachineFields, AttrFields, TaskFields}
 use Rattle.omega_model.specs.declared.rows.Row.{Row}
@@ -38,6 +39,10 @@ pub record HavePart (machines : List MachineFields) (attrs : List AttrFields) (t
 -- the time of the first item, if there is one
 abbrev pub first_time : {X : Type 0} → (X → ℕ) → List X → Option ℕ
 first_time time items = option_map time (slice_get items 0)
+
+-- the time of the last item, 0 if there is none
+abbrev pub last_time : {X : Type 0} → (X → ℕ) → List X → ℕ
+last_time time items = fold (λ last item. time item) 0 items
 
 -- the lesser of two numbers, where both are there
 abbrev pub least : Option ℕ → Option ℕ → Option ℕ

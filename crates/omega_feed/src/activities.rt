@@ -2,37 +2,25 @@
 ghost use Rattle.std.specs.Prelude.{◌≡◌, ◌≤◌, IfOk, IfSome};
 ghost use Rattle.omega_model.specs.Fields.{most_activities};
 ghost use Rattle.omega_feed.specs.Asked.{activities_in};
-ghost use Rattle.omega_feed.specs.Marks.{AreMarkedJobs};
 
-use crate::last::last_of;
-use crate::marks::Marks;
+use crate::last::LastAmounts;
 use omega_model::{ActivityRow, NoMemory, Seq};
 use std::alloc::Global;
-use std::collections::BTreeMap;
 use std::marker::Model;
-use std::snapshot::Snapshot;
 
 /// The activities of the last row for each job. A contract sees the rows, in the order of their file.
 #[derive(Drop)]
 pub struct JobActivities {
-    rows: Snapshot<Seq<ActivityRow>>,
-    last: BTreeMap<u64, u64>,
-    /// The jobs that have any are marked.
-    marks: Marks,
+    last: LastAmounts<ActivityRow>,
 }
 
 impl Model for JobActivities {
     ghost use Rattle.std.specs.Prelude.{List};
     ghost use Rattle.omega_model.specs.Fields.{ActivityFields};
-    ghost use Rattle.omega_feed.specs.Last.{AreLastActivities};
 
     ghost Value = { List ActivityFields };
 
-    ghost view = { λ activities. activities.rows.value };
-
-    ghost use Rattle.omega_feed.specs.Marks.{AreMarkedJobs};
-
-    ghost invariant = { λ activities. AreLastActivities activities.last activities.rows.value × AreMarkedJobs activities.marks activities.rows.value };
+    ghost view = { λ activities. activities.last };
 }
 
 impl JobActivities {
@@ -40,13 +28,8 @@ impl JobActivities {
     pub fn new(alloc: Global, rows: &Seq<ActivityRow>) -> Result<JobActivities, NoMemory>
         ensures { IfOk result (λ activities. activities ≡ rows.now) }
     {
-        let last = last_of(alloc, rows.as_slice())?;
-        let marks = marked(alloc, rows.as_slice())?;
-        Ok(JobActivities {
-            rows: Snapshot::of(rows),
-            last,
-            marks,
-        })
+        let last = LastAmounts::new(alloc, rows)?;
+        Ok(JobActivities { last })
     }
 
     /// The activities of a job: those of the last row for it. `None` exactly where it has none, and
@@ -56,21 +39,7 @@ impl JobActivities {
         ensures activities { result ≡ activities_in self.now job }
         ensures range { IfSome result (λ activities. activities ≤ most_activities) }
     {
-        if !self.marks.has(job) {
-            return None;
-        }
-        let activities = self.last.get(&job)?;
-        Some(*activities as u32)
+        let activities = self.last.of(job)?;
+        Some(activities as u32)
     }
-}
-
-/// Marks of the jobs that these rows name.
-fn marked(alloc: Global, rows: &[ActivityRow]) -> Result<Marks, NoMemory>
-    ensures { IfOk result (λ marks. AreMarkedJobs marks rows.now) }
-{
-    let mut marks = Marks::none(alloc);
-    for row in rows {
-        marks.mark(row.job)?;
-    }
-    Ok(marks)
 }

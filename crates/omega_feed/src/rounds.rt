@@ -2,7 +2,8 @@
 ghost use Rattle.std.specs.Prelude.{◌≡◌, ◌≤◌, ◌<◌, ◌/◌, ◌++◌, drop, length, map, option_map, slice_get, take, IfOk};
 ghost use Rattle.std.specs.List.{AllByRecursion as Each};
 ghost use Rattle.omega_feed.specs.Events.{AreInOrder, Rise, merged};
-ghost use Rattle.omega_feed.specs.Rounds.{HavePart, first_time, gathered, least, next_number, part_round};
+ghost use Rattle.omega_feed.specs.Rounds.{HavePart, first_time, gathered, last_time, least, next_number, part_round};
+ghost use Rattle.omega_laws.specs.Simulated.{greatest_time};
 
 use crate::events::{Events, HasTime, merged};
 use omega_model::{AttrRow, MachineRow, NoMemory, Round, TaskRow};
@@ -25,8 +26,8 @@ pub(crate) struct RoundPart {
     to: Place,
 }
 
-/// The rounds of a trace, over the tables of its events: a round's rows are put in order when it is asked for.
-/// So each row is kept once.
+/// The rounds of a trace, over the tables of its events, each of which is in order of time: a round's rows are put
+/// in one order when it is asked for. So each row is kept once.
 #[derive(Drop)]
 pub struct EventRounds {
     machines: Vec<MachineRow>,
@@ -39,13 +40,15 @@ impl Model for EventRounds {
     ghost use Rattle.std.specs.Prelude.{List, map};
     ghost use Rattle.std.specs.List.{AllByRecursion as Each};
     ghost use Rattle.omega_model.specs.declared.rows.Round.{Round};
+    ghost use Rattle.omega_feed.specs.Events.{AreInOrder};
     ghost use Rattle.omega_feed.specs.Rounds.{HavePart, part_round};
 
     ghost Value = { List Round };
 
     ghost view = { λ rounds. map (part_round rounds.machines.items rounds.attrs.items rounds.tasks.items) rounds.parts.items };
 
-    ghost invariant = { λ rounds. Each (HavePart rounds.machines.items rounds.attrs.items rounds.tasks.items) rounds.parts.items };
+    ghost invariant = { λ rounds. AreInOrder rounds.machines.items rounds.attrs.items rounds.tasks.items
+        × Each (HavePart rounds.machines.items rounds.attrs.items rounds.tasks.items) rounds.parts.items };
 }
 
 impl EventRounds {
@@ -94,6 +97,29 @@ impl EventRounds {
         )?;
         Ok(Some(Round { number, rows }))
     }
+
+    /// The greatest time of the rows of the round at place `i`, counted from 0, in microseconds; `None` exactly
+    /// where `i` isn't below their number. Costs a look at the last row of the round in each table.
+    pub fn rows_time(&self, i: usize) -> Option<u64>
+        ensures { result ≡ option_map (λ round. greatest_time round.rows) (slice_get self.now i) }
+    {
+        let RoundPart { from, to, .. } = *self.parts.get(i)?;
+        Some(greatest_time(
+            &self.machines[from.machines..to.machines],
+            &self.attrs[from.attrs..to.attrs],
+            &self.tasks[from.tasks..to.tasks],
+        ))
+    }
+}
+
+/// The greatest time of the rows of three tables that are in order of time, in microseconds; 0 where there is none.
+fn greatest_time(machines: &[MachineRow], attrs: &[AttrRow], tasks: &[TaskRow]) -> u64
+    requires { AreInOrder machines.now attrs.now tasks.now }
+    ensures { result ≡ greatest_time (merged machines.now attrs.now tasks.now) }
+{
+    last_time(machines)
+        .max(last_time(attrs))
+        .max(last_time(tasks))
 }
 
 /// The parts that are the rounds of these tables, in order.
@@ -156,6 +182,16 @@ fn first_time<R: HasTime>(rows: &[R]) -> Option<u64>
     ensures { result ≡ first_time R.time rows.now }
 {
     rows.first().map(|row| row.time())
+}
+
+/// The time of the last row, in microseconds; 0 where there is none.
+fn last_time<R: HasTime>(rows: &[R]) -> u64
+    ensures { result ≡ last_time R.time rows.now }
+{
+    match rows.last() {
+        Some(row) => row.time(),
+        None => 0,
+    }
 }
 
 /// The lesser of two numbers, where both are there.

@@ -57,7 +57,7 @@ fn play_round(world: &mut World, times: &mut Times) -> Result<(), NoMemory>
     ensures plays { OnOk result (PlaysInTime world.old times.old world.new times.new) }
 {
     let mut agenda = Agenda::new(world.alloc(), world.schedulers())?;
-    let base = base_of(world, times.as_slice())?;
+    let base = base_of(world, times.as_slice());
     sync_all(world, &mut agenda, base)?;
     commit_all(world, &mut agenda, times)?;
     Ok(())
@@ -65,11 +65,11 @@ fn play_round(world: &mut World, times: &mut Times) -> Result<(), NoMemory>
 
 /// When the round that is under way begins, after these commits: at the greatest time of its rows, or when the
 /// last of the commits was made, if that is later.
-fn base_of(world: &World, times: &[Timed]) -> Result<u128, NoMemory>
-    ensures { IfOk result (λ base. base ≡ max (until_after 0 times.now) (unwrap_or (rows_time world.now.stage) 0)) }
+fn base_of(world: &World, times: &[Timed]) -> u128
+    ensures { result ≡ max (until_after 0 times.now) (unwrap_or (rows_time world.now.stage) 0) }
 {
-    let rows = u128::from(world.rows_time()?.unwrap_or(0));
-    Ok(last_time(times).max(rows))
+    let rows = u128::from(world.rows_time().unwrap_or(0));
+    last_time(times).max(rows)
 }
 
 /// Where a round begins all schedulers that have work sync.

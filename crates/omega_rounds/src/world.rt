@@ -36,7 +36,6 @@ use omega_feed::{EventRounds, Events, OpenJobs, WaitingTasks, Wanted};
 use omega_io::Gate;
 use omega_model::{Entries, Entry, NoMemory, Settings, TraceTables};
 use omega_opening::{Demand, reopen_since};
-use omega_sim::greatest_time;
 use omega_workers::{PieceIndexes, Stepped, Worker, are_worth_threads, first_at_work, sync_pieces};
 pub use remains::Remains;
 use std::alloc::Global;
@@ -320,18 +319,13 @@ impl World {
     }
 
     /// The greatest time of the rows of the round that is under way, in microseconds. `None` exactly before
-    /// the first round. Copies these rows.
-    pub fn rows_time(&self) -> Result<Option<u64>, NoMemory>
-        ensures rows { IfOk result (λ time. time ≡ rows_time self.now.stage) }
-        ensures none { IfOk result (λ time. time ≡ None → self.now.stage.begun ≡ 0) }
+    /// the first round. Costs a look at the last row of the round in each table of events.
+    pub fn rows_time(&self) -> Option<u64>
+        ensures rows { result ≡ rows_time self.now.stage }
+        ensures none { result ≡ None → self.now.stage.begun ≡ 0 }
     {
-        let Some(last) = self.course.begun.checked_sub(1) else {
-            return Ok(None);
-        };
-        match self.course.rounds.get(self.alloc, last)? {
-            Some(round) => Ok(Some(greatest_time(round.rows.as_slice()))),
-            None => Ok(None),
-        }
+        let last = self.course.begun.checked_sub(1)?;
+        self.course.rounds.rows_time(last)
     }
 
     /// All rounds of the trace, also those that haven't begun.

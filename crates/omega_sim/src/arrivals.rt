@@ -85,7 +85,7 @@ fn with_row_time(row_times: Option<(u64, u64)>, time: u64) -> Option<(u64, u64)>
 }
 
 /// The greatest time of some rows, in microseconds, or 0 where there is none. Costs a look at each row.
-pub fn greatest_time(rows: &[Row]) -> u64
+fn greatest_time(rows: &[Row]) -> u64
     ensures { result ≡ greatest_time rows.now }
 {
     let mut greatest = 0;

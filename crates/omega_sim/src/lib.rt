@@ -12,7 +12,7 @@ mod timed;
 mod totals;
 
 pub use agenda::Agenda;
-pub use arrivals::{Arrivals, greatest_time};
+pub use arrivals::Arrivals;
 pub use laws::sums_of_lawful_histories;
 pub use lines::time_lines;
 pub use sums::last_time;
