@@ -1,16 +1,21 @@
 -- The greatest time of the rows of tables that are in order of time is that of the last row of one of them.
-use Rattle.std.proofs.Common.{◌≡◌, ℕ, ◌≤◌, ◌-◌, Bool, true, false, cond, List, [], ◌∷◌, ◌++◌, drop, length, map, nat_lt, slice_get, take, refl, subst, sym, ap, ap₂, ◌∙◌, arith, take-append-drop}
+use Rattle.std.proofs.Common.{◌≡◌, Bor, ℕ, ◌≤◌, ◌-◌, Bool, true, false, cond, List, [], ◌∷◌, ◌++◌, Some, drop, length, map, nat_lt, slice_get, take, refl, subst, sym, ap, ap₂, ◌∙◌, arith, take-append-drop}
 use Rattle.std.specs.Prelude.{max, option_map, unwrap_or}
 use Rattle.std.specs.List.{fold, AllByRecursion as Each}
 use Rattle.std.proofs.Math.Nat.{le-max_left, le-max_right, max-eq_right, max-le, max-zero, max_comm, zero-max}
+use Rattle.std.specs.Slice.{IsItemAt}
+use Rattle.std.proofs.lemmas.Bool.{ltb-true}
+use Rattle.std.proofs.lemmas.Option.{slice_get-get_or, slice_get-map}
 use Rattle.omega_laws.specs.Simulated.{greatest_time}
 use Rattle.omega_model.proofs.Lists.{each_front}
 use Rattle.omega_model.specs.Feed.{by_time, put_by_time, time_of}
 use Rattle.omega_model.specs.Fields.{MachineFields, AttrFields, TaskFields}
 use Rattle.omega_model.specs.declared.rows.Row.{Row}
+use Rattle.omega_model.specs.declared.rows.Round.{Round}
 use Rattle.omega_model.specs.declared.rows.Row.TheVariants.{Machine, Attr, Task}
 use Rattle.omega_feed.specs.Events.{AreInOrder, Rise, merged}
-use Rattle.omega_feed.specs.Rounds.{last_time, piece}
+use Rattle.omega_feed.specs.Rounds.{last_time, part_round, piece}
+use Rattle.omega_feed.specs.declared.rounds.RoundPart.{RoundPart}
 use Rattle.omega_feed.proofs.Merging.{attr_time, laid, machine_time, task_time}
 use Rattle.omega_feed.proofs.Parting.{rise_back}
 
@@ -109,6 +114,17 @@ rise_piece : {X : Type 0} (time : X → ℕ) (items : List X) (from to : ℕ) �
 rise_piece time items from to rise =
     let behind = rise_back time (take from items) (drop from items) (subst (Rise time) (sym (take-append-drop from items)) rise) in
     rise_front time (piece items from to) (drop (to - from) (drop from items)) (subst (Rise time) (sym (take-append-drop (to - from) (drop from items))) behind)
+
+-- the greatest time of the round that a part is, where the part is looked up
+pub part_read : (ms : List MachineFields) (bs : List AttrFields) (ts : List TaskFields) (parts : List RoundPart) (rounds : List Round) (place : ℕ) (part : Bor RoundPart)
+    → IsItemAt parts place (Some part) → map (part_round ms bs ts) parts ≡ rounds
+    → option_map (λ (round : Round). greatest_time round.rows) (slice_get rounds place) ≡ Some (greatest_time (part_round ms bs ts part.now).rows)
+part_read ms bs ts parts rounds place part at are =
+    let here : slice_get parts place ≡ Some part.now = slice_get-get_or parts place part.now (ltb-true _ _ (sym at.0)) ∙ ap Some (sym at.1) in
+    ap (option_map (λ (round : Round). greatest_time round.rows))
+    (ap (λ (some : List Round). slice_get some place) (sym are)
+    ∙ slice_get-map (part_round ms bs ts) parts place
+    ∙ ap (option_map (part_round ms bs ts)) here)
 
 -- pieces of tables in order of time are in order of time
 pub pieces_in_order : (ms : List MachineFields) (bs : List AttrFields) (ts : List TaskFields) (from_m to_m from_b to_b from_t to_t : ℕ) → AreInOrder ms bs ts
