@@ -32,11 +32,13 @@ IsPlannedOver desk board txn = (history : List Entry) (seen : ℕ) → StandsFor
     → IsFirstAttempt desk.settings history desk.scheduler seen desk txn
 
 -- a plan is the attempt of the desk's scheduler on the first request that is left there, after so many entries
--- that it has seen, with the sequence numbers that the machines of its claims have there
+-- that it has seen, with the sequence numbers that the machines of its claims have there, and with the request, where
+-- wishes of it are counted at the desk
 pub record IsPlan (history : List Entry) (seen : ℕ) (desk : DeskState) (plan : Planned) : Type 0 where
   pub txn : IsFirstAttempt desk.settings history desk.scheduler seen desk plan.txn
   pub few : length plan.txn.claims < 2 ^ 32
   pub seqs : plan.seqs.items ≡ copied_seqs history seen plan.txn.claims
+  pub listed : plan.listed ≡ desk.counted
 
 -- a worker has its plan, after so many entries that its scheduler has seen
 pub record HasPlanAfter (history : List Entry) (worker : Worker) (seen : ℕ) : Type 0 where

@@ -11,16 +11,17 @@ use crate::attempt::attempt_txn;
 use omega_board::{Board, touched};
 use omega_cell::Cell;
 use omega_desk::Desk;
-use omega_model::{NoMemory, Txn};
+use omega_model::{NoMemory, Request, Txn};
 use omega_plan::{Indexes, seqs_on};
 use std::alloc::Global;
 
 /// A transaction that was planned, and for each of its claims the sequence number that the claim's machine
-/// had in what it was planned on.
+/// had in what it was planned on. With it goes the request, where its wishes had to be listed for the plan.
 #[derive(Drop)]
 pub struct Planned {
     pub txn: Txn,
     pub seqs: Vec<u64>,
+    pub listed: Option<Request>,
 }
 
 /// The attempt on the first request that is left at a desk, planned on the cell's board with these indexes,
@@ -59,7 +60,8 @@ fn plan_on(
     ensures plan { IfOk result (λ plan. (history : List Entry) (seen : ℕ) → StandsFor (cell_of board.now) (seq_at board.now.table) seen history
         → IsUpTo history desk.now → IsPlan history seen desk.now plan) }
 {
-    let txn = attempt_txn(alloc, desk, board, indexes)?;
+    let listed = desk.listed(alloc)?;
+    let txn = attempt_txn(alloc, desk, &listed, board, indexes)?;
     let seqs = seqs_on(alloc, board, txn.claims.as_slice())?;
-    Ok(Planned { txn, seqs })
+    Ok(Planned { txn, seqs, listed })
 }

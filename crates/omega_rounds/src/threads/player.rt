@@ -115,11 +115,11 @@ impl Player {
         let Some(seen) = self.worker.synced else {
             unreachable!()
         };
-        let Planned { txn, seqs } = plan;
+        let Planned { txn, seqs, listed } = plan;
         let Ok(reply) = shared.commit_planned(rt, alloc, &mut self.pass, seen, txn, seqs) else {
             return Err(NoMemory);
         };
-        self.worker.desk.take(&reply);
+        self.worker.desk.take(listed, &reply);
         self.worker.synced = None;
         Ok(())
     }

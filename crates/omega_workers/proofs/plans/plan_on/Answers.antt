@@ -11,4 +11,5 @@ returns-clause-plan c = λ history seen stands up_to. record {
   seqs = c.in_ok-seqs.ensures
       ∙ numbers_alike c.args.board.now.table (take seen history) c.as_slice.result.now stands.numbers
       ∙ ap (λ (claims : List Claim). copied_seqs history seen claims) c.as_slice.ensures;
+  listed = c.in_ok-listed.ensures;
 }

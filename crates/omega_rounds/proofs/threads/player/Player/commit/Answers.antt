@@ -28,6 +28,9 @@ take-requires-clause-answers g c =
     (plans_first was c.args.plan c.requires.synced.worker c.requires.plan)
     (subst (λ (n : ℕ). Commits was.pass c.commit_planned.new.pass n c.args.plan.txn c.in-Ok.reply) same c.in-Ok.ensures.commits)
 
+pub take-requires-clause-listed : goal.take-requires-clause-listed
+take-requires-clause-listed g c = c.requires.plan.listed
+
 pub returns-clause-plays_on : goal.returns-clause-plays_on
 returns-clause-plays_on g c =
     let was : Player = c.args.self.now in
