@@ -61,11 +61,7 @@ pub(crate) fn show_requests(
 }
 
 /// Appends the wishes of a request.
-fn show_listed(
-    alloc: Global,
-    answers: &mut String,
-    request: &CountedRequest,
-) -> Result<(), Fault> {
+fn show_listed(alloc: Global, answers: &mut String, request: &CountedRequest) -> Result<(), Fault> {
     let listed = request.to_listed(alloc)?;
     show_wishes(answers, listed.wishes.as_slice())
 }

@@ -1,5 +1,5 @@
 -- Which indexes of extras are free, found in one walk along those that are taken.
-use Rattle.std.proofs.Common.{◌≡◌, ℕ, zero, suc, ◌+◌, ◌-◌, ◌<◌, ◌≤◌, ◌==◌, Bool, true, false, not, List, [], ◌∷◌, ◌++◌, length, map, drop, refl, sym, ap, subst, ◌∙◌, arith, append_assoc}
+use Rattle.std.proofs.Common.{◌≡◌, ℕ, zero, suc, ◌+◌, ◌-◌, ◌<◌, ◌≤◌, ◌==◌, Bool, true, false, not, List, [], ◌∷◌, ◌++◌, length, drop, refl, sym, ap, subst, ◌∙◌, arith, append_assoc}
 use Rattle.std.specs.List.{filter, list_any, range_with_len}
 use Rattle.std.proofs.lemmas.Bool.{eq-eqb, eqb-true}
 use Rattle.std.proofs.lemmas.List.{length-map, length-take-le}
@@ -51,6 +51,7 @@ higher index (first ∷ ahead) rise apart =
   where
     both : (b : Bool) → b ≡ true → b ≡ false → ⊥
     both b t f = cc
+
     beyond : index ≤ first → (first ≡ index → ⊥) → index + 1 ≤ first
     beyond above other = omega (arith, above, other)
 

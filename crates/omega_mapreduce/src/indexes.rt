@@ -10,11 +10,7 @@ use std::alloc::Global;
 const FIRST_EXTRA: u32 = 2_147_483_648;
 
 /// The `count` least indexes of extras that aren't among those of `running` ones. Costs both.
-pub(crate) fn free_indexes(
-    alloc: Global,
-    running: &[u32],
-    count: u32,
-) -> Result<Vec<u32>, NoMemory>
+pub(crate) fn free_indexes(alloc: Global, running: &[u32], count: u32) -> Result<Vec<u32>, NoMemory>
     requires may { MayCount running.now count }
     ensures { IfOk result (λ found. found.items ≡ free_indexes running.now count) }
 {

@@ -10,7 +10,6 @@ mod counted;
 mod indexes;
 
 pub use counted::{CountedExtras, CountedRequest, CountedRequests};
-
 use omega_model::{Extra, Need};
 
 /// How many more extra tasks a MapReduce job gets, which has so many activities and `asked` wanted

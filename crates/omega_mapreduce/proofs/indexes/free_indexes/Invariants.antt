@@ -1,4 +1,4 @@
-use Rattle.std.proofs.Common.{◌≡◌, ◌++◌, ◌+◌, ◌-◌, ◌≤◌, length}
+use Rattle.std.proofs.Common.{◌≡◌, ◌++◌, ◌+◌, ◌-◌, length}
 use Rattle.std.specs.List.{filter, range_with_len}
 use Rattle.omega_model.specs.ExtraTasks.{first_extra}
 use Rattle.omega_mapreduce.specs.Counted.{RiseFrom}
