@@ -247,6 +247,7 @@ chosen() {
     shape short_rounds 100000 replay --window 1
     shape short_rounds 5000 run --window 1
     shape extras 10 replay --extra max
+    shape many_extras 2000 replay --extra max
     shape extras_alike 20 replay --extra max
     shape commas 10000000 replay
     shape quotes 10000000 replay

@@ -604,6 +604,14 @@ def extras(files, size):
     rounds_of(files, 20, size)
 
 
+def many_extras(files, size):
+    """MapReduce jobs of one task that ask for 10,000 extra tasks each, all in one round, on a full cell"""
+    files.machine(1)
+    for job in range(size):
+        files.task(0, job, 0, 0, 1)
+        files.put('mapreduce_jobs', job, 10_000)
+
+
 def extras_alike(files, size):
     """One MapReduce task with many constraints that asks for 10,000 extra tasks"""
     files.machine(1)
@@ -682,7 +690,7 @@ SHAPES = {shape.__name__: shape for shape in (
     too_little, victims, one_by_one, updates, shrinking, crowded, levels, ranks, ranks_in_turn, taking_over,
     same_tree, other_trees, one_note, machines_apart, machines_in_row, constraints, matched, unset_in_order, unset_backwards, set_in_turn,
     nowhere, lopsided, many_rounds, comes_back, given_up, large_job,
-    one_waits, restarts, most_ended, left_apart, short_rounds, extras, extras_alike, commas, quotes, long_text)}
+    one_waits, restarts, most_ended, left_apart, short_rounds, extras, many_extras, extras_alike, commas, quotes, long_text)}
 
 
 def are_numbers(words):

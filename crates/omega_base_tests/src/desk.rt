@@ -1,13 +1,14 @@
 //! Desks without requests, and where attempts begin.
 use omega_desk::Desk;
-use omega_model::{NoMemory, Requests, Settings};
+use omega_mapreduce::CountedRequests;
+use omega_model::{NoMemory, Settings};
 
 #[test]
 fn a_round_without_requests_leaves_no_work(rt: HostRuntime) -> Result<(), NoMemory> {
     let alloc = rt.alloc();
     let mut desk = Desk::new(alloc, &Settings::default(), 1);
-    desk.begin(Requests::new(alloc))?;
-    assert!(rt; desk.present().is_none());
+    desk.begin(CountedRequests::new(alloc))?;
+    assert!(rt; !desk.has_work());
     Ok(())
 }
 

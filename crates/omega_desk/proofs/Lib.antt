@@ -1,3 +1,4 @@
 pub mod Asked
 pub mod Desks
+mod Ended
 pub mod Walks

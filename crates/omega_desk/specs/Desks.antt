@@ -9,13 +9,14 @@ use Rattle.omega_desk.specs.Counts.{count_of, IsCounted, AreWithin}
 use Rattle.omega_desk.specs.Walks.{are_wished, HasDistinctWishes}
 
 -- a desk as callers see it: whose it is, under which settings, how many attempts were taken at it in
--- all, the requests that are left, how many attempts the first of them has had, and the counts of
--- commits in a row that placed nothing
+-- all, the requests that are left, the first of them once more if wishes of it are counted there and not
+-- listed, how many attempts it has had, and the counts of commits in a row that placed nothing
 pub record DeskState : Type 0 where
   pub settings : Settings
   pub scheduler : ℕ
   pub attempts : ℕ
   pub requests : List Request
+  pub counted : Option Request
   pub taken : ℕ
   pub counts : List (ℕ × ℕ)
 

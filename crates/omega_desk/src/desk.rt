@@ -1,5 +1,5 @@
 //! The desk.
-ghost use Rattle.std.specs.Prelude.{◌≡◌, ◌+◌, ◌<◌, ◌≤◌, ◌^◌, ℕ, [], Some, length, option_map, slice_get, OnOk, OnErr};
+ghost use Rattle.std.specs.Prelude.{◌≡◌, ◌+◌, ◌<◌, ◌≤◌, ◌^◌, ℕ, [], Some, length, is_some, option_map, slice_get, unwrap_or, IfOk, OnOk, OnErr};
 ghost use Rattle.std.specs.List.{All, list_any};
 ghost use Rattle.omega_model.specs.Draws.{drawn_start};
 ghost use Rattle.omega_model.specs.Policy.{policy_of, schedulers};
@@ -11,8 +11,10 @@ ghost use Rattle.omega_desk.specs.Desks.{AnswersFirst, IsSameDesk, left_at, stil
 ghost use Rattle.omega_desk.specs.Walks.{HasDistinctWishes};
 
 use crate::failures::Failures;
+use crate::first::{First, next_of, with_all};
 use crate::walk::{ends_request, rest_of};
-use omega_model::{NoMemory, Outcome, Policy, Reply, Request, Requests, Settings};
+use omega_mapreduce::{CountedRequest, CountedRequests};
+use omega_model::{Constraints, Need, NoMemory, Outcome, Policy, Reply, Request, Settings};
 use rand_pcg::Lcg64Xsh32;
 use rand_pcg::rand_core::utils::NextWord;
 use std::alloc::Global;
@@ -21,28 +23,33 @@ use std::marker::Model;
 
 /// What is left of a scheduler's work in a round, and how many attempts it has taken in all.
 ///
+/// Wishes for extra tasks are counted, and listed at the first attempt on their request; its list goes with the
+/// request. So the memory is that of the other wishes and of one request with all its wishes.
+///
 /// A contract sees whose desk it is, how many attempts it has taken, the requests that are left in order,
-/// the first of them with the wishes that aren't placed yet, and the counts that decide when a request ends.
+/// the first of them with the wishes that aren't placed yet, whether wishes of that one are counted still, and the
+/// counts that decide when a request ends.
 #[derive(Drop)]
 pub struct Desk {
     settings: Settings,
     scheduler: u32,
     attempts: u64,
     taken: u64,
-    present: Option<Request>,
-    waiting: VecDeque<Request>,
+    present: Option<First>,
+    waiting: VecDeque<CountedRequest>,
     failures: Failures,
 }
 
 impl Model for Desk {
     ghost use Rattle.std.specs.Prelude.{◌++◌, option_to_list};
     ghost use Rattle.omega_desk.specs.Desks.{DeskState, IsDesk};
+    ghost use Rattle.omega_desk.specs.First.{counted_request, first_request};
 
     ghost Value = { DeskState };
 
-    ghost view = { λ d. record { settings = d.settings; scheduler = d.scheduler; attempts = d.attempts; requests = option_to_list d.present ++ d.waiting.items; taken = d.taken; counts = d.failures } };
+    ghost view = { λ d. record { settings = d.settings; scheduler = d.scheduler; attempts = d.attempts; requests = option_to_list (first_request d.present) ++ d.waiting.items; counted = counted_request d.present; taken = d.taken; counts = d.failures } };
 
-    ghost invariant = { λ d. IsDesk d.present d.waiting.items d.attempts d.taken d.failures };
+    ghost invariant = { λ d. IsDesk (first_request d.present) d.waiting.items d.attempts d.taken d.failures };
 }
 
 impl Desk {
@@ -84,7 +91,7 @@ impl Desk {
     /// Takes a round's requests in order, but for those of jobs that are given up, and makes room for
     /// what `take` counts. Where memory runs out no work is left. Costs the requests, each times the
     /// logarithm of the jobs that the desk has seen.
-    pub fn begin(&mut self, requests: Requests) -> Result<(), NoMemory>
+    pub fn begin(&mut self, requests: CountedRequests) -> Result<(), NoMemory>
         requires no_work { self.old.requests ≡ [] }
         requires distinct { All HasDistinctWishes requests }
         ensures desk { IsSameDesk self.old self.new }
@@ -96,16 +103,62 @@ impl Desk {
         let requests = still_tried(requests, &self.failures, &self.settings);
         reserve(&mut self.failures, requests.as_slice())?;
         self.waiting = VecDeque::from(requests);
-        self.present = self.waiting.pop_front();
+        self.present = next_of(&mut self.waiting);
         Ok(())
     }
 
-    /// The present request with the wishes that aren't placed yet. `None` exactly where nothing is
-    /// left of the round's work.
-    pub fn present(&self) -> Option<&Request>
+    /// Whether something is left of the round's work.
+    pub fn has_work(&self) -> bool
+        ensures { result ≡ is_some (slice_get self.now.requests 0) }
+    {
+        self.present.is_some()
+    }
+
+    /// The present request with all its wishes, where some of them are counted; `None` where all are listed,
+    /// or nothing is left. Costs the wishes.
+    pub fn listed(&self, alloc: Global) -> Result<Option<Request>, NoMemory>
+        ensures { IfOk result (λ listed. listed ≡ self.now.counted) }
+    {
+        match &self.present {
+            Some(First::Counted(request)) => Ok(Some(request.to_listed(alloc)?)),
+            _ => Ok(None),
+        }
+    }
+
+    /// The present request with the wishes that aren't placed yet, of which `listed` is what was answered by the
+    /// method of that name. `None` exactly where nothing is left of the round's work.
+    pub fn present<'a>(&'a self, listed: &'a Option<Request>) -> Option<&'a Request>
+        requires { listed.now ≡ self.now.counted }
         ensures { option_map (λ request. request.now) result ≡ slice_get self.now.requests 0 }
     {
-        self.present.as_ref()
+        match &self.present {
+            Some(First::Listed(request)) => Some(request),
+            Some(First::Counted(_)) => listed.as_ref(),
+            None => None,
+        }
+    }
+
+    /// How many wishes of the present request are left, 0 where nothing is.
+    pub fn wish_count(&self) -> usize
+        ensures { result ≡ unwrap_or (option_map (λ request. length request.wishes) (slice_get self.now.requests 0)) 0 }
+    {
+        match &self.present {
+            Some(First::Listed(request)) => request.wishes.len(),
+            Some(First::Counted(request)) => request.len(),
+            None => 0,
+        }
+    }
+
+    /// What the first wish of the present request needs, and its constraints; `None` where nothing is left.
+    pub fn first_asked(&self) -> Option<(Need, &Constraints)> {
+        match &self.present {
+            Some(First::Listed(request)) => {
+                let wish = request.wishes.as_slice().first()?;
+                Some((wish.spec.need, &wish.constraints))
+            }
+            Some(First::Counted(request)) => request.first_asked(),
+            None => None,
+        }
     }
 
     /// How many requests are left of the round's work.
@@ -130,9 +183,10 @@ impl Desk {
     }
 
     /// Counts an attempt on the present request and moves on by the reply to its commit, whose outcomes
-    /// are for wishes of the request, in the order of the wishes. Costs the request, and the logarithm
-    /// of the jobs that the desk has seen.
-    pub fn take(&mut self, reply: &Reply)
+    /// are for wishes of the request, in the order of the wishes. `listed` is what the method of that name
+    /// answered for the attempt. Costs the request, and the logarithm of the jobs that the desk has seen.
+    pub fn take(&mut self, listed: Option<Request>, reply: &Reply)
+        requires listed { listed ≡ self.old.counted }
         requires answers { AnswersFirst self.old.requests reply.now.outcomes }
         requires few { self.old.attempts + 1 < 2 ^ 64 }
         ensures desk { IsSameDesk self.old self.new }
@@ -140,7 +194,7 @@ impl Desk {
         ensures left { after_outcomes self.old.settings (left_at self.old) self.old.requests reply.now.outcomes
             ≡ Some (left_at self.new) }
     {
-        let Some(request) = self.present.take() else {
+        let Some(request) = with_all(self.present.take(), listed) else {
             unreachable!()
         };
         let outcomes = reply.outcomes.as_slice();
@@ -150,29 +204,33 @@ impl Desk {
         let rest = rest_of(request, outcomes);
         if ends_request(&self.settings, self.taken, failing, &rest, outcomes) {
             self.taken = 0;
-            self.present = self.waiting.pop_front();
+            self.present = next_of(&mut self.waiting);
         } else {
-            self.present = Some(rest);
+            self.present = Some(First::Listed(rest));
         }
     }
 }
 
 /// The requests of jobs that aren't given up.
-fn still_tried(requests: Requests, failures: &Failures, settings: &Settings) -> Vec<Request>
+fn still_tried(
+    requests: CountedRequests,
+    failures: &Failures,
+    settings: &Settings,
+) -> Vec<CountedRequest>
     ensures { result.items ≡ still_tried settings.now (count_of failures.now) requests }
 {
     let mut tried = requests.into_items();
-    tried.retain(|request| failures.of(request.job) < u64::from(settings.give_up));
+    tried.retain(|request| failures.of(request.job()) < u64::from(settings.give_up));
     tried
 }
 
 /// Makes room for the counts of the jobs of these requests.
-fn reserve(failures: &mut Failures, requests: &[Request]) -> Result<(), NoMemory>
+fn reserve(failures: &mut Failures, requests: &[CountedRequest]) -> Result<(), NoMemory>
     ensures counts { KeepsCounts failures.old failures.new }
     ensures room { OnOk result (All (λ (request : Request). IsCounted failures.new request.job) requests.now) }
 {
     for request in requests {
-        failures.reserve(request.job)?;
+        failures.reserve(request.job())?;
     }
     Ok(())
 }

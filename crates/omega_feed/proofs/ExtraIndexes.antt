@@ -1,13 +1,14 @@
--- The extra tasks of MapReduce jobs: how many they are, and which indexes they take.
-use Rattle.std.proofs.Common.{◌≡◌, ℕ, zero, suc, ◌+◌, ◌-◌, ◌*◌, ◌^◌, ◌<◌, ◌≤◌, Bool, true, false, ◌||◌, ◌==◌, not, min, nat_le, List, [], ◌∷◌, ◌++◌, Option, Some, None, map, length, refl, sym, ap, ◌∙◌, arith, append_assoc}
-use Rattle.std.specs.List.{filter, last_or, list_any, range_with_len}
-use Rattle.std.specs.Prelude.{is_some, option_map, unwrap_or}
-use Rattle.std.proofs.lemmas.Bool.{eqb-true, le-leb}
-use Rattle.omega_model.proofs.Lists.{by_answer}
+-- The extra tasks of MapReduce jobs: how many they are, and the indexes of those that run.
+use Rattle.std.proofs.Common.{◌≡◌, ℕ, zero, suc, ◌+◌, ◌-◌, ◌*◌, ◌^◌, ◌<◌, ◌≤◌, Bool, true, false, ◌&&◌, ◌==◌, not, min, List, [], ◌∷◌, Option, Some, None, map, length, refl, ap, ◌∙◌, inl, inr, arith}
+use Rattle.std.specs.List.{filter, last_or, range_with_len, AllByRecursion as Each}
+use Rattle.std.specs.Prelude.{is_some, nat_lt, unwrap_or}
+use Rattle.std.proofs.lemmas.Bool.{and_parts, eqb-true, leb-true, ltb-true, or_cases}
+use Rattle.omega_model.proofs.Lists.{by_answer, each_both, each_map, each_passes}
 use Rattle.omega_model.specs.Cell.{Cell, task_at}
 use Rattle.omega_model.specs.ExtraTasks.{extra_wish, first_extra, free_indexes, is_extra_of, running_extras, wanted_of, wishes_after, used_in, capacity_in_all}
 use Rattle.omega_model.specs.Extras.{allowed, extras, keeps_within, target}
-use Rattle.omega_model.specs.Requests.{is_waiting}
+use Rattle.omega_model.specs.Keys.{key_lt}
+use Rattle.omega_model.specs.Requests.{is_waiting, request_of}
 use Rattle.omega_model.specs.Wanted.{WantedTask}
 use Rattle.omega_model.specs.declared.cells.Need.{Need}
 use Rattle.omega_model.specs.declared.cells.Task.{Task}
@@ -16,22 +17,12 @@ use Rattle.omega_model.specs.declared.rows.TraceTables.{TraceTables}
 use Rattle.omega_model.specs.declared.settings.Extra.{Extra}
 use Rattle.omega_model.specs.declared.settings.Extra.TheVariants.{Max, Cap, Relative}
 use Rattle.omega_model.specs.declared.settings.Settings.{Settings}
+use Rattle.omega_model.specs.declared.wishes.Wish.{Wish}
+use Rattle.omega_mapreduce.specs.Counted.{RiseFrom}
+use Rattle.omega_running.specs.Kept.{KeysRise}
+use Rattle.omega_running.proofs.Kept.{rises_filter}
 use Rattle.omega_feed.specs.Asked.{asked_after, extras_after}
-
--- a running task has an index from the first of extras on exactly where an extra of the job has it
-pub held_is : (job index : ℕ) (tasks : List Task) → first_extra ≤ index
-    → is_some (task_at tasks (record { job = job; index = index })) ≡ list_any (λ other. other == index) (map (λ task. task.key.index) (filter (is_extra_of job) tasks))
-held_is job index [] high = refl
-held_is job index (t ∷ ts) high =
-    by_answer (t.key.job == job)
-    (λ own. by_answer (t.key.index == index)
-    (λ here.
-    let above : nat_le first_extra t.key.index ≡ true = ap (nat_le first_extra) (eqb-true _ _ here) ∙ le-leb _ _ high in
-    rw (own, here, above) (sym (ap (λ b. b || list_any (λ other. other == index) (map (λ task. task.key.index) (filter (is_extra_of job) ts))) here)))
-    (λ there. by_answer (nat_le first_extra t.key.index)
-    (λ above. rw (own, there, above) (held_is job index ts high ∙ sym (ap (λ b. b || list_any (λ other. other == index) (map (λ task. task.key.index) (filter (is_extra_of job) ts))) there)))
-    (λ below. rw (own, there, below) (held_is job index ts high))))
-    (λ other. rw other (held_is job index ts high))
+use Rattle.omega_feed.specs.Counted.{request_for}
 
 -- what is at most a number that no fewer are, is at most the greatest of 32 bits: beyond that no extra is missing
 missing_narrow : (activities wanted running : ℕ) → activities < 2 ^ 32 → activities - min wanted 4294967295 - min running 4294967295 ≡ activities - wanted - running
@@ -101,30 +92,42 @@ waiting_of cell job (t ∷ ts) =
     (λ busy. rw (own, busy) (waiting_of cell job ts)))
     (λ other. rw other (waiting_of cell job ts))
 
--- without extras asked for there are no indexes
-pub no_indexes : (held : List ℕ) → free_indexes held 0 ≡ []
-no_indexes held = refl
+-- of two extras of a job the one that stands behind has the greater index
+index_above : (job : ℕ) (t u : Task) → is_extra_of job t ≡ true → key_lt t.key u.key ≡ true → is_extra_of job u ≡ true → t.key.index + 1 ≤ u.key.index
+index_above job t u one before other =
+    let own : t.key.job ≡ job = eqb-true t.key.job job (and_parts _ _ one).0 in
+    let its : u.key.job ≡ job = eqb-true u.key.job job (and_parts _ _ other).0 in
+    elim (or_cases (nat_lt t.key.job u.key.job) (t.key.job == u.key.job && nat_lt t.key.index u.key.index) before) [
+      | inl lower ↦ absurd (same own its (ltb-true _ _ lower))
+      | inr later ↦ next (ltb-true _ _ (and_parts _ _ later).1)
+    ]
+  where
+    same : t.key.job ≡ job → u.key.job ≡ job → t.key.job < u.key.job → ⊥
+    same own its lower = omega (arith, own, its, lower)
+    next : t.key.index < u.key.index → t.key.index + 1 ≤ u.key.index
+    next less = omega (arith, less)
 
--- whether no running extra of a job has an index
-abbrev pub is_free : ℕ → List Task → ℕ → Bool
-is_free job tasks index = not (list_any (λ other. other == index) (map (λ task. task.key.index) (filter (is_extra_of job) tasks)))
+-- so the indexes of a job's extras rise
+indexes_rise : (job from : ℕ) (tasks : List Task) → KeysRise tasks → Each (λ task. is_extra_of job task ≡ true) tasks → Each (λ (task : Task). from ≤ task.key.index) tasks
+    → RiseFrom from (map (λ (task : Task). task.key.index) tasks)
+indexes_rise job from [] rise own high = tt
+indexes_rise job from (t ∷ ts) rise own high = (
+  high.0,
+  indexes_rise job (t.key.index + 1) ts rise.1 own.1
+      (each_both (λ (u : Task). key_lt t.key u.key ≡ true) (λ u. is_extra_of job u ≡ true) (λ (u : Task). t.key.index + 1 ≤ u.key.index)
+      (λ u before is. index_above job t u own.0 before is) ts rise.0 own.1),
+)
 
--- one number more of a stretch
-module _ (passes : ℕ → Bool) (found : List ℕ) (index end : ℕ) (within : index < end) where
-  abbrev stretch : ℕ → List ℕ
-  stretch start = filter passes (range_with_len start (end - start))
+-- those of its running extras do, from the first index of extras on
+pub extras_rise : (job : ℕ) (tasks : List Task) → KeysRise tasks → RiseFrom first_extra (map (λ (task : Task). task.key.index) (filter (is_extra_of job) tasks))
+extras_rise job tasks rise =
+    let own : Each (λ task. is_extra_of job task ≡ true) (filter (is_extra_of job) tasks) = each_passes (is_extra_of job) tasks in
+    indexes_rise job first_extra (filter (is_extra_of job) tasks)
+    (rises_filter (λ (a b : Task). key_lt a.key b.key) (is_extra_of job) tasks rise) own
+    (each_map (λ task. is_extra_of job task ≡ true) (λ (task : Task). first_extra ≤ task.key.index)
+    (λ task is. leb-true first_extra task.key.index (and_parts _ _ is).1) (filter (is_extra_of job) tasks) own)
 
-  first_number : range_with_len index (end - index) ≡ index ∷ range_with_len (index + 1) (end - (index + 1))
-  first_number =
-      let one : end - index ≡ suc (end - (index + 1)) = omega (arith, within) in
-      ap (range_with_len index) one
-
-  pub number_passes : passes index ≡ true → (found ++ index ∷ []) ++ stretch (index + 1) ≡ found ++ stretch index
-  number_passes t = append_assoc found (index ∷ []) (stretch (index + 1)) ∙ ap (λ z. found ++ z) (sym (ap (filter passes) first_number ∙ rw t refl))
-
-  pub number_fails : passes index ≡ false → found ++ stretch (index + 1) ≡ found ++ stretch index
-  number_fails f = ap (λ z. found ++ z) (sym (ap (filter passes) first_number ∙ rw f refl))
-
-pub some_mapped : {A B : Type 0} (f : A → B) (o : Option A) → is_some (option_map f o) ≡ is_some o
-some_mapped f None = refl
-some_mapped f (Some x) = refl
+-- a request that wishes for something
+pub asked_for : (job : ℕ) (wishes : List Wish) → (wishes ≡ [] → ⊥) → request_of job wishes ≡ Some (request_for job wishes)
+asked_for job [] some = absurd (some refl)
+asked_for job (wish ∷ wishes) some = refl

@@ -1,15 +1,16 @@
 //! The extra tasks of MapReduce jobs.
-ghost use Rattle.std.specs.Prelude.{◌≡◌, ◌≤◌, ◌<◌, ◌+◌, IfOk, length, min, map, nat_le};
+ghost use Rattle.std.specs.Prelude.{◌≡◌, ◌≤◌, ◌<◌, ◌+◌, IfOk, min, map, nat_le};
 ghost use Rattle.std.specs.List.{filter};
-ghost use Rattle.omega_model.specs.ExtraTasks.{capacity_in_all, first_extra, free_indexes, is_extra_of, used_in};
+ghost use Rattle.omega_model.specs.ExtraTasks.{capacity_in_all, first_extra, is_extra_of, used_in};
 ghost use Rattle.omega_model.specs.Extras.{extras, target};
-ghost use Rattle.omega_model.specs.Fields.{most_activities};
 ghost use Rattle.omega_board.specs.Board.{cell_of};
+ghost use Rattle.omega_mapreduce.specs.Counted.{RiseFrom};
+ghost use Rattle.omega_running.specs.Kept.{KeysRise};
 
 use omega_board::Board;
 use omega_mapreduce::{extras, target};
-use omega_model::{Extra, Need, NoMemory, TaskKey};
-use omega_running::{FIRST_EXTRA, Running};
+use omega_model::{Extra, Need, NoMemory, Task};
+use omega_running::Running;
 use std::alloc::Global;
 
 /// How many more extras a job with these activities gets on the cell of a board, where `wanted` of its
@@ -55,26 +56,29 @@ fn narrowed(count: usize) -> u32
     u32::try_from(count).unwrap_or(u32::MAX)
 }
 
-/// The `count` least indexes of extras that no running task of the job has, where `held` of its extras
-/// run. Costs these and those that run, each times the logarithm of the number of running tasks.
-pub fn free_indexes(
+/// The indexes of a job's running extras, in order. Costs these and few others of the job's running tasks, and
+/// the logarithm of the number of running tasks.
+pub fn running_indexes(
     alloc: Global,
     running: &Running,
     job: u64,
-    held: usize,
-    count: u32,
 ) -> Result<Vec<u32>, NoMemory>
-    requires held { held ≡ length (filter (is_extra_of job) running.now.tasks) }
-    requires few { held + count ≤ most_activities }
-    ensures { IfOk result (λ found. found.items ≡ free_indexes (map (λ task. task.key.index) (filter (is_extra_of job) running.now.tasks)) count) }
+    requires { KeysRise running.now.tasks }
+    ensures indexes { IfOk result (λ found. found.items ≡ map (λ task. task.key.index) (filter (is_extra_of job) running.now.tasks)) }
+    ensures rise { IfOk result (λ found. RiseFrom first_extra found.items) }
 {
-    let mut found = Vec::new(alloc);
-    let end = FIRST_EXTRA + held as u32 + count;
-    for index in FIRST_EXTRA..end {
-        if running.get(TaskKey { job, index }).is_none() {
-            found.push(index)?;
-        }
+    let extras = running.extras_of_job(alloc, job)?;
+    let found = indexes_of(alloc, extras.as_slice())?;
+    Ok(found)
+}
+
+/// The indexes of some tasks.
+fn indexes_of(alloc: Global, tasks: &[Task]) -> Result<Vec<u32>, NoMemory>
+    ensures { IfOk result (λ found. found.items ≡ map (λ task. task.key.index) tasks.now) }
+{
+    let mut found = Vec::with_capacity(alloc, tasks.len())?;
+    for task in tasks {
+        found.push(task.key.index)?;
     }
-    found.truncate(count as usize);
     Ok(found)
 }

@@ -1,5 +1,5 @@
 //! What a trace asks for, row by row.
-ghost use Rattle.std.specs.Prelude.{◌≡◌, ◌<◌, ◌++◌, ◌∷◌, ◌↔◌, ◌⊎◌, ℕ, false, [], Some, None, All, List, map, not, IfOk, IsTrue, OnOk, OnErr, is_some};
+ghost use Rattle.std.specs.Prelude.{◌≡◌, ◌<◌, ◌++◌, ◌∷◌, ◌↔◌, ◌⊎◌, ℕ, false, [], Some, None, All, List, map, not, IfOk, IsTrue, OnOk, OnErr, is_some, unwrap_or};
 ghost use Rattle.std.specs.List.{filter, list_any};
 ghost use Rattle.omega_model.specs.Applying.{CapacityIsInRange};
 ghost use Rattle.omega_model.specs.OpenRequests.{open_requests};
@@ -15,8 +15,9 @@ ghost use Rattle.omega_model.specs.declared.rows.TraceTables.{TraceTables};
 ghost use Rattle.omega_model.specs.declared.settings.Settings.{Settings};
 ghost use Rattle.omega_board.specs.Board.{cell_of};
 ghost use Rattle.omega_running.specs.Kept.{KeysRise};
-ghost use Rattle.omega_feed.specs.Asked.{activities_in, asked_after, asked_extra, asked_wish, asked_wishes, extras_after, is_task_of};
+ghost use Rattle.omega_feed.specs.Asked.{activities_in, asked_after, asked_wish, asked_wishes, extras_after, is_task_of};
 ghost use Rattle.omega_feed.specs.Events.{HasOthers};
+ghost use Rattle.omega_feed.specs.Counted.{request_for};
 ghost use Rattle.omega_feed.specs.Index.{HasLowTask, job_at, routed_request, wanted_task};
 ghost use Rattle.omega_feed.specs.Left.{AreLeft};
 ghost use Rattle.omega_feed.specs.Open.{GetsNoExtras, IsOpen, IsQuietAt, OpensAtMost, OthersAreQuiet, RowOpens, StayOpen, is_missed};
@@ -26,15 +27,15 @@ use crate::constraints::TaskConstraints;
 use crate::disks::MachineDisks;
 use crate::entries::entries_of;
 use crate::events::Events;
-use crate::extras::{extra_count, free_indexes, has_all};
+use crate::extras::{extra_count, has_all, running_indexes};
 use crate::jobs::{Jobs, RoutedJob};
 use crate::open_jobs::OpenJobs;
 use crate::tasks::{TaskChange, WantedTasks};
 use crate::unplaced::{WaitingTasks, each_once};
 use omega_board::Board;
+use omega_mapreduce::{CountedExtras, CountedRequest, CountedRequests};
 use omega_model::{
-    Entries, Extra, NoMemory, Request, Requests, Row, Settings, Spec, TaskKey, TaskRow,
-    TraceTables, Wish, Wishes,
+    Entries, Extra, NoMemory, Row, Settings, Spec, TaskKey, TaskRow, TraceTables, Wish, Wishes,
 };
 use omega_running::{FIRST_EXTRA, Running};
 use std::alloc::Global;
@@ -250,23 +251,23 @@ impl Wanted {
     ///
     /// Only open jobs are looked at. Costs their number, and of those that are the scheduler's the blocks of
     /// slots, in those with a wanted task the slots, and of each wanted task the logarithm of the number of those
-    /// that run. A job with activities costs this logarithm once more and, where it gets extras, for each of these
-    /// and of its running ones. Each wish costs a copy of its constraints. The number
-    /// of machines costs nothing.
+    /// that run. A job with activities costs this logarithm once more and, where it gets extras, its running ones.
+    /// The wishes for extras are counted and not listed. Each other wish costs a copy of its constraints, and so do
+    /// all those for extras of a job together. The number of machines costs nothing.
     pub fn requests(
         &self,
         alloc: Global,
         scheduler: u32,
         board: &Board,
         open_jobs: &OpenJobs,
-    ) -> Result<Requests, NoMemory>
+    ) -> Result<CountedRequests, NoMemory>
         requires quiet { OthersAreQuiet open_jobs.now self.now board.now.tasks }
         ensures requests { IfOk result (λ requests. (settings : Settings) (trace : TraceTables) (rows : List Row)
             → self.now ≡ asked_after settings trace rows
             → requests ≡ open_requests settings trace rows (cell_of board.now) scheduler) }
         ensures low { All HasLowIndex self.now.tasks }
     {
-        let mut requests = Requests::new(alloc);
+        let mut requests = CountedRequests::new(alloc);
         for place in open_jobs.places().iter() {
             let job = self.jobs.at(*place);
             if let Some(request) = self.request_of(alloc, job, scheduler, board)? {
@@ -296,7 +297,7 @@ impl Wanted {
         job: Option<RoutedJob>,
         scheduler: u32,
         board: &Board,
-    ) -> Result<Option<Request>, NoMemory>
+    ) -> Result<Option<CountedRequest>, NoMemory>
         ensures { IfOk result (λ request. request ≡ routed_request self.now (cell_of board.now) scheduler job) }
     {
         let Some(
@@ -311,20 +312,26 @@ impl Wanted {
         if home != scheduler {
             return Ok(None);
         }
-        let wishes = self.wishes_of(alloc, job, board)?;
-        if wishes.is_empty() {
+        let request = self.counted_of(alloc, job, board)?;
+        if request.is_empty() {
             return Ok(None);
         }
-        Ok(Some(Request { job, wishes }))
+        Ok(Some(request))
     }
 
-    /// The wishes of a job: its wanted tasks that don't run, by index, and then its extras.
-    fn wishes_of(&self, alloc: Global, job: u64, board: &Board) -> Result<Wishes, NoMemory>
-        ensures { IfOk result (λ wishes. wishes ≡ asked_wishes self.now (cell_of board.now) job) }
+    /// What is wished for of a job: its wanted tasks that don't run, by index, and then its extras.
+    fn counted_of(
+        &self,
+        alloc: Global,
+        job: u64,
+        board: &Board,
+    ) -> Result<CountedRequest, NoMemory>
+        ensures { IfOk result (λ request. request ≡ request_for job (asked_wishes self.now (cell_of board.now) job)) }
     {
         let wanted = self.tasks.of_job(alloc, job)?;
         let wishes = self.waiting(alloc, &wanted, board.running())?;
-        self.with_extras(alloc, wishes, job, &wanted, board)
+        let extras = self.extras_of(alloc, job, &wanted, board)?;
+        Ok(CountedRequest::new(job, wishes, extras))
     }
 
     /// The wishes for those of some wanted tasks that don't run.
@@ -349,60 +356,37 @@ impl Wanted {
         Ok(wishes)
     }
 
-    /// These wishes, and behind them those for the extras of a job of which these tasks are wanted.
-    fn with_extras(
+    /// The wishes for the extras of a job of which these tasks are wanted, if it gets any: each needs what the
+    /// first of these tasks needs and has its constraints.
+    fn extras_of(
         &self,
         alloc: Global,
-        wishes: Wishes,
         job: u64,
         wanted: &[(TaskKey, Spec)],
         board: &Board,
-    ) -> Result<Wishes, NoMemory>
-        ensures { IfOk result (λ all. all ≡ wishes ++ extras_after self.now (cell_of board.now) job (activities_in self.now.activities job) (map wanted_task wanted.now)) }
+    ) -> Result<Option<CountedExtras>, NoMemory>
+        ensures { IfOk result (λ extras. unwrap_or extras [] ≡ extras_after self.now (cell_of board.now) job (activities_in self.now.activities job) (map wanted_task wanted.now)) }
     {
         let Some(activities) = self.activities.of(job) else {
-            return Ok(wishes);
+            return Ok(None);
         };
         let Some(model) = wanted.first() else {
-            return Ok(wishes);
+            return Ok(None);
         };
         let held = board.running().count_extras(job);
         let need = model.1.need;
         let count = extra_count(self.extra, activities, wanted.len(), held, need, board);
         if count == 0 {
-            return Ok(wishes);
+            return Ok(None);
         }
-        let indexes = free_indexes(alloc, board.running(), job, held, count)?;
-        self.with_extras_of(alloc, wishes, model, &indexes)
-    }
-
-    /// These wishes, and behind them those for extras of these indexes, each of which needs what a
-    /// wanted task needs and has its constraints.
-    fn with_extras_of(
-        &self,
-        alloc: Global,
-        mut wishes: Wishes,
-        model: &(TaskKey, Spec),
-        indexes: &[u32],
-    ) -> Result<Wishes, NoMemory>
-        ensures { IfOk result (λ all. all ≡ wishes ++ map (asked_extra self.now.constraints (wanted_task model.now)) indexes.now) }
-    {
-        let (like, spec) = model;
-        for index in indexes {
-            let key = TaskKey {
-                job: like.job,
-                index: *index,
-            };
-            wishes.push(Wish {
-                key,
-                spec: Spec {
-                    need: spec.need,
-                    prec: 0,
-                    differ: false,
-                },
-                constraints: self.constraints.of(alloc, *like)?,
-            })?;
-        }
-        Ok(wishes)
+        let running = running_indexes(alloc, board.running(), job)?;
+        let constraints = self.constraints.of(alloc, model.0)?;
+        Ok(Some(CountedExtras::new(
+            model.0.job,
+            need,
+            constraints,
+            running,
+            count,
+        )))
     }
 }

@@ -12,7 +12,8 @@ use crate::showing::{show_entries, show_requests, show_rounds};
 use omega_board::Board;
 use omega_calls::{Fault, is_colon, number, part, policy_of, small, text};
 use omega_feed::{EventRounds, Events, OpenJobs, Wanted};
-use omega_model::{Bytes, Copied, Extra, Requests, Round, Rounds, Row, Settings, TraceTables};
+use omega_mapreduce::CountedRequests;
+use omega_model::{Bytes, Copied, Extra, Round, Rounds, Row, Settings, TraceTables};
 use std::alloc::Global;
 
 /// A trace, how many batch schedulers there are, and how many extras MapReduce jobs get.
@@ -323,7 +324,7 @@ fn show_asked_of(
     requires { wanted.old.tasks ≡ [] }
 {
     let requests = asked(alloc, wanted, rows, board, question)?;
-    show_requests(answers, requests.as_slice())
+    show_requests(alloc, answers, requests.as_slice())
 }
 
 /// What a scheduler is asked on a board once these rows were taken.
@@ -333,7 +334,7 @@ fn asked(
     rows: &[Row],
     board: &Board,
     question: Question,
-) -> Result<Requests, Fault>
+) -> Result<CountedRequests, Fault>
     requires { wanted.old.tasks ≡ [] }
 {
     let mut open_jobs = OpenJobs::new(alloc);

@@ -1,6 +1,8 @@
 //! How answers are put into words: rounds, requests, entries.
 use omega_calls::{Fault, show_need, show_spec, show_task, text};
-use omega_model::{Bytes, Entry, Need, Request, Round, Row, Wish};
+use omega_mapreduce::CountedRequest;
+use omega_model::{Bytes, Entry, Need, Round, Row, Wish};
+use std::alloc::Global;
 
 /// Appends rounds, parted by blanks: `round` and the number, and for each row `machine` or `attr` and
 /// the machine, or `task` and the name; `-` where there is none.
@@ -40,7 +42,11 @@ fn show_row(answers: &mut String, row: &Row) -> Result<(), Fault> {
 }
 
 /// Appends requests, parted by blanks: `job` and the number, and its wishes; `-` where there is none.
-pub(crate) fn show_requests(answers: &mut String, requests: &[Request]) -> Result<(), Fault> {
+pub(crate) fn show_requests(
+    alloc: Global,
+    answers: &mut String,
+    requests: &[CountedRequest],
+) -> Result<(), Fault> {
     if requests.is_empty() {
         answers.push('-')?;
     }
@@ -48,10 +54,16 @@ pub(crate) fn show_requests(answers: &mut String, requests: &[Request]) -> Resul
         if place > 0 {
             answers.push(' ')?;
         }
-        write!(answers, "job {}", request.job)?;
-        show_wishes(answers, request.wishes.as_slice())?;
+        write!(answers, "job {}", request.job())?;
+        show_listed(alloc, answers, request)?;
     }
     Ok(())
+}
+
+/// Appends the wishes of a request.
+fn show_listed(alloc: Global, answers: &mut String, request: &CountedRequest) -> Result<(), Fault> {
+    let listed = request.to_listed(alloc)?;
+    show_wishes(answers, listed.wishes.as_slice())
 }
 
 /// Appends wishes, each behind a blank.

@@ -1,1 +1,2 @@
+mod FreeIndexes
 mod Greatest

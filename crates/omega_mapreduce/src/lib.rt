@@ -1,4 +1,4 @@
-//! How many more extra tasks a MapReduce job gets.
+//! How many more extra tasks a MapReduce job gets, and requests whose wishes for them are counted.
 #![tactic(auto)]
 
 ghost use Rattle.std.specs.Prelude.{◌≡◌, ◌≤◌};
@@ -6,6 +6,10 @@ ghost use Rattle.omega_model.specs.Extras.{target, allowed, extras};
 ghost use Rattle.omega_model.specs.declared.settings.Extra.TheVariants.{Cap};
 ghost use Rattle.omega_mapreduce.specs.Component.{KeepsWithin, FineUpTo};
 
+mod counted;
+mod indexes;
+
+pub use counted::{CountedExtras, CountedRequest, CountedRequests};
 use omega_model::{Extra, Need};
 
 /// How many more extra tasks a MapReduce job gets, which has so many activities and `asked` wanted

@@ -71,6 +71,7 @@ module _ (old new : List Entry) where
         few = is.few;
         seqs = is.seqs
             ∙ ap (λ (h : List Entry). map (λ (claim : Claim). seq h claim.machine) plan.txn.claims) (sym (front_without desk.scheduler old new on plan.seen within));
+        listed = is.listed;
       }
 
   -- in a history that goes on without a commit of its scheduler, a worker has its plan still

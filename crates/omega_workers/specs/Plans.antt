@@ -32,12 +32,14 @@ IsPlannedOver desk board txn = (history : List Entry) (seen : ℕ) → StandsFor
     → IsFirstAttempt desk.settings history desk.scheduler seen desk txn
 
 -- a plan is the attempt of the desk's scheduler on the first request that is left there, after a front of the
--- history that it has seen, with the sequence numbers that the machines of its claims have there
+-- history that it has seen, with the sequence numbers that the machines of its claims have there, and with the
+-- request, where wishes of it are counted at the desk
 pub record IsPlan (history : List Entry) (desk : DeskState) (plan : Plan) : Type 0 where
   pub within : plan.seen ≤ length history
   pub txn : IsFirstAttempt desk.settings history desk.scheduler plan.seen desk plan.txn
   pub few : length plan.txn.claims < 2 ^ 32
   pub seqs : plan.seqs.items ≡ copied_seqs history plan.seen plan.txn.claims
+  pub listed : plan.listed ≡ desk.counted
 
 -- what a worker has planned is its scheduler's plan
 abbrev pub HasPlan : List Entry → Worker → Type 0

@@ -11,7 +11,7 @@ use crate::attempt::attempt_txn;
 use omega_board::{Board, touched};
 use omega_cell::Cell;
 use omega_desk::Desk;
-use omega_model::{NoMemory, Txn};
+use omega_model::{NoMemory, Request, Txn};
 use omega_plan::{Indexes, seqs_on};
 use std::alloc::Global;
 
@@ -23,6 +23,8 @@ pub struct Plan {
     pub txn: Txn,
     /// For each claim the sequence number that its machine had after these entries.
     pub seqs: Vec<u64>,
+    /// The request, where its wishes had to be listed for the plan.
+    pub listed: Option<Request>,
 }
 
 /// The plan for the first request that is left at a desk, made on the cell's board with these indexes,
@@ -65,7 +67,13 @@ fn plan_on(
         → IsUpTo history desk.now → IsPlan history desk.now plan) }
     ensures after { IfOk result (λ plan. plan.seen ≡ seen) }
 {
-    let txn = attempt_txn(alloc, desk, board, indexes)?;
+    let listed = desk.listed(alloc)?;
+    let txn = attempt_txn(alloc, desk, &listed, board, indexes)?;
     let seqs = seqs_on(alloc, board, txn.claims.as_slice())?;
-    Ok(Plan { seen, txn, seqs })
+    Ok(Plan {
+        seen,
+        txn,
+        seqs,
+        listed,
+    })
 }

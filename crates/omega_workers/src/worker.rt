@@ -16,7 +16,8 @@ use crate::plans::{Plan, plan_first};
 use crate::steps::Stepped;
 use omega_cell::Cell;
 use omega_desk::Desk;
-use omega_model::{NoMemory, Requests, Settings};
+use omega_mapreduce::CountedRequests;
+use omega_model::{NoMemory, Settings};
 use omega_plan::Indexes;
 use std::alloc::Global;
 
@@ -47,7 +48,7 @@ impl Worker {
 
     /// Takes a round's requests in order, but for those of jobs that are given up; the scheduler
     /// hasn't synced then.
-    pub fn begin(&mut self, requests: Requests) -> Result<(), NoMemory>
+    pub fn begin(&mut self, requests: CountedRequests) -> Result<(), NoMemory>
         requires no_work { self.old.desk.requests ≡ [] }
         requires distinct { All HasDistinctWishes requests }
         ensures desk { IsSameDesk self.old.desk self.new.desk }
@@ -66,17 +67,14 @@ impl Worker {
     pub fn has_work(&self) -> bool
         ensures { result ≡ has_work self.now }
     {
-        self.desk.present().is_some()
+        self.desk.has_work()
     }
 
     /// How many wishes of its first request are left, 0 where no request is.
     pub fn left(&self) -> usize
         ensures { result ≡ first_wishes (Some self.now.desk.requests) }
     {
-        match self.desk.present() {
-            Some(request) => request.wishes.len(),
-            None => 0,
-        }
+        self.desk.wish_count()
     }
 
     /// One step of the worker's scheduler over a cell, beside which indexes of its history stand that all may
@@ -162,18 +160,29 @@ impl Worker {
         ensures desk { OnErr result (self.new.desk ≡ self.old.desk) }
         ensures plan { OnErr result (self.new.plan ≡ self.old.plan) }
     {
-        let Some(Plan { seen, txn, seqs }) = self.plan.take() else {
+        let Some(Plan {
+            seen,
+            txn,
+            seqs,
+            listed,
+        }) = self.plan.take()
+        else {
             unreachable!()
         };
         match cell.reserve(alloc, txn) {
             Ok(prepared) => {
                 let scheduler = self.desk.scheduler();
                 let reply = cell.commit(scheduler, seen, &seqs, prepared);
-                self.desk.take(&reply);
+                self.desk.take(listed, &reply);
                 Ok(reply.place)
             }
             Err((txn, error)) => {
-                self.plan = Some(Plan { seen, txn, seqs });
+                self.plan = Some(Plan {
+                    seen,
+                    txn,
+                    seqs,
+                    listed,
+                });
                 Err(error)
             }
         }

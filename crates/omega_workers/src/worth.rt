@@ -13,7 +13,7 @@ use crate::worker::Worker;
 use omega_attrs::eligible;
 use omega_board::Board;
 use omega_fit::FitIndex;
-use omega_model::Wish;
+use omega_model::{Constraints, Need};
 use omega_plan::Indexes;
 
 /// At how many machines is looked to tell whether a search may be a long one.
@@ -52,29 +52,36 @@ fn looks_of(worker: &Worker, free: &FitIndex, board: &Board) -> u64 {
     if worker.plan.is_some() {
         return 0;
     }
-    let Some(request) = worker.desk.present() else {
+    let Some((need, constraints)) = worker.desk.first_asked() else {
         return 0;
     };
-    let wishes = request.wishes.as_slice();
-    let searched = match wishes.first() {
-        Some(wish) if is_long(wish, start_on(&worker.desk, board), free, board) => LONG,
-        _ => 0,
-    };
-    searched + wishes.len() as u64
+    let wishes = worker.desk.wish_count() as u64;
+    let start = start_on(&worker.desk, board);
+    if is_long(need, constraints, start, free, board) {
+        return wishes.saturating_add(LONG);
+    }
+    wishes
 }
 
-/// Whether none of the first machines with room for a wish, from a position to the end of the list, suits it.
+/// Whether none of the first machines with room for a wish that needs so much, from a position to the end of the
+/// list, meets its constraints.
 /// Where there are few of them the search is a short one.
-fn is_long(wish: &Wish, start: usize, free: &FitIndex, board: &Board) -> bool {
-    if wish.constraints.is_empty() {
+fn is_long(
+    need: Need,
+    constraints: &Constraints,
+    start: usize,
+    free: &FitIndex,
+    board: &Board,
+) -> bool {
+    if constraints.is_empty() {
         return false;
     }
     let mut from = start;
     for _ in 0..LOOKS {
-        let Some(position) = free.next(from, free.len(), wish.spec.need) else {
+        let Some(position) = free.next(from, free.len(), need) else {
             return false;
         };
-        if suits(wish, position, board) {
+        if suits(constraints, position, board) {
             return false;
         }
         from = position + 1;
@@ -82,10 +89,10 @@ fn is_long(wish: &Wish, start: usize, free: &FitIndex, board: &Board) -> bool {
     true
 }
 
-/// Whether the machine at a position meets a wish's constraints.
-fn suits(wish: &Wish, position: usize, board: &Board) -> bool {
+/// Whether the machine at a position meets some constraints.
+fn suits(constraints: &Constraints, position: usize, board: &Board) -> bool {
     match board.machines().at(position) {
-        Some(machine) => eligible(&wish.constraints, &machine.attrs),
+        Some(machine) => eligible(constraints, &machine.attrs),
         None => false,
     }
 }

@@ -111,13 +111,19 @@ impl Player {
         ensures spent { OnOk result (synced_of self.new.worker ≡ None) }
         ensures failed { self.new.failed ≡ self.old.failed }
     {
-        let Some(Plan { seen, txn, seqs }) = self.worker.plan.take() else {
+        let Some(Plan {
+            seen,
+            txn,
+            seqs,
+            listed,
+        }) = self.worker.plan.take()
+        else {
             unreachable!()
         };
         let Ok(reply) = shared.commit_planned(rt, alloc, &mut self.pass, seen, txn, seqs) else {
             return Err(NoMemory);
         };
-        self.worker.desk.take(&reply);
+        self.worker.desk.take(listed, &reply);
         Ok(())
     }
 }

@@ -12,4 +12,5 @@ returns-clause-plan c = λ history stands up_to. record {
   seqs = c.in_ok-seqs.ensures
       ∙ numbers_alike c.args.board.now.table (take c.args.seen history) c.as_slice.result.now stands.numbers
       ∙ ap (λ (claims : List Claim). copied_seqs history c.args.seen claims) c.as_slice.ensures;
+  listed = c.in_ok-listed.ensures;
 }

@@ -4,6 +4,7 @@ use Rattle.std.proofs.lemmas.List.Elements.{All-filter}
 use Rattle.omega_model.specs.declared.wishes.Request.{Request}
 use Rattle.omega_desk.specs.Counts.{count_of, IsCounted}
 use Rattle.omega_desk.specs.Desks.{DeskState}
+use Rattle.omega_desk.specs.First.{first_request}
 use Rattle.omega_desk.specs.Walks.{HasDistinctWishes}
 use Rattle.omega_desk.proofs.Desks.{opened}
 use Rattle.omega_desk.proofs.desk.Desk.begin.Goals as goal
@@ -17,5 +18,5 @@ invariant_of-self-2 c =
     let kept = c.from.ensures.0 ∙ c.still_tried-requests.ensures in
     let distinct = subst (λ rs. All HasDistinctWishes rs) (sym kept) (All-filter keeps HasDistinctWishes c.args.requests c.requires.distinct) in
     let room = subst (λ rs. All counted rs) (c.as_slice.ensures.value ∙ sym c.from.ensures.0) c.in_ok-reserve.ensures.room in
-    opened d.present d.waiting.items d.attempts d.taken d.failures _ c.self.invariant none c.reserve.ensures.counts
-    c.from.result.items distinct room _ _ c.pop_front.ensures.items c.pop_front.ensures.rest
+    opened (first_request d.present) d.waiting.items d.attempts d.taken d.failures _ c.self.invariant none c.reserve.ensures.counts
+    c.from.result.items distinct room _ _ c.next_of.ensures.items c.next_of.ensures.rest

@@ -20,6 +20,10 @@ take-requires-in-Ok-clause-answers c =
     (sym (ap (λ (requests : List Request). slice_get requests 0) first.work))
     (c.in-Ok.ensures.txn ∙ first.is) c.commit-reply.ensures.outcomes
 
+pub take-requires-in-Ok-clause-listed : goal.take-requires-in-Ok-clause-listed
+take-requires-in-Ok-clause-listed c =
+    (plan_there c.args.cell.now.history c.args.self.now c.args.seen c.in-Some.field-0 c.requires.synced c.requires.ready.plan c.in-Some.ensures.value).1.listed
+
 pub returns-in-Ok-clause-ready : goal.returns-in-Ok-clause-ready
 returns-in-Ok-clause-ready c = record {
   range = c.requires.ready.range;

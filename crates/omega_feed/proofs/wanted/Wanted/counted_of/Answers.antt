@@ -1,15 +1,16 @@
-use Rattle.std.specs.Prelude.{is_some}
-use Rattle.std.proofs.Common.{◌≡◌, ◌++◌, map, not, ap, ◌∙◌}
+use Rattle.std.specs.Prelude.{is_some, unwrap_or}
+use Rattle.std.proofs.Common.{◌≡◌, ◌++◌, ◌∙◌, List, [], map, not, ap}
 use Rattle.std.specs.List.{filter}
 use Rattle.omega_board.specs.Board.{cell_of}
 use Rattle.omega_model.specs.Cell.{Cell, task_at}
 use Rattle.omega_model.specs.ExtraTasks.{wanted_of}
 use Rattle.omega_model.specs.Requests.{is_waiting}
+use Rattle.omega_model.specs.declared.wishes.Wish.{Wish}
 use Rattle.omega_feed.specs.Asked.{Asked, activities_in, asked_wish, extras_after}
+use Rattle.omega_feed.specs.Counted.{request_for}
 use Rattle.omega_feed.specs.Index.{wanted_task}
-use Rattle.omega_model.proofs.Answering.{if_ok_weaker}
 use Rattle.omega_feed.proofs.ExtraIndexes.{waiting_of}
-use Rattle.omega_feed.proofs.wanted.Wanted.wishes_of.Goals as goal
+use Rattle.omega_feed.proofs.wanted.Wanted.counted_of.Goals as goal
 
 pub returns : goal.returns
 returns c =
@@ -23,6 +24,8 @@ returns c =
     c.in_ok-wishes.ensures
     ∙ (λ i. map (asked_wish asked.constraints) (filter (λ task. not (is_some (task_at (c.running.ensures.tasks i) task.key))) (models i)))
     ∙ ap (map (asked_wish asked.constraints)) (waiting_of cell c.args.job asked.tasks) in
-    if_ok_weaker _ _ c.with_extras.result
-    (λ all is. is ∙ (λ i. waiting i ++ extras_after asked cell c.args.job (activities_in asked.activities c.args.job) (again i)))
-    c.with_extras.ensures
+    let extras : unwrap_or c.in_ok-extras.extras [] ≡ extras_after asked cell c.args.job (activities_in asked.activities c.args.job) (wanted_of c.args.job asked.tasks) =
+    c.in_ok-extras.ensures ∙ ap (extras_after asked cell c.args.job (activities_in asked.activities c.args.job)) again in
+    let all : c.in_ok-wishes.wishes ++ unwrap_or c.in_ok-extras.extras [] ≡ map (asked_wish asked.constraints) (filter (is_waiting cell c.args.job) asked.tasks) ++ extras_after asked cell c.args.job (activities_in asked.activities c.args.job) (wanted_of c.args.job asked.tasks) =
+    λ i. waiting i ++ extras i in
+    c.new.ensures ∙ ap (λ (wishes : List Wish). request_for c.args.job wishes) all
