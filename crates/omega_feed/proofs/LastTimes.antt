@@ -1,5 +1,5 @@
 -- The greatest time of the rows of tables that are in order of time is that of the last row of one of them.
-use Rattle.std.proofs.Common.{◌≡◌, Bor, ℕ, ◌≤◌, ◌-◌, Bool, true, false, cond, List, [], ◌∷◌, ◌++◌, Some, drop, length, map, nat_lt, slice_get, take, refl, subst, sym, ap, ap₂, ◌∙◌, arith, take-append-drop}
+use Rattle.std.proofs.Common.{◌≡◌, Bor, ℕ, ◌≤◌, ◌-◌, Bool, true, false, cond, List, [], ◌∷◌, ◌++◌, Some, drop, map, nat_lt, slice_get, take, refl, subst, sym, ap, ap₂, ◌∙◌, arith, take-append-drop}
 use Rattle.std.specs.Prelude.{max, option_map}
 use Rattle.std.specs.List.{fold, AllByRecursion as Each}
 use Rattle.std.proofs.Math.Nat.{le-max_left, le-max_right, max-eq_right, max-le, max-zero, max_comm, zero-max}
