@@ -1,6 +1,6 @@
 -- The greatest time of the rows of tables that are in order of time is that of the last row of one of them.
-use Rattle.std.proofs.Common.{◌≡◌, Bor, ℕ, ◌≤◌, ◌-◌, Bool, true, false, cond, List, [], ◌∷◌, ◌++◌, Some, drop, length, map, nat_lt, slice_get, take, refl, subst, sym, ap, ap₂, ◌∙◌, arith, take-append-drop}
-use Rattle.std.specs.Prelude.{max, option_map, unwrap_or}
+use Rattle.std.proofs.Common.{◌≡◌, Bor, ℕ, ◌≤◌, ◌-◌, Bool, true, false, cond, List, [], ◌∷◌, ◌++◌, Some, drop, map, nat_lt, slice_get, take, refl, subst, sym, ap, ap₂, ◌∙◌, arith, take-append-drop}
+use Rattle.std.specs.Prelude.{max, option_map}
 use Rattle.std.specs.List.{fold, AllByRecursion as Each}
 use Rattle.std.proofs.Math.Nat.{le-max_left, le-max_right, max-eq_right, max-le, max-zero, max_comm, zero-max}
 use Rattle.std.specs.Slice.{IsItemAt}
@@ -18,16 +18,6 @@ use Rattle.omega_feed.specs.Rounds.{last_time, part_round, piece}
 use Rattle.omega_feed.specs.declared.rounds.RoundPart.{RoundPart}
 use Rattle.omega_feed.proofs.Merging.{attr_time, laid, machine_time, task_time}
 use Rattle.omega_feed.proofs.Parting.{rise_back}
-
--- the last item, as it is read
-pub last_read : {X : Type 0} (time : X → ℕ) (items : List X) → unwrap_or (option_map time (slice_get items (length items - 1))) 0 ≡ last_time time items
-last_read time [] = refl
-last_read {X} time (x ∷ xs) =
-    let place : length (x ∷ xs) - 1 ≡ length xs = omega arith in
-    ap (λ i. unwrap_or (option_map time (slice_get (x ∷ xs) i)) 0) place ∙ at_end x xs where
-      at_end : (x : X) (xs : List X) → unwrap_or (option_map time (slice_get (x ∷ xs) (length xs))) 0 ≡ fold (λ last item. time item) (time x) xs
-      at_end x [] = refl
-      at_end x (y ∷ ys) = at_end y ys
 
 max_assoc : (a b c : ℕ) → max a (max b c) ≡ max (max a b) c
 max_assoc a b c =
@@ -95,7 +85,7 @@ greatest_last {X} row_of items rise = from 0 items (each_low items) rise where
       ap (λ now. fold (λ time row. max time (time_of row)) now (map row_of items)) (max-eq_right low.0)
       ∙ from (time_of (row_of item)) items rise.0 rise.1
 
--- what tables in order of time are asked for
+-- the greatest time of the rows of three tables in order of time is that of the last row of one of them
 pub greatest_merged : (ms : List MachineFields) (bs : List AttrFields) (ts : List TaskFields) → AreInOrder ms bs ts
     → max (max (last_time machine_time ms) (last_time attr_time bs)) (last_time task_time ts) ≡ greatest_time (merged ms bs ts)
 greatest_merged ms bs ts order =

@@ -19,4 +19,3 @@ pub mod Slots
 pub mod Blocks
 pub mod Marking
 pub mod LastTimes
-pub mod Noting

@@ -1,5 +1,5 @@
 //! The rounds of a trace, each of which is a piece of each table of events.
-ghost use Rattle.std.specs.Prelude.{◌≡◌, ◌≤◌, ◌<◌, ◌/◌, ◌++◌, drop, length, map, option_map, slice_get, take, IfOk};
+ghost use Rattle.std.specs.Prelude.{◌≡◌, ◌≤◌, ◌<◌, ◌/◌, ◌++◌, drop, length, map, option_map, slice_get, take, None, IfOk};
 ghost use Rattle.std.specs.List.{AllByRecursion as Each};
 ghost use Rattle.omega_feed.specs.Events.{AreInOrder, Rise, merged};
 ghost use Rattle.omega_feed.specs.Rounds.{HavePart, first_time, gathered, last_time, least, next_number, part_round};
@@ -101,7 +101,8 @@ impl EventRounds {
     /// The greatest time of the rows of the round at place `i`, counted from 0, in microseconds; `None` exactly
     /// where `i` isn't below their number. Costs a look at the last row of the round in each table.
     pub fn rows_time(&self, i: usize) -> Option<u64>
-        ensures { result ≡ option_map (λ round. greatest_time round.rows) (slice_get self.now i) }
+        ensures time { result ≡ option_map (λ round. greatest_time round.rows) (slice_get self.now i) }
+        ensures none { result ≡ None → length self.now ≤ i }
     {
         let RoundPart { from, to, .. } = *self.parts.get(i)?;
         Some(greatest_time(

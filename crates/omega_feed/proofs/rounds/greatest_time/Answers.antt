@@ -1,4 +1,4 @@
-use Rattle.std.proofs.Common.{◌≡◌, ℕ, ap, ap₂, ◌∙◌}
+use Rattle.std.proofs.Common.{ap₂, ◌∙◌}
 use Rattle.std.specs.Prelude.{max}
 use Rattle.omega_feed.proofs.LastTimes.{greatest_merged}
 use Rattle.omega_feed.proofs.rounds.greatest_time.Goals as goal

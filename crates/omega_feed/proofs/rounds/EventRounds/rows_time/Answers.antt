@@ -12,8 +12,8 @@ greatest_time-requires c =
     rw (c.deref-2.ensures.value, c.deref-3.ensures.value, c.deref-4.ensures.value)
     (pieces_in_order kept.machines.items kept.attrs.items kept.tasks.items part.from.machines part.to.machines part.from.attrs part.to.attrs part.from.tasks part.to.tasks c.self.invariant.0)
 
-pub returns : goal.returns
-returns c =
+pub returns-clause-time : goal.returns-clause-time
+returns-clause-time c =
     let kept = c.self.inside in
     let part = c.in_ok-from.field-0 in
     let time : c.greatest_time.result ≡ greatest_time (part_round kept.machines.items kept.attrs.items kept.tasks.items part.now).rows =
