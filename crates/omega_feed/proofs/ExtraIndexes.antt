@@ -104,6 +104,7 @@ index_above job t u one before other =
   where
     same : t.key.job ≡ job → u.key.job ≡ job → t.key.job < u.key.job → ⊥
     same own its lower = omega (arith, own, its, lower)
+
     next : t.key.index < u.key.index → t.key.index + 1 ≤ u.key.index
     next less = omega (arith, less)
 

@@ -160,12 +160,14 @@ impl Worker {
         ensures desk { OnErr result (self.new.desk ≡ self.old.desk) }
         ensures plan { OnErr result (self.new.plan ≡ self.old.plan) }
     {
-        let Some(Plan {
-            seen,
-            txn,
-            seqs,
-            listed,
-        }) = self.plan.take()
+        let Some(
+            Plan {
+                seen,
+                txn,
+                seqs,
+                listed,
+            },
+        ) = self.plan.take()
         else {
             unreachable!()
         };

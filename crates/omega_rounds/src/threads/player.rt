@@ -111,12 +111,14 @@ impl Player {
         ensures spent { OnOk result (synced_of self.new.worker ≡ None) }
         ensures failed { self.new.failed ≡ self.old.failed }
     {
-        let Some(Plan {
-            seen,
-            txn,
-            seqs,
-            listed,
-        }) = self.worker.plan.take()
+        let Some(
+            Plan {
+                seen,
+                txn,
+                seqs,
+                listed,
+            },
+        ) = self.worker.plan.take()
         else {
             unreachable!()
         };
