@@ -28,7 +28,6 @@ use Rattle.omega_workers.specs.WorkerSteps.{CommitsFirst, IsFirstAttempt}
 use Rattle.omega_workers.specs.Plans.{IsPlan}
 use Rattle.omega_workers.specs.declared.plans.Plan.{Plan}
 use Rattle.omega_rounds.specs.declared.threads.player.Player.{Player}
-use Rattle.omega_workers.specs.declared.worker.Worker.{Worker}
 use Rattle.omega_rounds.proofs.DeskCommits.{own_desk_own}
 use Rattle.omega_laws.proofs.LastCommits.{after_last-within}
 use Rattle.omega_workers.proofs.HavingPlans.{seen_there, unsynced}

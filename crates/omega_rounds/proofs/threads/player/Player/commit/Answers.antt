@@ -1,6 +1,6 @@
-use Rattle.std.proofs.Common.{◌≡◌, ◌∙◌, ℕ, None, Some, length, refl, sym, subst}
+use Rattle.std.proofs.Common.{ℕ, refl, subst}
 use Rattle.omega_shared.specs.Turns.{Commits}
-use Rattle.omega_workers.proofs.HavingPlans.{plan_missing, plan_there, unsynced}
+use Rattle.omega_workers.proofs.HavingPlans.{plan_there, unsynced}
 use Rattle.omega_rounds.proofs.PlayingOn.{planned_all, plans_first, plays_on_commit, plays_on_none, takes_answers}
 use Rattle.omega_rounds.proofs.Without.{indexes_without}
 use Rattle.omega_rounds.specs.declared.threads.player.Player.{Player}
