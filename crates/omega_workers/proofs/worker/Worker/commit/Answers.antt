@@ -22,7 +22,7 @@ take-requires-in-Ok-clause-answers c =
 
 pub take-requires-in-Ok-clause-listed : goal.take-requires-in-Ok-clause-listed
 take-requires-in-Ok-clause-listed c =
-    (plan_there c.args.cell.now.history c.args.self.now c.args.seen c.in-Some.field-0 c.requires.synced c.requires.ready.plan c.in-Some.ensures.value).1.listed
+    (plan_there c.args.cell.now.history c.args.self.now c.in-Some.field-0 c.requires.ready.plan c.in-Some.ensures.value).listed
 
 pub returns-in-Ok-clause-ready : goal.returns-in-Ok-clause-ready
 returns-in-Ok-clause-ready c = record {

@@ -34,8 +34,8 @@ take-2-requires-clause-answers g c =
     (plans_first was plan c.requires.synced.worker all (plan_there was.pass.seen was.worker plan c.requires.plan c.in-Some.ensures.value))
     (subst (λ (n : ℕ). Commits was.pass c.commit_planned.new.pass n plan.txn c.in-Ok.reply) all c.in-Ok.ensures.commits)
 
-pub take-requires-clause-listed : goal.take-requires-clause-listed
-take-requires-clause-listed g c = c.requires.plan.listed
+pub take-2-requires-clause-listed : goal.take-2-requires-clause-listed
+take-2-requires-clause-listed g c = (plan_there c.args.self.now.pass.seen c.args.self.now.worker c.in-Some.field-0 c.requires.plan c.in-Some.ensures.value).listed
 
 pub returns-clause-plays_on : goal.returns-clause-plays_on
 returns-clause-plays_on g c =
