@@ -81,7 +81,7 @@ fn together<R: FromRecord + Drop>(
         Err(refusal) => return Err(refusal),
     };
     match back {
-        Ok(more) => joined(rows, more),
+        Ok(more) => Ok(joined(rows, more)?),
         Err(refusal) => Err(behind(&rows, refusal)),
     }
 }

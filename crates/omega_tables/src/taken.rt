@@ -4,7 +4,7 @@ ghost use Rattle.omega_model.specs.Rows.{rows_by};
 ghost use Rattle.omega_tables.specs.Taking.{count_of, held_count, Takes};
 
 use crate::parsing::FromRecord;
-use crate::refusal::ReadRefusal;
+use omega_model::NoMemory;
 
 /// What is taken of the rows of a text.
 #[derive(Drop)]
@@ -30,13 +30,13 @@ pub(crate) fn number_of<R>(taken: &Taken<R>) -> u64
 pub(crate) fn joined<R: FromRecord + Drop>(
     front: Taken<R>,
     back: Taken<R>,
-) -> Result<Taken<R>, ReadRefusal>
+) -> Result<Taken<R>, NoMemory>
     ensures { (most : ℕ) (first second : List (List (List ℕ))) → Takes most (rows_by R.row_of first) front
         → Takes most (rows_by R.row_of second) back
         → IfOk result (Takes most (rows_by R.row_of (first ++ second))) }
 {
     let Some(number) = number_of(&front).checked_add(number_of(&back)) else {
-        return Err(ReadRefusal::NoMemory);
+        return Err(NoMemory);
     };
     match front {
         Taken::All(mut rows) => match back {

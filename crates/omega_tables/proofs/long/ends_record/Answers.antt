@@ -1,4 +1,4 @@
-use Rattle.std.proofs.Common.{◌≡◌, ◌∙◌, ℕ, Option, Some, length, sym, ap, arith}
+use Rattle.std.proofs.Common.{◌≡◌, ◌∙◌, ℕ, Option, Some, length, ap, arith}
 use Rattle.std.specs.Option.{option_eq}
 use Rattle.std.proofs.lemmas.Bool.Decides.{nat_tests}
 use lib.Dec.{eqb}
@@ -11,11 +11,11 @@ pub returns-then-is_empty : goal.returns-then-is_empty
 returns-then-is_empty c = λ e.
     let none : length c.args.front.now ≡ 0 = grind (arith, nat_tests, c.is_empty.ensures, c.if-is_empty.true) in
     no_front c.args.front.now c.args.back.now none
-    (sym c.if-eq.false ∙ c.eq.ensures ∙ ap (λ (byte : Option ℕ). option_eq eqb byte (Some mark_byte)) (c.copied.ensures ∙ c.first.ensures.value))
+    (c.if-eq.ensures ∙ ap (λ (byte : Option ℕ). option_eq eqb byte (Some mark_byte)) (c.copied.ensures ∙ c.first.ensures.value))
 
 pub returns : goal.returns
 returns c = λ e.
     lines_front c.args.front.now c.args.back.now c.if-front-lt4.false
-    (c.if-ended.ensures ∙ ap (λ (byte : Option ℕ). option_eq eqb byte (Some 10)) (c.copied-2.ensures ∙ c.last.ensures.value))
+    (c.if-not-ended.ensures ∙ ap (λ (byte : Option ℕ). option_eq eqb byte (Some 10)) (c.copied-2.ensures ∙ c.last.ensures.value))
     (none_found _ c.memchr.result c.if-is_some.ensures c.memchr.ensures)
-    (sym c.if-eq.false ∙ c.eq.ensures ∙ ap (λ (byte : Option ℕ). option_eq eqb byte (Some mark_byte)) (c.copied.ensures ∙ c.first.ensures.value))
+    (c.if-eq.ensures ∙ ap (λ (byte : Option ℕ). option_eq eqb byte (Some mark_byte)) (c.copied.ensures ∙ c.first.ensures.value))
