@@ -1,7 +1,8 @@
 //! Records of a table, and their typed rows.
-ghost use Rattle.std.specs.Prelude.{◌≡◌, ◌≤◌, ◌++◌, ◌∷◌, [], true, IfOk, OnOk, IfErr, OnErr, Some, None};
+ghost use Rattle.std.specs.Prelude.{◌≡◌, ◌≤◌, ◌++◌, ◌∷◌, [], true, ℕ, List, Result, Ok, IfOk, OnOk, IfErr, OnErr, Some, None};
 ghost use Rattle.std.specs.Thread.{IsSync};
 ghost use Rattle.csv.specs.Records.{fields_of};
+ghost use Rattle.omega_model.specs.Columns.{BadColumn};
 ghost use Rattle.omega_model.specs.Rows.{rows_in, rows_or_none};
 ghost use Rattle.omega_model.specs.Trace.{with_rows};
 ghost use Rattle.omega_model.specs.Refusals.{bad_row, row_refusal};
@@ -161,6 +162,17 @@ fn hold<R: Drop>(alloc: Global, rows: &mut Vec<R>, row: R, room: bool) -> Result
     Ok(())
 }
 
+/// What is taken of so many rows, which are held where there are no more than `most`.
+fn held<R: Drop>(rows: Vec<R>, number: u64, most: u64) -> Taken<R>
+    ensures { (answer : Result (List R) (ℕ × BadColumn)) → (number ≤ most → answer ≡ Ok rows.items) → count_of answer ≡ Some number
+        → Takes most answer result }
+{
+    if number <= most {
+        return Taken::All(rows);
+    }
+    Taken::Number(number)
+}
+
 /// The rows of a table's text, or the first bad record. Holds one record at a time, and no rows once there are more
 /// than `most`: those that follow are only counted and looked through for a bad one.
 pub(crate) fn read_rows<R: FromRecord + Drop>(
@@ -191,8 +203,7 @@ pub(crate) fn read_rows<R: FromRecord + Drop>(
                     });
                 }
             },
-            Ok(false) if number <= most => return Ok(Taken::All(rows)),
-            Ok(false) => return Ok(Taken::Number(number)),
+            Ok(false) => return Ok(held(rows, number, most)),
             Err(_) => return Err(ReadRefusal::NoMemory),
         }
     }

@@ -55,14 +55,6 @@ returns-in-Ok-false-clause-rows g c =
     let text = strip_bom c.args.text.now in
     let r = c.in-Ok-false.ensures.reads inv.0 inv.1 in
     let last = rows-end (λ (s : Bor (List ℕ)). Some s.now) c.loop-number.reader c.read_byte_record.new.self (fields_of c.read_byte_record.new.row) default_config inv.5 inv.2 inv.6 (rw c.in-Ok-false.field-0-test at r) in
-    ap (rows_by g.R.FromRecord.row_of) (are_all default_config text inv.3 c.loop-number.reader.state inv.5 inv.7 last)
-    ∙ so_far_held g.R.FromRecord.row_of c.args.most inv.3 c.loop-number.rows.items c.loop-number.number inv.4 (search arith)
-
-pub returns-in-Ok-false-2-clause-rows : goal.returns-in-Ok-false-2-clause-rows
-returns-in-Ok-false-2-clause-rows g c =
-    let inv = c.loop-number.invariant in
-    let text = strip_bom c.args.text.now in
-    let r = c.in-Ok-false-2.ensures.reads inv.0 inv.1 in
-    let last = rows-end (λ (s : Bor (List ℕ)). Some s.now) c.loop-number.reader c.read_byte_record.new.self (fields_of c.read_byte_record.new.row) default_config inv.5 inv.2 inv.6 (rw c.in-Ok-false-2.field-0-test at r) in
     let all = ap (rows_by g.R.FromRecord.row_of) (are_all default_config text inv.3 c.loop-number.reader.state inv.5 inv.7 last) in
-    (omega arith, ap count_of all ∙ so_far_count g.R.FromRecord.row_of c.args.most inv.3 c.loop-number.rows.items c.loop-number.number inv.4)
+    c.held.ensures _ (λ few. all ∙ so_far_held g.R.FromRecord.row_of c.args.most inv.3 c.loop-number.rows.items c.loop-number.number inv.4 few)
+    (ap count_of all ∙ so_far_count g.R.FromRecord.row_of c.args.most inv.3 c.loop-number.rows.items c.loop-number.number inv.4)
