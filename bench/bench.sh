@@ -250,6 +250,8 @@ chosen() {
     shape many_extras 2000 replay --extra max
     shape extras_alike 20 replay --extra max
     shape commas 10000000 replay
+    shape commas_quoted 10000000 replay
+    shape too_many_rows 5000000 replay
     shape quotes 10000000 replay
     shape long_text 5000000 replay
 }

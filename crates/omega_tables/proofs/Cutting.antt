@@ -55,7 +55,7 @@ continues cfg s fields field (c ∷ rest) = by (is_end (step cfg s c).1) refl (c
     by false e new same = rw e same
 
 -- they are what `records` lists
-records_are : (cfg : Config) (xs : List ℕ) → records cfg xs ≡ all_from cfg st.StartRecord [] [] xs
+pub records_are : (cfg : Config) (xs : List ℕ) → records cfg xs ≡ all_from cfg st.StartRecord [] [] xs
 records_are cfg xs =
     let all = are_records cfg st.StartRecord xs (all_from cfg st.StartRecord [] [] xs) _ refl (continues cfg st.StartRecord [] [] xs) in
     are_all cfg xs (all_from cfg st.StartRecord [] [] xs) all.0 all.1 all.2 all.3
@@ -246,7 +246,7 @@ lines_then front back line plain =
     (cut_from st.StartRecord [] [] front back (refl, refl) ends)
 
 -- no byte order mark begins with another byte
-unmarked_text : (text : List ℕ) → get_or text 0 0 ≢ mark_byte → strip_bom text ≡ text
+pub unmarked_text : (text : List ℕ) → get_or text 0 0 ≢ mark_byte → strip_bom text ≡ text
 unfolding strip_bom
 unmarked_text [] h = refl
 unmarked_text (a ∷ []) h = refl
@@ -261,7 +261,7 @@ line_behind a b c d rest (x ∷ y ∷ [], e) = cc e
 line_behind a b c d rest (x ∷ y ∷ z ∷ more, e) = (more, ap (λ (text : List ℕ). drop 3 text) e)
 
 -- the records of a text that may be cut are those of its front, and behind them those of its back
-cut_records : (front back : List ℕ) → MayCut front back → records_of (front ++ back) ≡ records_of front ++ records_of back
+pub cut_records : (front back : List ℕ) → MayCut front back → records_of (front ++ back) ≡ records_of front ++ records_of back
 unfolding strip_bom
 cut_records front back may = by front may.line may.unquoted may.long
   where
@@ -286,7 +286,7 @@ pub none_found : {none : Type 0} (some : ℕ → Type 0) (found : Option ℕ) �
 none_found some None e h = h
 none_found some (Some place) e h = cc e
 
-other_byte : (text : List ℕ) → false ≡ option_eq eqb (slice_get text 0) (Some mark_byte) → get_or text 0 0 ≢ mark_byte
+pub other_byte : (text : List ℕ) → false ≡ option_eq eqb (slice_get text 0) (Some mark_byte) → get_or text 0 0 ≢ mark_byte
 other_byte [] h = λ e. cc e
 other_byte (a ∷ rest) h = λ e. cc (rw e at h)
 

@@ -1,5 +1,5 @@
 -- The reading of the tables in their order: one more table.
-use Rattle.std.proofs.Common.{◌≡◌, ◌≢◌, ◌∙◌, ◌+◌, ◌<◌, ◌≤◌, ◌⊎◌, ◌++◌, ℕ, zero, suc, List, [], ◌∷◌, Option, Some, None, take, drop, get_or, refl, sym, ap, arith, inl, inr}
+use Rattle.std.proofs.Common.{◌≡◌, ◌≢◌, ◌∙◌, ◌+◌, ◌<◌, ◌≤◌, ◌⊎◌, ◌++◌, ℕ, zero, suc, List, [], ◌∷◌, Option, Some, None, take, drop, get_or, refl, sym, ap, subst, arith, inl, inr}
 use Rattle.std.specs.Prelude.{IfSome}
 use Rattle.std.specs.List.{fold}
 use Rattle.std.proofs.lemmas.List.{take_more, drop_more, take-append-drop}
@@ -13,6 +13,8 @@ use Rattle.omega_model.specs.declared.rows.Table.TheVariants.{MachineEvents, Mac
 use Rattle.omega_model.specs.declared.results.Status.{Status}
 use Rattle.omega_model.specs.declared.rows.TraceTables.{TraceTables}
 use Rattle.omega_tables.specs.Reading.{CameTo, ComesFirst, Names, StoppedIn, StopsAt, StopsRows}
+use Rattle.omega_tables.specs.Taking.{Gathers, IsOfAll}
+use Rattle.omega_tables.specs.declared.gathered.Gathered.{Gathered}
 use Rattle.omega_tables.specs.declared.refusal.ReadRefusal.{ReadRefusal}
 use Rattle.omega_tables.specs.declared.refusal.ReadRefusal.TheVariants.{Fault, TooLong, BadRow, TooMany, NoMemory}
 
@@ -60,18 +62,20 @@ none_more first now i bytes h left told before this =
     ap (λ (ts : List Table). refusal_among ts bytes) (take_more tables_in_order i MachineEvents h)
     ∙ among_push (take i tables_in_order) (table_at i) bytes before (rw here at this)
 
-pub trace_more : (first now : Table → Option (List ℕ)) (i : ℕ) (bytes : Table → List ℕ) (trace more : TraceTables) → i < 6
+pub trace_more : (first now : Table → Option (List ℕ)) (i : ℕ) (bytes : Table → List ℕ) (gathered more : Gathered) → i < 6
     → ((t : Table) → i ≤ place_of t → now t ≡ first t) → Tells first bytes
-    → trace ≡ fold (λ rows table. with_rows table (bytes table) rows) no_rows (take i tables_in_order)
-    → IfSome (now (table_at i)) (λ b. more ≡ with_rows (table_at i) b trace)
-    → more ≡ fold (λ rows table. with_rows table (bytes table) rows) no_rows (take (i + 1) tables_in_order)
-trace_more first now i bytes trace more h left told before this =
+    → Gathers gathered (fold (λ rows table. with_rows table (bytes table) rows) no_rows (take i tables_in_order))
+    → ((trace : TraceTables) → Gathers gathered trace → IfSome (now (table_at i)) (λ b. Gathers more (with_rows (table_at i) b trace)))
+    → Gathers more (fold (λ rows table. with_rows table (bytes table) rows) no_rows (take (i + 1) tables_in_order))
+trace_more first now i bytes gathered more h left told before this =
     let here = told_here first now i bytes h left told in
     let f : TraceTables → Table → TraceTables = λ rows table. with_rows table (bytes table) rows in
-    let added : more ≡ with_rows (table_at i) (bytes (table_at i)) trace = rw here at this in
-    added ∙ ap (with_rows (table_at i) (bytes (table_at i))) before
-    ∙ sym (fold-append f no_rows (take i tables_in_order) (table_at i ∷ []))
-    ∙ sym (ap (fold f no_rows) (take_more tables_in_order i MachineEvents h))
+    let trace = fold f no_rows (take i tables_in_order) in
+    let added : Gathers more (with_rows (table_at i) (bytes (table_at i)) trace) = rw here at (this trace before) in
+    let same : with_rows (table_at i) (bytes (table_at i)) trace ≡ fold f no_rows (take (i + 1) tables_in_order) =
+    sym (fold-append f no_rows (take i tables_in_order) (table_at i ∷ []))
+    ∙ sym (ap (fold f no_rows) (take_more tables_in_order i MachineEvents h)) in
+    subst (Gathers more) same added
 
 pub done_more : (first now next : Table → Option (List ℕ)) (i : ℕ) → i < 6
     → ((t : Table) → place_of t < i → IfSome (first t) (λ b. now t ≡ Some []))
@@ -165,13 +169,13 @@ stopped_in first next count then i (TooMany kind number) h came is = elim is [ ]
 stopped_in first next count then i NoMemory h came is = (i, came)
 
 -- rows are looked at together once all tables were read
-pub stopped_behind : (first next : Table → Option (List ℕ)) (count then : Table → ℕ) (trace : TraceTables) (refusal : ReadRefusal)
-    → CameTo 6 first next count then → StopsRows trace refusal → StoppedIn first next count then refusal
-stopped_behind first next count then trace (Fault _) came stops = elim stops [ ]
-stopped_behind first next count then trace (TooLong _) came stops = elim stops [ ]
-stopped_behind first next count then trace (BadRow _ _ _ _) came stops = elim stops [ ]
-stopped_behind first next count then trace (TooMany kind number) came stops = came
-stopped_behind first next count then trace NoMemory came stops = (6, came)
+pub stopped_behind : (first next : Table → Option (List ℕ)) (count then : Table → ℕ) (refusal : ReadRefusal)
+    → CameTo 6 first next count then → IsOfAll refusal → StoppedIn first next count then refusal
+stopped_behind first next count then (Fault _) came stops = elim stops [ ]
+stopped_behind first next count then (TooLong _) came stops = elim stops [ ]
+stopped_behind first next count then (BadRow _ _ _ _) came stops = elim stops [ ]
+stopped_behind first next count then (TooMany kind number) came stops = came
+stopped_behind first next count then NoMemory came stops = (6, came)
 
 -- the place of each table is one of the six
 pub place_below : (t : Table) → place_of t < 6

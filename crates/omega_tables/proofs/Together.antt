@@ -9,6 +9,7 @@ use Rattle.omega_model.specs.declared.results.Cause.{Cause}
 use Rattle.omega_model.specs.declared.results.Status.TheVariants as status
 use Rattle.omega_model.proofs.TypedRows.{rows_by-append, then_rows}
 use Rattle.omega_tables.specs.Reading.{Stands}
+use Rattle.omega_tables.specs.Taking.{count_of}
 use Rattle.omega_tables.specs.declared.refusal.ReadRefusal.{ReadRefusal}
 use Rattle.omega_tables.specs.declared.refusal.ReadRefusal.TheVariants.{Fault, TooLong, BadRow, TooMany, NoMemory}
 
@@ -31,19 +32,21 @@ refusal_first {A} row_of table first second refusal h = rw (rows_by-append row_o
     by (Ok rows) NoMemory h = tt
 
 -- a bad row of the second part has a greater number, where all records of the first are rows
-pub refusal_behind : {A : Type 0} (row_of : List (List ℕ) → Result A BadColumn) (table other : Table) (first second : List (List (List ℕ))) (rows : List A)
-    (row moved column : ℕ) (cause : Cause) → rows_by row_of first ≡ Ok rows → moved ≡ row + length rows
+pub refusal_behind : {A : Type 0} (row_of : List (List ℕ) → Result A BadColumn) (table other : Table) (first second : List (List (List ℕ)))
+    (number row moved column : ℕ) (cause : Cause) → count_of (rows_by row_of first) ≡ Some number → moved ≡ row + number
     → bad_row table (rows_by row_of second) ≡ Some (status.BadRow other row column cause)
     → bad_row table (rows_by row_of (first ++ second)) ≡ Some (status.BadRow other moved column cause)
-refusal_behind {A} row_of table other first second rows row moved column cause e m h = rw (rows_by-append row_of first second, e) (by (rows_by row_of second) h)
+refusal_behind {A} row_of table other first second number row moved column cause e m h = rw (rows_by-append row_of first second) (by (rows_by row_of first) (rows_by row_of second) e h)
   where
-    by : (r : Result (List A) (ℕ × BadColumn)) → bad_row table r ≡ Some (status.BadRow other row column cause)
-        → bad_row table (then_rows (Ok rows) r) ≡ Some (status.BadRow other moved column cause)
-    by (Ok more) h = cc h
-    by (Err (place, (c, why))) h =
+    by : (x y : Result (List A) (ℕ × BadColumn)) → count_of x ≡ Some number → bad_row table y ≡ Some (status.BadRow other row column cause)
+        → bad_row table (then_rows x y) ≡ Some (status.BadRow other moved column cause)
+    by (Err why) y e h = cc e
+    by (Ok rows) (Ok more) e h = cc h
+    by (Ok rows) (Err (place, (c, why))) e h =
+        let same_number : length rows ≡ number = cc e in
         let same_table : table ≡ other = cc h in
         let same_row : place + 1 ≡ row = cc h in
         let same_column : c ≡ column = cc h in
         let same_cause : why ≡ cause = cc h in
-        let number : length rows + place + 1 ≡ moved = omega (arith, same_row, m) in
-        rw (same_table, number, same_column, same_cause) refl
+        let there : length rows + place + 1 ≡ moved = omega (arith, same_number, same_row, m) in
+        rw (same_table, there, same_column, same_cause) refl

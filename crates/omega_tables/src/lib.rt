@@ -5,11 +5,14 @@
 #![tactic(auto)]
 
 mod columns;
+mod gathered;
 mod limits;
+mod long;
 mod parsing;
 mod pieces;
 mod reading;
 mod refusal;
+mod taken;
 
 pub use limits::over_limit;
 pub use parsing::parse_table;

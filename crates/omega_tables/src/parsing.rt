@@ -1,17 +1,20 @@
 //! Records of a table, and their typed rows.
-ghost use Rattle.std.specs.Prelude.{◌≡◌, ◌++◌, IfOk, OnOk, IfErr, OnErr, Ok, None};
+ghost use Rattle.std.specs.Prelude.{◌≡◌, ◌≤◌, ◌++◌, ◌∷◌, [], true, ℕ, List, Result, Ok, IfOk, OnOk, IfErr, OnErr, Some, None};
 ghost use Rattle.std.specs.Thread.{IsSync};
 ghost use Rattle.csv.specs.Records.{fields_of};
+ghost use Rattle.omega_model.specs.Columns.{BadColumn};
 ghost use Rattle.omega_model.specs.Rows.{rows_in, rows_or_none};
 ghost use Rattle.omega_model.specs.Trace.{with_rows};
 ghost use Rattle.omega_model.specs.Refusals.{bad_row, row_refusal};
 ghost use Rattle.omega_tables.specs.Reading.{Stands};
+ghost use Rattle.omega_tables.specs.Taking.{count_of, table_count, Takes};
 
 use crate::columns::{
     BadColumn, activity_row, attr_row, constraint_row, disk_row, machine_row, task_row,
 };
 use crate::pieces::read_text;
 use crate::refusal::ReadRefusal;
+use crate::taken::Taken;
 use csv::{ByteRecord, ReaderBuilder};
 use omega_model::{
     ActivityRow, AttrRow, ConstraintRow, DiskRow, MachineRow, NoMemory, Seq, Table, TaskRow,
@@ -23,11 +26,16 @@ use std::thread::Threads;
 
 /// A typed row, read from the fields of a record.
 pub(crate) trait FromRecord: Sized {
-    ghost use Rattle.std.specs.Prelude.{◌≡◌, ℕ, List, Result, IfOk};
+    ghost use Rattle.std.specs.Prelude.{◌≡◌, ◌≢◌, ℕ, List, length, Result, Err, IfOk};
     ghost use Rattle.csv.specs.Records.{fields_of};
     ghost use Rattle.omega_model.specs.Columns.{BadColumn};
+    ghost use Rattle.omega_model.specs.declared.results.Cause.TheVariants.{Fields};
 
     ghost row_of: { List (List ℕ) → Result Self BadColumn };
+
+    /// How many fields a record must have. One with another number is bad, whatever stands in them.
+    fn columns() -> u64
+        ensures { (fields : List (List ℕ)) → length fields ≢ result → row_of fields ≡ Err (0, Fields (length fields)) };
 
     /// The row, or the first bad column of the record.
     fn from_record(alloc: Global, fields: &ByteRecord) -> Result<Result<Self, BadColumn>, NoMemory>
@@ -38,6 +46,11 @@ impl FromRecord for MachineRow {
     ghost use Rattle.omega_model.specs.Columns.{machine_row};
 
     ghost row_of = { machine_row };
+
+    #[tactic(auto, using(crate::proofs::LongLines::other_fields))]
+    fn columns() -> u64 {
+        6
+    }
 
     fn from_record(
         _alloc: Global,
@@ -52,6 +65,11 @@ impl FromRecord for AttrRow {
 
     ghost row_of = { attr_row };
 
+    #[tactic(auto, using(crate::proofs::LongLines::other_fields))]
+    fn columns() -> u64 {
+        5
+    }
+
     fn from_record(
         alloc: Global,
         fields: &ByteRecord,
@@ -64,6 +82,11 @@ impl FromRecord for TaskRow {
     ghost use Rattle.omega_model.specs.Columns.{task_row};
 
     ghost row_of = { task_row };
+
+    #[tactic(auto, using(crate::proofs::LongLines::other_fields))]
+    fn columns() -> u64 {
+        13
+    }
 
     fn from_record(
         _alloc: Global,
@@ -78,6 +101,11 @@ impl FromRecord for ConstraintRow {
 
     ghost row_of = { constraint_row };
 
+    #[tactic(auto, using(crate::proofs::LongLines::other_fields))]
+    fn columns() -> u64 {
+        6
+    }
+
     fn from_record(
         alloc: Global,
         fields: &ByteRecord,
@@ -90,6 +118,11 @@ impl FromRecord for ActivityRow {
     ghost use Rattle.omega_model.specs.Columns.{activity_row};
 
     ghost row_of = { activity_row };
+
+    #[tactic(auto, using(crate::proofs::LongLines::other_fields))]
+    fn columns() -> u64 {
+        2
+    }
 
     fn from_record(
         _alloc: Global,
@@ -104,6 +137,11 @@ impl FromRecord for DiskRow {
 
     ghost row_of = { disk_row };
 
+    #[tactic(auto, using(crate::proofs::LongLines::other_fields))]
+    fn columns() -> u64 {
+        2
+    }
+
     fn from_record(
         _alloc: Global,
         fields: &ByteRecord,
@@ -112,13 +150,38 @@ impl FromRecord for DiskRow {
     }
 }
 
-/// The rows of a table's text, or the first bad record. Holds one record at a time.
+/// Holds one more row where there is room for it, and else lets go of all.
+fn hold<R: Drop>(alloc: Global, rows: &mut Vec<R>, row: R, room: bool) -> Result<(), NoMemory>
+    ensures { OnOk result (room ≡ true → rows.new.items ≡ rows.old.items ++ row ∷ []) }
+{
+    if room {
+        rows.push(row)?;
+    } else {
+        *rows = Vec::new(alloc);
+    }
+    Ok(())
+}
+
+/// What is taken of so many rows, which are held where there are no more than `most`.
+fn held<R: Drop>(rows: Vec<R>, number: u64, most: u64) -> Taken<R>
+    ensures { (answer : Result (List R) (ℕ × BadColumn)) → (number ≤ most → answer ≡ Ok rows.items) → count_of answer ≡ Some number
+        → Takes most answer result }
+{
+    if number <= most {
+        return Taken::All(rows);
+    }
+    Taken::Number(number)
+}
+
+/// The rows of a table's text, or the first bad record. Holds one record at a time, and no rows once there are more
+/// than `most`: those that follow are only counted and looked through for a bad one.
 pub(crate) fn read_rows<R: FromRecord + Drop>(
     alloc: Global,
     table: Table,
     text: &[u8],
-) -> Result<Vec<R>, ReadRefusal>
-    ensures rows { IfOk result (λ rows. rows_in R.row_of text.now ≡ Ok rows.items) }
+    most: u64,
+) -> Result<Taken<R>, ReadRefusal>
+    ensures rows { IfOk result (Takes most (rows_in R.row_of text.now)) }
     ensures refusal { IfErr result (λ refusal. Stands (bad_row table (rows_in R.row_of text.now)) refusal) }
 {
     let mut reader = ReaderBuilder::new()
@@ -130,7 +193,7 @@ pub(crate) fn read_rows<R: FromRecord + Drop>(
     for number in 0..u64::MAX {
         match reader.read_byte_record(&mut fields) {
             Ok(true) => match R::from_record(alloc, &fields)? {
-                Ok(row) => rows.push(row)?,
+                Ok(row) => hold(alloc, &mut rows, row, number < most)?,
                 Err((column, cause)) => {
                     return Err(ReadRefusal::BadRow {
                         table,
@@ -140,28 +203,18 @@ pub(crate) fn read_rows<R: FromRecord + Drop>(
                     });
                 }
             },
-            Ok(false) => return Ok(rows),
+            Ok(false) => return Ok(held(rows, number, most)),
             Err(_) => return Err(ReadRefusal::NoMemory),
         }
     }
     Err(ReadRefusal::NoMemory)
 }
 
-/// Appends the rows of a table's text to a list. An empty list takes them over without a copy.
-fn append_rows<P: Threads + Sync, R: FromRecord + Drop + Send>(
-    rt: &P,
-    alloc: Global,
-    table: Table,
-    text: &[u8],
-    into: &mut Seq<R>,
-) -> Result<(), ReadRefusal>
-    requires sync { IsSync P.row }
-    ensures rows { OnOk result (into.new ≡ into.old ++ rows_or_none (rows_in R.row_of text.now)) }
-    ensures none { OnOk result (bad_row table (rows_in R.row_of text.now) ≡ None) }
-    ensures refusal { IfErr result (λ refusal. Stands (bad_row table (rows_in R.row_of text.now)) refusal) }
+/// Appends rows to a list. An empty list takes them over without a copy.
+fn append<R: Drop>(alloc: Global, mut rows: Vec<R>, into: &mut Seq<R>) -> Result<(), NoMemory>
+    ensures rows { OnOk result (into.new ≡ into.old ++ rows.items) }
     ensures stays { OnErr result (into.new ≡ into.old) }
 {
-    let mut rows = read_text(rt, alloc, table, text)?;
     if into.is_empty() {
         *into = Seq::of(rows);
         return Ok(());
@@ -171,6 +224,59 @@ fn append_rows<P: Threads + Sync, R: FromRecord + Drop + Send>(
     *into = Seq::of(items);
     appended?;
     Ok(())
+}
+
+/// Appends the rows of a table's text to a list, where there are at most `most`, and says how many there are.
+fn append_rows<P: Threads + Sync, R: FromRecord + Drop + Send>(
+    rt: &P,
+    alloc: Global,
+    table: Table,
+    text: &[u8],
+    most: u64,
+    into: &mut Seq<R>,
+) -> Result<u64, ReadRefusal>
+    requires sync { IsSync P.row }
+    ensures number { IfOk result (λ number. count_of (rows_in R.row_of text.now) ≡ Some number) }
+    ensures rows { IfOk result (λ number. number ≤ most → into.new ≡ into.old ++ rows_or_none (rows_in R.row_of text.now)) }
+    ensures none { OnOk result (bad_row table (rows_in R.row_of text.now) ≡ None) }
+    ensures refusal { IfErr result (λ refusal. Stands (bad_row table (rows_in R.row_of text.now)) refusal) }
+    ensures stays { OnErr result (into.new ≡ into.old) }
+{
+    match read_text(rt, alloc, table, text, most)? {
+        Taken::All(rows) => {
+            let number = rows.len() as u64;
+            append(alloc, rows, into)?;
+            Ok(number)
+        }
+        Taken::Number(number) => Ok(number),
+    }
+}
+
+/// Appends the rows of a table's text, as `parse_table` does, where there are at most `most`, and says how many
+/// there are. Where there are more `into` stays as it is, and of the rows that are too many none is held.
+pub(crate) fn append_table<P: Threads + Sync>(
+    rt: &P,
+    alloc: Global,
+    table: Table,
+    text: &[u8],
+    most: u64,
+    into: &mut TraceTables,
+) -> Result<u64, ReadRefusal>
+    requires sync { IsSync P.row }
+    ensures number { IfOk result (λ number. table_count table text.now ≡ Some number) }
+    ensures rows { IfOk result (λ number. number ≤ most → into.new ≡ with_rows table text.now into.old) }
+    ensures none { OnOk result (row_refusal table text.now ≡ None) }
+    ensures refusal { IfErr result (λ refusal. Stands (row_refusal table text.now) refusal) }
+    ensures stays { OnErr result (into.new ≡ into.old) }
+{
+    match table {
+        Table::MachineEvents => append_rows(rt, alloc, table, text, most, &mut into.machines),
+        Table::MachineAttributes => append_rows(rt, alloc, table, text, most, &mut into.attrs),
+        Table::TaskEvents => append_rows(rt, alloc, table, text, most, &mut into.tasks),
+        Table::TaskConstraints => append_rows(rt, alloc, table, text, most, &mut into.constraints),
+        Table::MapreduceJobs => append_rows(rt, alloc, table, text, most, &mut into.activities),
+        Table::MachineDisk => append_rows(rt, alloc, table, text, most, &mut into.disks),
+    }
 }
 
 /// Appends the rows of a table's text, in their order. Where there is a bad row, the answer is
@@ -196,12 +302,6 @@ pub fn parse_table<P: Threads + Sync>(
     ensures refusal { IfErr result (λ refusal. Stands (row_refusal table text.now) refusal) }
     ensures stays { OnErr result (into.new ≡ into.old) }
 {
-    match table {
-        Table::MachineEvents => append_rows(rt, alloc, table, text, &mut into.machines),
-        Table::MachineAttributes => append_rows(rt, alloc, table, text, &mut into.attrs),
-        Table::TaskEvents => append_rows(rt, alloc, table, text, &mut into.tasks),
-        Table::TaskConstraints => append_rows(rt, alloc, table, text, &mut into.constraints),
-        Table::MapreduceJobs => append_rows(rt, alloc, table, text, &mut into.activities),
-        Table::MachineDisk => append_rows(rt, alloc, table, text, &mut into.disks),
-    }
+    append_table(rt, alloc, table, text, u64::MAX, into)?;
+    Ok(())
 }

@@ -6,10 +6,11 @@ ghost use Rattle.omega_model.specs.Trace.{trace_of, with_rows};
 ghost use Rattle.omega_model.specs.Limits.{IsWithinLimits};
 ghost use Rattle.omega_model.specs.Refusals.{first_refusal, longest_table, table_refusal};
 ghost use Rattle.omega_model.specs.declared.rows.Table.{Table};
+ghost use Rattle.omega_model.specs.declared.rows.TraceTables.{TraceTables};
 ghost use Rattle.omega_tables.specs.Reading.{StopsReading, StopsAt, Names, StoppedIn, ComesFirst, HasCause};
+ghost use Rattle.omega_tables.specs.Taking.{Gathers};
 
-use crate::limits::check_rows;
-use crate::parsing::parse_table;
+use crate::gathered::{Gathered, check_gathered, gather, nothing};
 use crate::refusal::ReadRefusal;
 use omega_io::Tables;
 use omega_model::{Bytes, LONGEST_TABLE, Seq, Table, TraceTables};
@@ -63,10 +64,11 @@ fn read_table<P: Threads + Sync, T: Tables>(
     alloc: Global,
     tables: &mut T,
     table: Table,
-    into: &mut TraceTables,
+    into: &mut Gathered,
 ) -> Result<(), ReadRefusal>
     requires sync { IsSync P.row }
-    ensures rows { OnOk result (IfSome (T.rest tables.old table) (λ bytes. into.new ≡ with_rows table bytes into.old)) }
+    ensures rows { (trace : TraceTables) → Gathers into.old trace
+        → OnOk result (IfSome (T.rest tables.old table) (λ bytes. Gathers into.new (with_rows table bytes trace))) }
     ensures none { OnOk result (IfSome (T.rest tables.old table) (λ bytes. table_refusal table bytes ≡ None)) }
     ensures to_end { OnOk result (IfSome (T.rest tables.old table) (λ bytes. T.rest tables.new table ≡ Some [])) }
     ensures refusal { IfErr result (λ refusal. IfSome (T.rest tables.old table) (λ bytes. StopsAt table bytes refusal)) }
@@ -78,7 +80,7 @@ fn read_table<P: Threads + Sync, T: Tables>(
     ensures folder { T.entered tables.new ≡ T.entered tables.old }
 {
     let bytes = read_bytes(alloc, tables, table)?;
-    parse_table(rt, alloc, table, bytes.as_slice(), into)
+    gather(rt, alloc, table, bytes.as_slice(), into)
 }
 
 /// Reads the six tables, each to its end, in the order of `Table`, and makes their rows.
@@ -87,7 +89,9 @@ fn read_table<P: Threads + Sync, T: Tables>(
 /// its length, then its rows; then the number of rows over all tables, and that of different
 /// machines. `Fault` comes only where the count of its table rose, or can rise no further. After
 /// any refusal the bytes taken so far are gone: the tables before the one that is refused were read
-/// to their end, and those behind it are as they were. Holds the text of one table at a time.
+/// to their end, and those behind it are as they were. Holds the text of one table at a time. Once there are more
+/// rows than all tables may have, those that were held are let go, and those that follow are only counted and looked
+/// through for a bad one.
 ///
 /// The rows of a long text are made in pieces at the same time, as `parse_table` says. The call waits only
 /// for the threads that it has begun.
@@ -107,10 +111,10 @@ pub fn read_tables<P: Threads + Sync, T: Tables>(
     ensures later { (t : Table) → T.faults tables.old t ≤ T.faults tables.new t }
     ensures folder { T.entered tables.new ≡ T.entered tables.old }
 {
-    let mut trace = TraceTables::new(alloc);
+    let mut gathered = nothing(alloc);
     for table in IN_ORDER {
-        read_table(rt, alloc, tables, table, &mut trace)?;
+        read_table(rt, alloc, tables, table, &mut gathered)?;
     }
-    check_rows(alloc, &trace)?;
-    Ok(trace)
+    check_gathered(alloc, &gathered)?;
+    Ok(gathered.trace)
 }

@@ -5,13 +5,14 @@ use Rattle.omega_io.specs.Edge.{Tells}
 use Rattle.omega_model.specs.Trace.{tables_in_order, place_of, with_rows, no_rows}
 use Rattle.omega_model.specs.Refusals.{refusal_among}
 use Rattle.omega_model.specs.declared.rows.Table.{Table}
+use Rattle.omega_tables.specs.Taking.{Gathers}
 use Rattle.omega_tables.proofs.reading.read_tables.Given as goal
 
 abbrev pub invariant-loop-table : goal.invariant-loop-table
 invariant-loop-table g l = record {
   none : (bytes : Table → List ℕ) → Tells (g.T.Tables.rest l.fn.tables) bytes → refusal_among (take l.table-index tables_in_order) bytes ≡ None;
   trace : (bytes : Table → List ℕ) → Tells (g.T.Tables.rest l.fn.tables) bytes
-      → l.trace ≡ fold (λ trace table. with_rows table (bytes table) trace) no_rows (take l.table-index tables_in_order);
+      → Gathers l.gathered (fold (λ trace table. with_rows table (bytes table) trace) no_rows (take l.table-index tables_in_order));
   done : (t : Table) → place_of t < l.table-index → IfSome (g.T.Tables.rest l.fn.tables t) (λ bytes. g.T.Tables.rest l.tables t ≡ Some []);
   left : (t : Table) → l.table-index ≤ place_of t → g.T.Tables.rest l.tables t ≡ g.T.Tables.rest l.fn.tables t;
   same : (t : Table) → l.table-index ≤ place_of t → g.T.Tables.faults l.tables t ≡ g.T.Tables.faults l.fn.tables t;
