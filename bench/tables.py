@@ -701,12 +701,8 @@ SHAPES = {shape.__name__: shape for shape in (
     too_little, victims, one_by_one, updates, shrinking, crowded, levels, ranks, ranks_in_turn, taking_over,
     same_tree, other_trees, one_note, machines_apart, machines_in_row, constraints, matched, unset_in_order, unset_backwards, set_in_turn,
     nowhere, lopsided, many_rounds, comes_back, given_up, large_job,
-<<<<<<< HEAD
-    one_waits, restarts, most_ended, left_apart, short_rounds, extras, many_extras, extras_alike, commas, quotes, long_text)}
-=======
-    one_waits, restarts, most_ended, left_apart, short_rounds, extras, extras_alike, commas, commas_quoted,
+    one_waits, restarts, most_ended, left_apart, short_rounds, extras, many_extras, extras_alike, commas, commas_quoted,
     too_many_rows, quotes, long_text)}
->>>>>>> 504727f4b533951398956c0e7fd0bc17cf3cadb2
 
 
 def are_numbers(words):
