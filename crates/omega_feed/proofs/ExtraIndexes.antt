@@ -1,5 +1,5 @@
 -- The extra tasks of MapReduce jobs: how many they are, and the indexes of those that run.
-use Rattle.std.proofs.Common.{◌≡◌, ℕ, zero, suc, ◌+◌, ◌-◌, ◌*◌, ◌^◌, ◌<◌, ◌≤◌, Bool, true, false, ◌&&◌, ◌==◌, not, min, List, [], ◌∷◌, Option, Some, None, map, length, refl, ap, ◌∙◌, inl, inr, arith}
+use Rattle.std.proofs.Common.{◌≡◌, ℕ, zero, suc, ◌+◌, ◌-◌, ◌*◌, ◌^◌, ◌<◌, ◌≤◌, Bool, true, ◌&&◌, ◌==◌, not, min, List, [], ◌∷◌, Option, Some, None, map, length, refl, ap, inl, inr, arith}
 use Rattle.std.specs.List.{filter, last_or, range_with_len, AllByRecursion as Each}
 use Rattle.std.specs.Prelude.{is_some, nat_lt, unwrap_or}
 use Rattle.std.proofs.lemmas.Bool.{and_parts, eqb-true, leb-true, ltb-true, or_cases}
@@ -104,6 +104,7 @@ index_above job t u one before other =
   where
     same : t.key.job ≡ job → u.key.job ≡ job → t.key.job < u.key.job → ⊥
     same own its lower = omega (arith, own, its, lower)
+
     next : t.key.index < u.key.index → t.key.index + 1 ≤ u.key.index
     next less = omega (arith, less)
 

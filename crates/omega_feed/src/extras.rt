@@ -58,11 +58,7 @@ fn narrowed(count: usize) -> u32
 
 /// The indexes of a job's running extras, in order. Costs these and few others of the job's running tasks, and
 /// the logarithm of the number of running tasks.
-pub fn running_indexes(
-    alloc: Global,
-    running: &Running,
-    job: u64,
-) -> Result<Vec<u32>, NoMemory>
+pub fn running_indexes(alloc: Global, running: &Running, job: u64) -> Result<Vec<u32>, NoMemory>
     requires { KeysRise running.now.tasks }
     ensures indexes { IfOk result (λ found. found.items ≡ map (λ task. task.key.index) (filter (is_extra_of job) running.now.tasks)) }
     ensures rise { IfOk result (λ found. RiseFrom first_extra found.items) }

@@ -320,12 +320,7 @@ impl Wanted {
     }
 
     /// What is wished for of a job: its wanted tasks that don't run, by index, and then its extras.
-    fn counted_of(
-        &self,
-        alloc: Global,
-        job: u64,
-        board: &Board,
-    ) -> Result<CountedRequest, NoMemory>
+    fn counted_of(&self, alloc: Global, job: u64, board: &Board) -> Result<CountedRequest, NoMemory>
         ensures { IfOk result (λ request. request ≡ request_for job (asked_wishes self.now (cell_of board.now) job)) }
     {
         let wanted = self.tasks.of_job(alloc, job)?;
@@ -381,12 +376,6 @@ impl Wanted {
         }
         let running = running_indexes(alloc, board.running(), job)?;
         let constraints = self.constraints.of(alloc, model.0)?;
-        Ok(Some(CountedExtras::new(
-            model.0.job,
-            need,
-            constraints,
-            running,
-            count,
-        )))
+        Ok(Some(CountedExtras::new(model.0.job, need, constraints, running, count)))
     }
 }
