@@ -1,5 +1,5 @@
 -- The extra tasks of MapReduce jobs: how many they are, and the indexes of those that run.
-use Rattle.std.proofs.Common.{◌≡◌, ℕ, zero, suc, ◌+◌, ◌-◌, ◌*◌, ◌^◌, ◌<◌, ◌≤◌, Bool, true, false, ◌&&◌, ◌==◌, not, min, List, [], ◌∷◌, Option, Some, None, map, length, refl, ap, ◌∙◌, inl, inr, arith}
+use Rattle.std.proofs.Common.{◌≡◌, ℕ, zero, suc, ◌+◌, ◌-◌, ◌*◌, ◌^◌, ◌<◌, ◌≤◌, Bool, true, ◌&&◌, ◌==◌, not, min, List, [], ◌∷◌, Option, Some, None, map, length, refl, ap, inl, inr, arith}
 use Rattle.std.specs.List.{filter, last_or, range_with_len, AllByRecursion as Each}
 use Rattle.std.specs.Prelude.{is_some, nat_lt, unwrap_or}
 use Rattle.std.proofs.lemmas.Bool.{and_parts, eqb-true, leb-true, ltb-true, or_cases}

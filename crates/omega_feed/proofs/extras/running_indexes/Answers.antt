@@ -1,4 +1,4 @@
-use Rattle.std.proofs.Common.{◌≡◌, ◌∙◌, ℕ, List, map, sym, ap, subst}
+use Rattle.std.proofs.Common.{◌≡◌, ◌∙◌, map, sym, ap, subst}
 use Rattle.std.specs.List.{filter}
 use Rattle.omega_model.specs.ExtraTasks.{first_extra, is_extra_of}
 use Rattle.omega_model.specs.declared.cells.Task.{Task}

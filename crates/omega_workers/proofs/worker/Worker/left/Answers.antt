@@ -1,4 +1,4 @@
-use Rattle.std.proofs.Common.{◌≡◌, ◌∙◌, ℕ, List, [], ◌∷◌, Some, length, refl}
+use Rattle.std.proofs.Common.{◌≡◌, ◌∙◌, List, [], ◌∷◌, Some, length, refl}
 use Rattle.std.specs.Prelude.{option_map, slice_get, unwrap_or}
 use Rattle.omega_laws.specs.VirtualTime.{first_wishes}
 use Rattle.omega_model.specs.declared.wishes.Request.{Request}
