@@ -97,3 +97,16 @@ module _ (request : Request) (waiting : List Request) (attempts taken : ℕ) (co
     few = omega (arith, desk.few);
     idle = λ none. absurd (cc);
   })
+
+-- what waits is known as what is at the desk is
+waiting_too : (P : Request → Type 0) (present : Option Request) (waiting : List Request) → All P (option_to_list present ++ waiting) → All P waiting
+waiting_too P None waiting all = all
+waiting_too P (Some request) waiting all = All-tail P request waiting all
+
+-- the next request comes up where the present one leaves without an attempt
+pub skipped : (present : Option Request) (waiting : List Request) (attempts taken : ℕ) (counts : List (ℕ × ℕ)) → IsDesk present waiting attempts taken counts
+    → (next : Option Request) (later : List Request) → waiting ≡ option_to_list next ++ later → later ≡ drop 1 waiting
+    → IsDesk next later attempts 0 counts
+skipped present waiting attempts taken counts desk =
+    begun attempts counts waiting (waiting_too HasDistinctWishes present waiting desk.distinct)
+    (waiting_too (λ (r : Request). IsCounted counts r.job) present waiting desk.counted) desk.within

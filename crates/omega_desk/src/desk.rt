@@ -1,5 +1,5 @@
 //! The desk.
-ghost use Rattle.std.specs.Prelude.{◌≡◌, ◌+◌, ◌<◌, ◌≤◌, ◌^◌, ℕ, [], Some, length, is_some, option_map, slice_get, unwrap_or, IfOk, OnOk, OnErr};
+ghost use Rattle.std.specs.Prelude.{◌≡◌, ◌+◌, ◌<◌, ◌≤◌, ◌^◌, ℕ, [], Some, drop, length, is_some, option_map, slice_get, unwrap_or, IfOk, OnOk, OnErr};
 ghost use Rattle.std.specs.List.{All, list_any};
 ghost use Rattle.omega_model.specs.Draws.{drawn_start};
 ghost use Rattle.omega_model.specs.Policy.{policy_of, schedulers};
@@ -159,6 +159,18 @@ impl Desk {
             Some(First::Counted(request)) => request.first_asked(),
             None => None,
         }
+    }
+
+    /// The present request leaves without an attempt on it, if there is one, and the attempts on the next
+    /// are counted from 0. How often its job has failed stays as it was.
+    pub fn skip(&mut self)
+        ensures desk { IsSameDesk self.old self.new }
+        ensures attempts { self.new.attempts ≡ self.old.attempts }
+        ensures left { left_at self.new ≡ fresh (left_at self.old).failing (drop 1 self.old.requests) }
+    {
+        let next = next_of(&mut self.waiting);
+        self.taken = 0;
+        self.present = next;
     }
 
     /// How many requests are left of the round's work.
