@@ -25,8 +25,8 @@ returns-in_default-commit_planned-clause-plays_on g c =
     (indexes_without was.pass.number was.pass.seen c.commit_planned.new.pass.seen others was.worker.indexes c.requires.synced.worker.indexes)
     c.take.ensures.after
 
-pub take-2-requires-clause-answers : goal.take-2-requires-clause-answers
-take-2-requires-clause-answers g c =
+pub take-requires-2-clause-answers : goal.take-requires-2-clause-answers
+take-requires-2-clause-answers g c =
     let was : Player = c.args.self.now in
     let plan = c.in-Some.field-0 in
     let all = planned_all c.args.shared.now.of was plan c.requires.synced c.in-Some.ensures.value in
@@ -34,8 +34,8 @@ take-2-requires-clause-answers g c =
     (plans_first was plan c.requires.synced.worker all (plan_there was.pass.seen was.worker plan c.requires.plan c.in-Some.ensures.value))
     (subst (λ (n : ℕ). Commits was.pass c.commit_planned.new.pass n plan.txn c.in-Ok.reply) all c.in-Ok.ensures.commits)
 
-pub take-2-requires-clause-listed : goal.take-2-requires-clause-listed
-take-2-requires-clause-listed g c = (plan_there c.args.self.now.pass.seen c.args.self.now.worker c.in-Some.field-0 c.requires.plan c.in-Some.ensures.value).listed
+pub take-requires-2-clause-listed : goal.take-requires-2-clause-listed
+take-requires-2-clause-listed g c = (plan_there c.args.self.now.pass.seen c.args.self.now.worker c.in-Some.field-0 c.requires.plan c.in-Some.ensures.value).listed
 
 pub returns-clause-plays_on : goal.returns-clause-plays_on
 returns-clause-plays_on g c =
