@@ -1,5 +1,5 @@
 //! What a scheduler plans when it syncs, in turns and on threads.
-ghost use Rattle.std.specs.Prelude.{◌≡◌, List, length, IfOk};
+ghost use Rattle.std.specs.Prelude.{◌≡◌, ◌+◌, ◌<◌, ◌^◌, List, length, IfOk, OnOk};
 ghost use Rattle.omega_board.specs.Board.{cell_of};
 ghost use Rattle.omega_plan.specs.Indexes.{AreIndexesOf, TellAll};
 ghost use Rattle.omega_machines.specs.Table.{seq_at};
@@ -42,6 +42,7 @@ pub fn plan_first(
     ensures indexes { AreIndexesOf cell.now.history indexes.new }
     ensures plan { IfOk result (IsPlan cell.now.history desk.now) }
     ensures seen { IfOk result (λ plan. plan.seen ≡ length cell.now.history) }
+    ensures short { OnOk result (length cell.now.history + 1 < 2 ^ 64) }
 {
     let (history, board) = (cell.history(), cell.board());
     let machines = touched(alloc, &history[indexes.seen() as usize..])?;

@@ -13,12 +13,12 @@ commit_all-requires c =
     let agenda = c.in_ok-agenda.agenda in
     let count : length agenda ≡ schedulers c.args.world.now.stage.settings =
     ap (λ (times : List (Option ℕ)). length times) c.in_ok-agenda.ensures ∙ length-replicate c.schedulers.result None ∙ c.schedulers.ensures in
-    let base = c.base_of.ensures ∙ ap (λ (times : List Timed). max (until_after 0 times) (unwrap_or (rows_time c.args.world.now.stage) 0)) c.as_slice.ensures in
+    let base = c.base_of-base.ensures ∙ ap (λ (times : List Timed). max (until_after 0 times) (unwrap_or (rows_time c.args.world.now.stage) 0)) c.as_slice.ensures in
     record {
       some = (
         c.requires.begins.0,
         c.in_ok-sync_all.ensures.synced c.requires.begins.0 c.args.times.now
-            (stands_begun c.requires.begins.0 c.args.world.now agenda c.args.times.now c.base_of.result c.requires.begins.1 count base),
+            (stands_begun c.requires.begins.0 c.args.world.now agenda c.args.times.now c.base_of-base.result c.requires.begins.1 count base),
       );
     }
 
@@ -27,7 +27,7 @@ returns-clause-plays c timed begins =
     let agenda = c.in_ok-agenda.agenda in
     let count : length agenda ≡ schedulers c.args.world.now.stage.settings =
     ap (λ (times : List (Option ℕ)). length times) c.in_ok-agenda.ensures ∙ length-replicate c.schedulers.result None ∙ c.schedulers.ensures in
-    let base = c.base_of.ensures ∙ ap (λ (times : List Timed). max (until_after 0 times) (unwrap_or (rows_time c.args.world.now.stage) 0)) c.as_slice.ensures in
+    let base = c.base_of-base.ensures ∙ ap (λ (times : List Timed). max (until_after 0 times) (unwrap_or (rows_time c.args.world.now.stage) 0)) c.as_slice.ensures in
     c.in_ok-commit_all.ensures.ends timed
     (c.in_ok-sync_all.ensures.synced timed c.args.times.now
-    (stands_begun timed c.args.world.now agenda c.args.times.now c.base_of.result begins count base))
+    (stands_begun timed c.args.world.now agenda c.args.times.now c.base_of-base.result begins count base))

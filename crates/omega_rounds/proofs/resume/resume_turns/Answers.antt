@@ -9,7 +9,7 @@ use Rattle.omega_rounds.specs.Going.{GoesOn, IsOverAtLast, MovesOn}
 use Rattle.omega_rounds.specs.Resuming.{IsPastEnd}
 use Rattle.omega_rounds.specs.Stages.{IsInRunOf, WorldState}
 use Rattle.omega_rounds.specs.declared.steps.RoundStep.{RoundStep}
-use Rattle.omega_rounds.proofs.EndedRounds.{same_run}
+use Rattle.omega_rounds.proofs.EndedRounds.{ended_idle, same_run}
 use Rattle.omega_rounds.proofs.PlayedRounds.{turns_now}
 use Rattle.omega_rounds.proofs.ResumedRounds.{begins_agreed, end_agreed, end_kept, end_leaves, end_refused, leaves_rounds, resumed_more, stops_leaves, stops_refused}
 use Rattle.omega_laws.proofs.TurnOrder.{only_history}
@@ -54,6 +54,12 @@ returns-in_err-resume_round-in-Begun-clause-rounds g c =
     c.loop-next.invariant.resumed c.next_round.ensures.start c.next_round.ensures.made reaches opens
     (length c.history-from.result.now) (ap (λ (h : List Entry). length h) c.history-from.ensures.history) c.in_err-resume_round-in-Begun.field-0.0
     c.in_err-resume_round-in-Begun.ensures.stops)
+
+pub unreachable-requires : goal.unreachable-requires
+unreachable-requires g c =
+    let now = c.loop-next.world in
+    ended_idle c.args.world now c.in-Unfinished.field-0 c.loop-next.invariant.resumed.played.ended c.next_round.ensures.start c.next_round.ensures.made
+    (subst (λ (step : RoundStep). (trace : TraceTables) → IsInRunOf now.stage trace → GoesOn trace now c.in_ok-next.next step) c.in-Unfinished.is c.in_ok-next.ensures.run)
 
 pub loop-next-preserved : goal.loop-next-preserved
 loop-next-preserved g c =

@@ -1,4 +1,4 @@
-use Rattle.std.proofs.Common.{◌≡◌, ◌∙◌, ℕ, None, Some, List, length, refl, ap, subst, arith}
+use Rattle.std.proofs.Common.{◌≡◌, ◌∙◌, ◌+◌, ◌<◌, ◌^◌, ℕ, None, Some, List, length, refl, ap, subst, arith}
 use Rattle.omega_plan.specs.Indexes.{AreIndexesOf}
 use Rattle.omega_model.specs.declared.entries.Entry.{Entry}
 use Rattle.omega_workers.specs.Plans.{IsPlan}
@@ -39,3 +39,8 @@ pub returns-clause-plan : goal.returns-clause-plan
 returns-clause-plan g c =
     let same : c.cell.result.now.history ≡ c.look.new.pass.seen = c.cell.ensures ∙ c.in_ok-view.ensures.view in
     subst (λ (h : List Entry). IsPlan h c.args.self.now.worker.desk c.in_ok-plan.plan) same c.in_ok-plan.ensures.plan
+
+pub returns-clause-short : goal.returns-clause-short
+returns-clause-short g c =
+    let same : c.cell.result.now.history ≡ c.look.new.pass.seen = c.cell.ensures ∙ c.in_ok-view.ensures.view in
+    subst (λ (h : List Entry). length h + 1 < 2 ^ 64) same c.in_ok-plan.ensures.short
