@@ -10,7 +10,8 @@ Wanted = dict[TaskKey, Spec]
 
 # The codes of task rows that ask for the task (submitted, scheduled), that end it (failed, finished, killed, lost), and
 # that change what it asks for (updated while waiting, while running). A task that the trace evicts is still wanted.
-SUBMITS, ENDS, UPDATES = (0, 1), (3, 4, 5, 6), (7, 8)
+SUBMITTED, SCHEDULED = 0, 1
+SUBMITS, ENDS, UPDATES = (SUBMITTED, SCHEDULED), (3, 4, 5, 6), (7, 8)
 ADDED, REMOVED, UPDATED = range(3)
 
 
