@@ -103,8 +103,7 @@ class FreeRun(Growing):
 
     def new_pass(self, scheduler: int) -> Pass:
         """A pass through what a scheduler is asked for now."""
-        asked = self.requests().get(scheduler, [])
-        return Pass(self.workload.settings, asked, self.history.failed, self.calls)
+        return Pass(self.workload.settings, self.requests(scheduler), self.history.failed, self.calls)
 
 
 def in_free_time(workload: Workload) -> tuple[FreeRun, list[Timed]]:

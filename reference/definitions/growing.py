@@ -32,9 +32,9 @@ class Growing:
             for entry in self.ends.row_entries(self.history.cell, row):
                 self.history.add(entry)
 
-    def requests(self) -> dict[int, list[Request]]:
-        """What each scheduler that is asked for anything is asked for now."""
-        return requests(self.workload, self.history.cell, self.wanted, self.history.failed)
+    def requests(self, scheduler: int) -> list[Request]:
+        """What a scheduler is asked for now."""
+        return requests(self.workload, scheduler, self.history.cell, self.wanted, self.history.failed)
 
     def attempt_on(self, request: Request, scheduler: int, seen: Cell) -> Txn:
         """A scheduler's attempt on a request, planned on a cell that its copy has seen. Its number is how many commits

@@ -22,8 +22,7 @@ class World(Growing):
         """The entries of a round, and what each scheduler is asked for after them."""
         self.open(round)
         self.opened_at = len(self.history)
-        asked = self.requests()
-        self.standings = {scheduler: Standing(self.workload.settings, asked.get(scheduler, []), self.history.failed)
+        self.standings = {scheduler: Standing(self.workload.settings, self.requests(scheduler), self.history.failed)
                           for scheduler in range(schedulers(self.workload.settings))}
 
     def with_work(self) -> list[int]:

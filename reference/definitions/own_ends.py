@@ -12,27 +12,28 @@ from .wanted import ENDS, Wanted, take_row
 from .workload import Workload
 
 
-def piece_at(number: int, rows: list[TaskRow]) -> Piece | None:
-    """The piece of a number, from 0, of a task's rows."""
-    return pieces(rows)[number] if number < len(pieces(rows)) else None
+def current(ended: int, pieces: list[Piece]) -> Piece | None:
+    """Of the pieces of a task that has ended so often the one that it is in, if there is one: that of this number, from
+    0."""
+    return pieces[ended] if ended < len(pieces) else None
 
 
 def counting(ended: int, applied: list[TaskRow]) -> list[TaskRow]:
-    """Of the rows of a task that were applied those that count where it has ended so often: those of the piece of this
-    number which don't end it. Rows of a later piece wait until the task has ended; those of an earlier one are over."""
-    piece = piece_at(ended, applied)
+    """Of the rows of a task that were applied those that count: those of its current piece which don't end it. Rows of
+    a later piece wait until the task has ended; those of an earlier one are over."""
+    piece = current(ended, pieces(applied))
     return [row for row in piece.rows if row.code not in ENDS] if piece else []
 
 
 class OwnEnds:
-    """For each task its rows in the whole trace and those that were applied, how often it has ended, and when it was
-    placed last."""
+    """For each task its pieces in the whole trace and the rows that were applied, how often it has ended, and when it
+    was placed last."""
 
     def __init__(self, workload: Workload) -> None:
         self.workload = workload
         self.wanted: Wanted = {}
-        self.rows = task_rows(workload.rounds)
-        self.applied: dict[TaskKey, list[TaskRow]] = {key: [] for key in self.rows}
+        self.pieces = {key: pieces(rows) for key, rows in task_rows(workload.rounds).items()}
+        self.applied: dict[TaskKey, list[TaskRow]] = {key: [] for key in self.pieces}
         self.ended: Counter[TaskKey] = Counter()
         self.placed: dict[TaskKey, int] = {}
 
@@ -57,7 +58,7 @@ class OwnEnds:
 
     def life(self, key: TaskKey) -> int | None:
         """How long a task is to run: the life of its current piece, if that has one; an extra task has none."""
-        piece = piece_at(self.ended[key], self.rows.get(key, []))
+        piece = current(self.ended[key], self.pieces.get(key, []))
         return piece.life if piece else None
 
     def due(self, cell: Cell) -> list[tuple[int, TaskKey]]:

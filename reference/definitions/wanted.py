@@ -30,6 +30,14 @@ def wanted_of(wanted: Wanted, job: int) -> list[TaskKey]:
     return sorted(key for key in wanted if key.job == job)
 
 
+def by_job(wanted: Wanted) -> dict[int, list[TaskKey]]:
+    """The wanted tasks of each job that has any, by index."""
+    out: dict[int, list[TaskKey]] = {}
+    for key in sorted(wanted):
+        out.setdefault(key.job, []).append(key)
+    return out
+
+
 def machine_entry(disks: dict[int, int], row: MachineRow) -> Entry:
     """The entry of a row of machines. Its disk is that of the last row for the machine in the table of disks, or the
     greatest quantity where there is none."""
