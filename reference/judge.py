@@ -5,8 +5,8 @@
 
 prints `lawful`, with status 0, or the first thing that is otherwise in every lawful history, with status 1. Where the
 words or the tables are refused there is no report to judge, and it says so with status 2. A report of `replay` or of
-`resume` must be in turns besides, and one of `simulate` in virtual time. What `generate` and `audit` print is compared
-with what they have to print.
+`resume` must be in turns besides, and one of `simulate` in virtual time. What `generate` and `audit` print, and
+`simulate` by the free clock, is compared with what they have to print.
 """
 import sys
 
@@ -20,7 +20,8 @@ from definitions.words import settings_of
 def fault_in(words: list[str], data: bytes, cwd: str = '.') -> str | None:
     """What is wrong with a report of these words, or nothing. A refusal of words or tables is raised."""
     settings = settings_of(words)
-    if settings.command in ('generate', 'audit'):
+    is_free = settings.command == 'simulate' and settings.clock == 'free'
+    if settings.command in ('generate', 'audit') or is_free:
         return None if answer(words, cwd).out == data else 'this is not what has to be printed'
     trace = read_trace(reader_of(settings, cwd))
     return violation_in(settings, trace, data, order_of(settings))

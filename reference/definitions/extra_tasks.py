@@ -18,12 +18,12 @@ def free_indexes(held: set[int], count: int) -> list[int]:
     return [index for index in range(FIRST_EXTRA, FIRST_EXTRA + len(held) + count) if index not in held][:count]
 
 
-def extra_wishes(workload: Workload, cell: Cell, wanted: Wanted, job: int) -> list[Wish]:
-    """The wishes for new extras of a job: none where the table of activities doesn't name it or no task of it is
-    wanted. Each needs what the wanted task with the least index needs, has that task's constraints and precedence 0,
+def extra_wishes(workload: Workload, cell: Cell, wanted: Wanted, asked: list[TaskKey]) -> list[Wish]:
+    """The wishes for new extras of a job of which these tasks are wanted: none where the table of activities doesn't
+    name it. Each needs what the wanted task with the least index needs, has that task's constraints and precedence 0,
     and may run beside others of its job."""
-    asked = wanted_of(wanted, job)
-    if job not in workload.activities or not asked:
+    job = asked[0].job
+    if job not in workload.activities:
         return []
     running, need = running_extras(cell, job), wanted[asked[0]].need
     count = extras(workload.settings, workload.activities[job], len(asked), len(running), need, cell.used(),

@@ -51,5 +51,8 @@ OPTIONS: dict[str, AnyText | Span | OneOf] = {
     't-task': DECISION_TIME,
     'service-t-job': DECISION_TIME,
     'service-t-task': DECISION_TIME,
+    'clock': OneOf(('rounds', 'free')),
+    'times': OneOf(('no', 'yes')),
+    'ends': OneOf(('trace', 'own')),
     'kept': AnyText(),
 }

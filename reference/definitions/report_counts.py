@@ -1,7 +1,7 @@
 """What the last lines of a report count."""
 from .entries import Commit
+from .growing import Growing
 from .keys import TaskKey
-from .lawful import World
 from .report import Line
 from .requests import is_given_up
 from .state import History
@@ -27,12 +27,12 @@ def scheduler_line(history: History, scheduler: int) -> Line:
             'evicted', sum(len(judgement.evicted) for judgement in placed))
 
 
-def waiting(world: World) -> list[TaskKey]:
-    """The tasks that are wanted after all rows and don't run at the end."""
+def waiting(world: Growing) -> list[TaskKey]:
+    """The tasks that are wanted at the end and don't run then."""
     return [key for key in world.wanted if world.history.cell.machine_of(key) is None]
 
 
-def waiting_line(world: World) -> Line:
+def waiting_line(world: Growing) -> Line:
     """How many tasks wait, and how many of their jobs are given up."""
     jobs = {key.job for key in waiting(world)}
     abandoned = [job for job in jobs if is_given_up(world.workload.settings, world.history.failed, job)]

@@ -1,7 +1,7 @@
 """The lines of the report: those of each entry on the state before it, and what the history amounts to."""
 from .cell import Cell
 from .entries import Commit, End, Entry, RoundBegins
-from .lawful import World
+from .growing import Growing
 from .policy import schedulers
 from .report import FIRST_LINE, Line, commit_lines
 from .report_counts import scheduler_line, waiting_line
@@ -37,14 +37,14 @@ def round_lines(entries: list[Entry]) -> list[Line]:
     return lines
 
 
-def last_lines(world: World) -> list[Line]:
+def last_lines(world: Growing) -> list[Line]:
     """How many entries and rounds there are, the counts of each scheduler, what is used at the end, what waits."""
     return [('entries', len(world.history), 'rounds', len(world.workload.rounds)),
             *(scheduler_line(world.history, scheduler) for scheduler in range(schedulers(world.workload.settings))),
             use_line(world.history.cell), waiting_line(world)]
 
 
-def report_lines(world: World) -> list[Line]:
+def report_lines(world: Growing) -> list[Line]:
     """The report of a whole history. On `generate` it is the summary: the first line and the last ones."""
     body = [] if world.workload.settings.command == 'generate' else round_lines(world.history.entries)
     return [FIRST_LINE, *body, *last_lines(world)]

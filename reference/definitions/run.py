@@ -4,6 +4,7 @@ import random
 from typing import NamedTuple
 
 from .any_order import in_any_order
+from .free_clock import in_free_time
 from .generated import made_reader
 from .keep import DatabaseKeeper, Keeper, audit_lines, resume
 from .refusals import Refusal
@@ -40,7 +41,7 @@ def lines_of_run(settings: Settings, read: Reader, keeper: Keeper, order: int | 
         return audit_lines(keeper)
     workload = Workload(settings, read_trace(read))
     if settings.command == 'simulate':
-        world, times = in_time(workload)
+        world, times = in_free_time(workload) if settings.clock == 'free' else in_time(workload)
         return report_lines(world) + time_lines(world, times)
     if settings.command == 'run' and order is not None:
         return report_lines(in_any_order(workload, random.Random(order)))

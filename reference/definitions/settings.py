@@ -24,4 +24,7 @@ class Settings(NamedTuple):
     t_task: int = 5_000
     service_t_job: int = 100_000
     service_t_task: int = 5_000
+    clock: str = 'rounds'
+    times: str = 'no'
+    ends: str = 'trace'
     kept: str = 'omega.db'

@@ -3,9 +3,11 @@ from typing import NamedTuple
 
 from .entries import Txn
 from .feed import Round
+from .growing import Growing
 from .lawful import World
 from .policy import SERVICES
 from .settings import Settings
+from .wishes import Request
 from .workload import Workload
 
 
@@ -43,13 +45,17 @@ class Planned(NamedTuple):
     txn: Txn
 
 
-def decide(world: World, scheduler: int, sync: int) -> Planned | None:
-    """What a scheduler that syncs at a time will commit, if it has work: planned on what stands there now."""
-    request = world.standings[scheduler].first()
-    if request is None:
-        return None
+def decide_on(request: Request, world: Growing, scheduler: int, sync: int) -> Planned:
+    """What a scheduler that syncs at a time will commit for a request: planned on what stands there now."""
     time = sync + decision(world.workload.settings, scheduler, len(request.wishes))
-    return Planned(time, scheduler, sync, len(world.history), world.attempt(scheduler, world.history.cell))
+    txn = world.attempt_on(request, scheduler, world.history.cell)
+    return Planned(time, scheduler, sync, len(world.history), txn)
+
+
+def decide(world: World, scheduler: int, sync: int) -> Planned | None:
+    """What a scheduler that syncs at a time will commit, if it has work."""
+    request = world.standings[scheduler].first()
+    return decide_on(request, world, scheduler, sync) if request else None
 
 
 def run_round(world: World, base: int, times: list[Timed]) -> None:

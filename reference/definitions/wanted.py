@@ -10,7 +10,8 @@ Wanted = dict[TaskKey, Spec]
 
 # The codes of task rows that ask for the task (submitted, scheduled), that end it (failed, finished, killed, lost), and
 # that change what it asks for (updated while waiting, while running). A task that the trace evicts is still wanted.
-SUBMITS, ENDS, UPDATES = (0, 1), (3, 4, 5, 6), (7, 8)
+SUBMITTED, SCHEDULED = 0, 1
+SUBMITS, ENDS, UPDATES = (SUBMITTED, SCHEDULED), (3, 4, 5, 6), (7, 8)
 ADDED, REMOVED, UPDATED = range(3)
 
 
@@ -27,6 +28,14 @@ def take_row(wanted: Wanted, row: Row) -> None:
 def wanted_of(wanted: Wanted, job: int) -> list[TaskKey]:
     """The wanted tasks of a job, by index."""
     return sorted(key for key in wanted if key.job == job)
+
+
+def by_job(wanted: Wanted) -> dict[int, list[TaskKey]]:
+    """The wanted tasks of each job that has any, by index."""
+    out: dict[int, list[TaskKey]] = {}
+    for key in sorted(wanted):
+        out.setdefault(key.job, []).append(key)
+    return out
 
 
 def machine_entry(disks: dict[int, int], row: MachineRow) -> Entry:

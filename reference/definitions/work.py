@@ -22,6 +22,11 @@ class Standing:
     def first(self) -> Request | None:
         return self.left[0] if self.left else None
 
+    def drop_first(self) -> None:
+        """The first request is done with; attempts on the next one are counted anew."""
+        self.left.pop(0)
+        self.taken = 0
+
     def take(self, claims: tuple[Claim, ...], reply: tuple[Judgement, ...]) -> None:
         """One more commit. It ends the first request where all of it is placed now, or the plan was empty, or this was
         the last of its tries, or its job is given up; else the wishes that weren't placed remain."""
@@ -32,8 +37,7 @@ class Standing:
         self.failing[job] = 0 if placed else self.failing.get(job, 0) + 1
         if (not wishes or not claims or self.taken == self.settings.tries
                 or is_given_up(self.settings, self.failing, job)):
-            self.left.pop(0)
-            self.taken = 0
+            self.drop_first()
         else:
             self.left[0] = Request(job, wishes)
 

@@ -7,6 +7,7 @@ from definitions.tables import NEEDED, TABLES_IN_ORDER, Table
 
 from .command_words import COMMANDS, draw_words
 from .kept_histories import draw_kept
+from .life_rows import LifeRows
 from .scenes import SIZES, Scene
 from .spoiling import spoil_a_row, spoil_tables
 from .texts import table_bytes
@@ -21,7 +22,8 @@ class Case(NamedTuple):
 
 def draw_tables(scene: Scene) -> dict[Table, bytes]:
     """The bytes of the tables; some have a bad row, and an empty one may be left out."""
-    rng, rows = scene.rng, Rows(scene).all()
+    rng, is_of_lives = scene.rng, scene.is_coming and scene.rng.random() < 0.6
+    rows = (LifeRows if is_of_lives else Rows)(scene).all()
     if rng.random() < 0.07:
         spoil_a_row(rng, rows)
     tables = {table: table_bytes(rng, rows[table]) for table in TABLES_IN_ORDER}
@@ -33,10 +35,13 @@ def draw_tables(scene: Scene) -> dict[Table, bytes]:
     return tables
 
 
-def draw_case(number: int, size: str = 'small', spoil: bool = False, commands: list[str] | None = None) -> Case:
-    """The case of a number, of a size; with words of some commands alone, or with tables spoiled byte by byte."""
+def draw_case(number: int, size: str = 'small', spoil: bool = False, commands: list[str] | None = None,
+              coming: bool = False) -> Case:
+    """The case of a number, of a size; with words of some commands alone, or with tables spoiled byte by byte, or with
+    words that the program doesn't take yet, and tables for these."""
     commands = commands or list(COMMANDS)
-    scene = Scene(random.Random(f'{number} {size} {spoil} {" ".join(commands)}'), SIZES[size])
+    drawn_by = f'{number} {size} {spoil} {" ".join(commands)}{" coming" if coming else ""}'
+    scene = Scene(random.Random(drawn_by), SIZES[size], coming)
     tables = draw_tables(scene)
     tables = spoil_tables(scene.rng, tables) if spoil else tables
     words = draw_words(scene, commands)

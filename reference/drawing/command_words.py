@@ -7,6 +7,10 @@ from .texts import number_text
 
 COMMANDS = {'replay': 50, 'run': 12, 'generate': 3, 'simulate': 20, 'resume': 12, 'audit': 10}
 TIMES = ('t-job', 't-task', 'service-t-job', 'service-t-task')
+# How often each command comes, and what the words choose besides, in scenes of what is coming: the clock that waits for
+# nobody, the times of commits, and tasks that end by their lives.
+COMING_COMMANDS = {**COMMANDS, 'simulate': 1000}
+COMING = {'clock': ['free', 'free', 'free', 'rounds'], 'times': ['no', 'yes', 'yes'], 'ends': ['trace', 'own', 'own']}
 
 # A theme chooses some options, so that what it is about comes often.
 CHOSEN: dict[str, dict[str, list]] = {
@@ -19,6 +23,12 @@ CHOSEN: dict[str, dict[str, list]] = {
 # What a program must refuse, put behind the words.
 WRONG = (['--seed'], ['extra'], ['--batch', '31'], ['--rule', 'loose'], ['--help'], ['--window', '0'], ['-h'],
          ['--give-up', '1001'], ['--t-job', '1000000001'], ['--batch', '+2'], ['--tables', '-x'], ['--', '--seed', '1'])
+COMING_WRONG = (['--clock', 'slow'], ['--times', '1'], ['--ends=Own'], ['--clock'])
+
+
+def decision_times(scene: Scene) -> list[int]:
+    """Decisions that take from no time to longer than some rounds."""
+    return [0, 1, *(min(10**9, part * scene.window // 4) for part in (1, 3, 4, 6, 20)), 10**9]
 
 
 def values(scene: Scene) -> dict[str, Callable]:
@@ -38,6 +48,8 @@ def values(scene: Scene) -> dict[str, Callable]:
                'cap': [0, 30, 60, 100], 'tries': [1, 2, 3, 5, 100], 'give-up': [1, 2, 3, 6, 1000],
                'format': ['text', 'text', 'text', 'json'],
                **{name: [0, 1, 5_000 if 'task' in name else 100_000, 1_000_000_000] for name in TIMES}}
+    if scene.is_coming:
+        choices |= COMING | {name: decision_times(scene) for name in TIMES}
     for name, some in (choices | CHOSEN.get(scene.theme, {})).items():
         draws[name] = lambda some=some: rng.choice(some)
     return draws
@@ -50,6 +62,8 @@ def names_for(scene: Scene, command: str, commands: list[str]) -> list[str]:
     left_out |= set() if {'resume', 'audit'} & set(commands) else {'kept'}
     names = {name for name in sorted(values(scene)) if rng.random() < 0.45} - left_out
     names |= set(CHOSEN.get(scene.theme, ()))
+    if scene.is_coming:
+        names |= {name for name in (*COMING, *TIMES) if rng.random() < 0.75}
     if command == 'generate':
         names |= {'machines', 'jobs'}
     elif scene.window != 300_000_000:
@@ -60,7 +74,8 @@ def names_for(scene: Scene, command: str, commands: list[str]) -> list[str]:
 def draw_words(scene: Scene, commands: list[str]) -> list[str]:
     """A command, of these, and options in any order; now and then not plain, or wrong."""
     rng, draws = scene.rng, values(scene)
-    command = rng.choices(commands, [COMMANDS[name] for name in commands])[0]
+    weights = COMING_COMMANDS if scene.is_coming else COMMANDS
+    command = rng.choices(commands, [weights[name] for name in commands])[0]
     options, names = [], names_for(scene, command, commands)
     rng.shuffle(names)
     for name in names:
@@ -69,7 +84,8 @@ def draw_words(scene: Scene, commands: list[str]) -> list[str]:
     if rng.random() < 0.06:
         return not_plain(rng, command, options)
     words = [command] + [word for option in options for word in option]
-    return words + (rng.choice(WRONG) if rng.random() < 0.02 else [])
+    wrong = WRONG + COMING_WRONG if scene.is_coming else WRONG
+    return words + (rng.choice(wrong) if rng.random() < 0.02 else [])
 
 
 def not_plain(rng: random.Random, command: str, options: list[list[str]]) -> list[str]:

@@ -21,10 +21,12 @@ SIZES = {'small': Size((0, 4), (2, 9), 4, 4), 'medium': Size((3, 12), (8, 30), 6
 
 
 class Scene:
-    """A theme, and the machines, jobs, times, names and amounts of which rows are made."""
+    """A theme, and the machines, jobs, times, names and amounts of which rows are made. One of what is coming has words
+    that the reference takes and the program doesn't yet."""
 
-    def __init__(self, rng: random.Random, size: Size) -> None:
+    def __init__(self, rng: random.Random, size: Size, is_coming: bool = False) -> None:
         self.rng = rng
+        self.is_coming = is_coming
         self.events = size.events
         self.theme = rng.choice(THEMES)
         self.window = rng.choice([1, 7, 1000, 300_000_000, 300_000_000])
