@@ -2,7 +2,7 @@ use Rattle.std.proofs.Common.{ℕ}
 use denote.Param.{param}
 use denote.Param.Send.{IsSync, param_sync, sendable}
 use Rattle.std.proofs.Crossing.{crosses}
-use Rattle.omega_io.proofs.held.HeldGate.TheSendSync as gate
+use Rattle.omega_io.proofs.held_gate.HeldGate.TheSendSync as gate
 use Rattle.omega_top_tests.proofs.on_threads.run_over.Goals as goal
 
 pub run_past-requires-after_bounds : goal.run_past-requires-after_bounds
