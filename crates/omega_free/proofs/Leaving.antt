@@ -1,5 +1,6 @@
 -- What is left once requests of which nothing is wanted have left.
 use Rattle.std.proofs.Common.{◌≡◌, ◌<◌, Bool, true, false, not, List, [], ◌∷◌, drop, length, refl, sym, ap, ◌∙◌, arith}
+use Rattle.std.specs.Prelude.{Result, Ok, Err, OnErr}
 use Rattle.omega_model.proofs.Lists.{by_answer}
 use Rattle.omega_model.specs.Wanted.{WantedTask}
 use Rattle.omega_model.specs.Work.{Standing, fresh}
@@ -30,6 +31,11 @@ pub none_remains : (asked : List WantedTask) (old mid new : DeskState) → left_
 none_remains asked old mid new left none still_none =
     ap (λ (standing : Standing). standing.requests) (nothing_leaves asked (left_at new) new.requests (ap (is_first_unwanted asked) still_none))
     ∙ still_none ∙ sym none ∙ ap (λ (standing : Standing). standing.requests) left
+
+-- what holds anyway holds where a call fails
+pub on_err : {T E P : Type 0} (result : Result T E) → P → OnErr result P
+on_err (Ok value) holds = tt
+on_err (Err error) holds = holds
 
 -- where the first leaves there are fewer then
 pub fewer_left : (asked : List WantedTask) (requests : List Request) → is_first_unwanted asked requests ≡ true → length (drop 1 requests) < length requests
