@@ -26,7 +26,7 @@ range_climbs start zero = tt
 range_climbs start (suc n) = (range_above start (start + 1) n (omega arith), range_climbs (start + 1) n)
 
 -- of which of two schedulers the first attempt is
-head_or_tail : (number : ℕ) (attempt : Option Attempt) (rest : Option DueCommit) (due : DueCommit) → sooner (due_of number attempt) rest ≡ Some due
+pub head_or_tail : (number : ℕ) (attempt : Option Attempt) (rest : Option DueCommit) (due : DueCommit) → sooner (due_of number attempt) rest ≡ Some due
     → ((number ≡ due.by) × (attempt ≡ Some due.attempt)) ⊎ (rest ≡ Some due)
 head_or_tail number None rest due is = inr is
 head_or_tail number (Some it) None due is =

@@ -1,0 +1,14 @@
+pub mod DeskEntries
+pub mod DeskPasses
+pub mod DeskSyncs
+pub mod AskedOnce
+pub mod Leaving
+pub mod KeptItems
+pub mod WorkerSyncs
+pub mod WorkersCommit
+pub mod FreeLoop
+pub mod SchedulersWorkers
+pub mod FreeWorlds
+pub mod WantedAnswers
+pub mod ReadyToCommit
+pub mod WorldSteps

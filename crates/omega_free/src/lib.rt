@@ -1,0 +1,19 @@
+//! Runs by the free clock, on which rounds open when their rows are due and no scheduler waits for another.
+#![tactic(auto)]
+
+mod attempts;
+mod clock;
+mod crew;
+mod next_round;
+mod passes;
+mod planning;
+mod worker;
+mod world;
+
+pub use clock::{FreeWorld, NextEvent, in_free_time};
+pub use crew::{commit_by, first_due, sync_by, sync_idle};
+pub use next_round::NextRound;
+pub use passes::{drop_unwanted, sync_desk};
+pub use planning::Attempt;
+pub use worker::Worker;
+pub use world::World;

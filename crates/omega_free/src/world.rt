@@ -1,0 +1,259 @@
+//! Schedulers over one cell, none of which waits for another.
+ghost use Rattle.std.specs.Prelude.{◌≡◌, ◌≤◌, ◌<◌, ◌+◌, ◌++◌, ◌∷◌, [], true, List, IfOk, OnOk, All, drop, length};
+ghost use Rattle.std.specs.List.{fold};
+ghost use Rattle.omega_feed.specs.Open.{OthersAreQuiet};
+ghost use Rattle.omega_feed.specs.Asked.{asked_after};
+ghost use Rattle.omega_model.specs.Feed.{feed};
+ghost use Rattle.omega_model.specs.Lawful.{opened};
+ghost use Rattle.omega_model.specs.Policy.{schedulers};
+ghost use Rattle.omega_model.specs.Ranges.{IsInRange};
+ghost use Rattle.omega_model.specs.State.{state};
+ghost use Rattle.omega_model.specs.Touches.{is_commit};
+ghost use Rattle.omega_model.specs.Wanted.{wanted as wanted_tasks, wanted_after};
+ghost use Rattle.omega_model.specs.declared.rows.Row.{Row};
+ghost use Rattle.omega_model.specs.declared.rows.TraceTables.{TraceTables};
+ghost use Rattle.omega_opening.specs.Reopening.{WereQuiet};
+ghost use Rattle.omega_free_laws.specs.FreeSteps.{beginning};
+ghost use Rattle.omega_free_laws.specs.Readings.{by_rows};
+ghost use Rattle.omega_free.specs.FreeWorkers.{AreNewWorkers};
+ghost use Rattle.omega_free.specs.KeptWorlds.{StandsIn};
+
+use crate::clock::FreeWorld;
+use crate::crew::{commit_by, first_due, sync_by, sync_idle};
+use crate::next_round::{NextRound, next_round};
+use crate::worker::Worker;
+use omega_cell::Cell;
+use omega_feed::{EventRounds, Events, OpenJobs, Wanted};
+use omega_model::{NoMemory, Round, Settings, TraceTables};
+use omega_opening::{Demand, open_round, reopen_since};
+use omega_plan::Indexes;
+use omega_sim::Times;
+use std::alloc::Global;
+
+/// Schedulers that share one cell and work on a trace by the free clock, where tasks end by the trace's rows.
+#[derive(Drop)]
+pub struct World {
+    pub alloc: Global,
+    pub settings: Settings,
+    /// All rounds of the trace.
+    pub rounds: EventRounds,
+    /// How many of them have opened.
+    pub opened: usize,
+    /// The next one.
+    pub next: Option<NextRound>,
+    /// What the trace asks for so far.
+    pub demand: Demand,
+    /// How many entries were looked at for tasks that they stopped; those behind them are commits.
+    pub looked_at: usize,
+    pub cell: Cell,
+    /// One for each scheduler, in order of number.
+    pub workers: Vec<Worker>,
+    /// What plans are made by beside the cell's board.
+    pub indexes: Indexes,
+    /// The times of the commits so far.
+    pub times: Times,
+}
+
+impl World {
+    /// The world of a trace at the first moment: nothing has happened. Takes the tables over, and gives their memory back
+    /// but for the rows of the events and of constraints. Costs a few look-ups for each row, and a sort of tables of events
+    /// that aren't in order of time.
+    pub fn new(alloc: Global, settings: &Settings, tables: TraceTables) -> Result<World, NoMemory>
+        requires { IsInRange settings.now }
+        ensures settings { IfOk result (λ world. world.settings ≡ settings.now) }
+        ensures stands { IfOk result (λ world. StandsIn world tables (beginning settings.now (by_rows tables))) }
+    {
+        let (events, wanted) = events_and_wanted(alloc, settings, tables)?;
+        let open_jobs = OpenJobs::new(alloc);
+        let rounds = EventRounds::cut(alloc, events, settings.window)?;
+        let next = next_round(alloc, &rounds, 0)?;
+        let workers = new_workers(alloc, settings)?;
+        Ok(World {
+            alloc,
+            settings: *settings,
+            rounds,
+            opened: 0,
+            next,
+            demand: Demand { wanted, open_jobs },
+            looked_at: 0,
+            cell: Cell::new(alloc),
+            workers,
+            indexes: Indexes::new(alloc),
+            times: Times::new(alloc),
+        })
+    }
+}
+
+impl FreeWorld for World {
+    ghost use Rattle.omega_free_laws.specs.Readings.{by_rows};
+    ghost use Rattle.omega_free_laws.specs.StepsLeft.{none_left};
+    ghost use Rattle.omega_free_laws.proofs.DueEnds.{rows_bound};
+    ghost use Rattle.omega_free.specs.FreeWorlds.{steps_left};
+    ghost use Rattle.omega_free.specs.KeptWorlds.{StandsIn, state_of};
+    ghost use Rattle.omega_free.specs.StepsTold.{steps_left_told};
+
+    ghost settings = { λ world. world.settings };
+
+    ghost reads = { λ settings trace. by_rows trace };
+
+    ghost left = { λ settings trace. none_left };
+
+    ghost bounds = { λ settings trace. rows_bound trace };
+
+    ghost stands = { λ world trace moment. StandsIn world trace moment };
+
+    ghost history = { λ world. world.cell.history };
+
+    ghost times = { λ world. world.times };
+
+    ghost to_come = { λ world. steps_left world.settings (state_of world) };
+
+    ghost tells_history = { λ world trace moment is. is.stands.there.history };
+
+    ghost tells_times = { λ world trace moment is. is.stands.there.times };
+
+    ghost tells_to_come = { λ world trace moment is. steps_left_told world.settings trace moment (state_of world) is.stands.there };
+
+    fn round_due(&self) -> Option<u128> {
+        match &self.next {
+            Some(next) => Some(u128::from(next.due)),
+            None => None,
+        }
+    }
+
+    fn end_due(&self) -> Option<u128> {
+        None
+    }
+
+    fn commit_due(&self) -> Option<(u32, u128)> {
+        first_due(&self.workers)
+    }
+
+    fn open(&mut self) -> Result<(), NoMemory> {
+        let Some(NextRound { round, due }) = self.next.take() else {
+            return Ok(());
+        };
+        self.looked_at = open_rows(
+            self.alloc,
+            round,
+            &mut self.demand,
+            &mut self.cell,
+            self.looked_at,
+        )?;
+        self.opened = one_more(self.opened)?;
+        self.next = next_round(self.alloc, &self.rounds, self.opened)?;
+        sync_idle(
+            self.alloc,
+            &mut self.workers,
+            &mut self.indexes,
+            &self.settings,
+            self.opened as u64,
+            &self.demand,
+            &self.cell,
+            u128::from(due),
+        )
+    }
+
+    fn end(&mut self) -> Result<(), NoMemory> {
+        Ok(())
+    }
+
+    fn commit(&mut self, scheduler: u32) -> Result<(), NoMemory> {
+        let timed = commit_by(
+            self.alloc,
+            &mut self.workers,
+            scheduler,
+            &self.settings,
+            &self.demand.wanted,
+            &mut self.cell,
+        )?;
+        self.times.push(timed)?;
+        self.looked_at = look_on(&mut self.demand, &self.cell, self.looked_at)?;
+        sync_by(
+            self.alloc,
+            &mut self.workers,
+            scheduler,
+            &mut self.indexes,
+            &self.settings,
+            self.opened as u64,
+            &self.demand,
+            &self.cell,
+            timed.time,
+        )
+    }
+}
+
+/// The rows of a trace's events in order of time, and what it asks for before the first of them.
+fn events_and_wanted(
+    alloc: Global,
+    settings: &Settings,
+    mut tables: TraceTables,
+) -> Result<(Events, Wanted), NoMemory>
+    requires { IsInRange settings.now }
+    ensures events { IfOk result (λ made. made.0 ≡ feed tables) }
+    ensures wanted { IfOk result (λ made. made.1 ≡ asked_after settings.now tables []) }
+{
+    let events = Events::take(alloc, &mut tables)?;
+    let wanted = Wanted::new(alloc, tables, &events, settings)?;
+    Ok((events, wanted))
+}
+
+/// A worker for each scheduler, in order of number.
+fn new_workers(alloc: Global, settings: &Settings) -> Result<Vec<Worker>, NoMemory>
+    requires { IsInRange settings.now }
+    ensures count { IfOk result (λ workers. length workers.items ≡ schedulers settings.now) }
+    ensures new { IfOk result (λ workers. AreNewWorkers settings.now 0 workers.items) }
+{
+    let mut workers = Vec::new(alloc);
+    for scheduler in 0..settings.schedulers() {
+        workers.push(Worker::new(alloc, settings, scheduler))?;
+    }
+    Ok(workers)
+}
+
+/// A count with one more; 2^64, which no memory holds, is answered as want of memory.
+fn one_more(count: usize) -> Result<usize, NoMemory>
+    ensures { IfOk result (λ more. more ≡ count + 1) }
+{
+    count.checked_add(1).ok_or(NoMemory)
+}
+
+/// Opens a round, where up to a place of the cell's history entries were looked at for tasks that they stopped, and
+/// commits stand behind it. Answers up to where they were looked at then, which is the end. Costs the rows, what their
+/// entries change, and the commits.
+fn open_rows(
+    alloc: Global,
+    round: Round,
+    demand: &mut Demand,
+    cell: &mut Cell,
+    looked_at: usize,
+) -> Result<usize, NoMemory>
+    requires within { looked_at ≤ length cell.old.history }
+    requires commits { All (λ entry. is_commit entry ≡ true) (drop looked_at cell.old.history) }
+    requires quiet { WereQuiet demand.old.open_jobs demand.old.wanted looked_at cell.old.history }
+    ensures history { (trace : TraceTables) (rows : List Row) → demand.old.wanted.disks ≡ trace.disks
+        → demand.old.wanted.tasks ≡ wanted_tasks rows
+        → OnOk result (cell.new.history ≡ (opened trace rows cell.old.history round).history) }
+    ensures wanted { OnOk result (demand.new.wanted
+        ≡ record demand.old.wanted { tasks = fold wanted_after demand.old.wanted.tasks round.rows }) }
+    ensures quiet { OnOk result (OthersAreQuiet demand.new.open_jobs demand.new.wanted (state cell.new.history).tasks) }
+    ensures place { IfOk result (λ place. place ≡ length cell.new.history) }
+{
+    reopen_since(demand, cell, looked_at)?;
+    open_round(alloc, round, demand, cell)?;
+    Ok(cell.history().len())
+}
+
+/// Looks at the entries behind a place of a cell's history, which are commits, for tasks that they evicted, and opens
+/// their jobs. Answers up to where they were looked at then, which is the end. Costs the commits.
+fn look_on(demand: &mut Demand, cell: &Cell, looked_at: usize) -> Result<usize, NoMemory>
+    requires within { looked_at ≤ length cell.now.history }
+    requires commits { All (λ entry. is_commit entry ≡ true) (drop looked_at cell.now.history) }
+    requires quiet { WereQuiet demand.old.open_jobs demand.old.wanted looked_at cell.now.history }
+    ensures wanted { demand.new.wanted ≡ demand.old.wanted }
+    ensures quiet { OnOk result (OthersAreQuiet demand.new.open_jobs demand.new.wanted (state cell.now.history).tasks) }
+    ensures place { IfOk result (λ place. place ≡ length cell.now.history) }
+{
+    reopen_since(demand, cell, looked_at)?;
+    Ok(cell.history().len())
+}
