@@ -1,4 +1,8 @@
 //! Runs by the free clock, on which rounds open when their rows are due and no scheduler waits for another.
+//!
+//! A scheduler syncs, decides for a while on a plan that it keeps, and commits what is still wanted of it then. The
+//! loop, `in_free_time`, lets happen what is due first of a world, and `World` is that of a trace over one cell. No
+//! command runs by this clock yet.
 #![tactic(auto)]
 
 mod attempts;
