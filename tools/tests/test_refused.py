@@ -29,17 +29,18 @@ class Refused(unittest.TestCase):
 
 
 class Shapes(unittest.TestCase):
-    # Each is of a size, and its bytes about double with it.
+    # Each is of a size, and what its bytes grow by about doubles with it. Some have rows besides that don't grow.
     def test_they_grow_with_their_size(self) -> None:
         for name in list(tables.SHAPES)[12:]:
             lengths = []
-            for size in (300, 600):
+            for size in (300, 600, 1200):
                 with tempfile.TemporaryDirectory() as folder:
                     files = tables.Files(folder)
                     tables.SHAPES[name](files, size)
                     files.close()
                     lengths.append(sum(file.stat().st_size for file in Path(folder).glob('*.csv')))
-            self.assertTrue(1.2 < lengths[1] / lengths[0] < 3, (name, lengths))
+            least, middle, most = lengths
+            self.assertTrue(1.2 < (most - middle) / (middle - least) < 3, (name, lengths))
 
 
 if __name__ == '__main__':
