@@ -125,6 +125,8 @@ impl Worker {
         ensures takes { OnOk result ((attempt : Decided) (reading : Reading) (before : Past) → attempt_of self.old.attempt ≡ Some attempt
             → wanted_at reading before ≡ wanted.now.tasks → before.history ≡ cell.old.history
             → TakesCommit settings.now reading before (record { by = self.old.desk.scheduler; attempt = attempt }) self.old self.new) }
+        ensures stays { OnErr result (cell.new.history ≡ cell.old.history) }
+        ensures desk { OnErr result (self.new.desk ≡ self.old.desk) }
     {
         let Some(attempt) = self.attempt.take() else {
             unreachable!()
@@ -177,6 +179,7 @@ fn commit_attempt(
     ensures took { OnOk result (after_outcomes desk.old.settings (left_at desk.old) desk.old.requests
         (wanted_outcomes settings.now cell.old.history wanted.now.tasks desk.old.scheduler attempt.attempt) ≡ Some (left_at desk.new)) }
     ensures err { OnErr result (cell.new.history ≡ cell.old.history) }
+    ensures stays { OnErr result (desk.new ≡ desk.old) }
 {
     let Attempt {
         job,
