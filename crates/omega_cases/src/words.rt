@@ -50,6 +50,8 @@ fn settings_text(alloc: Global, settings: &Settings) -> Result<String, Fault> {
         t_task,
         service_t_job,
         service_t_task,
+        clock,
+        times,
     } = *settings;
     let mut text = String::new(alloc);
     write!(text, "{command:?} seed {seed} batch {batch} ")?;
@@ -62,7 +64,8 @@ fn settings_text(alloc: Global, settings: &Settings) -> Result<String, Fault> {
     write!(text, "t-job {t_job} t-task {t_task} ")?;
     write!(
         text,
-        "service-t-job {service_t_job} service-t-task {service_t_task}"
+        "service-t-job {service_t_job} service-t-task {service_t_task} "
     )?;
+    write!(text, "{clock:?} times {times}")?;
     Ok(text)
 }

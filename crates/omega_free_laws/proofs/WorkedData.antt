@@ -14,6 +14,7 @@ use Rattle.omega_model.specs.declared.claims.Rule.TheVariants.{Fine}
 use Rattle.omega_model.specs.declared.claims.Txn.{Txn}
 use Rattle.omega_model.specs.declared.claims.Verdict.{Verdict}
 use Rattle.omega_model.specs.declared.rows.TraceTables.{TraceTables}
+use Rattle.omega_model.specs.declared.settings.Clock.TheVariants as clock
 use Rattle.omega_model.specs.declared.settings.Command.TheVariants.{Simulate}
 use Rattle.omega_model.specs.declared.settings.Extra.TheVariants.{Relative}
 use Rattle.omega_model.specs.declared.settings.Format.TheVariants.{Text}
@@ -77,6 +78,8 @@ plain = record {
   t_task = 5000;
   service_t_job = 100000;
   service_t_task = 5000;
+  clock = clock.Rounds;
+  times = false;
 }
 
 -- a claim of a task on a machine, with its victims

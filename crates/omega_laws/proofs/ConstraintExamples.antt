@@ -21,6 +21,7 @@ use Rattle.omega_model.specs.declared.entries.Entry.{Entry}
 use Rattle.omega_model.specs.declared.entries.Entry.TheVariants.{Round, MachineAdd, Commit}
 use Rattle.omega_model.specs.declared.rows.Round.{Round as RoundRows}
 use Rattle.omega_model.specs.declared.rows.TraceTables.{TraceTables}
+use Rattle.omega_model.specs.declared.settings.Clock.TheVariants as clock
 use Rattle.omega_model.specs.declared.settings.Command.TheVariants.{Replay}
 use Rattle.omega_model.specs.declared.settings.Extra.TheVariants.{Max}
 use Rattle.omega_model.specs.declared.settings.Format.TheVariants.{Text}
@@ -56,6 +57,8 @@ settings = record {
   t_task = 5000;
   service_t_job = 100000;
   service_t_task = 5000;
+  clock = clock.Rounds;
+  times = false;
 }
 
 unfoldable spec : Spec

@@ -20,6 +20,7 @@ use Rattle.omega_model.specs.declared.entries.Entry.TheVariants.{Round, MachineA
 use Rattle.omega_model.specs.declared.rows.Round.{Round as RoundRows}
 use Rattle.omega_model.specs.declared.rows.TraceTables.{TraceTables}
 use Rattle.omega_model.specs.declared.settings.Settings.{Settings}
+use Rattle.omega_model.specs.declared.settings.Clock.TheVariants as clock
 use Rattle.omega_model.specs.declared.settings.Command.TheVariants.{Simulate}
 use Rattle.omega_model.specs.declared.settings.Preempt.TheVariants.{Nobody}
 use Rattle.omega_model.specs.declared.settings.Extra.TheVariants.{Relative}
@@ -74,6 +75,8 @@ settings = record {
   t_task = 5000;
   service_t_job = 100000;
   service_t_task = 5000;
+  clock = clock.Rounds;
+  times = false;
 }
 
 -- a machine, two tasks of a service and one of a batch job

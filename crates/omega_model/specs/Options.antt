@@ -49,6 +49,8 @@ whole_table = record {
       ∷ choice (codes "service-t-job") (a_number 0 1000000000)
       ∷ choice (codes "service-t-task") (a_number 0 1000000000)
       ∷ choice (codes "kept") a_path
+      ∷ choice (codes "clock") (one_of (codes "rounds" ∷ codes "free" ∷ []))
+      ∷ choice (codes "times") (one_of (codes "no" ∷ codes "yes" ∷ []))
       ∷ [];
 }
 

@@ -8,6 +8,8 @@ use Rattle.omega_model.specs.declared.claims.Mode.{Mode}
 use Rattle.omega_model.specs.declared.claims.Mode.TheVariants.{Incremental, Gang}
 use Rattle.omega_model.specs.declared.claims.Rule.{Rule}
 use Rattle.omega_model.specs.declared.claims.Rule.TheVariants.{Fine, Coarse}
+use Rattle.omega_model.specs.declared.settings.Clock.{Clock}
+use Rattle.omega_model.specs.declared.settings.Clock.TheVariants as clock
 use Rattle.omega_model.specs.declared.settings.Command.{Command}
 use Rattle.omega_model.specs.declared.settings.Command.TheVariants.{Replay, Run, Generate, Simulate, Resume, Audit}
 use Rattle.omega_model.specs.declared.settings.Extra.{Extra}
@@ -63,6 +65,9 @@ extra_of percent text =
 abbrev pub format_of : Option (List ℕ) → Format
 format_of text = if is_text (codes "json") text then format.Json else format.Text
 
+abbrev pub clock_of : Option (List ℕ) → Clock
+clock_of text = if is_text (codes "free") text then clock.Free else clock.Rounds
+
 -- the settings, where `texts` has the text that each option is given
 abbrev pub settings_by : (List ℕ → Option (List ℕ)) → Settings
 settings_by texts = record {
@@ -83,6 +88,8 @@ settings_by texts = record {
   t_task = number_given texts (codes "t-task") 5000;
   service_t_job = number_given texts (codes "service-t-job") (number_given texts (codes "t-job") 100000);
   service_t_task = number_given texts (codes "service-t-task") (number_given texts (codes "t-task") 5000);
+  clock = clock_of (texts (codes "clock"));
+  times = is_text (codes "yes") (texts (codes "times"));
 }
 
 -- the folder of the tables

@@ -41,6 +41,15 @@ pub enum Extra {
     Relative,
 }
 
+/// By which clock decisions take time on `simulate`.
+#[derive(Clone, Copy, Debug, PartialEq, Eq)]
+pub enum Clock {
+    /// A round opens when all schedulers have decided on the round before.
+    Rounds,
+    /// A round opens when its rows are due, whoever is deciding.
+    Free,
+}
+
 /// The form of the report.
 #[derive(Clone, Copy, Debug, PartialEq, Eq)]
 pub enum Format {
@@ -81,6 +90,9 @@ pub struct Settings {
     pub service_t_job: u64,
     /// What `t_task` is for the others, for the scheduler of services.
     pub service_t_task: u64,
+    pub clock: Clock,
+    /// Whether the report tells the times of each commit, and of each job's first one.
+    pub times: bool,
 }
 
 impl Default for Settings {
@@ -108,6 +120,8 @@ impl Default for Settings {
             t_task: 5_000,
             service_t_job: 100_000,
             service_t_task: 5_000,
+            clock: Clock::Rounds,
+            times: false,
         }
     }
 }

@@ -23,6 +23,7 @@ use Rattle.omega_model.specs.declared.entries.Entry.TheVariants.{Round, MachineA
 use Rattle.omega_model.specs.declared.rows.Row.{Row}
 use Rattle.omega_model.specs.declared.rows.Row.TheVariants.{Task}
 use Rattle.omega_model.specs.declared.rows.TraceTables.{TraceTables}
+use Rattle.omega_model.specs.declared.settings.Clock.TheVariants as clock
 use Rattle.omega_model.specs.declared.settings.Command.TheVariants.{Replay}
 use Rattle.omega_model.specs.declared.settings.Extra.{Extra}
 use Rattle.omega_model.specs.declared.settings.Extra.TheVariants.{Max, Cap, Relative}
@@ -61,6 +62,8 @@ settings batch extra = record {
   t_task = 5000;
   service_t_job = 100000;
   service_t_task = 5000;
+  clock = clock.Rounds;
+  times = false;
 }
 
 -- a task row of this job, index, code and class; the task needs 100000000 and has precedence 2

@@ -21,6 +21,7 @@ use Rattle.omega_model.specs.declared.entries.Entry.TheVariants.{Round, MachineA
 use Rattle.omega_model.specs.declared.rows.Round.{Round as RoundRows}
 use Rattle.omega_model.specs.declared.rows.TraceTables.{TraceTables}
 use Rattle.omega_model.specs.declared.settings.Settings.{Settings}
+use Rattle.omega_model.specs.declared.settings.Clock.TheVariants as clock
 use Rattle.omega_model.specs.declared.settings.Command.TheVariants.{Replay}
 use Rattle.omega_model.specs.declared.settings.Preempt.TheVariants.{Nobody}
 use Rattle.omega_model.specs.declared.settings.Extra.TheVariants.{Max}
@@ -65,6 +66,8 @@ settings = record {
   t_task = 5000;
   service_t_job = 100000;
   service_t_task = 5000;
+  clock = clock.Rounds;
+  times = false;
 }
 
 -- a machine of capacity 10 and a task of need 6 for each of jobs 1 and 2

@@ -19,6 +19,7 @@ use Rattle.omega_model.specs.declared.entries.Entry.TheVariants.{Round, MachineA
 use Rattle.omega_model.specs.declared.rows.Table.{Table}
 use Rattle.omega_model.specs.declared.rows.Table.TheVariants.{MachineEvents, MachineAttributes, TaskEvents, TaskConstraints, MapreduceJobs, MachineDisk}
 use Rattle.omega_model.specs.declared.rows.TraceTables.{TraceTables}
+use Rattle.omega_model.specs.declared.settings.Clock.TheVariants as clock
 use Rattle.omega_model.specs.declared.settings.Command.{Command}
 use Rattle.omega_model.specs.declared.settings.Command.TheVariants.{Replay, Generate}
 use Rattle.omega_model.specs.declared.settings.Extra.TheVariants.{Relative}
@@ -47,6 +48,8 @@ settings command format = record {
   t_task = 5000;
   service_t_job = 100000;
   service_t_task = 5000;
+  clock = clock.Rounds;
+  times = false;
 }
 
 -- CPU and memory alike, and disk

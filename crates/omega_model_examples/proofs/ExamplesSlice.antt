@@ -16,6 +16,7 @@ use Rattle.omega_model.specs.declared.entries.Entry.{Entry}
 use Rattle.omega_model.specs.declared.entries.Entry.TheVariants.{Round, MachineAdd, AttrSet, End, Commit}
 use Rattle.omega_model.specs.declared.rows.Table.{Table}
 use Rattle.omega_model.specs.declared.rows.Table.TheVariants.{MachineEvents, MachineAttributes, TaskEvents, TaskConstraints, MapreduceJobs, MachineDisk}
+use Rattle.omega_model.specs.declared.settings.Clock.TheVariants as clock
 use Rattle.omega_model.specs.declared.settings.Command.TheVariants.{Replay}
 use Rattle.omega_model.specs.declared.settings.Extra.TheVariants.{Relative}
 use Rattle.omega_model.specs.declared.settings.Format.TheVariants.{Text}
@@ -41,6 +42,8 @@ settings = record {
   t_task = 5000;
   service_t_job = 100000;
   service_t_task = 5000;
+  clock = clock.Rounds;
+  times = false;
 }
 
 -- two tasks that were submitted on machines, a task that is killed, and two that must be apart, of which

@@ -5,6 +5,7 @@ use Rattle.omega_model.specs.PlainWords.{is_plain, is_plain_value}
 use Rattle.omega_model.specs.WordSettings.{default_settings, folder_of, kept_of, settings_of}
 use Rattle.omega_model.specs.declared.claims.Mode.TheVariants.{Incremental, Gang}
 use Rattle.omega_model.specs.declared.claims.Rule.TheVariants.{Fine, Coarse}
+use Rattle.omega_model.specs.declared.settings.Clock.TheVariants as clock
 use Rattle.omega_model.specs.declared.settings.Command.TheVariants.{Replay, Run, Generate, Audit}
 use Rattle.omega_model.specs.declared.settings.Extra.TheVariants.{Cap, Relative}
 use Rattle.omega_model.specs.declared.settings.Format.TheVariants as format
@@ -122,6 +123,8 @@ the_defaults : default_settings ≡ record {
   t_task = 5000;
   service_t_job = 100000;
   service_t_task = 5000;
+  clock = clock.Rounds;
+  times = false;
 }
 the_defaults = refl
 
@@ -137,7 +140,8 @@ many =
     codes "run" ∷ codes "--service-t-task" ∷ codes "15" ∷ codes "--t-job" ∷ codes "16" ∷ codes "--kept" ∷ codes "kept.db" ∷ codes "--jobs" ∷ codes "7" ∷ codes "--machines" ∷ codes "8" ∷ codes "--format" ∷ codes "json"
     ∷ codes "--window" ∷ codes "9" ∷ codes "--give-up" ∷ codes "10" ∷ codes "--tries" ∷ codes "11" ∷ codes "--cap" ∷ codes "12"
     ∷ codes "--extra" ∷ codes "cap" ∷ codes "--preempt" ∷ codes "all" ∷ codes "--mode" ∷ codes "gang" ∷ codes "--rule"
-    ∷ codes "coarse" ∷ codes "--batch" ∷ codes "13" ∷ codes "--seed" ∷ codes "14" ∷ codes "--tables" ∷ codes "data" ∷ []
+    ∷ codes "coarse" ∷ codes "--batch" ∷ codes "13" ∷ codes "--seed" ∷ codes "14" ∷ codes "--tables" ∷ codes "data"
+    ∷ codes "--times" ∷ codes "yes" ∷ codes "--clock" ∷ codes "free" ∷ []
 
 of_many : settings_of many ≡ record {
   command = Run;
@@ -157,6 +161,8 @@ of_many : settings_of many ≡ record {
   t_task = 5000;
   service_t_job = 16;
   service_t_task = 15;
+  clock = clock.Free;
+  times = true;
 }
 of_many = refl
 

@@ -5,6 +5,7 @@ use Rattle.omega_model.specs.Options.{whole_table}
 use Rattle.omega_model.specs.PlainWords.{is_plain}
 use Rattle.omega_model.specs.WordSettings.{default_settings}
 use Rattle.omega_model.specs.declared.claims.Rule.TheVariants.{Coarse}
+use Rattle.omega_model.specs.declared.settings.Clock.TheVariants as clock
 use Rattle.omega_model.specs.declared.settings.Command.TheVariants.{Audit, Generate, Resume, Run, Simulate}
 use Rattle.omega_words.specs.Built.{built_words}
 use Rattle.omega_words.specs.Taken.{folder_in, is_taken, kept_in, settings_in}
@@ -41,6 +42,17 @@ services_decide_as_others = refl
 too_long_a_decision : is_taken built_words (codes "simulate" ∷ codes "--t-task" ∷ codes "1000000001" ∷ []) ≡ false
 unfolding built_words clap_on_literals
 too_long_a_decision = refl
+
+-- ---- the clock and its times
+
+of_the_free_clock : settings_in built_words (codes "simulate" ∷ codes "--clock=free" ∷ codes "--times" ∷ codes "yes" ∷ [])
+    ≡ record default_settings { command = Simulate; clock = clock.Free; times = true }
+unfolding built_words clap_on_literals
+of_the_free_clock = refl
+
+other_clock : is_taken built_words (codes "simulate" ∷ codes "--clock" ∷ codes "rounded" ∷ []) ≡ false
+unfolding built_words clap_on_literals
+other_clock = refl
 
 -- ---- what is kept
 

@@ -83,7 +83,7 @@ pub fn commands() -> [&'static str; 6]
 }
 
 /// The options of the table.
-pub fn table() -> [Choice<'static>; 19]
+pub fn table() -> [Choice<'static>; 21]
     ensures { map choice_of result ≡ built_words.choices }
 {
     [
@@ -106,6 +106,8 @@ pub fn table() -> [Choice<'static>; 19]
         make_choice("service-t-job", Values::Number(DECISION_TIMES)),
         make_choice("service-t-task", Values::Number(DECISION_TIMES)),
         make_choice("kept", Values::Path),
+        make_choice("clock", Values::OneOf(&["rounds", "free"])),
+        make_choice("times", Values::OneOf(&["no", "yes"])),
     ]
 }
 
