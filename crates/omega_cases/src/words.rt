@@ -52,6 +52,7 @@ fn settings_text(alloc: Global, settings: &Settings) -> Result<String, Fault> {
         service_t_task,
         clock,
         times,
+        ends,
     } = *settings;
     let mut text = String::new(alloc);
     write!(text, "{command:?} seed {seed} batch {batch} ")?;
@@ -66,6 +67,6 @@ fn settings_text(alloc: Global, settings: &Settings) -> Result<String, Fault> {
         text,
         "service-t-job {service_t_job} service-t-task {service_t_task} "
     )?;
-    write!(text, "{clock:?} times {times}")?;
+    write!(text, "{clock:?} times {times} ends {ends:?}")?;
     Ok(text)
 }

@@ -16,6 +16,7 @@ use Rattle.omega_model.specs.declared.claims.Verdict.{Verdict}
 use Rattle.omega_model.specs.declared.rows.TraceTables.{TraceTables}
 use Rattle.omega_model.specs.declared.settings.Clock.TheVariants as clock
 use Rattle.omega_model.specs.declared.settings.Command.TheVariants.{Simulate}
+use Rattle.omega_model.specs.declared.settings.Ends.TheVariants as ends
 use Rattle.omega_model.specs.declared.settings.Extra.TheVariants.{Relative}
 use Rattle.omega_model.specs.declared.settings.Format.TheVariants.{Text}
 use Rattle.omega_model.specs.declared.settings.Preempt.TheVariants.{Nobody}
@@ -80,6 +81,7 @@ plain = record {
   service_t_task = 5000;
   clock = clock.Rounds;
   times = false;
+  ends = ends.Trace;
 }
 
 -- a claim of a task on a machine, with its victims

@@ -8,8 +8,9 @@ use Rattle.omega_model.specs.Policy.{schedulers}
 use Rattle.omega_model.specs.Report.{Line, claim_lines, evict_line, place_line}
 use Rattle.omega_model.specs.ReportCounts.{counts_of}
 use Rattle.omega_model.specs.ReportForms.{is_plain, are_plain}
-use Rattle.omega_model.specs.ReportLines.{displace_line, lines_on, use_line, is_round_end, use_lines, lines_at, counts_line, scheduler_lines, waiting_line, middle_lines, final_lines, printed_lines}
+use Rattle.omega_model.specs.ReportLines.{displace_line, lines_on, use_line, is_round_end, use_lines, lines_at, counts_line, scheduler_lines, waiting_line, middle_lines, final_lines, lines_where}
 use Rattle.omega_model.specs.State.{state, displaced}
+use Rattle.omega_model.specs.Wanted.{WantedTask}
 use Rattle.omega_model.specs.declared.cells.TaskKey.{TaskKey}
 use Rattle.omega_model.specs.declared.claims.Claim.{Claim}
 use Rattle.omega_model.specs.declared.claims.Verdict.{Verdict}
@@ -80,16 +81,16 @@ middle_plain Resume history = every (lines_at history) (place_plain history) (en
 middle_plain Generate history = refl
 middle_plain Audit history = refl
 
-final_plain : (settings : Settings) (trace : TraceTables) (history : List Entry)
-    → are_plain (final_lines settings trace history) ≡ true
-final_plain settings trace history =
-    both (scheduler_lines settings history) (use_line (state history) ∷ waiting_line settings trace history ∷ [])
+final_plain : (settings : Settings) (trace : TraceTables) (tasks : List WantedTask) (history : List Entry)
+    → are_plain (final_lines settings trace tasks history) ≡ true
+final_plain settings trace tasks history =
+    both (scheduler_lines settings history) (use_line (state history) ∷ waiting_line settings tasks history ∷ [])
     (each (λ scheduler. counts_line scheduler (counts_of scheduler history)) (λ scheduler. refl) (range_with_len 0 (schedulers settings)))
     refl
 
 -- every word of a report is plain
-pub report_plain : (settings : Settings) (trace : TraceTables) (history : List Entry)
-    → are_plain (printed_lines settings trace history) ≡ true
-report_plain settings trace history =
-    both (middle_lines settings.command history) (final_lines settings trace history)
-    (middle_plain settings.command history) (final_plain settings trace history)
+pub report_plain : (settings : Settings) (trace : TraceTables) (tasks : List WantedTask) (history : List Entry)
+    → are_plain (lines_where settings trace tasks history) ≡ true
+report_plain settings trace tasks history =
+    both (middle_lines settings.command history) (final_lines settings trace tasks history)
+    (middle_plain settings.command history) (final_plain settings trace tasks history)

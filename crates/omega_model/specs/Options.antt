@@ -51,6 +51,7 @@ whole_table = record {
       ∷ choice (codes "kept") a_path
       ∷ choice (codes "clock") (one_of (codes "rounds" ∷ codes "free" ∷ []))
       ∷ choice (codes "times") (one_of (codes "no" ∷ codes "yes" ∷ []))
+      ∷ choice (codes "ends") (one_of (codes "trace" ∷ codes "own" ∷ []))
       ∷ [];
 }
 

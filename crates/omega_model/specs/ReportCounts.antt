@@ -88,15 +88,23 @@ counts_of scheduler history = record {
 abbrev pub waits : Cell → WantedTask → Bool
 waits cell task = not (is_some (task_at cell.tasks task.key))
 
+-- of wanted tasks those that don't run
+abbrev pub waiting_of : List WantedTask → Cell → List WantedTask
+waiting_of tasks cell = filter (waits cell) tasks
+
 -- the tasks that are wanted after all rows of a trace and don't run
 abbrev pub waiting : TraceTables → Cell → List WantedTask
-waiting trace cell = filter (waits cell) (wanted (feed trace))
+waiting trace cell = waiting_of (wanted (feed trace)) cell
 
 -- the jobs of some tasks, each once
 abbrev pub jobs_of : List WantedTask → List ℕ
 jobs_of tasks = each_once (map (λ task. task.key.job) tasks)
 
+-- the jobs that are given up and have one of these tasks, which doesn't run
+abbrev pub abandoned_of : Settings → List WantedTask → List Entry → List ℕ
+abandoned_of settings tasks history =
+    filter (given_up settings history) (jobs_of (waiting_of tasks (state history)))
+
 -- the jobs that are given up and have a wanted task that doesn't run
 abbrev pub abandoned : Settings → TraceTables → List Entry → List ℕ
-abandoned settings trace history =
-    filter (given_up settings history) (jobs_of (waiting trace (state history)))
+abandoned settings trace history = abandoned_of settings (wanted (feed trace)) history

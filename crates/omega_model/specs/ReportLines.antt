@@ -4,11 +4,12 @@ use Rattle.std.specs.Prelude.{ℕ, Bool, true, false, List, [], ◌∷◌, ◌++
 use Rattle.std.specs.List.{flat_map, enumerate_from, range_with_len}
 use Rattle.omega_model.specs.Cell.{Cell}
 use Rattle.omega_model.specs.ExtraTasks.{used_in, capacity_in_all}
-use Rattle.omega_model.specs.Feed.{rounds}
+use Rattle.omega_model.specs.Feed.{feed, rounds}
 use Rattle.omega_model.specs.Policy.{schedulers}
 use Rattle.omega_model.specs.Report.{Line, Name, Number, task_words, entry_lines}
-use Rattle.omega_model.specs.ReportCounts.{Counts, counts_of, waiting, abandoned}
+use Rattle.omega_model.specs.ReportCounts.{Counts, counts_of, waiting_of, abandoned_of}
 use Rattle.omega_model.specs.State.{state, displaced}
+use Rattle.omega_model.specs.Wanted.{WantedTask, wanted}
 use Rattle.omega_model.specs.declared.cells.Task.{Task}
 use Rattle.omega_model.specs.declared.entries.Entry.{Entry}
 use Rattle.omega_model.specs.declared.entries.Entry.TheVariants.{Round, MachineAdd, MachineUpdate, MachineRemove, AttrSet, AttrDelete, End, Commit}
@@ -90,19 +91,19 @@ abbrev pub scheduler_lines : Settings → List Entry → List Line
 scheduler_lines settings history =
     map (λ scheduler. counts_line scheduler (counts_of scheduler history)) (range_with_len 0 (schedulers settings))
 
--- how many wanted tasks don't run at the end, and how many of their jobs are given up
-abbrev pub waiting_line : Settings → TraceTables → List Entry → Line
-waiting_line settings trace history =
-    Name (codes "waiting") ∷ Number (length (waiting trace (state history)))
-    ∷ Name (codes "abandoned") ∷ Number (length (abandoned settings trace history)) ∷ []
+-- how many of the wanted tasks don't run at the end, and how many of their jobs are given up
+abbrev pub waiting_line : Settings → List WantedTask → List Entry → Line
+waiting_line settings tasks history =
+    Name (codes "waiting") ∷ Number (length (waiting_of tasks (state history)))
+    ∷ Name (codes "abandoned") ∷ Number (length (abandoned_of settings tasks history)) ∷ []
 
--- what the history comes to
-abbrev pub final_lines : Settings → TraceTables → List Entry → List Line
-final_lines settings trace history =
+-- what the history comes to, at whose end these tasks are wanted
+abbrev pub final_lines : Settings → TraceTables → List WantedTask → List Entry → List Line
+final_lines settings trace tasks history =
     lengths_line settings trace history
     ∷ scheduler_lines settings history
     ++ use_line (state history)
-    ∷ waiting_line settings trace history ∷ []
+    ∷ waiting_line settings tasks history ∷ []
 
 -- the lines between the first one and what the history comes to: the summary of `generate` has none, and
 -- `audit` has another report
@@ -114,7 +115,11 @@ middle_lines Resume history = round_lines history
 middle_lines Generate history = []
 middle_lines Audit history = []
 
--- the lines of the report of a history
+-- the lines of the report of a history, at whose end these tasks are wanted
+abbrev pub lines_where : Settings → TraceTables → List WantedTask → List Entry → List Line
+lines_where settings trace tasks history =
+    first_line ∷ middle_lines settings.command history ++ final_lines settings trace tasks history
+
+-- the lines of the report of a history, at whose end those tasks are wanted that all rows of the trace leave so
 abbrev pub printed_lines : Settings → TraceTables → List Entry → List Line
-printed_lines settings trace history =
-    first_line ∷ middle_lines settings.command history ++ final_lines settings trace history
+printed_lines settings trace history = lines_where settings trace (wanted (feed trace)) history

@@ -12,6 +12,8 @@ use Rattle.omega_model.specs.declared.settings.Clock.{Clock}
 use Rattle.omega_model.specs.declared.settings.Clock.TheVariants as clock
 use Rattle.omega_model.specs.declared.settings.Command.{Command}
 use Rattle.omega_model.specs.declared.settings.Command.TheVariants.{Replay, Run, Generate, Simulate, Resume, Audit}
+use Rattle.omega_model.specs.declared.settings.Ends.{Ends}
+use Rattle.omega_model.specs.declared.settings.Ends.TheVariants.{Trace, Own}
 use Rattle.omega_model.specs.declared.settings.Extra.{Extra}
 use Rattle.omega_model.specs.declared.settings.Extra.TheVariants.{Max, Cap, Relative}
 use Rattle.omega_model.specs.declared.settings.Format.{Format}
@@ -68,6 +70,9 @@ format_of text = if is_text (codes "json") text then format.Json else format.Tex
 abbrev pub clock_of : Option (List ℕ) → Clock
 clock_of text = if is_text (codes "free") text then clock.Free else clock.Rounds
 
+abbrev pub ends_of : Option (List ℕ) → Ends
+ends_of text = if is_text (codes "own") text then Own else Trace
+
 -- the settings, where `texts` has the text that each option is given
 abbrev pub settings_by : (List ℕ → Option (List ℕ)) → Settings
 settings_by texts = record {
@@ -90,6 +95,7 @@ settings_by texts = record {
   service_t_task = number_given texts (codes "service-t-task") (number_given texts (codes "t-task") 5000);
   clock = clock_of (texts (codes "clock"));
   times = is_text (codes "yes") (texts (codes "times"));
+  ends = ends_of (texts (codes "ends"));
 }
 
 -- the folder of the tables

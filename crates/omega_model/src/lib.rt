@@ -35,6 +35,6 @@ pub use rows::{
     ActivityRow, AttrRow, ConstraintRow, DiskRow, MachineRow, Round, Rounds, Row, Rows, Table,
     TaskRow, TraceTables,
 };
-pub use settings::{Clock, Command, Extra, Format, Preempt, Settings};
+pub use settings::{Clock, Command, Ends, Extra, Format, Preempt, Settings};
 pub use text::Text;
 pub use wishes::{Constraint, Constraints, Op, Request, Requests, Wish, Wishes};

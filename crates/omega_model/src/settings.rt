@@ -50,6 +50,15 @@ pub enum Clock {
     Free,
 }
 
+/// When tasks end on `simulate` by the free clock.
+#[derive(Clone, Copy, Debug, PartialEq, Eq)]
+pub enum Ends {
+    /// By the trace's rows.
+    Trace,
+    /// When they have run for as long as they did in the trace.
+    Own,
+}
+
 /// The form of the report.
 #[derive(Clone, Copy, Debug, PartialEq, Eq)]
 pub enum Format {
@@ -93,6 +102,7 @@ pub struct Settings {
     pub clock: Clock,
     /// Whether the report tells the times of each commit, and of each job's first one.
     pub times: bool,
+    pub ends: Ends,
 }
 
 impl Default for Settings {
@@ -122,6 +132,7 @@ impl Default for Settings {
             service_t_task: 5_000,
             clock: Clock::Rounds,
             times: false,
+            ends: Ends::Trace,
         }
     }
 }

@@ -18,6 +18,7 @@ use Rattle.omega_model.specs.declared.claims.Verdict.TheVariants.{Placed}
 use Rattle.omega_model.specs.declared.entries.Entry.TheVariants.{MachineAdd, AttrSet, Commit}
 use Rattle.omega_model.specs.declared.settings.Clock.TheVariants as clock
 use Rattle.omega_model.specs.declared.settings.Command.TheVariants.{Replay}
+use Rattle.omega_model.specs.declared.settings.Ends.TheVariants as ends
 use Rattle.omega_model.specs.declared.settings.Extra.TheVariants.{Relative}
 use Rattle.omega_model.specs.declared.settings.Format.TheVariants.{Text}
 use Rattle.omega_model.specs.declared.settings.Preempt.TheVariants.{Nobody}
@@ -89,6 +90,7 @@ settings seed = record {
   service_t_task = 5000;
   clock = clock.Rounds;
   times = false;
+  ends = ends.Trace;
 }
 
 -- with two machines schedulers 0 and 2 begin at the first, and scheduler 1 at the second

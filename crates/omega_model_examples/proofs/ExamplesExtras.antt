@@ -25,6 +25,7 @@ use Rattle.omega_model.specs.declared.rows.Row.TheVariants.{Task}
 use Rattle.omega_model.specs.declared.rows.TraceTables.{TraceTables}
 use Rattle.omega_model.specs.declared.settings.Clock.TheVariants as clock
 use Rattle.omega_model.specs.declared.settings.Command.TheVariants.{Replay}
+use Rattle.omega_model.specs.declared.settings.Ends.TheVariants as ends
 use Rattle.omega_model.specs.declared.settings.Extra.{Extra}
 use Rattle.omega_model.specs.declared.settings.Extra.TheVariants.{Max, Cap, Relative}
 use Rattle.omega_model.specs.declared.settings.Format.TheVariants.{Text}
@@ -64,6 +65,7 @@ settings batch extra = record {
   service_t_task = 5000;
   clock = clock.Rounds;
   times = false;
+  ends = ends.Trace;
 }
 
 -- a task row of this job, index, code and class; the task needs 100000000 and has precedence 2

@@ -23,6 +23,7 @@ use Rattle.omega_model.specs.declared.rows.TraceTables.{TraceTables}
 use Rattle.omega_model.specs.declared.settings.Settings.{Settings}
 use Rattle.omega_model.specs.declared.settings.Clock.TheVariants as clock
 use Rattle.omega_model.specs.declared.settings.Command.TheVariants.{Replay}
+use Rattle.omega_model.specs.declared.settings.Ends.TheVariants as ends
 use Rattle.omega_model.specs.declared.settings.Preempt.TheVariants.{Nobody}
 use Rattle.omega_model.specs.declared.settings.Extra.TheVariants.{Max}
 use Rattle.omega_model.specs.declared.settings.Format.TheVariants.{Text}
@@ -68,6 +69,7 @@ settings = record {
   service_t_task = 5000;
   clock = clock.Rounds;
   times = false;
+  ends = ends.Trace;
 }
 
 -- a machine of capacity 10 and a task of need 6 for each of jobs 1 and 2

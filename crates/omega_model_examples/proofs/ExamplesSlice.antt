@@ -18,6 +18,7 @@ use Rattle.omega_model.specs.declared.rows.Table.{Table}
 use Rattle.omega_model.specs.declared.rows.Table.TheVariants.{MachineEvents, MachineAttributes, TaskEvents, TaskConstraints, MapreduceJobs, MachineDisk}
 use Rattle.omega_model.specs.declared.settings.Clock.TheVariants as clock
 use Rattle.omega_model.specs.declared.settings.Command.TheVariants.{Replay}
+use Rattle.omega_model.specs.declared.settings.Ends.TheVariants as ends
 use Rattle.omega_model.specs.declared.settings.Extra.TheVariants.{Relative}
 use Rattle.omega_model.specs.declared.settings.Format.TheVariants.{Text}
 use Rattle.omega_model.specs.declared.settings.Preempt.TheVariants.{Nobody}
@@ -44,6 +45,7 @@ settings = record {
   service_t_task = 5000;
   clock = clock.Rounds;
   times = false;
+  ends = ends.Trace;
 }
 
 -- two tasks that were submitted on machines, a task that is killed, and two that must be apart, of which

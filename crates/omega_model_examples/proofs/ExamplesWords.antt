@@ -7,6 +7,7 @@ use Rattle.omega_model.specs.declared.claims.Mode.TheVariants.{Incremental, Gang
 use Rattle.omega_model.specs.declared.claims.Rule.TheVariants.{Fine, Coarse}
 use Rattle.omega_model.specs.declared.settings.Clock.TheVariants as clock
 use Rattle.omega_model.specs.declared.settings.Command.TheVariants.{Replay, Run, Generate, Audit}
+use Rattle.omega_model.specs.declared.settings.Ends.TheVariants as ends
 use Rattle.omega_model.specs.declared.settings.Extra.TheVariants.{Cap, Relative}
 use Rattle.omega_model.specs.declared.settings.Format.TheVariants as format
 use Rattle.omega_model.specs.declared.settings.Preempt.TheVariants.{Nobody, All}
@@ -125,6 +126,7 @@ the_defaults : default_settings ≡ record {
   service_t_task = 5000;
   clock = clock.Rounds;
   times = false;
+  ends = ends.Trace;
 }
 the_defaults = refl
 
@@ -141,7 +143,7 @@ many =
     ∷ codes "--window" ∷ codes "9" ∷ codes "--give-up" ∷ codes "10" ∷ codes "--tries" ∷ codes "11" ∷ codes "--cap" ∷ codes "12"
     ∷ codes "--extra" ∷ codes "cap" ∷ codes "--preempt" ∷ codes "all" ∷ codes "--mode" ∷ codes "gang" ∷ codes "--rule"
     ∷ codes "coarse" ∷ codes "--batch" ∷ codes "13" ∷ codes "--seed" ∷ codes "14" ∷ codes "--tables" ∷ codes "data"
-    ∷ codes "--times" ∷ codes "yes" ∷ codes "--clock" ∷ codes "free" ∷ []
+    ∷ codes "--times" ∷ codes "yes" ∷ codes "--clock" ∷ codes "free" ∷ codes "--ends" ∷ codes "own" ∷ []
 
 of_many : settings_of many ≡ record {
   command = Run;
@@ -163,6 +165,7 @@ of_many : settings_of many ≡ record {
   service_t_task = 15;
   clock = clock.Free;
   times = true;
+  ends = ends.Own;
 }
 of_many = refl
 

@@ -2,14 +2,14 @@
 ghost use Rattle.std.specs.Prelude.{◌≡◌, ◌<◌, ◌≤◌, ◌^◌, false, true, codes, map, option_map};
 ghost use Rattle.std.specs.Option.{option_map_or};
 ghost use Rattle.omega_model.specs.Options.{is_among, is_value};
-ghost use Rattle.omega_model.specs.WordSettings.{clock_of, command_of, extra_of, folder_by, format_of, is_text, kept_by, mode_of, preempt_of, rule_of, settings_by};
+ghost use Rattle.omega_model.specs.WordSettings.{clock_of, command_of, ends_of, extra_of, folder_by, format_of, is_text, kept_by, mode_of, preempt_of, rule_of, settings_by};
 ghost use Rattle.omega_words.specs.Built.{built_words};
 ghost use Rattle.omega_words.specs.Choices.{choice_of, number_or, texts_in, where_it};
 ghost use Rattle.omega_words.specs.Taken.{are_values};
 
 use crate::choices::{self, Choice, Span};
 use clap::ArgMatches;
-use omega_model::{Clock, Command, Extra, Format, Mode, Preempt, Rule, Settings};
+use omega_model::{Clock, Command, Ends, Extra, Format, Mode, Preempt, Rule, Settings};
 
 /// The text that was given for an option, by its name without dashes, or for `command`; `None` where
 /// none was.
@@ -139,6 +139,16 @@ fn clock_of<'a>(matches: &ArgMatches<'a>) -> Clock
     }
 }
 
+fn ends_of<'a>(matches: &ArgMatches<'a>) -> Ends
+    ensures { result ≡ ends_of (texts_in matches.now (codes "ends")) }
+{
+    if is_text(matches, "ends", "own") {
+        Ends::Own
+    } else {
+        Ends::Trace
+    }
+}
+
 /// Whether there is a command, and the table has it.
 fn has_command<'a>(matches: &ArgMatches<'a>) -> bool
     ensures { result ≡ option_map_or (is_among built_words.commands) (texts_in matches.now (codes "command")) false }
@@ -208,6 +218,7 @@ pub fn settings_of<'a>(matches: &ArgMatches<'a>, command: Command) -> Settings
         service_t_task: number_of(matches, "service-t-task", choices::DECISION_TIMES, t_task),
         clock: clock_of(matches),
         times: is_text(matches, "times", "yes"),
+        ends: ends_of(matches),
     }
 }
 
