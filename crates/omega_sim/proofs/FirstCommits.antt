@@ -42,6 +42,14 @@ filter_map_where : {X Y : Type 0} (f g : X → Option Y) (xs : List X) → Each 
 filter_map_where f g [] each = refl
 filter_map_where f g (x ∷ xs) each = rw (each.0, filter_map_where f g xs each.1) refl
 
+is_some_mapped : {X Y : Type 0} (f : X → Y) (item : Option X) → is_some (option_map f item) ≡ is_some item
+is_some_mapped f None = refl
+is_some_mapped f (Some x) = refl
+
+is_none : {X : Type 0} (item : Option X) → is_some item ≡ false → item ≡ None
+is_none None absent = refl
+is_none (Some x) absent = cc
+
 module _ {X Y : Type 0} (key : X → Option ℕ) (told : ℕ → X → Y) where
   -- the first item of a job
   abbrev pub found : List X → ℕ → Option X
@@ -93,9 +101,11 @@ module _ {X Y : Type 0} (key : X → Option ℕ) (told : ℕ → X → Y) where
     any_among : list_any (λ k. k == job) (each_once (filter_map key items)) ≡ is_some (found items job)
     any_among = any_once job (filter_map key items) ∙ any_found job items
 
-    -- an item of a job that has one before it
-    pub told_before : is_some (found items job) ≡ true → all_told (items ++ item ∷ []) ≡ all_told items ++ []
-    told_before some =
+    -- an item of a job that has one before it, whose time is known
+    pub told_before : (time : X → ℕ) (known : Option ℕ) → known ≡ option_map time (found items job) → is_some known ≡ true
+        → all_told (items ++ item ∷ []) ≡ all_told items ++ []
+    told_before time known are there =
+        let some : is_some (found items job) ≡ true = sym (is_some_mapped time (found items job)) ∙ ap is_some (sym are) ∙ there in
         let same : each_once (filter_map key (items ++ item ∷ [])) ≡ each_once (filter_map key items) = jobs_grow ∙ rw (any_among, some) refl in
         ap (filter_map (λ j. option_map (told j) (found (items ++ item ∷ []) j))) same
         ∙ all_stay items item ∙ sym (append-nil (all_told items))
@@ -103,9 +113,11 @@ module _ {X Y : Type 0} (key : X → Option ℕ) (told : ℕ → X → Y) where
     found_now : found items job ≡ None → found (items ++ item ∷ []) job ≡ Some item
     found_now none = find-append (λ x. is_job job (key x)) items (item ∷ []) ∙ rw (none, is, eq-eqb job job refl) refl
 
-    -- the first item of a job
-    pub told_first : found items job ≡ None → all_told (items ++ item ∷ []) ≡ all_told items ++ told job item ∷ []
-    told_first none =
+    -- the first item of a job, of which no time is known
+    pub told_first : (time : X → ℕ) (known : Option ℕ) → known ≡ option_map time (found items job) → is_some known ≡ false
+        → all_told (items ++ item ∷ []) ≡ all_told items ++ told job item ∷ []
+    told_first time known are absent =
+        let none : found items job ≡ None = is_none (found items job) (sym (is_some_mapped time (found items job)) ∙ ap is_some (sym are) ∙ absent) in
         let more : List ℕ = each_once (filter_map key items) in
         let grown : each_once (filter_map key (items ++ item ∷ [])) ≡ more ++ job ∷ [] = jobs_grow ∙ rw (any_among, none) refl in
         ap (filter_map (λ j. option_map (told j) (found (items ++ item ∷ []) j))) grown

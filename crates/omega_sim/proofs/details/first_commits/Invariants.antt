@@ -7,5 +7,5 @@ use Rattle.omega_sim.proofs.details.first_commits.Given as goal
 abbrev pub invariant-loop-timed : goal.invariant-loop-timed
 invariant-loop-timed l = record {
   syncs : AreFirstSyncs l.history (take l.timed-index l.times) l.syncs;
-  firsts : l.firsts ≡ first_commits_by (time_at l.arrivals.first_times) l.history (take l.timed-index l.times);
+  firsts : l.firsts.items ≡ first_commits_by (time_at l.arrivals.first_times) l.history (take l.timed-index l.times);
 }
