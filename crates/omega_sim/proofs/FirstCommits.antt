@@ -72,9 +72,9 @@ module _ {X Y : Type 0} (key : X → Option ℕ) (told : ℕ → X → Y) where
       → option_map (told job) (found (items ++ item ∷ []) job) ≡ option_map (told job) (found items job)
   stays items item job some =
       ap (option_map (told job)) (find-append (λ x. is_job job (key x)) items (item ∷ []) ∙ first (found items job) (found (item ∷ []) job) some) where
-    first : (one other : Option X) → is_some one ≡ true → option_or one other ≡ one
-    first (Some x) other some = refl
-    first None other some = cc
+        first : (one other : Option X) → is_some one ≡ true → option_or one other ≡ one
+        first (Some x) other some = refl
+        first None other some = cc
 
   all_stay : (items : List X) (item : X)
       → filter_map (λ job. option_map (told job) (found (items ++ item ∷ []) job)) (each_once (filter_map key items)) ≡ all_told items

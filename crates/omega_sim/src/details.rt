@@ -64,7 +64,7 @@ fn first_at(
 ) -> Option<FirstCommit>
     ensures { (before : List CommitTime) → AreFirstSyncs history.now before syncs.now
         → first_commits_by (time_at came.now) history.now (before ++ timed.now ∷ [])
-            ≡ first_commits_by (time_at came.now) history.now before ++ cons_option result [] }
+        ≡ first_commits_by (time_at came.now) history.now before ++ cons_option result [] }
 {
     let job = job_at(history, timed)?;
     if syncs.of(job).is_some() {
