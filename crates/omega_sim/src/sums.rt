@@ -55,12 +55,12 @@ pub fn committed_jobs(
     each_once(alloc, &jobs)
 }
 
-/// Appends a job, if there is one.
-fn push_if(jobs: &mut Vec<u64>, job: Option<u64>) -> Result<(), NoMemory>
-    ensures { OnOk result (jobs.new.items ≡ jobs.old.items ++ cons_option job []) }
+/// Appends an item, if there is one.
+pub fn push_if<T: Copy>(items: &mut Vec<T>, item: Option<T>) -> Result<(), NoMemory>
+    ensures { OnOk result (items.new.items ≡ items.old.items ++ cons_option item []) }
 {
-    if let Some(job) = job {
-        jobs.push(job)?;
+    if let Some(item) = item {
+        items.push(item)?;
     }
     Ok(())
 }
@@ -82,7 +82,7 @@ pub fn first_syncs(
 }
 
 /// Notes when the scheduler of a commit synced for it, if it is the first one for its job.
-fn note_sync(syncs: &mut FirstTimes, history: &[Entry], timed: &Timed) -> Result<(), NoMemory>
+pub fn note_sync(syncs: &mut FirstTimes, history: &[Entry], timed: &Timed) -> Result<(), NoMemory>
     ensures { OnOk result ((before : List CommitTime) → AreFirstSyncs history.now before syncs.old → AreFirstSyncs history.now (before ++ timed.now ∷ []) syncs.new) }
 {
     let Some(job) = job_at(history, timed) else {
@@ -117,7 +117,7 @@ fn waited_by(job: u64, came: &FirstTimes, synced: &FirstTimes) -> u128
 }
 
 /// The job of a commit.
-fn job_at(history: &[Entry], timed: &Timed) -> Option<u64>
+pub fn job_at(history: &[Entry], timed: &Timed) -> Option<u64>
     ensures { result ≡ job_at history.now timed.now }
 {
     match history.get(timed.place as usize)? {
