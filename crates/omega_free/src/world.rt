@@ -16,11 +16,14 @@ ghost use Rattle.omega_opening.specs.Reopening.{WereQuiet};
 ghost use Rattle.omega_free_laws.specs.FreeSteps.{beginning};
 ghost use Rattle.omega_free_laws.specs.Readings.{by_rows};
 ghost use Rattle.omega_free.specs.FreeWorkers.{AreNewWorkers};
-ghost use Rattle.omega_free.specs.KeptWorlds.{StandsIn};
+ghost use Rattle.omega_free.specs.FreeRuns.{IsWholeRun};
+ghost use Rattle.omega_free.specs.KeptWorlds.{IsAtEnd, StandsIn};
 
 use crate::clock::FreeWorld;
 use crate::crew::{commit_by, first_due, sync_by, sync_idle};
 use crate::next_round::{NextRound, next_round};
+use crate::remains::Remains;
+use crate::run::WholeRun;
 use crate::worker::Worker;
 use omega_cell::Cell;
 use omega_feed::{EventRounds, Events, OpenJobs, Wanted};
@@ -80,6 +83,40 @@ impl World {
             workers,
             indexes: Indexes::new(alloc),
             times: Times::new(alloc),
+        })
+    }
+
+    /// The whole run of a trace, where this world stands at its end. Costs the wanted tasks, and a look at each job of the trace.
+    pub fn into_whole_run(self) -> Result<WholeRun, NoMemory>
+        ensures { (trace : TraceTables) → IsAtEnd self trace → IfOk result (IsWholeRun self.settings trace) }
+    {
+        let World {
+            alloc,
+            settings: _,
+            rounds,
+            opened: _,
+            next: _,
+            demand,
+            looked_at: _,
+            cell,
+            workers,
+            indexes,
+            times,
+        } = self;
+        let left = demand.wanted.left(alloc, cell.board())?;
+        let (history, effects, board) = cell.into_run();
+        Ok(WholeRun {
+            history,
+            times,
+            effects,
+            left,
+            rounds,
+            remains: Remains {
+                board,
+                demand,
+                workers,
+                indexes,
+            },
         })
     }
 }
