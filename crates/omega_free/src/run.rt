@@ -1,8 +1,9 @@
 //! The run of a trace by the free clock.
-ghost use Rattle.std.specs.Prelude.{◌≡◌, IfOk};
-ghost use Rattle.omega_cell.specs.Effects.{AreEffects};
+ghost use Rattle.std.specs.Prelude.{IfOk};
 ghost use Rattle.omega_model.specs.Ranges.{IsInRange};
+ghost use Rattle.omega_model.specs.declared.rows.TraceTables.{TraceTables};
 ghost use Rattle.omega_free.specs.FreeRuns.{IsWholeRun};
+ghost use Rattle.omega_free.specs.KeptWorlds.{IsAtEnd};
 
 use crate::clock::in_free_time;
 use crate::remains::Remains;
@@ -50,5 +51,13 @@ pub fn run_freely(
 {
     let mut world = World::new(alloc, settings, tables)?;
     in_free_time(&mut world)?;
-    world.into_whole_run()
+    whole_run(world)
+}
+
+/// The whole run of a trace, where a world stands at its end.
+fn whole_run(world: World) -> Result<WholeRun, NoMemory>
+    ensures { (trace : TraceTables) → IsAtEnd world trace → IfOk result (IsWholeRun world.settings trace) }
+{
+    let left = world.waiting()?;
+    Ok(world.into_run(left))
 }

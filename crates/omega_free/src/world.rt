@@ -3,6 +3,7 @@ ghost use Rattle.std.specs.Prelude.{◌≡◌, ◌≤◌, ◌<◌, ◌+◌, ◌+
 ghost use Rattle.std.specs.List.{fold};
 ghost use Rattle.omega_feed.specs.Open.{OthersAreQuiet};
 ghost use Rattle.omega_feed.specs.Asked.{asked_after};
+ghost use Rattle.omega_feed.specs.Left.{AreLeft};
 ghost use Rattle.omega_model.specs.Feed.{feed};
 ghost use Rattle.omega_model.specs.Lawful.{opened};
 ghost use Rattle.omega_model.specs.Policy.{schedulers};
@@ -26,7 +27,7 @@ use crate::remains::Remains;
 use crate::run::WholeRun;
 use crate::worker::Worker;
 use omega_cell::Cell;
-use omega_feed::{EventRounds, Events, OpenJobs, Wanted};
+use omega_feed::{EventRounds, Events, OpenJobs, WaitingTasks, Wanted};
 use omega_model::{NoMemory, Round, Settings, TraceTables};
 use omega_opening::{Demand, open_round, reopen_since};
 use omega_plan::Indexes;
@@ -34,7 +35,8 @@ use omega_sim::Times;
 use std::alloc::Global;
 
 /// Schedulers that share one cell and work on a trace by the free clock, where tasks end by the trace's rows.
-#[derive(Drop)]
+///
+/// It writes its `Drop` out, so that whoever lets it go cites one function.
 pub struct World {
     pub alloc: Global,
     pub settings: Settings,
@@ -55,6 +57,24 @@ pub struct World {
     pub indexes: Indexes,
     /// The times of the commits so far.
     pub times: Times,
+}
+
+impl Drop for World {
+    fn drop(self) {
+        let World {
+            alloc: _,
+            settings: _,
+            rounds: _,
+            opened: _,
+            next: _,
+            demand: _,
+            looked_at: _,
+            cell: _,
+            workers: _,
+            indexes: _,
+            times: _,
+        } = self;
+    }
 }
 
 impl World {
@@ -86,12 +106,21 @@ impl World {
         })
     }
 
-    /// The whole run of a trace, where this world stands at its end. Costs the wanted tasks, and a look at each job of the trace.
-    pub fn into_whole_run(self) -> Result<WholeRun, NoMemory>
-        ensures { (trace : TraceTables) → IsAtEnd self trace → IfOk result (IsWholeRun self.settings trace) }
+    /// How many wanted tasks don't run, and their jobs, each once. Costs a look at each job of the trace and a look-up for
+    /// each wanted task.
+    pub fn waiting(&self) -> Result<WaitingTasks, NoMemory>
+        ensures { IfOk result (AreLeft self.now.demand.wanted.tasks (state self.now.cell.history)) }
+    {
+        self.demand.wanted.left(self.alloc, self.cell.board())
+    }
+
+    /// The whole run of a trace, where this world stands at its end and these tasks wait there.
+    pub fn into_run(self, left: WaitingTasks) -> WholeRun
+        ensures { (trace : TraceTables) → IsAtEnd self trace → AreLeft self.demand.wanted.tasks (state self.cell.history) left
+            → IsWholeRun self.settings trace result }
     {
         let World {
-            alloc,
+            alloc: _,
             settings: _,
             rounds,
             opened: _,
@@ -103,9 +132,8 @@ impl World {
             indexes,
             times,
         } = self;
-        let left = demand.wanted.left(alloc, cell.board())?;
         let (history, effects, board) = cell.into_run();
-        Ok(WholeRun {
+        WholeRun {
             history,
             times,
             effects,
@@ -117,7 +145,7 @@ impl World {
                 workers,
                 indexes,
             },
-        })
+        }
     }
 }
 
