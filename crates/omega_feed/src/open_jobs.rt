@@ -1,8 +1,6 @@
 //! The jobs of which something may have to be placed.
-ghost use Rattle.std.specs.Prelude.{◌≡◌, ◌<◌, ◌⊎◌, ℕ, [], true, length, option_map, slice_get, OnErr, OnOk};
-ghost use Rattle.std.specs.BTreeSet as set;
-ghost use Rattle.std.specs.Ordering.{nat_cmp};
-ghost use Rattle.omega_feed.specs.Open.{IsSettled, IsOpen, NoneIsQuiet, OpensAtMost, OthersAreQuiet, SameIsOpen, SameIsOpenForOthers, StayOpen, is_open};
+ghost use Rattle.std.specs.Prelude.{◌≡◌, ◌<◌, ◌⊎◌, ℕ, [], false, true, length, option_map, slice_get, OnErr, OnOk};
+ghost use Rattle.omega_feed.specs.Open.{IsOpen, IsQuietAt, IsSettled, NoneIsQuiet, OpensAtMost, OthersAreQuiet, SameIsOpen, SameIsOpenForOthers, StayOpen, is_open};
 
 use crate::jobs::JobPlace;
 use crate::wanted::Wanted;
@@ -78,9 +76,10 @@ impl OpenJobs {
         ensures fewer { StayOpen self.new self.old }
         ensures others { SameIsOpenForOthers scheduler self.old self.new }
     {
+        let scheduler = scheduler as usize;
         self.latest = None;
-        if let Some(own) = self.places.get_mut(scheduler as usize) {
-            close_quiet(own, wanted, board);
+        if scheduler < self.places.len() {
+            close_quiet(&mut self.places[scheduler], wanted, board);
         }
     }
 
@@ -106,7 +105,7 @@ fn open_at(alloc: Global, places: &mut Vec<BTreeSet<usize>>, new: JobPlace) -> R
     Ok(())
 }
 
-/// Makes sets with nothing in them until a scheduler has one.
+/// Adds sets with nothing in them until a scheduler has one.
 fn make_sets(
     alloc: Global,
     places: &mut Vec<BTreeSet<usize>>,
@@ -115,7 +114,7 @@ fn make_sets(
     ensures same { SameIsOpen places.old.items places.new.items }
     ensures there { OnOk result (scheduler < length places.new.items) }
 {
-    for _ in places.len()..=scheduler {
+    while places.len() <= scheduler {
         places.push(BTreeSet::new(alloc))?;
     }
     Ok(())
@@ -125,5 +124,12 @@ fn make_sets(
 fn close_quiet(places: &mut BTreeSet<usize>, wanted: &Wanted, board: &Board)
     ensures { IsSettled wanted.now board.now.tasks places.old places.new }
 {
-    places.retain(|place| !wanted.is_quiet_at(*place, board));
+    places.retain(
+        |place|
+            ensures waits { result ≡ true → IsQuietAt wanted.now board.now.tasks place.now → ⊥ }
+            ensures quiet { result ≡ false → IsQuietAt wanted.now board.now.tasks place.now }
+        {
+            !wanted.is_quiet_at(*place, board)
+        },
+    );
 }
