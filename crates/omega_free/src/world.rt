@@ -148,7 +148,8 @@ impl FreeWorld for World {
             &mut self.indexes,
             &self.settings,
             self.opened as u64,
-            &self.demand,
+            &self.demand.wanted,
+            &mut self.demand.open_jobs,
             &self.cell,
             u128::from(due),
         )
@@ -176,7 +177,8 @@ impl FreeWorld for World {
             &mut self.indexes,
             &self.settings,
             self.opened as u64,
-            &self.demand,
+            &self.demand.wanted,
+            &mut self.demand.open_jobs,
             &self.cell,
             timed.time,
         )
