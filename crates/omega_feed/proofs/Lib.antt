@@ -6,6 +6,7 @@ pub mod JobList
 pub mod KeyOrder
 pub mod AskedAfter
 pub mod Quiet
+pub mod OpenSets
 pub mod Settling
 pub mod Listing
 pub mod Lasting

@@ -1,8 +1,7 @@
 -- The requests of the open jobs are those of all jobs.
 use Rattle.std.proofs.Common.{◌≡◌, ℕ, zero, suc, ◌+◌, ◌<◌, ◌≤◌, Bool, true, false, cond, ◌||◌, ◌==◌, List, [], ◌∷◌, ◌++◌, Option, Some, None, map, drop, length, refl, subst, ap, sym, ◌∙◌, inl, inr, arith, add-one}
-use Rattle.std.specs.Prelude.{slice_get, option_and_then, option_map, is_some}
+use Rattle.std.specs.Prelude.{slice_get, option_and_then, is_some}
 use Rattle.std.specs.BTreeMap.{is_at}
-use Rattle.std.specs.BTreeSet as set
 use Rattle.std.specs.BTreeSet.{BTreeSet}
 use Rattle.std.specs.List.{filter, filter_map, list_any, cons_option, AllByRecursion as Each}
 use Rattle.std.specs.List.Sorted.{IsStrictlySortedBy}
@@ -17,8 +16,8 @@ use Rattle.omega_model.specs.Extras.{extras, target}
 use Rattle.omega_model.specs.Requests.{request_of, is_waiting}
 use Rattle.omega_model.specs.Wanted.{WantedTask}
 use Rattle.omega_feed.specs.Asked.{Asked, activities_in, held_indexes, is_task_of, asked_extra, asked_extras, asked_wish, asked_wishes, extras_after, job_request, asked_requests}
-use Rattle.omega_feed.specs.Index.{place_request}
-use Rattle.omega_feed.specs.Open.{HasItsExtras, IsQuiet, OthersAreQuiet, RunsIfOf}
+use Rattle.omega_feed.specs.Index.{StandsAt, place_request}
+use Rattle.omega_feed.specs.Open.{HasItsExtras, IsQuiet, OpenPlaces, OthersAreQuiet, RunsIfOf, is_among_own}
 use Rattle.omega_feed.proofs.HeldExtras.{few_extras, none_missing, none_wanted}
 use Rattle.omega_feed.specs.declared.jobs.RoutedJob.{RoutedJob}
 
@@ -179,31 +178,50 @@ quiet_wishes asked cell job quiet =
     ] in
     ap (λ z. map (asked_wish asked.constraints) z ++ asked_extras asked cell job) idle ∙ none
 
--- each job with a request is open
-covered : (asked : Asked) (cell : Cell) (scheduler : ℕ) (places : BTreeSet ℕ) → OthersAreQuiet places asked cell.tasks
-    → (p : ℕ) → is_some (place_request asked cell scheduler p) ≡ true → has p places.keys ≡ true
+-- each job of a scheduler that isn't at one of these places is quiet
+abbrev pub OwnAreQuiet : Asked → Cell → ℕ → List ℕ → Type 0
+OwnAreQuiet asked cell scheduler places = (place job : ℕ) → StandsAt asked.jobs place job scheduler → list_any (is_at (nat_cmp place)) places ≡ false → IsQuiet asked cell.tasks job
+
+-- each job with a request is at one of the places
+covered : (asked : Asked) (cell : Cell) (scheduler : ℕ) (places : List ℕ) → OwnAreQuiet asked cell scheduler places
+    → (p : ℕ) → is_some (place_request asked cell scheduler p) ≡ true → has p places ≡ true
 covered asked cell scheduler places quiet p some =
-    elim (cases_Bool (has p places.keys)) [
+    elim (cases_Bool (has p places)) [
       | inl e ↦ e
-      | inr closed ↦ absurd (by_cases (slice_get asked.jobs p) refl some (has_place p places.keys ∙ closed))
+      | inr closed ↦ absurd (by_cases (slice_get asked.jobs p) refl some (has_place p places ∙ closed))
     ] where
-      at_job : (job : RoutedJob) (b : Bool) → is_some (cond b (job_request asked cell job) None) ≡ true → IsQuiet asked cell.tasks job.job → ⊥
-      at_job job true s q = both_ways _ (ap (λ z. is_some (request_of job.job z)) (quiet_wishes asked cell job.job q)) s
-      at_job job false s q = both_ways _ refl s
+      at_job : (job : RoutedJob) (b : Bool) → (job.scheduler == scheduler) ≡ b → is_some (cond b (job_request asked cell job) None) ≡ true
+          → (job.scheduler ≡ scheduler → IsQuiet asked cell.tasks job.job) → ⊥
+      at_job job true own s q = both_ways _ (ap (λ z. is_some (request_of job.job z)) (quiet_wishes asked cell job.job (q (eqb-true _ _ own)))) s
+      at_job job false own s q = both_ways _ refl s
 
       by_cases : (o : Option RoutedJob) → slice_get asked.jobs p ≡ o
           → is_some (option_and_then (λ (job : RoutedJob). cond (job.scheduler == scheduler) (job_request asked cell job) None) o) ≡ true
-          → set.contains nat_cmp places p ≡ false
+          → list_any (is_at (nat_cmp p)) places ≡ false
           → ⊥
       by_cases None is s closed = both_ways _ refl s
-      by_cases (Some job) is s closed = at_job job (job.scheduler == scheduler) s (quiet p job.job (ap (option_map (λ (job : RoutedJob). job.job)) is) closed)
+      by_cases (Some job) is s closed =
+          at_job job (job.scheduler == scheduler) refl s (λ own. quiet p job.job (subst (λ (n : ℕ). StandsAt asked.jobs p job.job n) own is) closed)
 
--- the requests at the open places are all requests
-pub picked_requests : (asked : Asked) (cell : Cell) (scheduler : ℕ) (places : BTreeSet ℕ) → OthersAreQuiet places asked cell.tasks
-    → IsStrictlySortedBy nat_cmp places.keys
-    → filter_map (place_request asked cell scheduler) places.keys ≡ asked_requests asked cell scheduler
-picked_requests asked cell scheduler places quiet sorted =
-    picked (λ job. cond (job.scheduler == scheduler) (job_request asked cell job) None) asked.jobs asked.jobs 0 places.keys refl
-    (up_from places.keys sorted) (each_from_zero places.keys)
+-- the requests at these places are all requests
+picked_up : (asked : Asked) (cell : Cell) (scheduler : ℕ) (places : List ℕ) → OwnAreQuiet asked cell scheduler places → Up places
+    → filter_map (place_request asked cell scheduler) places ≡ asked_requests asked cell scheduler
+picked_up asked cell scheduler places quiet up =
+    picked (λ job. cond (job.scheduler == scheduler) (job_request asked cell job) None) asked.jobs asked.jobs 0 places refl
+    up (each_from_zero places)
     (λ p h s. covered asked cell scheduler places quiet p s)
     ∙ filter_map_chosen (λ job. job.scheduler == scheduler) (job_request asked cell) asked.jobs
+
+-- so are those at a scheduler's open places
+pub picked_requests : (places : OpenPlaces) (asked : Asked) (cell : Cell) (scheduler : ℕ) (own : BTreeSet ℕ) → OthersAreQuiet places asked cell.tasks
+    → slice_get places scheduler ≡ Some own → IsStrictlySortedBy nat_cmp own.keys
+    → filter_map (place_request asked cell scheduler) own.keys ≡ asked_requests asked cell scheduler
+picked_requests places asked cell scheduler own quiet is sorted =
+    picked_up asked cell scheduler own.keys
+    (λ place job at closed. quiet place job scheduler at (ap (λ o. is_among_own o place) is ∙ closed)) (up_from own.keys sorted)
+
+-- a scheduler that has none is asked nothing
+pub none_requested : (places : OpenPlaces) (asked : Asked) (cell : Cell) (scheduler : ℕ) → OthersAreQuiet places asked cell.tasks
+    → slice_get places scheduler ≡ None → [] ≡ asked_requests asked cell scheduler
+none_requested places asked cell scheduler quiet none =
+    picked_up asked cell scheduler [] (λ place job at closed. quiet place job scheduler at (ap (λ o. is_among_own o place) none)) tt

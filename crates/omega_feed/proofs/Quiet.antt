@@ -2,10 +2,7 @@
 use Rattle.std.proofs.Common.{eq-eqb, ◌≡◌, ◌≤◌, ◌<◌, ◌+◌, ◌⊎◌, ℕ, Bool, true, false, cond, not, ◌||◌, ◌==◌, List, [], ◌∷◌, ◌++◌, Some, None, length, refl, ap, sym, subst, ◌∙◌, inl, inr, arith}
 use Rattle.std.proofs.lemmas.List.{append-nil}
 use Rattle.std.specs.Prelude.{is_some}
-use Rattle.std.specs.BTreeSet as set
-use Rattle.std.specs.BTreeSet.{BTreeSet}
 use Rattle.std.specs.List.{All, filter, list_any}
-use Rattle.std.specs.Ordering.{nat_cmp}
 use Rattle.std.proofs.lemmas.Bool.{eqb-true, cases_eq, cases_order, cases_Bool, both_ways, ne_eqb, or_cases, or_left, or_right}
 use Rattle.std.proofs.lemmas.List.Elements.{All-append, All-cons, All-filter, All-head, All-nil, All-tail, filter-append}
 use Rattle.std.proofs.lemmas.List.Folds.{list_any-append}
@@ -18,7 +15,8 @@ use Rattle.omega_model.specs.declared.cells.Spec.{Spec}
 use Rattle.omega_model.specs.declared.cells.Task.{Task}
 use Rattle.omega_model.specs.declared.cells.TaskKey.{TaskKey}
 use Rattle.omega_feed.specs.Asked.{Asked, activities_in, is_task_of}
-use Rattle.omega_feed.specs.Open.{HasItsExtras, IsOpen, IsQuiet, OthersAreQuiet, RunsIfOf, StayOpen}
+use Rattle.omega_feed.specs.Index.{StandsAt}
+use Rattle.omega_feed.specs.Open.{HasItsExtras, IsOpen, IsQuiet, OpenPlaces, OthersAreQuiet, RunsIfOf, StayOpen, is_open}
 use Rattle.omega_model.proofs.InOrder.{key_asym, key_same, tested_before}
 use Rattle.omega_model.proofs.Lists.{by_answer}
 
@@ -49,18 +47,18 @@ none_filtered p q tasks none =
     elim (cases_Bool (list_any p (filter q tasks))) [ inl e ↦ absurd (both_ways _ none (any_filtered p q tasks e)) | inr e ↦ e ]
 
 -- with no wanted task all are quiet
-pub all_quiet : (places : BTreeSet ℕ) (asked : Asked) (tasks : List Task) → asked.tasks ≡ [] → OthersAreQuiet places asked tasks
-all_quiet places asked tasks none place job at closed = record {
+pub all_quiet : (places : OpenPlaces) (asked : Asked) (tasks : List Task) → asked.tasks ≡ [] → OthersAreQuiet places asked tasks
+all_quiet places asked tasks none place job scheduler at closed = record {
   running = let P : List WantedTask → Type 0 = λ wanted. All (RunsIfOf job tasks) wanted in subst P (sym none) (All-nil _);
   no_extras = inr (inl (ap (list_any (is_task_of job)) none));
 }
 
 -- where what was open is open, all others are still quiet
-pub still_quiet : (before after : BTreeSet ℕ) (asked : Asked) (tasks : List Task) → StayOpen before after → OthersAreQuiet before asked tasks → OthersAreQuiet after asked tasks
-still_quiet before after asked tasks stay quiet place job at closed =
-    elim (cases_Bool (set.contains nat_cmp before place)) [
-      | inl e ↦ absurd (both_ways _ closed (stay place e))
-      | inr e ↦ quiet place job at e
+pub still_quiet : (before after : OpenPlaces) (asked : Asked) (tasks : List Task) → StayOpen before after → OthersAreQuiet before asked tasks → OthersAreQuiet after asked tasks
+still_quiet before after asked tasks stay quiet place job scheduler at closed =
+    elim (cases_Bool (is_open before scheduler place)) [
+      | inl e ↦ absurd (both_ways _ closed (stay scheduler place e))
+      | inr e ↦ quiet place job scheduler at e
     ]
 
 -- a job has its extras where as many other tasks are wanted of it
@@ -149,15 +147,15 @@ quiet_without asked tasks job key ne q = record {
 }
 
 -- so do all that are, with a task less of a job that is open or has no activities
-pub others_without : (before after : BTreeSet ℕ) (asked : Asked) (tasks : List Task) (key : TaskKey) → StayOpen before after
+pub others_without : (before after : OpenPlaces) (asked : Asked) (tasks : List Task) (key : TaskKey) → StayOpen before after
     → IsOpen after asked key.job ⊎ (activities_in asked.activities key.job ≡ None) → OthersAreQuiet before asked tasks
     → OthersAreQuiet after (record asked { tasks = filter (λ task. not (is_named key task)) asked.tasks }) tasks
-others_without before after asked tasks key stay own quiet place job at closed =
-    let was : IsQuiet asked tasks job = still_quiet before after asked tasks stay quiet place job at closed in
+others_without before after asked tasks key stay own quiet place job scheduler at closed =
+    let was : IsQuiet asked tasks job = still_quiet before after asked tasks stay quiet place job scheduler at closed in
     elim (cases_eq key.job job) [
       | inr ne ↦ quiet_without asked tasks job key ne was
       | inl e ↦ elim own [
-        | inl opened ↦ absurd (both_ways _ closed (opened place (at ∙ ap Some (sym e))))
+        | inl opened ↦ absurd (both_ways _ closed (opened place scheduler (subst (λ (n : ℕ). StandsAt asked.jobs place n scheduler) (sym e) at)))
         | inr none ↦ record {
           running = All-filter (λ task. not (is_named key task)) (RunsIfOf job tasks) asked.tasks was.running;
           no_extras = inl (subst (λ (j : ℕ). activities_in asked.activities j ≡ None) e none);
@@ -189,13 +187,13 @@ quiet_with asked tasks job key spec ne q =
     }
 
 -- with a task more of a job that is open all others are quiet
-pub others_with : (before after : BTreeSet ℕ) (asked : Asked) (tasks : List Task) (key : TaskKey) (spec : Spec)
+pub others_with : (before after : OpenPlaces) (asked : Asked) (tasks : List Task) (key : TaskKey) (spec : Spec)
     → StayOpen before after → IsOpen after asked key.job → OthersAreQuiet before asked tasks
     → OthersAreQuiet after (record asked { tasks = with_wanted key spec asked.tasks }) tasks
-others_with before after asked tasks key spec stay opened quiet place job at closed =
+others_with before after asked tasks key spec stay opened quiet place job scheduler at closed =
     elim (cases_eq key.job job) [
-      | inl e ↦ absurd (both_ways _ closed (opened place (at ∙ ap Some (sym e))))
-      | inr ne ↦ quiet_with asked tasks job key spec ne (still_quiet before after asked tasks stay quiet place job at closed)
+      | inl e ↦ absurd (both_ways _ closed (opened place scheduler (subst (λ (n : ℕ). StandsAt asked.jobs place n scheduler) (sym e) at)))
+      | inr ne ↦ quiet_with asked tasks job key spec ne (still_quiet before after asked tasks stay quiet place job scheduler at closed)
     ]
 
 -- a wanted task that is named runs, if it is of a job each of whose wanted tasks runs
@@ -230,6 +228,6 @@ quiet_again asked tasks job key spec named none q =
     ]
 
 -- so do all that were
-pub others_again : (places : BTreeSet ℕ) (asked : Asked) (tasks : List Task) (key : TaskKey) (spec : Spec) → list_any (is_named key) asked.tasks ≡ true
+pub others_again : (places : OpenPlaces) (asked : Asked) (tasks : List Task) (key : TaskKey) (spec : Spec) → list_any (is_named key) asked.tasks ≡ true
     → activities_in asked.activities key.job ≡ None → OthersAreQuiet places asked tasks → OthersAreQuiet places (record asked { tasks = with_wanted key spec asked.tasks }) tasks
-others_again places asked tasks key spec named none quiet place job at closed = quiet_again asked tasks job key spec named none (quiet place job at closed)
+others_again places asked tasks key spec named none quiet place job scheduler at closed = quiet_again asked tasks job key spec named none (quiet place job scheduler at closed)

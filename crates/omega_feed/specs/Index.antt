@@ -37,6 +37,10 @@ changed_by Keep row tasks = tasks
 abbrev pub job_at : List RoutedJob → ℕ → Option ℕ
 job_at jobs place = option_map (λ job. job.job) (slice_get jobs place)
 
+-- a job of this scheduler stands at a place
+abbrev pub StandsAt : List RoutedJob → ℕ → ℕ → ℕ → Type 0
+StandsAt jobs place job scheduler = slice_get jobs place ≡ Some (record { job = job; scheduler = scheduler })
+
 -- the map gives for each job the place at which it stands, which is the only one
 abbrev pub AreFound : BTreeMap ℕ ℕ → List RoutedJob → Type 0
 AreFound places jobs = (job place : ℕ) → (tree.get nat_cmp places job ≡ Some place) ↔ (job_at jobs place ≡ Some job)

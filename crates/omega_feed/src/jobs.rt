@@ -8,7 +8,7 @@ ghost use Rattle.omega_model.specs.Routing.{scheduler_for};
 ghost use Rattle.omega_model.specs.declared.rows.TraceTables.{TraceTables};
 ghost use Rattle.omega_feed.specs.Asked.{home, is_job, routed, with_job};
 ghost use Rattle.omega_feed.specs.Events.{task_rows};
-ghost use Rattle.omega_feed.specs.Index.{job_at};
+ghost use Rattle.omega_feed.specs.Index.{StandsAt, job_at};
 
 use crate::activities::JobActivities;
 use crate::notes::PlaceNotes;
@@ -23,6 +23,15 @@ pub struct RoutedJob {
     /// The job's number.
     pub job: u64,
     /// The scheduler's number, from 0: 0 for services, the last one for MapReduce jobs.
+    pub scheduler: u32,
+}
+
+/// Where a job stands among all jobs, and the scheduler that works on it.
+#[derive(Clone, Copy, Debug, PartialEq, Eq)]
+pub struct JobPlace {
+    /// The place, from 0.
+    pub place: usize,
+    /// The scheduler's number, from 0.
     pub scheduler: u32,
 }
 
@@ -139,6 +148,20 @@ impl Jobs {
             return Some(guess);
         }
         self.places.get(&job).copied()
+    }
+
+    /// The place of a job and its scheduler: the only place at which it stands, `None` exactly where there is
+    /// none. Costs the logarithm of their number.
+    pub fn routed(&self, job: u64) -> Option<JobPlace>
+        ensures { (place scheduler : ℕ) → (result ≡ Some (record { place = place; scheduler = scheduler })) ↔ StandsAt self.now place job scheduler }
+    {
+        let Some(place) = self.place(job) else {
+            return None;
+        };
+        match self.at(place) {
+            Some(RoutedJob { scheduler, .. }) => Some(JobPlace { place, scheduler }),
+            None => None,
+        }
     }
 
     /// The job at a place, counted from 0. `None` exactly where there is none.

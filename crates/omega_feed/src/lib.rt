@@ -3,7 +3,7 @@
 //! `Events` are the rows of the events in order of time, and `EventRounds` cuts them into windows. `Wanted`
 //! takes them one by one, knows which tasks are to run, and says what each row does to the cell and
 //! what a scheduler is asked to place, the extra tasks of MapReduce jobs among it, and in the end what
-//! is wanted and doesn't run. `OpenJobs` are the jobs of which something may have to be placed; only
+//! is wanted and doesn't run. `OpenJobs` are the jobs of which something may have to be placed, by scheduler; only
 //! those are looked at.
 #![tactic(auto)]
 

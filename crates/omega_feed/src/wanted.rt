@@ -18,7 +18,7 @@ ghost use Rattle.omega_running.specs.Kept.{KeysRise};
 ghost use Rattle.omega_feed.specs.Asked.{activities_in, asked_after, asked_wish, asked_wishes, extras_after, is_task_of};
 ghost use Rattle.omega_feed.specs.Events.{HasOthers};
 ghost use Rattle.omega_feed.specs.Counted.{request_for};
-ghost use Rattle.omega_feed.specs.Index.{HasLowTask, job_at, routed_request, wanted_task};
+ghost use Rattle.omega_feed.specs.Index.{HasLowTask, StandsAt, routed_request, wanted_task};
 ghost use Rattle.omega_feed.specs.Left.{AreLeft};
 ghost use Rattle.omega_feed.specs.Open.{GetsNoExtras, IsOpen, IsQuietAt, OpensAtMost, OthersAreQuiet, RowOpens, StayOpen, is_missed};
 
@@ -28,7 +28,7 @@ use crate::disks::MachineDisks;
 use crate::entries::entries_of;
 use crate::events::Events;
 use crate::extras::{extra_count, has_all, running_indexes};
-use crate::jobs::{Jobs, RoutedJob};
+use crate::jobs::{JobPlace, Jobs, RoutedJob};
 use crate::open_jobs::OpenJobs;
 use crate::tasks::{TaskChange, WantedTasks};
 use crate::unplaced::{WaitingTasks, each_once};
@@ -193,12 +193,12 @@ impl Wanted {
         self.tasks.contains(key) || (key.index >= FIRST_EXTRA && self.tasks.has_job(key.job))
     }
 
-    /// The place of a job among all jobs of the trace: the only one at which it stands, `None` exactly
-    /// where there is none. Costs the logarithm of their number.
-    pub(crate) fn place(&self, job: u64) -> Option<usize>
-        ensures { (place : ℕ) → (result ≡ Some place) ↔ (job_at self.now.jobs place ≡ Some job) }
+    /// The place of a job among all jobs of the trace, and its scheduler: the only place at which it stands,
+    /// `None` exactly where there is none. Costs the logarithm of their number.
+    pub(crate) fn place(&self, job: u64) -> Option<JobPlace>
+        ensures { (place scheduler : ℕ) → (result ≡ Some (record { place = place; scheduler = scheduler })) ↔ StandsAt self.now.jobs place job scheduler }
     {
-        self.jobs.place(job)
+        self.jobs.routed(job)
     }
 
     /// Whether the job at a place is quiet on the cell of a board: none of its wanted tasks waits, and
@@ -249,9 +249,8 @@ impl Wanted {
     /// task row, each with its wanted tasks that don't run, by index, and then its extras. A job of which
     /// nothing is to be placed is left out; a job that is given up is not.
     ///
-    /// Only open jobs are looked at. Costs their number, and of those that are the scheduler's the blocks of
-    /// slots, in those with a wanted task the slots, and of each wanted task the logarithm of the number of those
-    /// that run. A job with activities costs this logarithm once more and, where it gets extras, its running ones.
+    /// Only its open jobs are looked at. Costs their number, their blocks of slots, in those with a wanted task the
+    /// slots, and of each wanted task the logarithm of the number of those that run. A job with activities costs this logarithm once more and, where it gets extras, its running ones.
     /// The wishes for extras are counted and not listed. Each other wish costs a copy of its constraints, and so do
     /// all those for extras of a job together. The number of machines costs nothing.
     pub fn requests(
@@ -268,7 +267,10 @@ impl Wanted {
         ensures low { All HasLowIndex self.now.tasks }
     {
         let mut requests = CountedRequests::new(alloc);
-        for place in open_jobs.places().iter() {
+        let Some(places) = open_jobs.places(scheduler) else {
+            return Ok(requests);
+        };
+        for place in places.iter() {
             let job = self.jobs.at(*place);
             if let Some(request) = self.request_of(alloc, job, scheduler, board)? {
                 requests.push(request)?;

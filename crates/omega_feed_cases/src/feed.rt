@@ -38,7 +38,7 @@ struct Question {
     closed: Closed,
 }
 
-/// Which jobs are closed before a scheduler is asked: none, the quiet ones, or all quiet ones but this one.
+/// Which of its jobs are closed before a scheduler is asked: none, the quiet ones, or all quiet ones but this one.
 #[derive(Clone, Copy)]
 enum Closed {
     Nothing,
@@ -57,7 +57,7 @@ enum Closed {
 /// machine or the task of each row. `ask SCHEDULER` answers what the scheduler is asked on the board
 /// once the rows were taken: each job, and for each of its wishes the task, the amount, the precedence
 /// and the number of constraints; `-` where it is asked nothing. `ask SCHEDULER settled` does so once
-/// the quiet jobs are closed, and `ask SCHEDULER reopened JOB` once they are and this job is open again.
+/// its quiet jobs are closed, and `ask SCHEDULER reopened JOB` once they are and this job is open again.
 /// `ask-by-round WINDOW SCHEDULER` answers each round's number, and what is asked once its rows were
 /// taken. `entries` answers what the rows do to the board, each once it was taken, and `entries-unwanted`
 /// what each does where no task is wanted; `waiting` how many tasks are wanted in the end and don't run
@@ -339,7 +339,7 @@ fn asked(
 {
     let mut open_jobs = OpenJobs::new(alloc);
     take_rows(wanted, &mut open_jobs, rows)?;
-    close(alloc, wanted, &mut open_jobs, board, question.closed)?;
+    close(wanted, &mut open_jobs, board, question)?;
     Ok(wanted.requests(alloc, question.scheduler, board, &open_jobs)?)
 }
 
@@ -354,36 +354,39 @@ fn take_rows(wanted: &mut Wanted, open_jobs: &mut OpenJobs, rows: &[Row]) -> Res
     Ok(())
 }
 
-/// Closes the jobs that are to be closed.
+/// Closes those of the scheduler's jobs that are to be closed.
 fn close(
-    alloc: Global,
     wanted: &Wanted,
     open_jobs: &mut OpenJobs,
     board: &Board,
-    closed: Closed,
+    question: Question,
 ) -> Result<(), Fault>
     requires { OthersAreQuiet open_jobs.old wanted.now board.now.tasks }
     ensures { OnOk result (OthersAreQuiet open_jobs.new wanted.now board.now.tasks) }
 {
+    let Question { scheduler, closed } = question;
     match closed {
         Closed::Nothing => Ok(()),
-        Closed::Quiet => Ok(open_jobs.settle(alloc, wanted, board)?),
-        Closed::QuietBut(job) => close_but_one(alloc, wanted, open_jobs, board, job),
+        Closed::Quiet => {
+            open_jobs.settle(scheduler, wanted, board);
+            Ok(())
+        }
+        Closed::QuietBut(job) => close_but_one(wanted, open_jobs, board, scheduler, job),
     }
 }
 
-/// Closes the quiet jobs and opens one again.
+/// Closes the quiet ones of a scheduler's jobs, and opens one again.
 fn close_but_one(
-    alloc: Global,
     wanted: &Wanted,
     open_jobs: &mut OpenJobs,
     board: &Board,
+    scheduler: u32,
     job: u64,
 ) -> Result<(), Fault>
     requires { OthersAreQuiet open_jobs.old wanted.now board.now.tasks }
     ensures { OnOk result (OthersAreQuiet open_jobs.new wanted.now board.now.tasks) }
 {
-    open_jobs.settle(alloc, wanted, board)?;
+    open_jobs.settle(scheduler, wanted, board);
     open_jobs.reopen(wanted, job)?;
     Ok(())
 }

@@ -11,9 +11,8 @@ ghost use Rattle.omega_free.specs.PassDesks.{IsAsked};
 
 use crate::worker::Worker;
 use omega_cell::Cell;
-use omega_feed::Wanted;
+use omega_feed::{OpenJobs, Wanted};
 use omega_model::{NoMemory, Settings};
-use omega_opening::Demand;
 use omega_plan::Indexes;
 use omega_sim::Timed;
 use std::alloc::Global;
@@ -44,24 +43,26 @@ pub fn sync_idle(
     indexes: &mut Indexes,
     settings: &Settings,
     triggers: u64,
-    demand: &Demand,
+    wanted: &Wanted,
+    open_jobs: &mut OpenJobs,
     cell: &Cell,
     now: u128,
 ) -> Result<(), NoMemory>
     requires known { AreKnown settings.now workers.old }
-    requires quiet { OthersAreQuiet demand.now.open_jobs demand.now.wanted (state cell.now.history).tasks }
-    requires asked { IsAsked demand.now.wanted }
+    requires quiet { OthersAreQuiet open_jobs.old wanted.now (state cell.now.history).tasks }
+    requires asked { IsAsked wanted.now }
     requires indexes { AreIndexesOf cell.now.history indexes.old }
     ensures indexes { AreIndexesOf cell.now.history indexes.new }
+    ensures quiet { OthersAreQuiet open_jobs.new wanted.now (state cell.now.history).tasks }
     ensures syncs { OnOk result ((reading : Reading) (past : Past)
-        → IsMoment settings.now reading demand.now.wanted cell.now.history triggers past → AreCounted cell.now.history workers.old
+        → IsMoment settings.now reading wanted.now cell.now.history triggers past → AreCounted cell.now.history workers.old
         → SyncIfIdle settings.now reading past now workers.old workers.new) }
 {
     let Some((worker, rest)) = workers.split_first_mut() else {
         return Ok(());
     };
-    worker.sync_if_idle(alloc, indexes, settings, triggers, demand, cell, now)?;
-    sync_idle(alloc, rest, indexes, settings, triggers, demand, cell, now)
+    worker.sync_if_idle(alloc, indexes, settings, triggers, wanted, open_jobs, cell, now)?;
+    sync_idle(alloc, rest, indexes, settings, triggers, wanted, open_jobs, cell, now)
 }
 
 /// Of some workers that of this scheduler commits what is still wanted of its attempt. Answers the commit with its times.
@@ -99,26 +100,28 @@ pub fn sync_by(
     indexes: &mut Indexes,
     settings: &Settings,
     triggers: u64,
-    demand: &Demand,
+    wanted: &Wanted,
+    open_jobs: &mut OpenJobs,
     cell: &Cell,
     now: u128,
 ) -> Result<(), NoMemory>
     requires known { AreKnown settings.now workers.old }
-    requires quiet { OthersAreQuiet demand.now.open_jobs demand.now.wanted (state cell.now.history).tasks }
-    requires asked { IsAsked demand.now.wanted }
+    requires quiet { OthersAreQuiet open_jobs.old wanted.now (state cell.now.history).tasks }
+    requires asked { IsAsked wanted.now }
     requires indexes { AreIndexesOf cell.now.history indexes.old }
     ensures indexes { AreIndexesOf cell.now.history indexes.new }
+    ensures quiet { OthersAreQuiet open_jobs.new wanted.now (state cell.now.history).tasks }
     ensures syncs { OnOk result ((first : ℕ) (reading : Reading) (past : Past) → AreNumbered first workers.old
-        → IsMoment settings.now reading demand.now.wanted cell.now.history triggers past → AreCounted cell.now.history workers.old
+        → IsMoment settings.now reading wanted.now cell.now.history triggers past → AreCounted cell.now.history workers.old
         → SyncIfIts settings.now reading past now by workers.old workers.new) }
 {
     let Some((worker, rest)) = workers.split_first_mut() else {
         return Ok(());
     };
     if worker.scheduler() == by {
-        return worker.sync(alloc, indexes, settings, triggers, demand, cell, now);
+        return worker.sync(alloc, indexes, settings, triggers, wanted, open_jobs, cell, now);
     }
     sync_by(
-        alloc, rest, by, indexes, settings, triggers, demand, cell, now,
+        alloc, rest, by, indexes, settings, triggers, wanted, open_jobs, cell, now,
     )
 }

@@ -52,23 +52,24 @@ fn has_wanted_wish(request: &Request, wanted: &Wanted) -> bool
 }
 
 /// A scheduler syncs at its desk: the first requests leave of which nothing is still wanted, and where none remains
-/// and there was cause for a new pass since the pass there began, a new pass begins with what is open now. `begun` and
-/// `triggers` count how often there had been cause when that pass began, and until now; the answer is the former after
-/// the sync. Where memory runs out no request has left of which something is still wanted, and no new pass has begun.
-/// Costs what `drop_unwanted` costs, and a new pass the open jobs, of those of the scheduler their slots, and its
-/// requests.
+/// and there was cause for a new pass since the pass there began, a new pass begins with what is open now, once the
+/// quiet ones of the scheduler's open jobs are closed. `begun` and `triggers` count how often there had been cause when
+/// that pass began, and until now; the answer is the former after the sync. Where memory runs out no request has left of
+/// which something is still wanted, and no new pass has begun. Costs what `drop_unwanted` costs, and a new pass the
+/// scheduler's open jobs, their slots, and its requests; other schedulers' jobs cost nothing.
 pub fn sync_desk(
     alloc: Global,
     desk: &mut Desk,
     begun: u64,
     triggers: u64,
     wanted: &Wanted,
-    open_jobs: &OpenJobs,
+    open_jobs: &mut OpenJobs,
     board: &Board,
 ) -> Result<u64, NoMemory>
-    requires quiet { OthersAreQuiet open_jobs.now wanted.now board.now.tasks }
+    requires quiet { OthersAreQuiet open_jobs.old wanted.now board.now.tasks }
     requires asked { IsAsked wanted.now }
     requires cell { IsOfSome (cell_of board.now) }
+    ensures quiet { OthersAreQuiet open_jobs.new wanted.now board.now.tasks }
     ensures same { IsSameDesk desk.old desk.new }
     ensures attempts { desk.new.attempts ≡ desk.old.attempts }
     ensures syncs { IfOk result (λ begun_then. SyncsDesk wanted.now (cell_of board.now) triggers desk.old begun desk.new begun_then) }
@@ -82,7 +83,9 @@ pub fn sync_desk(
     if triggers <= begun {
         return Ok(begun);
     }
-    let requests = wanted.requests(alloc, desk.scheduler(), board, open_jobs)?;
+    let scheduler = desk.scheduler();
+    open_jobs.settle(scheduler, wanted, board);
+    let requests = wanted.requests(alloc, scheduler, board, open_jobs)?;
     desk.begin(requests)?;
     Ok(triggers)
 }

@@ -16,9 +16,8 @@ use crate::passes::sync_desk;
 use crate::planning::{Attempt, first_attempt};
 use omega_cell::Cell;
 use omega_desk::Desk;
-use omega_feed::Wanted;
+use omega_feed::{OpenJobs, Wanted};
 use omega_model::{NoMemory, Settings, Txn};
-use omega_opening::Demand;
 use omega_plan::Indexes;
 use omega_sim::Timed;
 use std::alloc::Global;
@@ -47,27 +46,29 @@ impl Worker {
 
     /// Syncs now: its desk does, where so often there was cause for a new pass, and the attempt on the first request that
     /// remains there is planned. Where memory runs out it isn't deciding on anything new, and requests may have left the
-    /// desk. Costs what `sync_desk` costs, and the plan.
+    /// desk. Where a new pass begins the quiet ones of its scheduler's open jobs are closed. Costs what `sync_desk` costs,
+    /// and the plan.
     pub fn sync(
         &mut self,
         alloc: Global,
         indexes: &mut Indexes,
         settings: &Settings,
         triggers: u64,
-        demand: &Demand,
+        wanted: &Wanted,
+        open_jobs: &mut OpenJobs,
         cell: &Cell,
         now: u128,
     ) -> Result<(), NoMemory>
         requires known { IsKnown settings.now self.old.desk }
-        requires quiet { OthersAreQuiet demand.now.open_jobs demand.now.wanted (state cell.now.history).tasks }
-        requires asked { IsAsked demand.now.wanted }
+        requires quiet { OthersAreQuiet open_jobs.old wanted.now (state cell.now.history).tasks }
+        requires asked { IsAsked wanted.now }
         requires indexes { AreIndexesOf cell.now.history indexes.old }
         ensures same { IsSameDesk self.old.desk self.new.desk }
         ensures attempts { self.new.desk.attempts ≡ self.old.desk.attempts }
         ensures indexes { AreIndexesOf cell.now.history indexes.new }
-        ensures syncs { OnOk result (SyncsAt settings.now demand.now.wanted cell.now.history triggers now self.old self.new) }
+        ensures quiet { OthersAreQuiet open_jobs.new wanted.now (state cell.now.history).tasks }
+        ensures syncs { OnOk result (SyncsAt settings.now wanted.now cell.now.history triggers now self.old self.new) }
     {
-        let Demand { wanted, open_jobs } = demand;
         let begun = sync_desk(
             alloc,
             &mut self.desk,
@@ -90,23 +91,25 @@ impl Worker {
         indexes: &mut Indexes,
         settings: &Settings,
         triggers: u64,
-        demand: &Demand,
+        wanted: &Wanted,
+        open_jobs: &mut OpenJobs,
         cell: &Cell,
         now: u128,
     ) -> Result<(), NoMemory>
         requires known { IsKnown settings.now self.old.desk }
-        requires quiet { OthersAreQuiet demand.now.open_jobs demand.now.wanted (state cell.now.history).tasks }
-        requires asked { IsAsked demand.now.wanted }
+        requires quiet { OthersAreQuiet open_jobs.old wanted.now (state cell.now.history).tasks }
+        requires asked { IsAsked wanted.now }
         requires indexes { AreIndexesOf cell.now.history indexes.old }
         ensures indexes { AreIndexesOf cell.now.history indexes.new }
+        ensures quiet { OthersAreQuiet open_jobs.new wanted.now (state cell.now.history).tasks }
         ensures syncs { OnOk result ((reading : Reading) (past : Past)
-            → IsMoment settings.now reading demand.now.wanted cell.now.history triggers past → IsCounted cell.now.history self.old.desk
+            → IsMoment settings.now reading wanted.now cell.now.history triggers past → IsCounted cell.now.history self.old.desk
             → SyncsIfIdle settings.now reading past now self.old self.new self.old.attempt) }
     {
         if self.is_deciding() {
             return Ok(());
         }
-        self.sync(alloc, indexes, settings, triggers, demand, cell, now)
+        self.sync(alloc, indexes, settings, triggers, wanted, open_jobs, cell, now)
     }
 
     /// Commits what is still wanted of its attempt, and its desk takes what came of it; then it isn't deciding. Answers

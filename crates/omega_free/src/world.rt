@@ -213,7 +213,8 @@ impl FreeWorld for World {
             &mut self.indexes,
             &self.settings,
             self.opened as u64,
-            &self.demand,
+            &self.demand.wanted,
+            &mut self.demand.open_jobs,
             &self.cell,
             u128::from(due),
         )
@@ -241,7 +242,8 @@ impl FreeWorld for World {
             &mut self.indexes,
             &self.settings,
             self.opened as u64,
-            &self.demand,
+            &self.demand.wanted,
+            &mut self.demand.open_jobs,
             &self.cell,
             timed.time,
         )

@@ -1,17 +1,14 @@
 -- The jobs that aren't open stay quiet while a history goes on, where those are opened whose tasks its entries may stop.
 use Rattle.std.proofs.Common.{◌≡◌, ◌<◌, ◌+◌, ℕ, true, false, List, [], ◌∷◌, ◌++◌, length, take, drop, get_or, Some, refl, sym, ap, subst, arith, ◌∙◌, inl, inr}
-use Rattle.std.specs.BTreeSet as set
-use Rattle.std.specs.BTreeSet.{BTreeSet}
 use Rattle.std.specs.List.{All, flat_map, fold, list_any}
-use Rattle.std.specs.Ordering.{nat_cmp}
 use Rattle.std.proofs.lemmas.Bool.{and_from, both_ways, cases_Bool, eqb-true, le-leb, or_from, or_left, or_right}
 use Rattle.std.proofs.lemmas.Grind.{flat_map-append}
 use Rattle.std.proofs.lemmas.List.{append-nil, take-append-drop, take_all, take_more}
 use Rattle.std.proofs.lemmas.List.Elements.{All-append, All-cons, All-head, All-nil, All-tail, All-weaker}
 use Rattle.std.proofs.lemmas.List.Sums.{fold-append}
 use Rattle.omega_feed.specs.Asked.{Asked, is_task_of}
-use Rattle.omega_feed.specs.Index.{job_at}
-use Rattle.omega_feed.specs.Open.{HasItsExtras, IsOpen, IsQuiet, IsRunningExtra, OthersAreQuiet, RunsIfOf, StayOpen, is_missed}
+use Rattle.omega_feed.specs.Index.{StandsAt}
+use Rattle.omega_feed.specs.Open.{HasItsExtras, IsOpen, IsQuiet, IsRunningExtra, OpenPlaces, OthersAreQuiet, RunsIfOf, StayOpen, is_missed, is_open}
 use Rattle.omega_feed.proofs.Quiet.{still_quiet}
 use Rattle.omega_model.proofs.Growing.{state_push}
 use Rattle.omega_model.proofs.InOrder.{key_itself, key_same}
@@ -29,32 +26,32 @@ use Rattle.omega_opening.specs.Reopening.{WereQuiet, IsOpenIfMissed, OpensJobs, 
 use Rattle.omega_opening.proofs.RunOn.{runs_after}
 
 -- no job is opened
-pub opens_none : (places : BTreeSet ℕ) (asked : Asked) → OpensJobs places places asked []
-opens_none places asked = record { stay = λ place there. there; opened = All-nil _ }
+pub opens_none : (places : OpenPlaces) (asked : Asked) → OpensJobs places places asked []
+opens_none places asked = record { stay = λ scheduler place there. there; opened = All-nil _ }
 
 -- one is, if it may be missed
-pub opens_one : (before after : BTreeSet ℕ) (asked : Asked) (key : TaskKey) → StayOpen before after → IsOpenIfMissed after asked key
+pub opens_one : (before after : OpenPlaces) (asked : Asked) (key : TaskKey) → StayOpen before after → IsOpenIfMissed after asked key
     → OpensJobs before after asked (key ∷ [])
 opens_one before after asked key stay opened = record { stay = stay; opened = All-cons (IsOpenIfMissed after asked) key [] opened (All-nil _) }
 
 -- one need not be that isn't
-pub opens_unmissed : (places : BTreeSet ℕ) (asked : Asked) (key : TaskKey) → is_missed asked key ≡ false
+pub opens_unmissed : (places : OpenPlaces) (asked : Asked) (key : TaskKey) → is_missed asked key ≡ false
     → OpensJobs places places asked (key ∷ [])
-opens_unmissed places asked key not_missed = opens_one places places asked key (λ place there. there) (λ missed. absurd (both_ways _ not_missed missed))
+opens_unmissed places asked key not_missed = opens_one places places asked key (λ scheduler place there. there) (λ missed. absurd (both_ways _ not_missed missed))
 
 -- some are, and then others
-opens_more : (before middle after : BTreeSet ℕ) (asked : Asked) (keys more : List TaskKey) → OpensJobs before middle asked keys
+opens_more : (before middle after : OpenPlaces) (asked : Asked) (keys more : List TaskKey) → OpensJobs before middle asked keys
     → OpensJobs middle after asked more → OpensJobs before after asked (keys ++ more)
 opens_more before middle after asked keys more some others = record {
-  stay = λ place there. others.stay place (some.stay place there);
+  stay = λ scheduler place there. others.stay scheduler place (some.stay scheduler place there);
   opened = All-append (IsOpenIfMissed after asked) keys more
       (All-weaker (IsOpenIfMissed middle asked) (IsOpenIfMissed after asked)
-      (λ key opened wanted place here. others.stay place (opened wanted place here)) keys some.opened)
+      (λ key opened wanted place scheduler here. others.stay scheduler place (opened wanted place scheduler here)) keys some.opened)
       others.opened;
 }
 
 -- one more of some keys is
-pub opens_next : (before middle after : BTreeSet ℕ) (asked : Asked) (keys : List TaskKey) (i : ℕ) (key : TaskKey) → i < length keys
+pub opens_next : (before middle after : OpenPlaces) (asked : Asked) (keys : List TaskKey) (i : ℕ) (key : TaskKey) → i < length keys
     → OpensJobs before middle asked (take i keys) → StayOpen middle after → IsOpen after asked (get_or keys i key).job
     → OpensJobs before after asked (take (i + 1) keys)
 opens_next before middle after asked keys i key within some stay opened =
@@ -62,7 +59,7 @@ opens_next before middle after asked keys i key within some stay opened =
     (opens_more before middle after asked (take i keys) (get_or keys i key ∷ []) some (opens_one middle after asked (get_or keys i key) stay (λ wanted. opened)))
 
 -- so are those that one more of some judgements evicted
-pub opens_evicted : (before middle after : BTreeSet ℕ) (asked : Asked) (reply : List Judgement) (i : ℕ) (one : Judgement) → one ≡ get_or reply i one → i < length reply
+pub opens_evicted : (before middle after : OpenPlaces) (asked : Asked) (reply : List Judgement) (i : ℕ) (one : Judgement) → one ≡ get_or reply i one → i < length reply
     → OpensJobs before middle asked (flat_map (λ other. other.evicted) (take i reply))
     → OpensJobs middle after asked one.evicted
     → OpensJobs before after asked (flat_map (λ other. other.evicted) (take (i + 1) reply))
@@ -76,18 +73,18 @@ opens_evicted before middle after asked reply i one is within some others =
     (opens_more before middle after asked (evicted (take i reply)) one.evicted some others)
 
 -- a task of a job that isn't open, and that may be missed, is none of those whose jobs are open if they may be
-not_among : (places : BTreeSet ℕ) (asked : Asked) (keys : List TaskKey) (key : TaskKey) (place : ℕ) → job_at asked.jobs place ≡ Some key.job
-    → is_missed asked key ≡ true → set.contains nat_cmp places place ≡ false → All (IsOpenIfMissed places asked) keys
+not_among : (places : OpenPlaces) (asked : Asked) (keys : List TaskKey) (key : TaskKey) (place scheduler : ℕ) → StandsAt asked.jobs place key.job scheduler
+    → is_missed asked key ≡ true → is_open places scheduler place ≡ false → All (IsOpenIfMissed places asked) keys
     → is_among key keys ≡ false
-not_among places asked [] key place here missed closed opened = refl
-not_among places asked (first ∷ keys) key place here missed closed opened =
+not_among places asked [] key place scheduler here missed closed opened = refl
+not_among places asked (first ∷ keys) key place scheduler here missed closed opened =
     let P : TaskKey → Type 0 = IsOpenIfMissed places asked in
     or_from (same_key key first) (is_among key keys)
     (by_answer (same_key key first)
     (λ t. absurd (both_ways _ closed
-    (subst P (sym (key_same key first t)) (All-head P first keys opened) missed place here)))
+    (subst P (sym (key_same key first t)) (All-head P first keys opened) missed place scheduler here)))
     (λ f. f))
-    (not_among places asked keys key place here missed closed (All-tail P first keys opened))
+    (not_among places asked keys key place scheduler here missed closed (All-tail P first keys opened))
 
 -- what follows for a wanted task follows for each of them
 for_each_wanted : (P Q : WantedTask → Type 0) (all tasks : List WantedTask)
@@ -100,26 +97,26 @@ for_each_wanted P Q all (task ∷ tasks) follows within each =
     (follows task (within task.key (or_left _ _ (key_itself task.key))) (All-head P task tasks each))
     (for_each_wanted P Q all tasks follows (λ key named. within key (or_right (is_named key task) _ named)) (All-tail P task tasks each))
 
-module _ (before after : BTreeSet ℕ) (asked : Asked) where
+module _ (before after : OpenPlaces) (asked : Asked) where
   -- a job that isn't open, and of which a task is wanted, has its extras after an entry, too
   extras_next : (tasks : List Task) (entry : Entry) → OpensJobs before after asked (may_stop tasks entry)
-      → (place job : ℕ) → job_at asked.jobs place ≡ Some job → set.contains nat_cmp after place ≡ false
+      → (place job scheduler : ℕ) → StandsAt asked.jobs place job scheduler → is_open after scheduler place ≡ false
       → list_any (is_task_of job) asked.tasks ≡ true → HasItsExtras asked tasks job → HasItsExtras asked (tasks_after tasks entry) job
-  extras_next tasks entry opens place job here closed some its = record {
+  extras_next tasks entry opens place job scheduler here closed some its = record {
     activities = its.activities;
     has = its.has;
     extras = its.extras;
     once = its.once;
     run = All-weaker (IsRunningExtra tasks job) (IsRunningExtra (tasks_after tasks entry) job)
         (λ key is.
-        let named : job_at asked.jobs place ≡ Some key.job = here ∙ ap Some (sym is.job_is) in
+        let named : StandsAt asked.jobs place key.job scheduler = subst (λ (n : ℕ). StandsAt asked.jobs place n scheduler) (sym is.job_is) here in
         let wanted : list_any (is_task_of key.job) asked.tasks ≡ true = subst (λ (j : ℕ). list_any (is_task_of j) asked.tasks ≡ true) (sym is.job_is) some in
         let missed : is_missed asked key ≡ true =
         or_right (list_any (is_named key) asked.tasks) _ (and_from _ _ (le-leb first_extra key.index is.extra) wanted) in
         record {
           job_is = is.job_is;
           extra = is.extra;
-          runs = runs_after tasks entry key (not_among after asked (may_stop tasks entry) key place named missed closed opens.opened) is.runs;
+          runs = runs_after tasks entry key (not_among after asked (may_stop tasks entry) key place scheduler named missed closed opens.opened) is.runs;
         })
         its.extras its.run;
     enough = its.enough;
@@ -128,20 +125,20 @@ module _ (before after : BTreeSet ℕ) (asked : Asked) where
   -- after an entry the jobs that aren't open are quiet, where those are open whose tasks it may stop
   pub quiet_next : (tasks : List Task) (entry : Entry) → OthersAreQuiet before asked tasks → OpensJobs before after asked (may_stop tasks entry)
       → OthersAreQuiet after asked (tasks_after tasks entry)
-  quiet_next tasks entry quiet opens place job here closed =
-      let is : IsQuiet asked tasks job = still_quiet before after asked tasks opens.stay quiet place job here closed in
+  quiet_next tasks entry quiet opens place job scheduler here closed =
+      let is : IsQuiet asked tasks job = still_quiet before after asked tasks opens.stay quiet place job scheduler here closed in
       record {
         running = for_each_wanted (RunsIfOf job tasks) (RunsIfOf job (tasks_after tasks entry)) asked.tasks asked.tasks
             (λ task wanted runs own.
-            let named : job_at asked.jobs place ≡ Some task.key.job = here ∙ ap Some (sym (eqb-true task.key.job job own)) in
+            let named : StandsAt asked.jobs place task.key.job scheduler = subst (λ (n : ℕ). StandsAt asked.jobs place n scheduler) (sym (eqb-true task.key.job job own)) here in
             let missed : is_missed asked task.key ≡ true = or_left (list_any (is_named task.key) asked.tasks) _ wanted in
-            runs_after tasks entry task.key (not_among after asked (may_stop tasks entry) task.key place named missed closed opens.opened) (runs own))
+            runs_after tasks entry task.key (not_among after asked (may_stop tasks entry) task.key place scheduler named missed closed opens.opened) (runs own))
             (λ key wanted. wanted) is.running;
         no_extras = elim is.no_extras [
           | inl none ↦ inl none
           | inr (inl none) ↦ inr (inl none)
           | inr (inr its) ↦ elim (cases_Bool (list_any (is_task_of job) asked.tasks)) [
-            | inl some ↦ inr (inr (extras_next tasks entry opens place job here closed some its))
+            | inl some ↦ inr (inr (extras_next tasks entry opens place job scheduler here closed some its))
             | inr none ↦ inr (inl none)
           ]
         ];
@@ -179,19 +176,19 @@ state_split : (n : ℕ) (history : List Entry) → fold step (state (take n hist
 state_split n history = sym (fold-append step empty_cell (take n history) (drop n history)) ∙ ap state (take-append-drop n history)
 
 -- what is quiet on a board is quiet on the state for which it stands
-pub quiet_on : (places : BTreeSet ℕ) (asked : Asked) (one other : Cell) → one ≡ other → OthersAreQuiet places asked one.tasks
+pub quiet_on : (places : OpenPlaces) (asked : Asked) (one other : Cell) → one ≡ other → OthersAreQuiet places asked one.tasks
     → OthersAreQuiet places asked other.tasks
 quiet_on places asked one other same quiet = subst (λ (cell : Cell). OthersAreQuiet places asked cell.tasks) same quiet
 
 -- where a round's rows end at the end of a history, what is quiet there is so on its state
-pub quiet_at_end : (places : BTreeSet ℕ) (asked : Asked) (history whole : List Entry) → whole ≡ history → OthersAreQuiet places asked (state history).tasks
+pub quiet_at_end : (places : OpenPlaces) (asked : Asked) (history whole : List Entry) → whole ≡ history → OthersAreQuiet places asked (state history).tasks
     → WereQuiet places asked (length whole) history
 quiet_at_end places asked history whole same quiet =
     subst (λ (h : List Entry). OthersAreQuiet places asked (state h).tasks)
     (sym (take_all (length whole) history (let long : length whole ≡ length history = ap (λ (h : List Entry). length h) same in omega (arith, long)))) quiet
 
 -- what is quiet on the state at a place of a history, and then after the rest of it, is so on its state
-pub since_place : (places : BTreeSet ℕ) (asked : Asked) (n : ℕ) (history rest : List Entry) → rest ≡ drop n history
+pub since_place : (places : OpenPlaces) (asked : Asked) (n : ℕ) (history rest : List Entry) → rest ≡ drop n history
     → OthersAreQuiet places asked (fold step (state (take n history)) rest).tasks
     → OthersAreQuiet places asked (state history).tasks
 since_place places asked n history rest same quiet =

@@ -20,9 +20,9 @@ use omega_feed::{OpenJobs, Wanted};
 use omega_model::{Entries, Entry, MOST_MACHINES, NoMemory, Round, Row};
 use std::alloc::Global;
 
-/// Opens a round: appends its entry and those of its rows to the cell. Only jobs of which something may have to be
-/// placed are open afterwards. More than `MOST_MACHINES` machines are answered as want of memory. Costs the rows,
-/// what their entries change, and of each open job its blocks of slots and in those with a wanted task the slots.
+/// Opens a round: appends its entry and those of its rows to the cell. The jobs are opened of which something may have
+/// to be placed then; none is closed. More than `MOST_MACHINES` machines are answered as want of memory. Costs the rows,
+/// and what their entries change; jobs that were open cost nothing.
 pub fn open_round(
     alloc: Global,
     round: Round,
@@ -43,11 +43,7 @@ pub fn open_round(
         &mut demand.wanted,
         &mut demand.open_jobs,
         round,
-    )?;
-    demand
-        .open_jobs
-        .settle(alloc, &demand.wanted, cell.board())?;
-    Ok(())
+    )
 }
 
 /// Appends a round's entry and those of its rows in order. Of the jobs that aren't open, those of which

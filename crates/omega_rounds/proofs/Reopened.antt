@@ -1,14 +1,12 @@
 -- What was quiet where the rows of a round end stays so while a history goes on by commits.
 use Rattle.std.proofs.Common.{◌≡◌, ◌≤◌, ℕ, zero, suc, true, List, [], ◌∷◌, length, take, drop, Some, refl, sym, ap, subst, arith, ◌∙◌, inl, inr}
 use Rattle.std.specs.Prelude.{slice_get}
-use Rattle.std.specs.BTreeSet as set
-use Rattle.std.specs.BTreeSet.{BTreeSet}
 use Rattle.std.specs.List.{All, AllByRecursion as Each}
 use Rattle.std.proofs.lemmas.List.{append-nil, take-append-le}
 use Rattle.std.proofs.lemmas.List.Elements.{All-from_recursion}
 use Rattle.omega_model.specs.Touches.{is_commit}
 use Rattle.omega_feed.specs.Asked.{Asked}
-use Rattle.omega_feed.specs.Open.{OthersAreQuiet}
+use Rattle.omega_feed.specs.Open.{OpenPlaces, OthersAreQuiet}
 use Rattle.omega_lock.specs.Lists.{StartsWith}
 use Rattle.omega_model.specs.Lawful.{IsCommitOfRound}
 use Rattle.omega_model.specs.State.{state}
@@ -73,7 +71,7 @@ module _ (stage : Stage) (tasks : List WantedTask) (history : List Entry) (worke
       (each_dropped (λ entry. is_commit entry ≡ true) stage.opened_at history commit_since)
 
   -- what was quiet where they end stays so while the history goes on
-  pub were_quiet : (places : BTreeSet ℕ) (asked : Asked) (later : List Entry) → StartsWith later history
+  pub were_quiet : (places : OpenPlaces) (asked : Asked) (later : List Entry) → StartsWith later history
       → WereQuiet places asked stage.opened_at history → WereQuiet places asked stage.opened_at later
   were_quiet places asked later more quiet =
       let same : take stage.opened_at later ≡ take stage.opened_at history =

@@ -172,8 +172,8 @@ impl World {
     /// Goes on to the next round, if nobody has work: appends the entries of its rows, and hands each
     /// scheduler its requests. Else names the first scheduler that has work, or says that no round is
     /// left; then the world is as it was. Where memory runs out the world is gone. Costs the rows of
-    /// the round, the entries since those of the round before it, the requests, and for each scheduler a
-    /// look at the jobs of which something may have to be placed.
+    /// the round, the entries since those of the round before it, the requests, and a look at the jobs of which
+    /// something may have to be placed.
     pub fn next_round(self) -> Result<(World, RoundStep), NoMemory>
         ensures settings { IfOk result (λ next. next.0.stage.settings ≡ self.stage.settings) }
         ensures source { IfOk result (λ next. next.0.stage.source ≡ self.stage.source) }

@@ -19,8 +19,8 @@ use std::alloc::Global;
 
 /// Opens a round: appends its entry and those of its rows to the cell, and hands each scheduler what it is
 /// asked to place then; none may have work before. Only jobs of which something may have to be placed are open
-/// afterwards. Costs the rows, what their entries change, of each open job its blocks of slots and in those with a
-/// wanted task the slots, and for each scheduler a look at the open jobs.
+/// afterwards. Costs the rows, what their entries change, and of each open job its blocks of slots and in those with a
+/// wanted task the slots.
 pub(crate) fn open_and_begin(
     alloc: Global,
     round: Round,
@@ -41,27 +41,36 @@ pub(crate) fn open_and_begin(
     ensures workers { OnOk result (BeginAll demand.new.wanted cell.new.history workers.old.items workers.new.items) }
 {
     open_round(alloc, round, demand, cell)?;
-    begin_all(alloc, workers, &demand.wanted, &demand.open_jobs, cell)?;
+    begin_all(
+        alloc,
+        workers,
+        &demand.wanted,
+        &mut demand.open_jobs,
+        cell,
+    )?;
     Ok(())
 }
 
-/// Hands each scheduler what it is asked to place on the cell. Costs of each open job its blocks of slots and in
-/// those with a wanted task the slots, the extra tasks, and for each scheduler a look at the open jobs.
+/// Closes the quiet ones of each scheduler's open jobs, and hands it what it is asked to place on the cell. Costs of
+/// each open job its blocks of slots and in those with a wanted task the slots, and the extra tasks.
 fn begin_all(
     alloc: Global,
     workers: &mut Vec<Worker>,
     wanted: &Wanted,
-    open_jobs: &OpenJobs,
+    open_jobs: &mut OpenJobs,
     cell: &Cell,
 ) -> Result<(), NoMemory>
     requires asked { IsAsked wanted.now }
-    requires quiet { OthersAreQuiet open_jobs.now wanted.now (state cell.now.history).tasks }
+    requires quiet { OthersAreQuiet open_jobs.old wanted.now (state cell.now.history).tasks }
     requires few { length workers.old.items < 2 ^ 32 }
     requires no_work { HaveNoWork workers.old.items }
-    ensures { OnOk result (BeginAll wanted.now cell.now.history workers.old.items workers.new.items) }
+    ensures workers { OnOk result (BeginAll wanted.now cell.now.history workers.old.items workers.new.items) }
+    ensures quiet { OnOk result (OthersAreQuiet open_jobs.new wanted.now (state cell.now.history).tasks) }
 {
     for i in 0..workers.len() {
-        let requests = wanted.requests(alloc, i as u32, cell.board(), open_jobs)?;
+        let board = cell.board();
+        open_jobs.settle(i as u32, wanted, board);
+        let requests = wanted.requests(alloc, i as u32, board, open_jobs)?;
         workers[i].begin(requests)?;
     }
     Ok(())

@@ -25,7 +25,7 @@ begin-requires-clause-no_work c =
 
 pub begin-requires-clause-distinct : goal.begin-requires-clause-distinct
 begin-requires-clause-distinct c =
-    asked_distinct c.args.wanted.now (cell_of c.args.board.now) c.scheduler.result c.in_ok-requests.requests c.requires.asked c.requires.cell
+    asked_distinct c.args.wanted.now (cell_of c.args.board.now) c.scheduler-scheduler.result c.in_ok-requests.requests c.requires.asked c.requires.cell
     c.requests.ensures.low c.in_ok-requests.ensures.requests
 
 pub returns-clause-syncs : goal.returns-clause-syncs
@@ -36,7 +36,7 @@ returns-clause-syncs c =
     c.drop_unwanted.ensures.desk c.drop_unwanted.ensures.attempts c.in_ok-drop_unwanted.ensures.left
     c.begin.new.self c.in_ok-requests.requests none more
     (λ settings trace rows asks. c.in_ok-requests.ensures.requests settings trace rows asks
-    ∙ ap (open_requests settings trace rows (cell_of c.args.board.now)) c.scheduler.ensures)
+    ∙ ap (open_requests settings trace rows (cell_of c.args.board.now)) c.scheduler-scheduler.ensures)
     c.begin.ensures.desk c.begin.ensures.attempts c.in_ok-begin.ensures.ok
 
 pub returns-in_err-requests-clause-some : goal.returns-in_err-requests-clause-some

@@ -89,7 +89,7 @@ returns-clause-commits c =
       takes = subst (λ (workers : List Worker). TakesFrom old.settings old.demand.wanted.tasks old.cell.history c.args.scheduler workers middles)
           c.deref_mut.ensures.value c.in_ok-timed.ensures.takes;
       asked_are = c.look_on.ensures.wanted;
-      quiet = c.in_ok-self.ensures.quiet;
+      quiet = c.sync_by.ensures.quiet;
       looked = c.in_ok-self.ensures.place;
       indexes = c.sync_by.ensures.indexes;
       times = c.in_ok-push.ensures.ok;
