@@ -1,5 +1,7 @@
 pub mod AuditLines
+pub mod Begun
 pub mod Counted
+pub mod Details
 pub mod Forms
 pub mod Items
 pub mod JsonOfText

@@ -70,7 +70,7 @@ fn push_both(format: Format, bytes: &mut Vec<u8>, totals: &TimeTotals) -> Result
 }
 
 /// Appends a line behind others.
-fn push_behind(format: Format, bytes: &mut Vec<u8>, words: &[Word]) -> Result<(), NoMemory>
+pub fn push_behind(format: Format, bytes: &mut Vec<u8>, words: &[Word]) -> Result<(), NoMemory>
     ensures { OnOk result ((lines : List Line) → bytes.old.items ≡ open_form format lines
         → bytes.new.items ≡ open_form format (lines ++ map word_of words.now ∷ [])) }
 {

@@ -9,6 +9,7 @@ mod ahead;
 mod audited;
 mod claims;
 mod counts;
+mod details;
 mod entry_lines;
 mod items;
 mod json_of_text;
@@ -24,6 +25,7 @@ mod walk;
 mod writing;
 
 pub use audited::audit_report;
+pub use details::TimeDetails;
 pub use json_of_text::json_of;
-pub use laws::{json_is_compact, json_of_short_lines};
+pub use laws::{json_is_compact, json_of_short_lines, lawful_histories_begin_all_rounds};
 pub use reporting::{report, timed_report};

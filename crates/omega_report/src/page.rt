@@ -2,11 +2,13 @@
 ghost use Rattle.std.specs.Prelude.{◌≡◌, ◌∷◌, ◌++◌, [], map, IfOk, OnOk, OnErr, IsTrue};
 ghost use Rattle.std.specs.List.{list_all};
 ghost use Rattle.omega_model.specs.ReportForms.{in_format};
+ghost use Rattle.omega_report.specs.Details.{lines_told};
 ghost use Rattle.omega_report.specs.JsonOfText.{in_wide_format};
 ghost use Rattle.omega_report.specs.Pages.{added_bytes};
 ghost use Rattle.omega_report.specs.Spelling.{fits, is_no_time, is_plain_line, word_of};
 ghost use Rattle.omega_sim.specs.TimeLines.{lines_of_totals};
 
+use crate::details::{TimeDetails, push_details};
 use crate::items::{end, push_item, push_totals};
 use crate::line_words::Word;
 use omega_model::{Bytes, Format, NoMemory, Seq};
@@ -76,13 +78,18 @@ impl Page {
         Ok(Seq::of(bytes))
     }
 
-    /// The bytes of all lines in the page's format, and behind them of those of these totals. A time of more
-    /// than 64 bits is a string in JSON.
-    pub fn finish_with(self, totals: &[TimeTotals]) -> Result<Bytes, NoMemory>
-        ensures { IfOk result (λ bytes. bytes ≡ in_wide_format self.format (self.lines ++ lines_of_totals totals.now)) }
+    /// The bytes of all lines in the page's format, and behind them of those of these totals and of the times,
+    /// where these are told. A time of more than 64 bits is a string in JSON.
+    pub fn finish_with(
+        self,
+        totals: &[TimeTotals],
+        details: Option<TimeDetails>,
+    ) -> Result<Bytes, NoMemory>
+        ensures { IfOk result (λ bytes. bytes ≡ in_wide_format self.format (self.lines ++ lines_of_totals totals.now ++ lines_told details)) }
     {
         let mut bytes = self.bytes;
         push_totals(self.format, &mut bytes, totals)?;
+        push_details(self.format, &mut bytes, details)?;
         end(self.format, &mut bytes)?;
         Ok(Seq::of(bytes))
     }

@@ -2,21 +2,25 @@
 ghost use Rattle.std.specs.Prelude.{◌≡◌, ◌++◌, ◌<◌, ◌≤◌, ◌^◌, List, IfOk, OnOk, count_by, length, nat_le};
 ghost use Rattle.omega_cell.specs.Effects.{AreEffects, usage_in};
 ghost use Rattle.omega_desk.specs.Counts.{count_of};
-ghost use Rattle.omega_feed.specs.Left.{IsLeft};
-ghost use Rattle.omega_model.specs.Lawful.{Lawful, begins_round};
+ghost use Rattle.omega_feed.specs.Left.{AreLeft};
+ghost use Rattle.omega_model.specs.Lawful.{begins_round};
 ghost use Rattle.omega_model.specs.Policy.{schedulers};
 ghost use Rattle.omega_model.specs.Report.{Line};
-ghost use Rattle.omega_model.specs.ReportForms.{printed_report};
-ghost use Rattle.omega_model.specs.ReportLines.{final_lines, printed_lines};
+ghost use Rattle.omega_model.specs.ReportForms.{in_format};
+ghost use Rattle.omega_model.specs.ReportLines.{final_lines, lines_where};
 ghost use Rattle.omega_model.specs.State.{state};
+ghost use Rattle.omega_model.specs.Wanted.{WantedTask};
 ghost use Rattle.omega_model.specs.declared.entries.Entry.{Entry};
 ghost use Rattle.omega_model.specs.declared.rows.TraceTables.{TraceTables};
 ghost use Rattle.omega_model.specs.declared.settings.Format.{Format as Form};
+ghost use Rattle.omega_report.specs.Begun.{BeginsRoundsOf};
+ghost use Rattle.omega_report.specs.Details.{lines_told};
 ghost use Rattle.omega_report.specs.JsonOfText.{in_wide_format};
 ghost use Rattle.omega_report.specs.Walking.{lines_of_all, IsAfter};
 ghost use Rattle.omega_sim.specs.TimeLines.{lines_of_totals};
 
 use crate::counts::Counts;
+use crate::details::TimeDetails;
 use crate::page::Page;
 use crate::walk::{Walk, walked};
 use omega_cell::{Effects, Usage};
@@ -31,8 +35,8 @@ use std::alloc::Global;
 /// `generate` there is only the first line and what the history comes to.
 ///
 /// `effects` are those of the history, and there are at most 30 batch schedulers. The bytes are the
-/// report for each trace of which the history is a whole run under these settings, and of which `left`
-/// is what waits at the history's end.
+/// report for each trace that has as many rounds under these settings as the history begins, and for all
+/// tasks that may be wanted at the history's end, if `left` is what waits of them.
 ///
 /// Costs the entries and the lines. No line costs the machines or the tasks that run.
 pub fn report(
@@ -44,15 +48,18 @@ pub fn report(
 ) -> Result<Bytes, NoMemory>
     requires batch { settings.now.batch ≤ 30 }
     requires effects { AreEffects history.now effects.now }
-    ensures { IfOk result (λ bytes. (trace : TraceTables)
-        → Lawful settings.now trace history.now → IsLeft trace (state history.now) left.now
-        → bytes ≡ printed_report settings.now trace history.now) }
+    ensures { IfOk result (λ bytes. (trace : TraceTables) (tasks : List WantedTask)
+        → BeginsRoundsOf settings.now trace history.now → AreLeft tasks (state history.now) left.now
+        → bytes ≡ in_format settings.now.format (lines_where settings.now trace tasks history.now)) }
 {
     whole_page(alloc, settings, history, effects, left)?.finish()
 }
 
 /// The same bytes with those of the lines of these totals behind them, as the report of a simulated run has
-/// them. A time of more than 64 bits is a string in JSON.
+/// them, and then those of the lines of the times, where these are to be told. A time of more than 64 bits is
+/// a string in JSON.
+///
+/// Costs the lines of the times beside what `report` costs.
 pub fn timed_report(
     alloc: Global,
     settings: &Settings,
@@ -60,14 +67,16 @@ pub fn timed_report(
     effects: &Effects,
     left: &WaitingTasks,
     totals: &[TimeTotals],
+    details: Option<TimeDetails>,
 ) -> Result<Bytes, NoMemory>
     requires batch { settings.now.batch ≤ 30 }
     requires effects { AreEffects history.now effects.now }
-    ensures { IfOk result (λ bytes. (trace : TraceTables)
-        → Lawful settings.now trace history.now → IsLeft trace (state history.now) left.now
-        → bytes ≡ in_wide_format settings.now.format (printed_lines settings.now trace history.now ++ lines_of_totals totals.now)) }
+    ensures { IfOk result (λ bytes. (trace : TraceTables) (tasks : List WantedTask)
+        → BeginsRoundsOf settings.now trace history.now → AreLeft tasks (state history.now) left.now
+        → bytes ≡ in_wide_format settings.now.format
+            (lines_where settings.now trace tasks history.now ++ lines_of_totals totals.now ++ lines_told details)) }
 {
-    whole_page(alloc, settings, history, effects, left)?.finish_with(totals)
+    whole_page(alloc, settings, history, effects, left)?.finish_with(totals, details)
 }
 
 /// The page with all lines of the report of a history.
@@ -80,9 +89,9 @@ fn whole_page(
 ) -> Result<Page, NoMemory>
     requires batch { settings.now.batch ≤ 30 }
     requires effects { AreEffects history.now effects.now }
-    ensures { IfOk result (λ page. (trace : TraceTables)
-        → Lawful settings.now trace history.now → IsLeft trace (state history.now) left.now
-        → (page.format ≡ settings.now.format) × (page.lines ≡ printed_lines settings.now trace history.now)) }
+    ensures { IfOk result (λ page. (trace : TraceTables) (tasks : List WantedTask)
+        → BeginsRoundsOf settings.now trace history.now → AreLeft tasks (state history.now) left.now
+        → (page.format ≡ settings.now.format) × (page.lines ≡ lines_where settings.now trace tasks history.now)) }
 {
     let mut page = Page::new(alloc, settings.format);
     page.first()?;
@@ -101,10 +110,10 @@ fn summed_up(
     requires batch { settings.now.batch ≤ 30 }
     requires last { last ≡ usage_in (state history.now) }
     requires counted { length walk.tally ≡ schedulers settings.now }
-    ensures { IfOk result (λ page. (trace : TraceTables) (format : Form) (lines : List Line)
-        → Lawful settings.now trace history.now → IsLeft trace (state history.now) left.now
+    ensures { IfOk result (λ page. (trace : TraceTables) (tasks : List WantedTask) (format : Form) (lines : List Line)
+        → BeginsRoundsOf settings.now trace history.now → AreLeft tasks (state history.now) left.now
         → IsAfter (schedulers settings.now) format lines history.now walk
-        → (page.format ≡ format) × (page.lines ≡ lines ++ final_lines settings.now trace history.now)) }
+        → (page.format ≡ format) × (page.lines ≡ lines ++ final_lines settings.now trace tasks history.now)) }
 {
     let abandoned = count_given_up(left.jobs.as_slice(), settings.give_up, &walk.failures);
     let Walk {

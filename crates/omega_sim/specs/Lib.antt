@@ -4,3 +4,4 @@ pub mod Arriving
 pub mod Summing
 pub mod InBounds
 pub mod TimeLines
+pub mod TimeDetails

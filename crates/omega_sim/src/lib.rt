@@ -1,9 +1,11 @@
 //! What a virtual clock needs: when each scheduler commits next, the times of the commits that were made,
-//! and how long schedulers decided and jobs waited, as numbers and as lines of a report.
+//! the first ones of jobs, and how long schedulers decided and jobs waited, as numbers and as lines of a
+//! report.
 #![tactic(auto)]
 
 mod agenda;
 mod arrivals;
+mod details;
 mod firsts;
 mod laws;
 mod lines;
@@ -13,6 +15,7 @@ mod totals;
 
 pub use agenda::Agenda;
 pub use arrivals::Arrivals;
+pub use details::{FirstCommit, first_commits};
 pub use laws::sums_of_lawful_histories;
 pub use lines::time_lines;
 pub use sums::last_time;

@@ -82,7 +82,7 @@ pub fn first_syncs(
 }
 
 /// Notes when the scheduler of a commit synced for it, if it is the first one for its job.
-fn note_sync(syncs: &mut FirstTimes, history: &[Entry], timed: &Timed) -> Result<(), NoMemory>
+pub fn note_sync(syncs: &mut FirstTimes, history: &[Entry], timed: &Timed) -> Result<(), NoMemory>
     ensures { OnOk result ((before : List CommitTime) → AreFirstSyncs history.now before syncs.old → AreFirstSyncs history.now (before ++ timed.now ∷ []) syncs.new) }
 {
     let Some(job) = job_at(history, timed) else {
@@ -117,7 +117,7 @@ fn waited_by(job: u64, came: &FirstTimes, synced: &FirstTimes) -> u128
 }
 
 /// The job of a commit.
-fn job_at(history: &[Entry], timed: &Timed) -> Option<u64>
+pub fn job_at(history: &[Entry], timed: &Timed) -> Option<u64>
     ensures { result ≡ job_at history.now timed.now }
 {
     match history.get(timed.place as usize)? {
