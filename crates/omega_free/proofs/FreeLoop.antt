@@ -6,7 +6,7 @@ use Rattle.omega_model.specs.declared.settings.Settings.{Settings}
 use Rattle.omega_laws.specs.VirtualTime.{Timed}
 use Rattle.omega_free_laws.specs.Free.{FreeRun, after}
 use Rattle.omega_free_laws.specs.StepsLeft.{BoundsEnds, still_to_come}
-use Rattle.omega_free.specs.FreeLoop.{IsInSomeRun, Reads, StepsOn}
+use Rattle.omega_free.specs.FreeLoop.{IsInSomeRun, Reads, StandsOver, StepsOn}
 use Rattle.omega_free_laws.specs.FreeSteps.{Moment, beginning}
 use Rattle.omega_free_laws.proofs.StepsLeft.{down_one}
 
@@ -42,20 +42,21 @@ module _ {W : Type 0} (Stands : W → TraceTables → Moment → Type 0) (reads 
       → Stands first trace (beginning settings (reads settings trace)) → (steps : ℕ) × Stands new trace (after settings (reads settings trace) steps)
   runs_more first old new trace runs on begins = let at = runs begins in (suc at.0, (on trace at.0 at.1).1)
 
-  -- where nothing is due, the history and the times are those of the run
+  -- where nothing is due, it stands where the run is over
+  pub over_so : (first old new : W) (trace : TraceTables)
+      → (Stands first trace (beginning settings (reads settings trace)) → (steps : ℕ) × Stands old trace (after settings (reads settings trace) steps))
+      → StepsOn Stands reads settings old new false
+      → Stands first trace (beginning settings (reads settings trace)) → StandsOver Stands reads settings trace new
+  over_so first old new trace runs on begins = let at = runs begins in (at.0, on trace at.0 at.1)
+
+  -- and there its history and the times are those of the run
   pub ended_so : (history : W → List Entry) (times : W → List Timed)
       → ((world : W) (trace : TraceTables) (moment : Moment) → Stands world trace moment → history world ≡ moment.past.history)
       → ((world : W) (trace : TraceTables) (moment : Moment) → Stands world trace moment → times world ≡ moment.times)
-      → (first old new : W) (trace : TraceTables)
-      → (Stands first trace (beginning settings (reads settings trace)) → (steps : ℕ) × Stands old trace (after settings (reads settings trace) steps))
-      → StepsOn Stands reads settings old new false
-      → Stands first trace (beginning settings (reads settings trace)) → FreeRun settings (reads settings trace) (history new) (times new)
-  ended_so history times tells_history tells_times first old new trace runs on begins =
-      let at = runs begins in
-      let last = on trace at.0 at.1 in
-      record {
-        steps = at.0;
-        over = last.0;
-        is_history = tells_history new trace (after settings (reads settings trace) at.0) last.1;
-        is_times = tells_times new trace (after settings (reads settings trace) at.0) last.1;
-      }
+      → (world : W) (trace : TraceTables) → StandsOver Stands reads settings trace world → FreeRun settings (reads settings trace) (history world) (times world)
+  ended_so history times tells_history tells_times world trace over = record {
+    steps = over.0;
+    over = over.1.0;
+    is_history = tells_history world trace (after settings (reads settings trace) over.0) over.1.1;
+    is_times = tells_times world trace (after settings (reads settings trace) over.0) over.1.1;
+  }

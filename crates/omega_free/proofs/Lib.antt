@@ -12,3 +12,4 @@ pub mod FreeWorlds
 pub mod WantedAnswers
 pub mod ReadyToCommit
 pub mod WorldSteps
+pub mod WholeRuns

@@ -9,6 +9,7 @@ use Rattle.omega_feed.specs.Asked.{Asked, asked_after}
 use Rattle.omega_feed.specs.Open.{OthersAreQuiet}
 use Rattle.omega_laws.specs.Simulated.{greatest_time}
 use Rattle.omega_laws.specs.VirtualTime.{Timed}
+use Rattle.omega_model.specs.Feed.{rounds}
 use Rattle.omega_model.specs.Lawful.{opened}
 use Rattle.omega_model.specs.Ranges.{IsInRange}
 use Rattle.omega_model.specs.State.{state}
@@ -126,6 +127,11 @@ indexes_opened trace rows history round indexes are =
     (λ before entry none still. indexes_on indexes before (before ++ entry ∷ []) (entry ∷ [], refl) still)
     trace rows history round are
 
+-- with the same settings and rounds, these are the trace's still
+same_rounds : (old new : World) (trace : TraceTables) {moment : Moment} → new.settings ≡ old.settings → new.rounds ≡ old.rounds → StandsIn old trace moment
+    → new.rounds ≡ rounds trace new.settings.window
+same_rounds old new trace settings_are rounds_are is = rounds_are ∙ is.rounds ∙ sym (ap (λ (s : Settings). rounds trace s.window) settings_are)
+
 -- a world opens this round, which is the next one
 pub record OpensIt (old new : World) (round : Round) (due : ℕ) : Type 0 where
   pub next_was : old.next ≡ Some (record { round = round; due = due })
@@ -209,6 +215,7 @@ module _ (old new : World) (round : Round) (due : ℕ) (it : OpensIt old new rou
       quiet = looked_quiet new it.looked it.quiet;
       indexes = it.indexes;
     };
+    rounds = same_rounds old new trace it.settings_are it.rounds_are is;
   }
 
 -- ---- a commit
@@ -343,6 +350,7 @@ module _ (old : World) (trace : TraceTables) (moment : Moment) (is : StandsIn ol
         quiet = looked_quiet new it.looked it.quiet;
         indexes = it.indexes;
       };
+      rounds = same_rounds old new trace it.settings_are it.rounds_are is;
     }
 
 -- ---- what is wanted on the way

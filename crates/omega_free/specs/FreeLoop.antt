@@ -78,3 +78,9 @@ abbrev pub StepsOn : {W : Type 0} → (W → TraceTables → Moment → Type 0) 
 StepsOn {W} Stands reads settings old new happened =
     (trace : TraceTables) (steps : ℕ) → Stands old trace (after settings (reads settings trace) steps)
     → StandsOn Stands reads settings new trace steps happened
+
+-- a world stands at a moment of the run of a trace at which it is over
+abbrev pub StandsOver : {W : Type 0} → (W → TraceTables → Moment → Type 0) → Reads → Settings → TraceTables → W → Type 0
+StandsOver Stands reads settings trace world =
+    (steps : ℕ) × (IsOver settings (reads settings trace) (after settings (reads settings trace) steps)
+    × Stands world trace (after settings (reads settings trace) steps))

@@ -1,6 +1,7 @@
 -- What a world by the free clock keeps beside the moment that is its own.
 use Rattle.std.specs.Prelude.{◌≡◌, ◌≤◌, ℕ, true, All, List, Option, IfSome, drop, length, option_map, slice_get}
 use Rattle.omega_laws.specs.Simulated.{greatest_time}
+use Rattle.omega_model.specs.Feed.{rounds}
 use Rattle.omega_model.specs.Ranges.{IsInRange}
 use Rattle.omega_model.specs.Touches.{is_commit}
 use Rattle.omega_model.specs.declared.rows.Round.{Round}
@@ -9,6 +10,7 @@ use Rattle.omega_opening.specs.Reopening.{WereQuiet}
 use Rattle.omega_plan.specs.Indexes.{AreIndexesOf}
 use Rattle.omega_free_laws.specs.FreeSteps.{Moment}
 use Rattle.omega_free_laws.specs.Readings.{by_rows}
+use Rattle.omega_free.specs.FreeLoop.{StandsOver}
 use Rattle.omega_free.specs.FreeWorlds.{FreeState, Stands}
 use Rattle.omega_free.specs.declared.next_round.NextRound.{NextRound}
 use Rattle.omega_free.specs.declared.world.World.{World}
@@ -39,7 +41,12 @@ pub record KeepsWorld (world : World) : Type 0 where
   pub quiet : WereQuiet world.demand.open_jobs world.demand.wanted world.looked_at world.cell.history
   pub indexes : AreIndexesOf world.cell.history world.indexes
 
--- in the run of a trace in which tasks end by its rows, this moment is the world's
+-- in the run of a trace in which tasks end by its rows, this moment is the world's, and the trace's rounds are its rounds
 pub record StandsIn (world : World) (trace : TraceTables) (moment : Moment) : Type 0 where
   pub stands : Stands world.settings (by_rows trace) moment (state_of world)
   pub keeps : KeepsWorld world
+  pub rounds : world.rounds ≡ rounds trace world.settings.window
+
+-- in the run of a trace in which tasks end by its rows, a world stands where it is over
+abbrev pub IsAtEnd : World → TraceTables → Type 0
+IsAtEnd world trace = StandsOver StandsIn (λ settings trace. by_rows trace) world.settings trace world

@@ -6,3 +6,4 @@ pub mod StepsTold
 pub mod KeptWorlds
 pub mod NextEvents
 pub mod FreeLoop
+pub mod FreeRuns

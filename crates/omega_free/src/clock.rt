@@ -8,7 +8,7 @@ ghost use Rattle.omega_model.specs.declared.rows.TraceTables.{TraceTables};
 ghost use Rattle.omega_model.specs.declared.settings.Settings.{Settings};
 ghost use Rattle.omega_laws.specs.VirtualTime.{Timed};
 ghost use Rattle.omega_free_laws.specs.Free.{FreeRun, after};
-ghost use Rattle.omega_free.specs.FreeLoop.{IsInSomeRun, StepsOn};
+ghost use Rattle.omega_free.specs.FreeLoop.{IsInSomeRun, StandsOver, StepsOn};
 ghost use Rattle.omega_free_laws.specs.FreeSteps.{Moment, beginning};
 ghost use Rattle.omega_free.specs.NextEvents.{due_commit, due_event, next_event, sooner_event};
 
@@ -170,7 +170,8 @@ fn happen<W: FreeWorld>(world: &mut W) -> Result<bool, NoMemory>
 }
 
 /// Lets a world that stands at the beginning run by the free clock until it is over. Its history and the times of its
-/// commits are those of the definitions, and the only ones. Where memory runs out the world may stand anywhere.
+/// commits are those of the definitions, and the only ones; and it stands at the moment at which it is over. Where memory
+/// runs out the world may stand anywhere.
 pub fn in_free_time<W: FreeWorld>(world: &mut W) -> Result<(), NoMemory>
     requires tries { 1 ≤ (W.settings world.old).tries }
     requires start { (trace : TraceTables) × W.stands world.old trace (beginning (W.settings world.old) (W.reads (W.settings world.old) trace)) }
@@ -179,6 +180,9 @@ pub fn in_free_time<W: FreeWorld>(world: &mut W) -> Result<(), NoMemory>
     ensures only { OnOk result ((trace : TraceTables) → W.stands world.old trace (beginning (W.settings world.old) (W.reads (W.settings world.old) trace))
         → (history : List Entry) (times : List Timed) → FreeRun (W.settings world.old) (W.reads (W.settings world.old) trace) history times
         → (history ≡ W.history world.new) × (times ≡ W.times world.new)) }
+    ensures over { OnOk result ((trace : TraceTables) → W.stands world.old trace (beginning (W.settings world.old) (W.reads (W.settings world.old) trace))
+        → StandsOver W.stands W.reads (W.settings world.old) trace world.new) }
+    ensures stays { W.settings world.new ≡ W.settings world.old }
 {
     while happen(world)? {}
     Ok(())

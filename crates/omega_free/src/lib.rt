@@ -11,6 +11,8 @@ mod crew;
 mod next_round;
 mod passes;
 mod planning;
+mod remains;
+mod run;
 mod worker;
 mod world;
 
@@ -19,5 +21,7 @@ pub use crew::{commit_by, first_due, sync_by, sync_idle};
 pub use next_round::NextRound;
 pub use passes::{drop_unwanted, sync_desk};
 pub use planning::Attempt;
+pub use remains::Remains;
+pub use run::{WholeRun, run_freely};
 pub use worker::Worker;
 pub use world::World;

@@ -3,6 +3,7 @@ ghost use Rattle.std.specs.Prelude.{◌≡◌, ◌≤◌, ◌<◌, ◌+◌, ◌+
 ghost use Rattle.std.specs.List.{fold};
 ghost use Rattle.omega_feed.specs.Open.{OthersAreQuiet};
 ghost use Rattle.omega_feed.specs.Asked.{asked_after};
+ghost use Rattle.omega_feed.specs.Left.{AreLeft};
 ghost use Rattle.omega_model.specs.Feed.{feed};
 ghost use Rattle.omega_model.specs.Lawful.{opened};
 ghost use Rattle.omega_model.specs.Policy.{schedulers};
@@ -16,14 +17,17 @@ ghost use Rattle.omega_opening.specs.Reopening.{WereQuiet};
 ghost use Rattle.omega_free_laws.specs.FreeSteps.{beginning};
 ghost use Rattle.omega_free_laws.specs.Readings.{by_rows};
 ghost use Rattle.omega_free.specs.FreeWorkers.{AreNewWorkers};
-ghost use Rattle.omega_free.specs.KeptWorlds.{StandsIn};
+ghost use Rattle.omega_free.specs.FreeRuns.{IsWholeRun};
+ghost use Rattle.omega_free.specs.KeptWorlds.{IsAtEnd, StandsIn};
 
 use crate::clock::FreeWorld;
 use crate::crew::{commit_by, first_due, sync_by, sync_idle};
 use crate::next_round::{NextRound, next_round};
+use crate::remains::Remains;
+use crate::run::WholeRun;
 use crate::worker::Worker;
 use omega_cell::Cell;
-use omega_feed::{EventRounds, Events, OpenJobs, Wanted};
+use omega_feed::{EventRounds, Events, OpenJobs, WaitingTasks, Wanted};
 use omega_model::{NoMemory, Round, Settings, TraceTables};
 use omega_opening::{Demand, open_round, reopen_since};
 use omega_plan::Indexes;
@@ -31,7 +35,8 @@ use omega_sim::Times;
 use std::alloc::Global;
 
 /// Schedulers that share one cell and work on a trace by the free clock, where tasks end by the trace's rows.
-#[derive(Drop)]
+///
+/// It writes its `Drop` out, so that whoever lets it go cites one function.
 pub struct World {
     pub alloc: Global,
     pub settings: Settings,
@@ -52,6 +57,24 @@ pub struct World {
     pub indexes: Indexes,
     /// The times of the commits so far.
     pub times: Times,
+}
+
+impl Drop for World {
+    fn drop(self) {
+        let World {
+            alloc: _,
+            settings: _,
+            rounds: _,
+            opened: _,
+            next: _,
+            demand: _,
+            looked_at: _,
+            cell: _,
+            workers: _,
+            indexes: _,
+            times: _,
+        } = self;
+    }
 }
 
 impl World {
@@ -81,6 +104,48 @@ impl World {
             indexes: Indexes::new(alloc),
             times: Times::new(alloc),
         })
+    }
+
+    /// How many wanted tasks don't run, and their jobs, each once. Costs a look at each job of the trace and a look-up for
+    /// each wanted task.
+    pub fn waiting(&self) -> Result<WaitingTasks, NoMemory>
+        ensures { IfOk result (AreLeft self.now.demand.wanted.tasks (state self.now.cell.history)) }
+    {
+        self.demand.wanted.left(self.alloc, self.cell.board())
+    }
+
+    /// The whole run of a trace, where this world stands at its end and these tasks wait there.
+    pub fn into_run(self, left: WaitingTasks) -> WholeRun
+        ensures { (trace : TraceTables) → IsAtEnd self trace → AreLeft self.demand.wanted.tasks (state self.cell.history) left
+            → IsWholeRun self.settings trace result }
+    {
+        let World {
+            alloc: _,
+            settings: _,
+            rounds,
+            opened: _,
+            next: _,
+            demand,
+            looked_at: _,
+            cell,
+            workers,
+            indexes,
+            times,
+        } = self;
+        let (history, effects, board) = cell.into_run();
+        WholeRun {
+            history,
+            times,
+            effects,
+            left,
+            rounds,
+            remains: Remains {
+                board,
+                demand,
+                workers,
+                indexes,
+            },
+        }
     }
 }
 

@@ -23,4 +23,5 @@ returns-clause-stands c = record {
     quiet = all_quiet c.new-open_jobs.result c.in_ok-events.wanted (state (take 0 c.new.result.history)).tasks (ap (λ (asked : Asked). asked.tasks) c.in_ok-events.ensures.wanted);
     indexes = c.new-2.ensures c.new.result.history;
   };
+  rounds = c.in_ok-rounds.ensures ∙ ap (gathered c.args.settings.now.window) c.in_ok-events.ensures.events;
 }
