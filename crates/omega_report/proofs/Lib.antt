@@ -3,6 +3,7 @@ pub mod Closing
 mod Examples
 pub mod Empty
 pub mod Tallying
+pub mod Numbered
 pub mod WalkGrows
 pub mod Summed
 pub mod RoundsCounted

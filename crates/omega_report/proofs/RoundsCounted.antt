@@ -21,6 +21,7 @@ use Rattle.omega_model.specs.declared.rows.Row.{Row}
 use Rattle.omega_model.specs.declared.rows.Row.TheVariants.{Machine as MachineEvent, Attr as AttrEvent, Task as TaskEvent}
 use Rattle.omega_model.specs.declared.rows.TraceTables.{TraceTables}
 use Rattle.omega_model.specs.declared.settings.Settings.{Settings}
+use Rattle.omega_report.specs.Begun.{BeginsRoundsOf}
 
 -- how many rounds some entries begin
 abbrev begun : List Entry → ℕ
@@ -101,6 +102,6 @@ rounds_begun settings trace rows start (round ∷ some) history whole =
     let rest = rounds_begun settings trace (rows ++ round.rows) whole.0 some history whole.1.1 in
     omega (arith, first, rest)
 
-pub rounds_counted : (settings : Settings) (trace : TraceTables) (history : List Entry) → Lawful settings trace history → count_by begins_round history ≡ length (rounds trace settings.window)
+pub rounds_counted : (settings : Settings) (trace : TraceTables) (history : List Entry) → Lawful settings trace history → BeginsRoundsOf settings trace history
 rounds_counted settings trace history lawful =
     let all = rounds_begun settings trace [] [] (rounds trace settings.window) history lawful in omega (arith, all)

@@ -9,10 +9,11 @@ use Rattle.omega_model.specs.ExtraTasks.{capacity_in_all, used_in}
 use Rattle.omega_model.specs.Feed.{rounds}
 use Rattle.omega_model.specs.Policy.{schedulers}
 use Rattle.omega_model.specs.Report.{Line}
-use Rattle.omega_model.specs.ReportCounts.{Counts, abandoned, counts_of, jobs_of, waiting}
-use Rattle.omega_model.specs.ReportLines.{counts_line, final_lines, first_line, middle_lines, printed_lines, scheduler_lines}
+use Rattle.omega_model.specs.ReportCounts.{Counts, abandoned_of, counts_of, jobs_of, waiting_of}
+use Rattle.omega_model.specs.ReportLines.{counts_line, final_lines, first_line, lines_where, middle_lines, scheduler_lines}
 use Rattle.omega_model.specs.Requests.{failed, given_up}
 use Rattle.omega_model.specs.State.{state}
+use Rattle.omega_model.specs.Wanted.{WantedTask}
 use Rattle.omega_model.specs.declared.cells.Need.{Need}
 use Rattle.omega_model.specs.declared.entries.Entry.{Entry}
 use Rattle.omega_model.specs.declared.rows.TraceTables.{TraceTables}
@@ -48,9 +49,9 @@ schedulers_said history (c ∷ cs) from (suc count) is =
     ap₂ (λ (x : Counts) (xs : List Line). counts_line from x ∷ xs) one (schedulers_said history cs (from + 1) count others)
 
 -- how many jobs are given up
-pub abandoned_is : (settings : Settings) (trace : TraceTables) (history : List Entry) (count : ℕ → ℕ) (jobs : List ℕ) → ((job : ℕ) → count job ≡ failed history job)
-    → jobs ≡ jobs_of (waiting trace (state history)) → count_by (λ job. nat_le settings.give_up (count job)) jobs ≡ length (abandoned settings trace history)
-abandoned_is settings trace history count jobs failing is =
+pub abandoned_is : (settings : Settings) (due : List WantedTask) (history : List Entry) (count : ℕ → ℕ) (jobs : List ℕ) → ((job : ℕ) → count job ≡ failed history job)
+    → jobs ≡ jobs_of (waiting_of due (state history)) → count_by (λ job. nat_le settings.give_up (count job)) jobs ≡ length (abandoned_of settings due history)
+abandoned_is settings due history count jobs failing is =
     let same : (λ job. nat_le settings.give_up (count job)) ≡ given_up settings history = λ i job. nat_le settings.give_up (failing job i) in
     ap (λ (p : ℕ → Bool). count_by p jobs) same
     ∙ sym (length-filter (given_up settings history) jobs)
@@ -64,21 +65,21 @@ joined lines counts sizes usage left =
     ∙ append_assoc (lines ++ sizes ∷ []) counts (usage ∷ left ∷ [])
     ∙ append_assoc lines (sizes ∷ []) (counts ++ usage ∷ left ∷ [])
 
--- the numbers of the last lines
-pub record Sums (settings : Settings) (trace : TraceTables) (history : List Entry) (entries windows : ℕ) (counts : List HeldCounts) (used capacity : Need) (tasks jobs : ℕ) : Type 0 where
+-- the numbers of the last lines, where these tasks are wanted at the end
+pub record Sums (settings : Settings) (trace : TraceTables) (due : List WantedTask) (history : List Entry) (entries windows : ℕ) (counts : List HeldCounts) (used capacity : Need) (tasks jobs : ℕ) : Type 0 where
   pub all_entries : entries ≡ length history
   pub all_rounds : windows ≡ length (rounds trace settings.window)
   pub all_counts : map counts_in counts ≡ tallies (schedulers settings) history
   pub all_used : used ≡ used_in (state history)
   pub all_capacity : capacity ≡ capacity_in_all (state history)
-  pub all_tasks : tasks ≡ length (waiting trace (state history))
-  pub all_jobs : jobs ≡ length (abandoned settings trace history)
+  pub all_tasks : tasks ≡ length (waiting_of due (state history))
+  pub all_jobs : jobs ≡ length (abandoned_of settings due history)
 
-pub summed_is : (settings : Settings) (trace : TraceTables) (history : List Entry) (entries windows : ℕ) (counts : List HeldCounts) (used capacity : Need) (tasks jobs : ℕ)
-    (lines sized counted usage last : List Line) → Sums settings trace history entries windows counts used capacity tasks jobs
+pub summed_is : (settings : Settings) (trace : TraceTables) (due : List WantedTask) (history : List Entry) (entries windows : ℕ) (counts : List HeldCounts) (used capacity : Need) (tasks jobs : ℕ)
+    (lines sized counted usage last : List Line) → Sums settings trace due history entries windows counts used capacity tasks jobs
     → sized ≡ lines ++ sizes_line entries windows ∷ [] → counted ≡ sized ++ lines_of_all counts → usage ≡ counted ++ usage_line used capacity ∷ []
-    → last ≡ usage ++ unplaced_line tasks jobs ∷ [] → last ≡ lines ++ final_lines settings trace history
-summed_is settings trace history entries windows counts used capacity tasks jobs lines sized counted usage last sums a b c d =
+    → last ≡ usage ++ unplaced_line tasks jobs ∷ [] → last ≡ lines ++ final_lines settings trace due history
+summed_is settings trace due history entries windows counts used capacity tasks jobs lines sized counted usage last sums a b c d =
     let own : lines_of_all counts ≡ scheduler_lines settings history = schedulers_said history counts 0 (schedulers settings) sums.all_counts in
     let sizes = ap₂ sizes_line sums.all_entries sums.all_rounds in
     let uses = ap₂ usage_line sums.all_used sums.all_capacity in
@@ -92,9 +93,9 @@ pub length_tallies : (count : ℕ) (history : List Entry) → length (tallies co
 length_tallies count history = length-map-range_with_len (λ scheduler. counts_of scheduler history) 0 count
 
 -- the first line, those of the entries and the last ones are all lines
-pub lines_said : (settings : Settings) (trace : TraceTables) (history : List Entry) (empty first lines : List Line) → empty ≡ [] → first ≡ empty ++ first_line ∷ []
-    → lines ≡ (first ++ middle_lines settings.command history) ++ final_lines settings trace history
-    → lines ≡ printed_lines settings trace history
-lines_said settings trace history empty first lines none begun all =
+pub lines_said : (settings : Settings) (trace : TraceTables) (due : List WantedTask) (history : List Entry) (empty first lines : List Line) → empty ≡ [] → first ≡ empty ++ first_line ∷ []
+    → lines ≡ (first ++ middle_lines settings.command history) ++ final_lines settings trace due history
+    → lines ≡ lines_where settings trace due history
+lines_said settings trace due history empty first lines none begun all =
     let start : first ≡ first_line ∷ [] = begun ∙ ap (λ ls. ls ++ first_line ∷ []) none in
-    all ∙ ap (λ ls. (ls ++ middle_lines settings.command history) ++ final_lines settings trace history) start
+    all ∙ ap (λ ls. (ls ++ middle_lines settings.command history) ++ final_lines settings trace due history) start

@@ -4,7 +4,6 @@ use Rattle.std.specs.Prelude.{Result, Ok, Err, OnOk, IsTrue}
 use Rattle.std.specs.List.{enumerate_from, flat_map}
 use Rattle.std.proofs.lemmas.Grind.{flat_map-append}
 use Rattle.std.proofs.lemmas.List.{drop_more, take_all, take_more}
-use Rattle.std.proofs.lemmas.List.FromFn.{get_or-enumerate_from, length-enumerate_from}
 use Rattle.omega_cell.specs.Effects.{usage_in}
 use Rattle.omega_cell.specs.declared.effects.Usage.{Usage}
 use Rattle.omega_model.specs.Cell.{Cell, keys_of}
@@ -29,6 +28,7 @@ use Rattle.omega_report.specs.Pages.{PageState}
 use Rattle.omega_report.specs.Walking.{if_printed, lines_to, prints_rounds, use_if, IsAfter}
 use Rattle.omega_report.specs.Tallies.{tallies}
 use Rattle.omega_report.specs.declared.walk.Walk.{Walk}
+use Rattle.omega_report.proofs.Numbered.{numbered_all, numbered_more}
 
 -- the lines of the tasks that an entry displaces, by their names
 map_twice : {X Y Z : Type 0} (f : Y → Z) (g : X → Y) (xs : List X) → map f (map g xs) ≡ map (λ x. f (g x)) xs
@@ -77,10 +77,7 @@ taken_more history n entry below is = take_more history n entry below ∙ ap (λ
 lines_more : (history : List Entry) (n : ℕ) (entry : Entry) → n < length history → entry ≡ get_or history n entry
     → lines_to history (n + 1) ≡ lines_to history n ++ (lines_on (state (take n history)) entry ++ use_lines history (n + 1))
 lines_more history n entry below is =
-    let long : length (enumerate_from 0 history) ≡ length history = length-enumerate_from 0 history in
-    let there : get_or (enumerate_from 0 history) n (0, entry) ≡ (n, entry) =
-    get_or-enumerate_from 0 history n (0, entry) below ∙ ap₂ (λ (k : ℕ) (e : Entry). (k, e)) (omega arith) (sym is) in
-    ap (flat_map (lines_at history)) (take_more (enumerate_from 0 history) n (0, entry) (omega (arith, long, below)) ∙ ap (λ (x : ℕ × Entry). take n (enumerate_from 0 history) ++ x ∷ []) there)
+    ap (flat_map (lines_at history)) (numbered_more history n entry below is)
     ∙ flat_map-append (lines_at history) (take n (enumerate_from 0 history)) ((n, entry) ∷ [])
     ∙ ap (λ ls. lines_to history n ++ ls) (append-nil (lines_at history (n, entry)))
 
@@ -188,8 +185,7 @@ pub after_all : (schedulers : ℕ) (format : Format) (start : List Line) (comman
     → IsAfter schedulers format (start ++ middle_lines command history) history walk
 after_all schedulers format start command prints history n walk is past so =
     let all : take n history ≡ history = take_all n history past in
-    let long : length (enumerate_from 0 history) ≡ length history = length-enumerate_from 0 history in
-    let lines : lines_to history n ≡ round_lines history = ap (flat_map (lines_at history)) (take_all n (enumerate_from 0 history) (omega (arith, long, past))) in
+    let lines : lines_to history n ≡ round_lines history = ap (flat_map (lines_at history)) (numbered_all history n past) in
     subst (λ (h : List Entry). IsAfter schedulers format (start ++ middle_lines command history) h walk) all
     (subst (λ (ls : List Line). IsAfter schedulers format ls (take n history) walk)
     (ap₂ (λ (p : Bool) (ls : List Line). start ++ if_printed p ls) is lines ∙ ap (λ ls. start ++ ls) (middle_printed command history)) so)

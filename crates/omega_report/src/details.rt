@@ -69,11 +69,7 @@ fn push_time(
 }
 
 /// Appends the line of each job.
-fn push_firsts(
-    format: Format,
-    bytes: &mut Vec<u8>,
-    firsts: &[FirstCommit],
-) -> Result<(), NoMemory>
+fn push_firsts(format: Format, bytes: &mut Vec<u8>, firsts: &[FirstCommit]) -> Result<(), NoMemory>
     ensures { OnOk result ((lines : List Line) → bytes.old.items ≡ open_form format lines
         → bytes.new.items ≡ open_form format (lines ++ map first_commit_line firsts.now)) }
 {

@@ -69,7 +69,8 @@ IsIn numbers n = list_any (λ m. m == n) numbers ≡ true
 in_more : (n m : ℕ) (ns : List ℕ) → IsIn ns n → IsIn (m ∷ ns) n
 in_more n m ns is = or_right (m == n) (list_any (λ k. k == n) ns) is
 
-each_is_in : (ns : List ℕ) → Each (IsIn ns) ns
+-- each number of a list stands in it
+pub each_is_in : (ns : List ℕ) → Each (IsIn ns) ns
 each_is_in [] = tt
 each_is_in (n ∷ ns) = (
   rw (eq-eqb n n refl) refl,

@@ -1,4 +1,5 @@
 pub mod FirstOf
+pub mod FirstCommits
 pub mod Soonest
 pub mod Added
 pub mod Early

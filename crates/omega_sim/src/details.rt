@@ -44,14 +44,14 @@ pub fn first_commits(
 {
     let came = &arrivals.first_times;
     let mut syncs = FirstTimes::new(alloc);
-    let mut firsts = Seq::new(alloc);
+    let mut firsts = Vec::new(alloc);
     for timed in times {
         if let Some(first) = first_at(came, &syncs, history, timed) {
             firsts.push(first)?;
         }
         note_sync(&mut syncs, history, timed)?;
     }
-    Ok(firsts)
+    Ok(Seq::of(firsts))
 }
 
 /// What is told of a commit, if it is the first of its job: none of those before it, for which these syncs are
@@ -64,7 +64,7 @@ fn first_at(
 ) -> Option<FirstCommit>
     ensures { (before : List CommitTime) → AreFirstSyncs history.now before syncs.now
         → first_commits_by (time_at came.now) history.now (before ++ timed.now ∷ [])
-            ≡ first_commits_by (time_at came.now) history.now before ++ cons_option result [] }
+        ≡ first_commits_by (time_at came.now) history.now before ++ cons_option result [] }
 {
     let job = job_at(history, timed)?;
     if syncs.of(job).is_some() {

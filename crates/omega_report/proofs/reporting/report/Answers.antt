@@ -1,10 +1,12 @@
 use Rattle.std.proofs.Common.{◌≡◌, ℕ, List, ap₂, ◌∙◌}
-use Rattle.omega_feed.specs.Left.{IsLeft}
+use Rattle.omega_feed.specs.Left.{AreLeft}
 use Rattle.omega_model.proofs.Answering.{if_ok_weaker}
-use Rattle.omega_model.specs.Lawful.{Lawful}
-use Rattle.omega_model.specs.ReportForms.{in_format, printed_report}
+use Rattle.omega_model.specs.ReportForms.{in_format}
+use Rattle.omega_model.specs.ReportLines.{lines_where}
 use Rattle.omega_model.specs.State.{state}
+use Rattle.omega_model.specs.Wanted.{WantedTask}
 use Rattle.omega_model.specs.declared.rows.TraceTables.{TraceTables}
+use Rattle.omega_report.specs.Begun.{BeginsRoundsOf}
 use Rattle.omega_report.proofs.reporting.report.Goals as goal
 
 pub returns : goal.returns
@@ -13,7 +15,8 @@ returns c =
     let history = c.args.history.now in
     let page = c.in_ok-whole_page.field-0 in
     if_ok_weaker (λ (bytes : List ℕ). bytes ≡ in_format page.format page.lines)
-    (λ (bytes : List ℕ). (trace : TraceTables) → Lawful settings trace history → IsLeft trace (state history) c.args.left.now → bytes ≡ printed_report settings trace history)
+    (λ (bytes : List ℕ). (trace : TraceTables) (due : List WantedTask) → BeginsRoundsOf settings trace history → AreLeft due (state history) c.args.left.now
+    → bytes ≡ in_format settings.format (lines_where settings trace due history))
     c.finish.result
-    (λ bytes is trace lawful waits. let whole = c.in_ok-whole_page.ensures trace lawful waits in is ∙ ap₂ in_format whole.0 whole.1)
+    (λ bytes is trace due begun waits. let whole = c.in_ok-whole_page.ensures trace due begun waits in is ∙ ap₂ in_format whole.0 whole.1)
     c.finish.ensures

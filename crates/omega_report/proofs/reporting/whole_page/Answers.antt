@@ -1,12 +1,13 @@
 use Rattle.std.proofs.Common.{◌≡◌, ap, ◌∙◌}
 use Rattle.std.specs.Prelude.{length}
-use Rattle.omega_feed.specs.Left.{IsLeft}
+use Rattle.omega_feed.specs.Left.{AreLeft}
 use Rattle.omega_model.proofs.Answering.{if_ok_weaker}
-use Rattle.omega_model.specs.Lawful.{Lawful}
 use Rattle.omega_model.specs.Policy.{schedulers}
-use Rattle.omega_model.specs.ReportLines.{printed_lines}
+use Rattle.omega_model.specs.ReportLines.{lines_where}
 use Rattle.omega_model.specs.State.{state}
+use Rattle.omega_model.specs.Wanted.{WantedTask}
 use Rattle.omega_model.specs.declared.rows.TraceTables.{TraceTables}
+use Rattle.omega_report.specs.Begun.{BeginsRoundsOf}
 use Rattle.omega_report.specs.Pages.{PageState}
 use Rattle.omega_report.proofs.Summed.{length_tallies, lines_said}
 use Rattle.omega_report.proofs.reporting.whole_page.Goals as goal
@@ -21,12 +22,12 @@ returns c =
     let history = c.args.history.now in
     let left = c.args.left.now in
     if_ok_weaker _
-    (λ (page : PageState). (trace : TraceTables) → Lawful settings trace history → IsLeft trace (state history) left
-    → (page.format ≡ settings.format) × (page.lines ≡ printed_lines settings trace history))
+    (λ (page : PageState). (trace : TraceTables) (due : List WantedTask) → BeginsRoundsOf settings trace history → AreLeft due (state history) left
+    → (page.format ≡ settings.format) × (page.lines ≡ lines_where settings trace due history))
     c.summed_up.result
-    (λ page says trace lawful waits.
-    let whole = says trace _ _ lawful waits c.in_ok-walk.ensures in (
+    (λ page says trace due begun waits.
+    let whole = says trace due _ _ begun waits c.in_ok-walk.ensures in (
       whole.0 ∙ c.in_ok-first.ensures.format ∙ c.new-page.ensures.format,
-      lines_said settings trace history c.new-page.result.lines c.first.new.self.lines page.lines c.new-page.ensures.lines c.in_ok-first.ensures.lines whole.1,
+      lines_said settings trace due history c.new-page.result.lines c.first.new.self.lines page.lines c.new-page.ensures.lines c.in_ok-first.ensures.lines whole.1,
     ))
     c.summed_up.ensures
