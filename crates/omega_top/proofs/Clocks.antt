@@ -36,6 +36,10 @@ turns_not_free Simulate clock takes = absurd (cc)
 pub resume_not_free : (settings : Settings) → settings.command ≡ Resume → runs_freely settings ≡ false
 resume_not_free settings is = ap (λ (command : Command). freely_by command settings.clock) is
 
+-- nor is an audit
+pub audit_not_free : (settings : Settings) → settings.command ≡ Audit → runs_freely settings ≡ false
+audit_not_free settings is = ap (λ (command : Command). freely_by command settings.clock) is
+
 -- one that is free is of `simulate`, and the clock is the free one
 free_choice : (command : Command) (clock : Clock) → freely_by command clock ≡ true → (command ≡ Simulate) × (clock ≡ Free)
 free_choice Simulate Free free = (refl, refl)
@@ -81,8 +85,8 @@ module _ (settings : Settings) (trace : TraceTables) (history : List Entry) wher
 -- ---- what holds of a free run
 
 module _ (settings : Settings) (trace : TraceTables) (history : List Entry) where
-  pub free_laws : IsInRange settings → IsFree settings trace history → KeepsFreeLaws settings trace history
-  free_laws range free =
+  pub keeps_free_laws : IsInRange settings → IsFree settings trace history → KeepsFreeLaws settings trace history
+  keeps_free_laws range free =
       let window = range.window.0 in
       record {
         times = free.0;
