@@ -1,5 +1,6 @@
 pub mod AuditedLines
 pub mod AuditEnds
+pub mod Clocks
 pub mod Completing
 pub mod Making
 pub mod Reading
@@ -9,6 +10,7 @@ pub mod NoHistory
 pub mod Ordering
 pub mod Unread
 pub mod Timing
+pub mod Told
 pub mod Written
 pub mod Replayed
 pub mod GoneOn

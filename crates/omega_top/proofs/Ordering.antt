@@ -8,8 +8,9 @@ use Rattle.omega_model.specs.declared.rows.TraceTables.{TraceTables}
 use Rattle.omega_model.specs.declared.settings.Command.{Command}
 use Rattle.omega_model.specs.declared.settings.Command.TheVariants.{Audit, Generate, Replay, Resume, Run, Simulate}
 use Rattle.omega_model.specs.declared.settings.Settings.{Settings}
+use Rattle.omega_top.specs.Clocks.{IsTimedRun}
 use Rattle.omega_top.specs.Commands.{OrderedBy}
-use Rattle.omega_top.specs.Reports.{AreTimesBy, AreTotalsBy}
+use Rattle.omega_top.specs.Reports.{AreTimesBy}
 
 -- of a command that has neither threads nor a clock
 module _ (command : Command) (settings : Settings) (trace : TraceTables) (history : List Entry)
@@ -48,14 +49,11 @@ pub untimed_by_threads : (command : Command) (settings : Settings) (trace : Trac
 untimed_by_threads command settings trace history is = subst (λ (by : Command). AreTimesBy by settings trace history None) (sym is) refl
 
 pub timed_by_clock : (command : Command) (settings : Settings) (trace : TraceTables) (history : List Entry) (times : List Timed)
-    → command ≡ Simulate → SimulatedWith settings trace history times → AreTimesBy command settings trace history (Some times)
-timed_by_clock command settings trace history times is simulated =
-    subst (λ (by : Command). AreTimesBy by settings trace history (Some times)) (sym is) simulated
+    → command ≡ Simulate → IsTimedRun settings trace history times → AreTimesBy command settings trace history (Some times)
+timed_by_clock command settings trace history times is timed =
+    subst (λ (by : Command). AreTimesBy by settings trace history (Some times)) (sym is) timed
 
 -- of the one that goes on from kept lines
 pub by_resume : (command : Command) (settings : Settings) (trace : TraceTables) (history : List Entry) → command ≡ Resume → InTurns history
     → OrderedBy command settings trace history
 by_resume command settings trace history is turns = subst (λ (by : Command). OrderedBy by settings trace history) (sym is) turns
-
-pub no_totals : (command : Command) (settings : Settings) (trace : TraceTables) (history : List Entry) → command ≡ Resume → AreTotalsBy command settings trace history None
-no_totals command settings trace history is = subst (λ (by : Command). AreTotalsBy by settings trace history None) (sym is) refl

@@ -1,5 +1,5 @@
 -- What holds of the history of every run.
-use Rattle.std.proofs.Common.{◌≡◌, List, [], true, refl, subst, sym}
+use Rattle.std.proofs.Common.{◌≡◌, List, [], true, false, refl, subst, sym}
 use Rattle.std.specs.Prelude.{◌≢◌}
 use Rattle.omega_cell.proofs.Evictions.{evictions_go_down}
 use Rattle.omega_cell.proofs.Gangs.{no_gang_is_split}
@@ -17,9 +17,11 @@ use Rattle.omega_model.specs.declared.settings.Command.{Command}
 use Rattle.omega_model.specs.declared.settings.Command.TheVariants.{Audit, Generate, Replay, Resume, Run, Simulate}
 use Rattle.omega_model.specs.declared.settings.Settings.{Settings}
 use Rattle.omega_top.specs.Answers.{HasHistory, IfReported, IsTheOnly}
+use Rattle.omega_top.specs.Clocks.{runs_freely}
 use Rattle.omega_top.specs.Commands.{OrderedBy, takes_turns}
 use Rattle.omega_top.specs.Runs.{IsRun}
 use Rattle.omega_top.specs.SoundHistory.{IsSoundHistory}
+use Rattle.omega_top.proofs.Clocks.{turns_not_free}
 
 -- a legal history is sound
 pub sound_of : (history : List Entry) → Legal history → IsSoundHistory history
@@ -41,7 +43,7 @@ module _ (settings : Settings) (trace : TraceTables) (history : List Entry) wher
 
   -- where the schedulers take turns it is in turns
   pub turns_of_run : IsRun settings trace history → takes_turns settings.command ≡ true → InTurns history
-  turns_of_run run takes = turns_by settings.command run.ordered takes
+  turns_of_run run takes = turns_by settings.command (run.ordered (turns_not_free settings.command settings.clock takes)) takes
 
   only_by : (command : Command) → command ≢ Run → Lawful settings trace history → OrderedBy command settings trace history
       → (other : List Entry) → Lawful settings trace other → OrderedBy command settings trace other → other ≡ history
@@ -53,9 +55,9 @@ module _ (settings : Settings) (trace : TraceTables) (history : List Entry) wher
       (only_simulated settings trace other history simulated.0 ordered.0 simulated.1 ordered.1).0
   only_by Run ordered_so lawful ordered other also any = absurd (ordered_so refl)
 
-  -- without threads it is the only one
-  pub only_run : IsRun settings trace history → settings.command ≢ Run → IsTheOnly settings trace history
-  only_run run no_threads = only_by settings.command no_threads run.lawful run.ordered
+  -- without threads, and where rounds wait for all, it is the only one
+  pub only_run : IsRun settings trace history → runs_freely settings ≡ false → settings.command ≢ Run → IsTheOnly settings trace history
+  only_run run waits no_threads = only_by settings.command no_threads (run.lawful waits) (run.ordered waits)
 
 -- what follows from what holds of a run that reached its report
 pub reported : (Fact More : Type 0) (status : Status) → (Fact → More) → IfReported Fact status → IfReported More status

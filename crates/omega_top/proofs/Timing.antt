@@ -1,10 +1,11 @@
--- What a simulated run needs of its trace.
+-- What a run by a clock needs of its trace.
 use Rattle.std.proofs.Common.{◌≡◌, ◌∙◌, ◌≤◌, ◌<◌, ◌^◌, ℕ, List, [], ◌∷◌, Option, Some, None, Bool, true, false, arith, map, ap, refl, sym}
 use Rattle.std.specs.Prelude.{All, unwrap_or, ◌==◌}
 use Rattle.std.specs.List.{filter, last_or}
 use Rattle.std.proofs.lemmas.List.Elements.{All-head, All-tail, All-same}
 use Rattle.omega_feed.proofs.Cutting.{rounds_have}
-use Rattle.omega_laws.specs.Simulated.{SimulatedWith}
+use Rattle.omega_free.proofs.FreeSums.{free_sums_fit}
+use Rattle.omega_laws.proofs.OnlyTimes.{simulated_times}
 use Rattle.omega_laws.specs.VirtualTime.{Timed}
 use Rattle.omega_model.specs.Feed.{feed, rounds, time_of}
 use Rattle.omega_model.specs.Fields.{ActivityFields, most_activities}
@@ -14,12 +15,15 @@ use Rattle.omega_model.specs.Ranges.{IsInRange}
 use Rattle.omega_model.specs.declared.entries.Entry.{Entry}
 use Rattle.omega_model.specs.declared.rows.Round.{Round}
 use Rattle.omega_model.specs.declared.rows.TraceTables.{TraceTables}
-use Rattle.omega_model.specs.declared.settings.Command.{Command}
-use Rattle.omega_model.specs.declared.settings.Command.TheVariants.{Audit, Generate, Replay, Resume, Run, Simulate}
+use Rattle.omega_model.specs.declared.settings.Clock.{Clock}
+use Rattle.omega_model.specs.declared.settings.Clock.TheVariants.{Free, Rounds}
 use Rattle.omega_model.specs.declared.settings.Settings.{Settings}
 use Rattle.omega_rounds.specs.Stages.{Source, WorldState}
+use Rattle.omega_sim.proofs.Fitting.{sums_fit}
 use Rattle.omega_sim.specs.InBounds.{IsInBounds}
-use Rattle.omega_top.specs.Reports.{AreReadRounds, AreTimesBy}
+use Rattle.omega_sim.specs.Summing.{SumsFit}
+use Rattle.omega_top.specs.Clocks.{IsRunBy}
+use Rattle.omega_top.specs.Reports.{AreReadRounds}
 use Rattle.omega_top.specs.Runs.{IsOver}
 
 one_few : (job : ℕ) (before : Option ℕ) (row : ActivityFields) (rows : List ActivityFields) (own : Bool) → (row.job == job) ≡ own
@@ -53,15 +57,12 @@ trace_in_bounds settings trace some range within are early few =
       activities = λ job. last_few job None trace.activities (omega arith) few;
     }
 
--- whose commits have times is a simulated run, with these times
-pub simulated_by : (command : Command) (settings : Settings) (trace : TraceTables) (history : List Entry) (times : List Timed)
-    → AreTimesBy command settings trace history (Some times) → SimulatedWith settings trace history times
-simulated_by Simulate settings trace history times is = is
-simulated_by Replay settings trace history times is = absurd (cc)
-simulated_by Run settings trace history times is = absurd (cc)
-simulated_by Generate settings trace history times is = absurd (cc)
-simulated_by Resume settings trace history times is = absurd (cc)
-simulated_by Audit settings trace history times is = absurd (cc)
+-- what is added up of the times of a run by either clock fits
+pub timed_sums_fit : (clock : Clock) (settings : Settings) (trace : TraceTables) → IsInRange settings → IsInBounds trace
+    → (history : List Entry) (times : List Timed) → IsRunBy clock settings trace history times → SumsFit history times
+timed_sums_fit Rounds settings trace range bounds history times run =
+    sums_fit settings trace range bounds history times (simulated_times settings trace history times run)
+timed_sums_fit Free settings trace range bounds history times run = free_sums_fit settings trace range bounds history times run
 
 -- the rounds of a world whose run is over are those of its trace
 pub rounds_of_trace : (settings : Settings) (trace : TraceTables) (world : WorldState)

@@ -1,7 +1,9 @@
 pub mod Faults
+pub mod Clocks
 pub mod Commands
 pub mod Reports
 pub mod Answers
+pub mod FreeAnswers
 pub mod Audits
 pub mod Chosen
 pub mod Reads

@@ -1,6 +1,7 @@
 //! What the top call answers.
+use omega_free::Remains as FreeRemains;
 use omega_model::{Entries, Settings, Status};
-use omega_rounds::Remains;
+use omega_rounds::Remains as RoundsRemains;
 
 /// The answer of the top call.
 #[derive(Drop)]
@@ -13,4 +14,13 @@ pub struct Done {
     /// What is left of the world in which a trace ran, for nothing but to be let go: that takes time, which a
     /// program that ends afterwards can leave to the system. No clause speaks of it.
     pub remains: Option<Remains>,
+}
+
+/// What is left of the world in which a trace ran.
+#[derive(Drop)]
+pub enum Remains {
+    /// Of a world whose rounds wait for all schedulers.
+    OfRounds(RoundsRemains),
+    /// Of a world by the free clock.
+    Free(FreeRemains),
 }

@@ -3,13 +3,15 @@
 
 mod auditing;
 mod done;
+mod free_run;
 mod replay;
 mod report;
 mod resuming;
 mod status;
+mod told;
 mod top;
 mod trace;
 
-pub use done::Done;
+pub use done::{Done, Remains};
 pub use status::{Line, exit_status, fault_line};
 pub use top::{omega, omega_with};

@@ -12,7 +12,7 @@ use omega_report::{report, timed_report};
 use std::alloc::Global;
 
 /// The bytes of the report of a run, in the format of the settings; that of a simulated run also says how long
-/// its schedulers decided and how long its jobs waited.
+/// its schedulers decided and how long its jobs waited, and, if the settings ask for it, tells each time.
 pub fn report_of_run(alloc: Global, settings: &Settings, run: &WholeRun) -> Result<Bytes, NoMemory>
     requires range { IsInRange settings.now }
     requires effects { AreEffects run.now.history run.now.effects }
@@ -20,11 +20,12 @@ pub fn report_of_run(alloc: Global, settings: &Settings, run: &WholeRun) -> Resu
         → IsReport settings.now trace run.now.history bytes) }
 {
     let history = run.history.as_slice();
-    match &run.totals {
+    match &run.told {
         None => report(alloc, settings, history, &run.effects, &run.left),
-        Some(totals) => {
-            let totals = totals.as_slice();
-            timed_report(alloc, settings, history, &run.effects, &run.left, totals)
+        Some(told) => {
+            let totals = told.totals.as_slice();
+            let details = told.lend_details();
+            timed_report(alloc, settings, history, &run.effects, &run.left, totals, details)
         }
     }
 }

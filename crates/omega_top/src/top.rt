@@ -14,7 +14,9 @@ ghost use Rattle.omega_model.specs.declared.settings.Command.TheVariants.{Audit,
 ghost use Rattle.omega_top.specs.Answers.{Answers, EndsRun, HasHistory, HasReadCause, HasWholeCommits, IfReported, IsOnlyRun, IsOrderedRun, IsSomeRun, IsWholeRun, IsWritten, NoneRose, Writes, WritesNothing};
 ghost use Rattle.omega_top.specs.Audits.{EntersKept, IsAudit, IsNotOfKept, IsUntouched, KeepsAudited};
 ghost use Rattle.omega_top.specs.Commands.{makes_tables, reads_tables, takes_turns, uses_keeper};
+ghost use Rattle.omega_top.specs.Clocks.{runs_freely};
 ghost use Rattle.omega_top.specs.Chosen.{AreChosenBy, AreTaken, Audits, EntersChosen, MakesTables, Resumes};
+ghost use Rattle.omega_top.specs.FreeAnswers.{HasFreeLaws, IsFreeRun, IsOnlyFreeRun, IsSomeFreeRun};
 ghost use Rattle.omega_top.specs.Reads.{Reads, StayUnread, left_by};
 ghost use Rattle.omega_top.specs.Resumes.{EndsBy, IsResume, IsSomeResume, KeepsRounds, StaysAtKeeper};
 ghost use Rattle.omega_top.specs.Runs.{IsRun};
@@ -54,8 +56,9 @@ use std::thread::Threads;
 ///
 /// Settings are answered unless the words weren't read; then no folder and no path was entered, and all
 /// tables are as they were. On `run` each scheduler has a thread of its own, which passes the gate, and the call may
-/// wait; on `simulate` the commits stand in the order of a virtual clock; on the other commands that run a
-/// trace the schedulers take turns.
+/// wait; on `simulate` the commits stand in the order of a virtual clock: by the clock of rounds a round opens
+/// when all have decided on the one before, and by the free clock when its rows are due, whoever decides. On
+/// the other commands that run a trace the schedulers take turns.
 pub fn omega<R: Threads + Wait + Sync, T: Tables, K: Sink, G: Gate + Sync, P: Keeper>(
     rt: &R,
     alloc: Global,
@@ -90,17 +93,25 @@ pub fn omega<R: Threads + Wait + Sync, T: Tables, K: Sink, G: Gate + Sync, P: Ke
     ensures complete_made { MakesTables (map (λ word. word.now) words.now) → ¬ Rose (K.faults out.old) (K.faults out.new)
         → AreTaken (map (λ word. word.now) words.now) → (result.status ≡ Status.Done) ⊎ (result.status ≡ NoMemory) }
 
-    ensures lawful { (bytes : Table → List ℕ) → IfSome result.settings
-        (λ settings. Reads settings (T.rest tables.old) bytes → IsWholeRun settings (trace_of bytes) result.history result.status) }
-    ensures only { (bytes : Table → List ℕ) → IfSome result.settings
-        (λ settings. settings.command ≢ Run → Reads settings (T.rest tables.old) bytes → IsOnlyRun settings (trace_of bytes) result.history result.status) }
-    ensures ordered { (bytes : Table → List ℕ) → IfSome result.settings
-        (λ settings. Reads settings (T.rest tables.old) bytes → IsOrderedRun settings (trace_of bytes) result.history result.status) }
+    ensures lawful { (bytes : Table → List ℕ) → IfSome result.settings (λ settings. runs_freely settings ≡ false
+        → Reads settings (T.rest tables.old) bytes → IsWholeRun settings (trace_of bytes) result.history result.status) }
+    ensures only { (bytes : Table → List ℕ) → IfSome result.settings (λ settings. runs_freely settings ≡ false → settings.command ≢ Run
+        → Reads settings (T.rest tables.old) bytes → IsOnlyRun settings (trace_of bytes) result.history result.status) }
+    ensures ordered { (bytes : Table → List ℕ) → IfSome result.settings (λ settings. runs_freely settings ≡ false
+        → Reads settings (T.rest tables.old) bytes → IsOrderedRun settings (trace_of bytes) result.history result.status) }
     ensures turns { IfSome result.settings (λ settings. takes_turns settings.command ≡ true → InTurns result.history) }
-    ensures whole_commits { (bytes : Table → List ℕ) → IfSome result.settings
-        (λ settings. Reads settings (T.rest tables.old) bytes → HasWholeCommits settings (trace_of bytes) result.history result.status) }
-    ensures some_run { IfSome result.settings (λ settings. settings.command ≢ Audit
+    ensures whole_commits { (bytes : Table → List ℕ) → IfSome result.settings (λ settings. runs_freely settings ≡ false
+        → Reads settings (T.rest tables.old) bytes → HasWholeCommits settings (trace_of bytes) result.history result.status) }
+    ensures some_run { IfSome result.settings (λ settings. runs_freely settings ≡ false → settings.command ≢ Audit
         → IsSomeRun settings result.history result.status (K.written out.old) (K.written out.new)) }
+    ensures free { (bytes : Table → List ℕ) → IfSome result.settings (λ settings. runs_freely settings ≡ true
+        → Reads settings (T.rest tables.old) bytes → IsFreeRun settings (trace_of bytes) result.history result.status) }
+    ensures free_laws { (bytes : Table → List ℕ) → IfSome result.settings (λ settings. runs_freely settings ≡ true
+        → Reads settings (T.rest tables.old) bytes → HasFreeLaws settings (trace_of bytes) result.history result.status) }
+    ensures only_free { (bytes : Table → List ℕ) → IfSome result.settings (λ settings. runs_freely settings ≡ true
+        → Reads settings (T.rest tables.old) bytes → IsOnlyFreeRun settings (trace_of bytes) result.history result.status) }
+    ensures some_free_run { IfSome result.settings (λ settings. runs_freely settings ≡ true
+        → IsSomeFreeRun settings result.history result.status (K.written out.old) (K.written out.new)) }
     ensures sound { IsSoundHistory result.history }
     ensures history { HasHistory result.history result.status }
     ensures written { (bytes : Table → List ℕ) → IfSome result.settings (λ settings. Reads settings (T.rest tables.old) bytes
@@ -176,16 +187,25 @@ pub fn omega_with<R: Threads + Wait + Sync, T: Tables, K: Sink, G: Gate + Sync, 
     ensures read_fault { HasReadCause (T.faults tables.old) (T.faults tables.new) result.status }
     ensures write_fault { result.status ≡ WriteFault → Rose (K.faults out.old) (K.faults out.new) }
 
-    ensures lawful { (bytes : Table → List ℕ) → Reads settings.now (T.rest tables.old) bytes
+    ensures lawful { runs_freely settings.now ≡ false → (bytes : Table → List ℕ) → Reads settings.now (T.rest tables.old) bytes
         → IsWholeRun settings.now (trace_of bytes) result.history result.status }
-    ensures only { settings.now.command ≢ Run → (bytes : Table → List ℕ) → Reads settings.now (T.rest tables.old) bytes
+    ensures only { runs_freely settings.now ≡ false → settings.now.command ≢ Run → (bytes : Table → List ℕ) → Reads settings.now (T.rest tables.old) bytes
         → IsOnlyRun settings.now (trace_of bytes) result.history result.status }
-    ensures ordered { (bytes : Table → List ℕ) → Reads settings.now (T.rest tables.old) bytes
+    ensures ordered { runs_freely settings.now ≡ false → (bytes : Table → List ℕ) → Reads settings.now (T.rest tables.old) bytes
         → IsOrderedRun settings.now (trace_of bytes) result.history result.status }
     ensures turns { takes_turns settings.now.command ≡ true → InTurns result.history }
-    ensures whole_commits { (bytes : Table → List ℕ) → Reads settings.now (T.rest tables.old) bytes
+    ensures whole_commits { runs_freely settings.now ≡ false → (bytes : Table → List ℕ) → Reads settings.now (T.rest tables.old) bytes
         → HasWholeCommits settings.now (trace_of bytes) result.history result.status }
-    ensures some_run { settings.now.command ≢ Audit → IsSomeRun settings.now result.history result.status (K.written out.old) (K.written out.new) }
+    ensures some_run { runs_freely settings.now ≡ false → settings.now.command ≢ Audit
+        → IsSomeRun settings.now result.history result.status (K.written out.old) (K.written out.new) }
+    ensures free { runs_freely settings.now ≡ true → (bytes : Table → List ℕ) → Reads settings.now (T.rest tables.old) bytes
+        → IsFreeRun settings.now (trace_of bytes) result.history result.status }
+    ensures free_laws { runs_freely settings.now ≡ true → (bytes : Table → List ℕ) → Reads settings.now (T.rest tables.old) bytes
+        → HasFreeLaws settings.now (trace_of bytes) result.history result.status }
+    ensures only_free { runs_freely settings.now ≡ true → (bytes : Table → List ℕ) → Reads settings.now (T.rest tables.old) bytes
+        → IsOnlyFreeRun settings.now (trace_of bytes) result.history result.status }
+    ensures some_free_run { runs_freely settings.now ≡ true
+        → IsSomeFreeRun settings.now result.history result.status (K.written out.old) (K.written out.new) }
     ensures sound { IsSoundHistory result.history }
     ensures history { HasHistory result.history result.status }
     ensures written { (bytes : Table → List ℕ) → Reads settings.now (T.rest tables.old) bytes

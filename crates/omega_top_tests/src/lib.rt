@@ -1,6 +1,7 @@
 //! Tests of the top call: whole runs whose reads and writes are cut or fail, audits whose loading or writing
-//! fails, runs that go on from kept lines, and runs on threads in which schedulers are held. All other runs are
-//! the folders of `tests/` at the top of the repository. And a test of the JSON of lines that are given as text.
+//! fails, runs that go on from kept lines, one by the free clock, and runs on threads in which schedulers are
+//! held. All other runs are the folders of `tests/` at the top of the repository. And a test of the JSON of lines
+//! that are given as text.
 //!
 //! They stand apart from `omega_top`, since a crate with tests is proved once more with them.
 #![tactic(auto)]
@@ -9,6 +10,8 @@
 mod audits;
 #[cfg(test)]
 mod faults;
+#[cfg(test)]
+mod free;
 #[cfg(test)]
 mod json;
 #[cfg(test)]

@@ -2,6 +2,7 @@ use Rattle.std.proofs.Common.{subst}
 use Rattle.omega_laws.proofs.TimeOrder.{simulated_is_lawful}
 use Rattle.omega_laws.specs.Simulated.{SimulatedWith}
 use Rattle.omega_model.specs.declared.settings.Settings.{Settings}
+use Rattle.omega_top.proofs.Clocks.{by_rounds}
 use Rattle.omega_top.proofs.NewWorlds.{is_over}
 use Rattle.omega_top.proofs.Ordering.{by_clock, by_threads, by_turns, timed_by_clock, untimed, untimed_by_threads}
 use Rattle.omega_top.proofs.replay.run_to_end.Goals as goal
@@ -25,7 +26,8 @@ returns-in_ok-world-in-Simulate g c =
           (simulated_is_lawful _ trace _ _ (run.simulated trace made))
           (by_clock settings.command _ trace _ _ c.in-Simulate.is (run.simulated trace made));
       timed = λ trace made. timed_by_clock settings.command settings trace _ _ c.in-Simulate.is
-          (subst (λ (some : Settings). SimulatedWith some trace c.in_ok-world-in-Simulate.world.history c.in_ok-world-in-Simulate.times) c.requires.by (run.simulated trace made));
+          (by_rounds settings trace _ _ c.in-Simulate.is c.requires.rounds
+          (subst (λ (some : Settings). SimulatedWith some trace c.in_ok-world-in-Simulate.world.history c.in_ok-world-in-Simulate.times) c.requires.by (run.simulated trace made)));
     }
 
 pub returns-in_ok-in_turns-in_default : goal.returns-in_ok-in_turns-in_default

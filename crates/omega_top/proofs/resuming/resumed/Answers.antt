@@ -6,7 +6,9 @@ use Rattle.omega_rounds.specs.Resuming.{LeavesKept, lines_behind}
 use Rattle.omega_rounds.specs.Stages.{Stage}
 use Rattle.omega_top.proofs.GoneOn.{keeps_whole, stops_from, stops_whole}
 use Rattle.omega_top.proofs.NewWorlds.{in_run, is_over}
-use Rattle.omega_top.proofs.Ordering.{by_resume, no_totals}
+use Rattle.omega_top.proofs.Clocks.{resume_not_free}
+use Rattle.omega_top.proofs.Ordering.{by_resume}
+use Rattle.omega_top.proofs.Told.{nothing_told}
 use Rattle.omega_top.proofs.resuming.resumed.Goals as goal
 
 pub returns-in_err-world-clause-refused : goal.returns-in_err-world-clause-refused
@@ -46,7 +48,7 @@ returns-in-Ok-whole_run-clause-run g c =
     let new = c.in-Ok.ensures.stage in
     let made = in_run settings trace c.in-Ok.world.stage new in
     let run = c.in_ok-world.ensures in
-    c.in-Ok-whole_run.ensures.run settings trace
+    c.in-Ok-whole_run.ensures.run settings trace (resume_not_free settings c.requires.command)
     (is_over settings trace c.in-Ok.world.stage c.in_ok-world.world (ap (λ (at : Stage). at.settings) new) made run.source run.settings run.last (run.lawful trace made)
     (by_resume settings.command _ trace _ c.requires.command run.turns))
-    (no_totals settings.command settings trace _ c.requires.command)
+    (nothing_told settings trace _ settings.command c.requires.command)

@@ -10,7 +10,7 @@ use Rattle.omega_top.proofs.AuditedLines.{audit_completes, no_memory_audit}
 use Rattle.omega_top.proofs.Completing.{completes, completes_resume, ends_well}
 use Rattle.omega_top.proofs.GoneOn.{no_memory_resume, no_memory_some_resume}
 use Rattle.omega_top.proofs.Reading.{entered_reads, reads_alone}
-use Rattle.omega_top.proofs.SomeRun.{no_memory_run}
+use Rattle.omega_top.proofs.SomeRun.{no_memory_free_run, no_memory_run}
 use Rattle.omega_top.proofs.Unread.{entered_no_further, untouched}
 use Rattle.omega_top.proofs.top.omega.Goals as goal
 
@@ -23,17 +23,32 @@ returns-clause-first g c bytes =
 pub returns-clause-lawful : goal.returns-clause-lawful
 returns-clause-lawful g c bytes =
     rw c.omega_with.ensures.settings
-    (λ reads. c.omega_with.ensures.lawful bytes (entered_reads c.in-Ok.parsed.settings _ _ bytes c.enter.ensures.rests reads))
+    (λ waits reads. c.omega_with.ensures.lawful waits bytes (entered_reads c.in-Ok.parsed.settings _ _ bytes c.enter.ensures.rests reads))
 
 pub returns-clause-only : goal.returns-clause-only
 returns-clause-only g c bytes =
     rw c.omega_with.ensures.settings
-    (λ others reads. c.omega_with.ensures.only others bytes (entered_reads c.in-Ok.parsed.settings _ _ bytes c.enter.ensures.rests reads))
+    (λ waits others reads. c.omega_with.ensures.only waits others bytes (entered_reads c.in-Ok.parsed.settings _ _ bytes c.enter.ensures.rests reads))
 
 pub returns-clause-ordered : goal.returns-clause-ordered
 returns-clause-ordered g c bytes =
     rw c.omega_with.ensures.settings
-    (λ reads. c.omega_with.ensures.ordered bytes (entered_reads c.in-Ok.parsed.settings _ _ bytes c.enter.ensures.rests reads))
+    (λ waits reads. c.omega_with.ensures.ordered waits bytes (entered_reads c.in-Ok.parsed.settings _ _ bytes c.enter.ensures.rests reads))
+
+pub returns-clause-free : goal.returns-clause-free
+returns-clause-free g c bytes =
+    rw c.omega_with.ensures.settings
+    (λ free reads. c.omega_with.ensures.free free bytes (entered_reads c.in-Ok.parsed.settings _ _ bytes c.enter.ensures.rests reads))
+
+pub returns-clause-free_laws : goal.returns-clause-free_laws
+returns-clause-free_laws g c bytes =
+    rw c.omega_with.ensures.settings
+    (λ free reads. c.omega_with.ensures.free_laws free bytes (entered_reads c.in-Ok.parsed.settings _ _ bytes c.enter.ensures.rests reads))
+
+pub returns-clause-only_free : goal.returns-clause-only_free
+returns-clause-only_free g c bytes =
+    rw c.omega_with.ensures.settings
+    (λ free reads. c.omega_with.ensures.only_free free bytes (entered_reads c.in-Ok.parsed.settings _ _ bytes c.enter.ensures.rests reads))
 
 pub returns-clause-turns : goal.returns-clause-turns
 returns-clause-turns g c = rw c.omega_with.ensures.settings c.omega_with.ensures.turns
@@ -41,7 +56,7 @@ returns-clause-turns g c = rw c.omega_with.ensures.settings c.omega_with.ensures
 pub returns-clause-whole_commits : goal.returns-clause-whole_commits
 returns-clause-whole_commits g c bytes =
     rw c.omega_with.ensures.settings
-    (λ reads. c.omega_with.ensures.whole_commits bytes (entered_reads c.in-Ok.parsed.settings _ _ bytes c.enter.ensures.rests reads))
+    (λ waits reads. c.omega_with.ensures.whole_commits waits bytes (entered_reads c.in-Ok.parsed.settings _ _ bytes c.enter.ensures.rests reads))
 
 pub returns-clause-written : goal.returns-clause-written
 returns-clause-written g c bytes =
@@ -118,10 +133,16 @@ returns-clause-to_end g c bytes told done =
     rw c.omega_with.ensures.settings (c.omega_with.ensures.to_end bytes (λ table. c.enter.ensures.rests table ∙ told table) done)
 
 pub returns-then-is_err-clause-some_run : goal.returns-then-is_err-clause-some_run
-returns-then-is_err-clause-some_run g c = rw (c.refused-then-is_err.ensures.settings, c.refused-then-is_err.ensures.nothing, c.refused-then-is_err.ensures.status) (λ other. no_memory_run c.in-Ok.parsed.settings _ _ refl)
+returns-then-is_err-clause-some_run g c = rw (c.refused-then-is_err.ensures.settings, c.refused-then-is_err.ensures.nothing, c.refused-then-is_err.ensures.status) (λ waits other. no_memory_run c.in-Ok.parsed.settings _ _ refl)
 
 pub returns-then-is_err-2-clause-some_run : goal.returns-then-is_err-2-clause-some_run
-returns-then-is_err-2-clause-some_run g c = rw (c.refused-then-is_err-2.ensures.settings, c.refused-then-is_err-2.ensures.nothing, c.refused-then-is_err-2.ensures.status) (λ other. no_memory_run c.in-Ok.parsed.settings _ _ refl)
+returns-then-is_err-2-clause-some_run g c = rw (c.refused-then-is_err-2.ensures.settings, c.refused-then-is_err-2.ensures.nothing, c.refused-then-is_err-2.ensures.status) (λ waits other. no_memory_run c.in-Ok.parsed.settings _ _ refl)
+
+pub returns-then-is_err-clause-some_free_run : goal.returns-then-is_err-clause-some_free_run
+returns-then-is_err-clause-some_free_run g c = rw (c.refused-then-is_err.ensures.settings, c.refused-then-is_err.ensures.nothing, c.refused-then-is_err.ensures.status) (λ free. no_memory_free_run c.in-Ok.parsed.settings _ _ refl)
+
+pub returns-then-is_err-2-clause-some_free_run : goal.returns-then-is_err-2-clause-some_free_run
+returns-then-is_err-2-clause-some_free_run g c = rw (c.refused-then-is_err-2.ensures.settings, c.refused-then-is_err-2.ensures.nothing, c.refused-then-is_err-2.ensures.status) (λ free. no_memory_free_run c.in-Ok.parsed.settings _ _ refl)
 
 pub returns-then-is_err-clause-audit : goal.returns-then-is_err-clause-audit
 returns-then-is_err-clause-audit g c = rw (c.refused-then-is_err.ensures.settings, c.refused-then-is_err.ensures.nothing, c.refused-then-is_err.ensures.status) (λ audits. no_memory_audit c.in-Ok.parsed.settings.format _ _)

@@ -13,15 +13,18 @@ use Rattle.omega_model.specs.declared.settings.Settings.{Settings}
 use Rattle.omega_tables.specs.Reading.{status_of}
 use Rattle.omega_tables.specs.declared.refusal.ReadRefusal.{ReadRefusal}
 use Rattle.omega_top.proofs.AuditEnds.{audit_no_further, audit_not_usage, audit_read_cause, audit_writes_nothing}
+use Rattle.omega_top.proofs.Clocks.{audit_not_free, keeps_free_laws, only_by_free}
 use Rattle.omega_top.proofs.GoneOn.{refused_resume, refused_some_resume}
 use Rattle.omega_top.proofs.Reading.{audit_reads_none}
 use Rattle.omega_top.proofs.Refusing.{answers_refusal}
 use Rattle.omega_top.proofs.NoHistory.{sound_empty, turns_empty}
 use Rattle.omega_top.proofs.Runs.{answered, only_run, reported, sound_of, turns_of_run}
-use Rattle.omega_top.proofs.SomeRun.{refused_run}
+use Rattle.omega_top.proofs.SomeRun.{refused_free_run, refused_run}
 use Rattle.omega_top.proofs.Unread.{ends_no_further, stops_there}
 use Rattle.omega_top.specs.Answers.{EndsRun, IfReported, IsTheOnly, IsWritten}
+use Rattle.omega_top.specs.Clocks.{IsFree}
 use Rattle.omega_top.specs.Commands.{IsOrdered, makes_tables, takes_turns, uses_keeper}
+use Rattle.omega_top.specs.FreeAnswers.{IsOnlyFree, KeepsFreeLaws}
 use Rattle.omega_top.specs.Reads.{left_by}
 use Rattle.omega_top.specs.Runs.{IsRun}
 use Rattle.omega_top.specs.SoundHistory.{IsSoundHistory}
@@ -31,16 +34,16 @@ pub returns-in-Audit-clause-first : goal.returns-in-Audit-clause-first
 returns-in-Audit-clause-first g c bytes reads = absurd (audit_reads_none c.args.settings.now _ bytes reads c.in-Audit.is)
 
 pub returns-in-Audit-clause-lawful : goal.returns-in-Audit-clause-lawful
-returns-in-Audit-clause-lawful g c bytes reads = absurd (audit_reads_none c.args.settings.now _ bytes reads c.in-Audit.is)
+returns-in-Audit-clause-lawful g c waits bytes reads = absurd (audit_reads_none c.args.settings.now _ bytes reads c.in-Audit.is)
 
 pub returns-in-Audit-clause-only : goal.returns-in-Audit-clause-only
-returns-in-Audit-clause-only g c no_threads bytes reads = absurd (audit_reads_none c.args.settings.now _ bytes reads c.in-Audit.is)
+returns-in-Audit-clause-only g c waits no_threads bytes reads = absurd (audit_reads_none c.args.settings.now _ bytes reads c.in-Audit.is)
 
 pub returns-in-Audit-clause-ordered : goal.returns-in-Audit-clause-ordered
-returns-in-Audit-clause-ordered g c bytes reads = absurd (audit_reads_none c.args.settings.now _ bytes reads c.in-Audit.is)
+returns-in-Audit-clause-ordered g c waits bytes reads = absurd (audit_reads_none c.args.settings.now _ bytes reads c.in-Audit.is)
 
 pub returns-in-Audit-clause-whole_commits : goal.returns-in-Audit-clause-whole_commits
-returns-in-Audit-clause-whole_commits g c bytes reads = absurd (audit_reads_none c.args.settings.now _ bytes reads c.in-Audit.is)
+returns-in-Audit-clause-whole_commits g c waits bytes reads = absurd (audit_reads_none c.args.settings.now _ bytes reads c.in-Audit.is)
 
 pub returns-in-Audit-clause-written : goal.returns-in-Audit-clause-written
 returns-in-Audit-clause-written g c bytes reads = absurd (audit_reads_none c.args.settings.now _ bytes reads c.in-Audit.is)
@@ -52,7 +55,20 @@ pub returns-in-Audit-clause-turns : goal.returns-in-Audit-clause-turns
 returns-in-Audit-clause-turns g c takes = absurd (true≢false (sym takes ∙ ap takes_turns c.in-Audit.is))
 
 pub returns-in-Audit-clause-some_run : goal.returns-in-Audit-clause-some_run
-returns-in-Audit-clause-some_run g c other = absurd (other c.in-Audit.is)
+returns-in-Audit-clause-some_run g c waits other = absurd (other c.in-Audit.is)
+
+-- an audit runs by no clock
+pub returns-in-Audit-clause-free : goal.returns-in-Audit-clause-free
+returns-in-Audit-clause-free g c free = absurd (true≢false (sym free ∙ audit_not_free c.args.settings.now c.in-Audit.is))
+
+pub returns-in-Audit-clause-free_laws : goal.returns-in-Audit-clause-free_laws
+returns-in-Audit-clause-free_laws g c free = absurd (true≢false (sym free ∙ audit_not_free c.args.settings.now c.in-Audit.is))
+
+pub returns-in-Audit-clause-only_free : goal.returns-in-Audit-clause-only_free
+returns-in-Audit-clause-only_free g c free = absurd (true≢false (sym free ∙ audit_not_free c.args.settings.now c.in-Audit.is))
+
+pub returns-in-Audit-clause-some_free_run : goal.returns-in-Audit-clause-some_free_run
+returns-in-Audit-clause-some_free_run g c free = absurd (true≢false (sym free ∙ audit_not_free c.args.settings.now c.in-Audit.is))
 
 pub returns-in-Audit-clause-not_kept : goal.returns-in-Audit-clause-not_kept
 returns-in-Audit-clause-not_kept g c none = absurd (true≢false (sym (ap uses_keeper c.in-Audit.is) ∙ none))
@@ -91,32 +107,66 @@ of_bytes Says settings trace other history status are says run =
     reported (IsRun settings trace history) (Says other) status (λ one. subst Says are (says trace one)) run
 
 pub returns-in-Ok-clause-lawful : goal.returns-in-Ok-clause-lawful
-returns-in-Ok-clause-lawful g c bytes told =
+returns-in-Ok-clause-lawful g c waits bytes told =
     let settings = c.args.settings.now in
     let done = c.replay_and_write.result in
     of_bytes (λ (trace : TraceTables). Lawful settings trace done.history) settings _ _ done.history done.status (c.in-Ok.ensures.trace bytes told)
-    (λ trace run. run.lawful) c.replay_and_write.ensures.run
+    (λ trace run. run.lawful waits) c.replay_and_write.ensures.run
 
 pub returns-in-Ok-clause-ordered : goal.returns-in-Ok-clause-ordered
-returns-in-Ok-clause-ordered g c bytes told =
+returns-in-Ok-clause-ordered g c waits bytes told =
     let settings = c.args.settings.now in
     let done = c.replay_and_write.result in
     of_bytes (λ (trace : TraceTables). IsOrdered settings trace done.history) settings _ _ done.history done.status (c.in-Ok.ensures.trace bytes told)
-    (λ trace run. run.ordered) c.replay_and_write.ensures.run
+    (λ trace run. run.ordered waits) c.replay_and_write.ensures.run
 
 pub returns-in-Ok-clause-only : goal.returns-in-Ok-clause-only
-returns-in-Ok-clause-only g c no_threads bytes told =
+returns-in-Ok-clause-only g c waits no_threads bytes told =
     let settings = c.args.settings.now in
     let done = c.replay_and_write.result in
     of_bytes (λ (trace : TraceTables). IsTheOnly settings trace done.history) settings _ _ done.history done.status (c.in-Ok.ensures.trace bytes told)
-    (λ trace run. only_run settings trace done.history run no_threads) c.replay_and_write.ensures.run
+    (λ trace run. only_run settings trace done.history run waits no_threads) c.replay_and_write.ensures.run
 
 pub returns-in-Ok-clause-whole_commits : goal.returns-in-Ok-clause-whole_commits
-returns-in-Ok-clause-whole_commits g c bytes told =
+returns-in-Ok-clause-whole_commits g c waits bytes told =
     let settings = c.args.settings.now in
     let done = c.replay_and_write.result in
     of_bytes (λ (trace : TraceTables). CommitsAreWhole settings trace done.history) settings _ _ done.history done.status (c.in-Ok.ensures.trace bytes told)
-    (λ trace run. lawful_whole settings trace done.history run.lawful) c.replay_and_write.ensures.run
+    (λ trace run. lawful_whole settings trace done.history (run.lawful waits)) c.replay_and_write.ensures.run
+
+pub returns-in-Ok-clause-free : goal.returns-in-Ok-clause-free
+returns-in-Ok-clause-free g c free bytes told =
+    let settings = c.args.settings.now in
+    let done = c.replay_and_write.result in
+    of_bytes (λ (trace : TraceTables). IsFree settings trace done.history) settings _ _ done.history done.status (c.in-Ok.ensures.trace bytes told)
+    (λ trace run. run.free free) c.replay_and_write.ensures.run
+
+pub returns-in-Ok-clause-free_laws : goal.returns-in-Ok-clause-free_laws
+returns-in-Ok-clause-free_laws g c free bytes told =
+    let settings = c.args.settings.now in
+    let done = c.replay_and_write.result in
+    of_bytes (λ (trace : TraceTables). KeepsFreeLaws settings trace done.history) settings _ _ done.history done.status (c.in-Ok.ensures.trace bytes told)
+    (λ trace run. keeps_free_laws settings trace done.history c.requires.range (run.free free)) c.replay_and_write.ensures.run
+
+pub returns-in-Ok-clause-only_free : goal.returns-in-Ok-clause-only_free
+returns-in-Ok-clause-only_free g c free bytes told =
+    let settings = c.args.settings.now in
+    let done = c.replay_and_write.result in
+    of_bytes (λ (trace : TraceTables). IsOnlyFree settings trace done.history) settings _ _ done.history done.status (c.in-Ok.ensures.trace bytes told)
+    (λ trace run. only_by_free settings trace done.history (run.free free)) c.replay_and_write.ensures.run
+
+pub returns-in-Ok-clause-some_free_run : goal.returns-in-Ok-clause-some_free_run
+returns-in-Ok-clause-some_free_run g c free =
+    let settings = c.args.settings.now in
+    let trace = c.in-Ok.trace in
+    let done = c.replay_and_write.result in
+    record {
+      trace = trace;
+      within = c.in-Ok.ensures.within;
+      laws = reported (IsRun settings trace done.history) (KeepsFreeLaws settings trace done.history) done.status
+          (λ one. keeps_free_laws settings trace done.history c.requires.range (one.free free)) c.replay_and_write.ensures.run;
+      written = c.replay_and_write.ensures.written;
+    }
 
 pub returns-in-Ok-clause-turns : goal.returns-in-Ok-clause-turns
 returns-in-Ok-clause-turns g c takes =
@@ -132,7 +182,7 @@ returns-in-Ok-clause-sound g c =
     (λ run. sound_of done.history run.legal) c.replay_and_write.ensures.history c.replay_and_write.ensures.run
 
 pub returns-in-Ok-clause-some_run : goal.returns-in-Ok-clause-some_run
-returns-in-Ok-clause-some_run g c runs =
+returns-in-Ok-clause-some_run g c waits runs =
     let settings = c.args.settings.now in
     let trace = c.in-Ok.trace in
     let done = c.replay_and_write.result in
@@ -140,8 +190,8 @@ returns-in-Ok-clause-some_run g c runs =
     record {
       trace = trace;
       within = c.in-Ok.ensures.within;
-      whole = reported (IsRun settings trace done.history) (Lawful settings trace done.history) done.status (λ one. one.lawful) run;
-      ordered = reported (IsRun settings trace done.history) (IsOrdered settings trace done.history) done.status (λ one. one.ordered) run;
+      whole = reported (IsRun settings trace done.history) (Lawful settings trace done.history) done.status (λ one. one.lawful waits) run;
+      ordered = reported (IsRun settings trace done.history) (IsOrdered settings trace done.history) done.status (λ one. one.ordered waits) run;
       written = c.replay_and_write.ensures.written;
     }
 
@@ -163,7 +213,11 @@ returns-in-Err-clause-made g c makes =
 
 pub returns-in-Err-clause-some_run : goal.returns-in-Err-clause-some_run
 returns-in-Err-clause-some_run g c =
-    rw (c.refused.ensures.nothing, c.refused.ensures.status, c.from.ensures) (λ runs. refused_run c.args.settings.now c.in-Err.refusal _ _ refl)
+    rw (c.refused.ensures.nothing, c.refused.ensures.status, c.from.ensures) (λ waits runs. refused_run c.args.settings.now c.in-Err.refusal _ _ refl)
+
+pub returns-in-Err-clause-some_free_run : goal.returns-in-Err-clause-some_free_run
+returns-in-Err-clause-some_free_run g c =
+    rw (c.refused.ensures.nothing, c.refused.ensures.status, c.from.ensures) (λ free. refused_free_run c.args.settings.now c.in-Err.refusal _ _ refl)
 
 pub returns-in-Ok-clause-written : goal.returns-in-Ok-clause-written
 returns-in-Ok-clause-written g c bytes told =

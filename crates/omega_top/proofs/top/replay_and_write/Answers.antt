@@ -4,6 +4,7 @@ use Rattle.omega_model.specs.declared.settings.Command.TheVariants.{Resume, Run}
 use Rattle.omega_top.specs.Answers.{Writes}
 use Rattle.omega_top.specs.Commands.{takes_turns}
 use Rattle.omega_top.specs.Runs.{IsRun}
+use Rattle.omega_top.proofs.Clocks.{resume_not_free}
 use Rattle.omega_top.proofs.GoneOn.{reported_resume, stopped_resume, stops_whole}
 use Rattle.omega_top.proofs.Replayed.{replayed}
 use Rattle.omega_top.proofs.Runs.{only_run, turns_of_run}
@@ -35,10 +36,11 @@ returns-clause-resume g c is =
     let run = c.in-Ok.ensures.run.history in
     let status = c.write-status.result in
     let said = c.in-Ok-report_of_run.ensures trace c.in-Ok.ensures.run in
+    let waits = resume_not_free settings is in
     reported_resume settings trace (g.P.Keeper.kept c.args.keeper.now) (g.P.Keeper.kept c.run_of.new.keeper) history status before now
     (c.in-Ok.ensures.kept is) c.write-status.ensures.ends
-    (replayed settings trace history status before now c.in-Ok-report_of_run.bytes is run.lawful run.ordered
-    (only_run settings trace history run (λ threads. let clash : Resume ≡ Run = sym is ∙ threads in absurd (cc))) said
+    (replayed settings trace history status before now c.in-Ok-report_of_run.bytes is (run.lawful waits) (run.ordered waits)
+    (only_run settings trace history run waits (λ threads. let clash : Resume ≡ Run = sym is ∙ threads in absurd (cc))) said
     (subst (λ (bytes : List ℕ). Writes bytes before now status) c.as_slice.ensures c.write-status.ensures.written))
 
 pub returns-in-Err-clause-resume : goal.returns-in-Err-clause-resume
@@ -55,5 +57,5 @@ returns-in_default-clause-resume g c =
     let history = c.in-Ok.run'.history in
     let run = c.in-Ok.ensures.run.history in
     rw (c.refused-in_default.ensures.nothing, c.refused-in_default.ensures.status)
-    (λ is. stopped_resume settings trace before now NoMemory _ (stops_whole settings trace before now history (c.in-Ok.ensures.kept is) run.lawful
+    (λ is. stopped_resume settings trace before now NoMemory _ (stops_whole settings trace before now history (c.in-Ok.ensures.kept is) (run.lawful (resume_not_free settings is))
     (turns_of_run settings trace history run (ap takes_turns is))))
