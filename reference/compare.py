@@ -8,8 +8,7 @@ of medium size. The program runs in a folder with the tables. Standard output, s
 be those of the reference; a report of `run` must be that of a lawful history; and what is kept must be the same. A case
 that fails is shown with how `tables.py` makes it. Where commands are named, the words are of these. `--keeper memory`
 is for a program whose kept lines begin empty and end with it. `--coming` draws words that the proved program doesn't
-take yet, so it is for one that does: the clock that waits for nobody, the times of commits, and tasks that end by their
-lives.
+take yet, so it is for one that does: tasks that end by their lives.
 """
 import argparse
 import os

@@ -6,7 +6,7 @@
 Each number from FROM up to, and without, TO is a folder of tables and a list of kept lines, the same at each call: bits
 are flipped, bytes put in, doubled or left out, lines cut, moved or left out, marks of byte order put in front, quotes
 left open, and words are such as lie beside those that are taken. The tables are replayed, in turns, on threads and by
-the virtual clock. The lines are put into a database, and the program audits them and goes on from them; or --cases names
+both virtual clocks. The lines are put into a database, and the program audits them and goes on from them; or --cases names
 the program of crates/omega_cases, which audits lists of lines by itself, for a program that keeps none. What is written,
 the status and what is kept then must be what the reference has; a report of `run` must be that of a lawful history.
 With `tables` or `kept` only the one of them. The last line is 'N passed, M failed'.

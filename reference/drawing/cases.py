@@ -22,7 +22,7 @@ class Case(NamedTuple):
 
 def draw_tables(scene: Scene) -> dict[Table, bytes]:
     """The bytes of the tables; some have a bad row, and an empty one may be left out."""
-    rng, is_of_lives = scene.rng, scene.is_coming and scene.rng.random() < 0.6
+    rng, is_of_lives = scene.rng, scene.rng.random() < (0.6 if scene.is_coming else 0.25)
     rows = (LifeRows if is_of_lives else Rows)(scene).all()
     if rng.random() < 0.07:
         spoil_a_row(rng, rows)

@@ -5,12 +5,14 @@ from typing import Callable
 from .scenes import Scene
 from .texts import number_text
 
-COMMANDS = {'replay': 50, 'run': 12, 'generate': 3, 'simulate': 20, 'resume': 12, 'audit': 10}
+COMMANDS = {'replay': 50, 'run': 12, 'generate': 3, 'simulate': 40, 'resume': 12, 'audit': 10}
 TIMES = ('t-job', 't-task', 'service-t-job', 'service-t-task')
-# How often each command comes, and what the words choose besides, in scenes of what is coming: the clock that waits for
-# nobody, the times of commits, and tasks that end by their lives.
+# Which clock goes on `simulate`, and whether the times of commits are told.
+CLOCKS = {'clock': ['free', 'free', 'free', 'rounds'], 'times': ['no', 'yes', 'yes']}
+# How often each command comes, and what the words choose besides, in scenes of what is coming: tasks that end by their
+# lives.
 COMING_COMMANDS = {**COMMANDS, 'simulate': 1000}
-COMING = {'clock': ['free', 'free', 'free', 'rounds'], 'times': ['no', 'yes', 'yes'], 'ends': ['trace', 'own', 'own']}
+COMING = {'ends': ['trace', 'own', 'own']}
 
 # A theme chooses some options, so that what it is about comes often.
 CHOSEN: dict[str, dict[str, list]] = {
@@ -22,13 +24,15 @@ CHOSEN: dict[str, dict[str, list]] = {
 }
 # What a program must refuse, put behind the words.
 WRONG = (['--seed'], ['extra'], ['--batch', '31'], ['--rule', 'loose'], ['--help'], ['--window', '0'], ['-h'],
-         ['--give-up', '1001'], ['--t-job', '1000000001'], ['--batch', '+2'], ['--tables', '-x'], ['--', '--seed', '1'])
-COMING_WRONG = (['--clock', 'slow'], ['--times', '1'], ['--ends=Own'], ['--clock'])
+         ['--give-up', '1001'], ['--t-job', '1000000001'], ['--batch', '+2'], ['--tables', '-x'], ['--', '--seed', '1'],
+         ['--clock', 'slow'], ['--clock'], ['--times', '1'])
+COMING_WRONG = (['--ends=Own'], ['--ends'])
 
 
-def decision_times(scene: Scene) -> list[int]:
-    """Decisions that take from no time to longer than some rounds."""
-    return [0, 1, *(min(10**9, part * scene.window // 4) for part in (1, 3, 4, 6, 20)), 10**9]
+def decision_times(scene: Scene, name: str) -> list[int]:
+    """Decisions that take from no time to longer than some rounds, the usual time among them."""
+    usual = 5_000 if 'task' in name else 100_000
+    return [0, 1, usual, *(min(10**9, part * scene.window // 4) for part in (1, 3, 4, 6, 20)), 10**9]
 
 
 def values(scene: Scene) -> dict[str, Callable]:
@@ -46,10 +50,10 @@ def values(scene: Scene) -> dict[str, Callable]:
     choices = {'batch': [1, 2, 2, 3, 4, 30], 'rule': ['fine', 'coarse', 'coarse'], 'mode': ['incremental', 'gang'],
                'preempt': ['none', 'service', 'all', 'all'], 'extra': ['max', 'cap', 'cap', 'relative'],
                'cap': [0, 30, 60, 100], 'tries': [1, 2, 3, 5, 100], 'give-up': [1, 2, 3, 6, 1000],
-               'format': ['text', 'text', 'text', 'json'],
-               **{name: [0, 1, 5_000 if 'task' in name else 100_000, 1_000_000_000] for name in TIMES}}
+               'format': ['text', 'text', 'text', 'json'], **CLOCKS,
+               **{name: decision_times(scene, name) for name in TIMES}}
     if scene.is_coming:
-        choices |= COMING | {name: decision_times(scene) for name in TIMES}
+        choices |= COMING
     for name, some in (choices | CHOSEN.get(scene.theme, {})).items():
         draws[name] = lambda some=some: rng.choice(some)
     return draws
@@ -58,12 +62,12 @@ def values(scene: Scene) -> dict[str, Callable]:
 def names_for(scene: Scene, command: str, commands: list[str]) -> list[str]:
     """The options that are given: some of all those that the commands make sense of, and those that a theme wants."""
     rng = scene.rng
-    left_out = set(TIMES if 'simulate' not in commands else ())
+    left_out = set((*CLOCKS, *TIMES) if 'simulate' not in commands else ())
     left_out |= set() if {'resume', 'audit'} & set(commands) else {'kept'}
     names = {name for name in sorted(values(scene)) if rng.random() < 0.45} - left_out
     names |= set(CHOSEN.get(scene.theme, ()))
-    if scene.is_coming:
-        names |= {name for name in (*COMING, *TIMES) if rng.random() < 0.75}
+    if command == 'simulate':
+        names |= {name for name in (*CLOCKS, *TIMES, *(COMING if scene.is_coming else ())) if rng.random() < 0.6}
     if command == 'generate':
         names |= {'machines', 'jobs'}
     elif scene.window != 300_000_000:

@@ -13,6 +13,7 @@ NAMES = {
     'refuse': ('job', 'index', 'machine'), 'displace': ('job', 'index', 'machine'), 'end': ('job', 'index', 'machine'),
     'entries': ('entries', 'rounds'), 'scheduler': ('scheduler',) + COUNTS, 'waiting': ('waiting', 'abandoned'),
     'busy': ('scheduler', 'busy', 'span'), 'wait': ('scheduler', 'jobs', 'wait'),
+    'time': ('commit', 'scheduler', 'sync', 'committed'), 'first': ('job', 'scheduler', 'arrived', 'sync'),
 }
 
 # The names of what stands behind the reason of a refusal.

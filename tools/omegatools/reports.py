@@ -26,7 +26,7 @@ FORMS = frozenset((
     'refuse N N N same-job N N', 'refuse N N N full N N N', 'refuse N N N withdrawn N', 'displace N N N',
     'end N N N', 'use cpu N N mem N N disk N N', 'entries N rounds N',
     'scheduler N ' + ' '.join('%s N' % count for count in COUNTS), 'waiting N abandoned N', 'busy N N N',
-    'wait N N N'))
+    'wait N N N', 'time N N N N', 'first N N N N'))
 
 
 # From bytes to lines.
@@ -116,7 +116,7 @@ def lines_of(file: BinaryIO) -> Iterator[Line]:
 
 
 # The order of lines. A report of a run has rounds, each of them lines of rows, then of commits, then its use;
-# a summary has none. Both end with the same block.
+# a summary has none. Both end with the same block; behind it may stand sums of times, and then the single ones.
 
 # What may follow what.
 NEXT = {
@@ -135,7 +135,9 @@ NEXT = {
     'last use': ('waiting',),
     'waiting': ('busy',),
     'busy': ('wait',),
-    'wait': ('busy',),
+    'wait': ('busy', 'time'),
+    'time': ('time', 'first'),
+    'first': ('first',),
 }
 
 
@@ -153,6 +155,8 @@ class Order:
         self.last_round = -1
         self.schedulers = 0     # how many have a line of counts
         self.timed = 0          # how many have lines of time
+        self.jobs = 0           # how many jobs have commits, by the lines of waits
+        self.told = {'time': 0, 'first': 0}     # how many commits and jobs have a line with their own times
         self.commits: Dict[int, int] = {}
 
     def fault(self, line: Line) -> Optional[str]:
@@ -188,11 +192,27 @@ class Order:
                 return 'scheduler %d stands where %d should' % (numbers[0], self.schedulers - 1)
         if kind in ('busy', 'wait'):
             self.timed += kind == 'wait'
+            self.jobs += numbers[1] if kind == 'wait' else 0
             if numbers[0] != self.timed - (kind == 'wait') or numbers[0] >= self.schedulers:
                 return 'scheduler %d stands where another should' % numbers[0]
+        if kind in self.told:
+            return self.fault_of_times(kind, numbers)
+        return None
+
+    def fault_of_times(self, kind: str, numbers: List[int]) -> Optional[str]:
+        """What is wrong with a line that tells the times of a commit, or of a job's first one."""
+        if self.timed != self.schedulers:
+            return 'lines of scheduler %d are missing' % self.timed
+        if kind == 'time' and numbers[0] != self.told[kind]:
+            return 'commit %d stands where %d should' % (numbers[0], self.told[kind])
+        if numbers[1] >= self.schedulers:
+            return 'there is no scheduler %d' % numbers[1]
+        self.told[kind] += 1
         return None
 
     def is_whole(self) -> bool:
+        if self.before in self.told:
+            return self.told == {'time': sum(self.commits.values()), 'first': self.jobs}
         return self.before == 'waiting' or self.before == 'wait' and self.timed == self.schedulers
 
 

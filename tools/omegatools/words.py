@@ -15,7 +15,7 @@ OPTIONS: Dict[str, Optional[str]] = {
     'tables': '.', 'seed': '0', 'batch': '1', 'rule': 'fine', 'mode': 'incremental', 'preempt': 'none',
     'extra': 'relative', 'cap': '60', 'tries': '5', 'give-up': '1000', 'window': '300000000', 'format': 'text',
     'machines': '64', 'jobs': '500', 't-job': '100000', 't-task': '5000', 'service-t-job': None,
-    'service-t-task': None, 'kept': 'omega.db',
+    'service-t-task': None, 'clock': 'rounds', 'times': 'no', 'kept': 'omega.db',
 }
 DEFAULT_WINDOW = 300_000_000
 

@@ -30,6 +30,11 @@ def call(name: str, main: Callable[[Optional[List[str]]], int], *words: object) 
     return Answer(status, out.getvalue(), err.getvalue())
 
 
+def words_in(folder: Path) -> List[str]:
+    """The words of a case's folder."""
+    return (folder / 'words').read_text().splitlines()
+
+
 def program(folder: Path) -> Path:
     """The built program, where the caller of the tests names one, else the plain one of the reference, which is
     called by a file in the folder."""

@@ -52,6 +52,15 @@ busy 2 0 880000
 wait 2 0 0
 """
 
+# The same with the times of its commits.
+TIMED = SIMULATED + """\
+time 0 1 1500000 1605000
+time 1 0 1500000 1610000
+time 2 0 1610000 1720000
+first 5 1 1500000 1500000
+first 4 0 0 1500000
+"""
+
 SUMMARY = """\
 omega 2
 entries 250 rounds 20
@@ -134,6 +143,27 @@ class Refused(Reported):
                 self.right('rounds', path)     # what is left is a whole report of a replay
             else:
                 self.refused('it ends behind line %d' % count, 'rounds', path)
+
+    # What is cut before the first line of its own times is a whole report of sums.
+    def test_cut_at_each_line_of_single_times(self) -> None:
+        lines = TIMED.splitlines(True)
+        self.right('rounds', self.written(TIMED))
+        for count in range(len(SIMULATED.splitlines()) + 1, len(lines)):
+            self.refused('it ends behind line %d' % count, 'rounds', self.written(''.join(lines[:count])))
+
+    def test_single_times_that_do_not_fit(self) -> None:
+        for before, after, says in (
+                ('time 1 0', 'time 2 0', 'commit 2 stands where 1 should'),
+                ('time 2 0 1610000 1720000\n', '', 'it ends behind line'),
+                ('time 2 0 1610000 1720000\n', 'time 2 0 1610000 1720000\ntime 3 0 1 2\n', 'it ends behind line'),
+                ('first 4 0 0', 'first 4 3 0', 'there is no scheduler 3'), ('first 4', 'second 4', 'it is no line'),
+                ('first 4 0 0 1500000\n', 'first 4 0 0 1500000\ntime 3 0 1 2\n', "'time' follows on 'first'"),
+                ('busy 2 0 880000\nwait 2 0 0\n', '', 'lines of scheduler 2 are missing')):
+            with self.subTest(after=after):
+                self.assertIn(before, TIMED)
+                path = self.written(TIMED.replace(before, after))
+                for command in ('rounds', 'events', 'compare'):
+                    self.refused(says, command, path)
 
     def test_cut_at_each_byte_of_the_end(self) -> None:
         for text in (TEXT.read_text(), JSON.read_text()):
@@ -260,6 +290,25 @@ class Shown(Reported):
         self.assertEqual(found[13]['cpu_whole'], 1000000000)
         self.assertEqual(found[20], {'event': 'busy', 'scheduler': 0, 'busy': 220000, 'span': 880000})
         self.assertEqual(found[21], {'event': 'wait', 'scheduler': 0, 'jobs': 1, 'wait': 1500000})
+
+    # Its own times come beside a commit by its number, in either form of the report.
+    def test_events_of_single_times(self) -> None:
+        for text in (TIMED, as_json(TIMED)):
+            found = [json.loads(line) for line in self.right('events', self.written(text)).out.splitlines()]
+            self.assertEqual(found[-4], {'event': 'time', 'commit': 1, 'scheduler': 0, 'sync': 1500000,
+                                         'committed': 1610000})
+            self.assertEqual(found[-2], {'event': 'first', 'job': 5, 'scheduler': 1, 'arrived': 1500000, 'sync': 1500000})
+
+    # The other commands say of them what they say of the sums alone.
+    def test_single_times_change_no_table(self) -> None:
+        for command in ('rounds', 'schedulers', 'conflicts'):
+            self.assertEqual(self.right(command, self.written(TIMED)).out, self.right(command, self.written(SIMULATED)).out)
+
+    # A time may be above 2^64, and stands as a string in JSON then.
+    def test_large_times(self) -> None:
+        text = as_json(TIMED).replace('1610000,1720000', '1610000,"%d"' % 2**64)
+        found = [json.loads(line) for line in self.right('events', self.written(text)).out.splitlines()]
+        self.assertEqual(found[-3]['committed'], 2**64)
 
     def test_events_of_every_form(self) -> None:
         for line in ('refuse 4 0 1 no-machine', 'refuse 4 0 1 running 2', 'refuse 4 0 1 victim-rank 7 8',
