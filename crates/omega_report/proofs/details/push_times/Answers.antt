@@ -10,10 +10,11 @@ loop-number-preserved c lines were =
     let times = c.args.times.now in
     let place = c.loop-number.number in
     let before = take place (enumerate_from 0 times) in
+    let timed = c.index-times-number.result in
     c.in_ok-push_time.ensures (lines ++ map commit_time_line before) (c.loop-number.invariant lines were)
     ∙ ap (open_form c.args.format)
-    (lined_more commit_time_line lines before _
-    ∙ ap (λ some. lines ++ map commit_time_line some) (sym (numbered_more times place _ c.loop-number-test.true _)))
+    (lined_more commit_time_line lines before (place, timed)
+    ∙ ap (λ some. lines ++ map commit_time_line some) (sym (numbered_more times place timed c.loop-number-test.true c.index-times-number.is)))
 
 pub returns : goal.returns
 returns c lines were =
