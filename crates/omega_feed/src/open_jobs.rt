@@ -128,8 +128,6 @@ fn close_quiet(places: &mut BTreeSet<usize>, wanted: &Wanted, board: &Board)
         |place|
             ensures waits { result ≡ true → IsQuietAt wanted.now board.now.tasks place.now → ⊥ }
             ensures quiet { result ≡ false → IsQuietAt wanted.now board.now.tasks place.now }
-        {
-            !wanted.is_quiet_at(*place, board)
-        },
+        { !wanted.is_quiet_at(*place, board) },
     );
 }
