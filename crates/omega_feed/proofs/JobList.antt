@@ -1,13 +1,12 @@
 -- Jobs in order of their first task row, and the places at which they are found.
-use Rattle.std.proofs.Common.{◌≡◌, ℕ, zero, suc, Bool, true, false, cond, not, ◌&&◌, ◌||◌, ◌==◌, List, [], ◌∷◌, ◌++◌, Option, Some, None, map, length, refl, ap, ap₂, sym, subst, ◌∙◌, ◌⊎◌, inl, inr, append_assoc, append-nil}
-use Rattle.std.specs.Prelude.{is_some, ◌↔◌, option_and_then, option_map, slice_get}
+use Rattle.std.proofs.Common.{◌≡◌, ℕ, zero, suc, Bool, true, false, cond, not, ◌&&◌, ◌||◌, ◌==◌, List, [], ◌∷◌, ◌++◌, Option, Some, None, map, length, refl, ap, sym, ◌∙◌, ◌⊎◌, inl, inr, append_assoc, append-nil}
+use Rattle.std.specs.Prelude.{is_some, ◌↔◌, option_and_then}
 use Rattle.std.specs.BTreeMap as tree
 use Rattle.std.specs.BTreeMap.{BTreeMap}
 use Rattle.std.specs.List.{filter, filter_map, fold, list_any}
 use Rattle.std.specs.Ordering.{nat_cmp}
 use Rattle.std.proofs.lemmas.Bool.{eq-eqb, ne_eqb, eqb-true, cases_eq, cases_Bool}
 use Rattle.std.proofs.lemmas.List.Folds.{list_any-append}
-use Rattle.std.proofs.lemmas.Option.{none-some, same_Some}
 use Rattle.omega_model.specs.Feed.{feed, each_once}
 use Rattle.omega_model.specs.Fields.{ActivityFields, TaskFields}
 use Rattle.omega_model.specs.Plan.{first_item}
@@ -86,52 +85,9 @@ placed_at places jobs found job seen at place = (
   λ there. sym ((found job seen).1 at) ∙ (found job place).1 there,
 )
 
--- a job with its scheduler's number
-abbrev pub routed_to : ℕ → ℕ → RoutedJob
-routed_to job scheduler = record { job = job; scheduler = scheduler }
-
--- a place with a scheduler's number, as one that was found
-abbrev pub found_for : ℕ → ℕ → Option JobPlace
-found_for place scheduler = Some (record { place = place; scheduler = scheduler })
-
 -- this is where a job stands among these, and its scheduler
 abbrev pub AreStands : List RoutedJob → ℕ → Option JobPlace → Type 0
-AreStands jobs job found = (place scheduler : ℕ) → (found ≡ found_for place scheduler) ↔ StandsAt jobs place job scheduler
-
--- the number of the job at a place
-stands_named : (jobs : List RoutedJob) (place job scheduler : ℕ) → StandsAt jobs place job scheduler → job_at jobs place ≡ Some job
-stands_named jobs place job scheduler at = ap (option_map (λ (it : RoutedJob). it.job)) at
-
--- a job that is at no place stands nowhere
-pub stands_nowhere : (jobs : List RoutedJob) (job : ℕ) (found : Option ℕ) → ((place : ℕ) → (found ≡ Some place) ↔ (job_at jobs place ≡ Some job)) → found ≡ None
-    → AreStands jobs job None
-stands_nowhere jobs job found is none place scheduler = (
-  λ e. absurd (none-some _ e),
-  λ at. absurd (none-some place (sym none ∙ (is place).1 (stands_named jobs place job scheduler at))),
-)
-
--- at the place of a job stands one
-pub stands_somewhere : (jobs : List RoutedJob) (job place : ℕ) (found : Option ℕ) → ((place : ℕ) → (found ≡ Some place) ↔ (job_at jobs place ≡ Some job)) → found ≡ Some place
-    → slice_get jobs place ≡ None → ⊥
-stands_somewhere jobs job place found is there none = none-some job (sym (ap (option_map (λ (it : RoutedJob). it.job)) none) ∙ (is place).0 there)
-
--- and it is this job, with its scheduler
-pub stands_there : (jobs : List RoutedJob) (job here : ℕ) (found : Option ℕ) (seen : RoutedJob) → ((place : ℕ) → (found ≡ Some place) ↔ (job_at jobs place ≡ Some job)) → found ≡ Some here
-    → slice_get jobs here ≡ Some seen → AreStands jobs job (found_for here seen.scheduler)
-stands_there jobs job here found seen is there at place scheduler = (λ e. stands (same_Some _ _ e), λ e. finds e) where
-  named : seen.job ≡ job
-  named = same_Some seen.job job (sym (ap (option_map (λ (it : RoutedJob). it.job)) at) ∙ (is here).0 there)
-
-  stands : ◌≡◌ {A = JobPlace} (record { place = here; scheduler = seen.scheduler }) (record { place = place; scheduler = scheduler }) → StandsAt jobs place job scheduler
-  stands same =
-      subst (λ (n : ℕ). StandsAt jobs n job scheduler) (ap (λ (it : JobPlace). it.place) same)
-      (at ∙ ap₂ (λ (j n : ℕ). Some (routed_to j n)) named (ap (λ (it : JobPlace). it.scheduler) same))
-
-  finds : StandsAt jobs place job scheduler → found_for here seen.scheduler ≡ found_for place scheduler
-  finds e =
-      let one : here ≡ place = same_Some here place (sym there ∙ (is place).1 (stands_named jobs place job scheduler e)) in
-      let same : seen ≡ routed_to job scheduler = same_Some seen (routed_to job scheduler) (sym at ∙ subst (λ (n : ℕ). StandsAt jobs n job scheduler) (sym one) e) in
-      ap₂ found_for one (ap (λ (it : RoutedJob). it.scheduler) same)
+AreStands jobs job found = (place scheduler : ℕ) → (found ≡ Some (record { place = place; scheduler = scheduler })) ↔ StandsAt jobs place job scheduler
 
 -- one more job is found at the end
 pub found_more : (places more : BTreeMap ℕ ℕ) (jobs : List RoutedJob) (new : RoutedJob) (n : ℕ) → AreFound places jobs

@@ -1,16 +1,16 @@
 -- Sets of open places, one for each scheduler, of which one is changed.
 use Rattle.std.proofs.Common.{◌≡◌, ◌≢◌, ◌+◌, ◌<◌, ◌⊎◌, ℕ, zero, suc, Bool, true, false, cond, List, [], ◌∷◌, ◌++◌, Option, Some, None, length, refl, ap, sym, subst, ◌∙◌, inl, inr, arith}
-use Rattle.std.specs.Prelude.{slice_get}
+use Rattle.std.specs.Prelude.{set, slice_get}
 use Rattle.std.specs.BTreeMap.{is_at}
 use Rattle.std.specs.BTreeSet as tree
 use Rattle.std.specs.BTreeSet.{BTreeSet}
-use Rattle.std.specs.List.{list_any, set}
+use Rattle.std.specs.List.{list_any}
 use Rattle.std.specs.Ordering.{nat_cmp}
 use Rattle.std.proofs.lemmas.Bool.{eqb-true, cases_eq}
 use Rattle.std.proofs.lemmas.Option.{none-some, same_Some}
 use Rattle.omega_feed.specs.Asked.{Asked}
 use Rattle.omega_feed.specs.Index.{StandsAt}
-use Rattle.omega_feed.specs.Open.{IsOpen, OpenPlaces, OpensAtMost, SameIsOpen, StayOpen, is_among_own, is_open}
+use Rattle.omega_feed.specs.Open.{IsOpen, LatestIsOpen, OpenPlaces, OpensAtMost, SameIsOpen, StayOpen, is_among_own, is_open}
 use Rattle.omega_feed.specs.declared.jobs.JobPlace.{JobPlace}
 use Rattle.omega_model.proofs.Lists.{by_answer}
 use Rattle.omega_feed.proofs.JobList.{AreStands}
@@ -114,3 +114,8 @@ is_opened after asked job found it stands is opened place scheduler at =
 -- a job that stands nowhere is open
 pub none_to_open : (after : OpenPlaces) (asked : Asked) (job : ℕ) (found : Option JobPlace) → AreStands asked.jobs job found → found ≡ None → IsOpen after asked job
 none_to_open after asked job found stands is place scheduler at = absurd (none-some _ (sym is ∙ (stands place scheduler).1 at))
+
+-- the place that was opened last is open
+pub latest_open : (places : OpenPlaces) (latest : Option JobPlace) (it : JobPlace) → LatestIsOpen places latest → latest ≡ Some it
+    → is_open places it.scheduler it.place ≡ true
+latest_open places latest it opened same = subst (LatestIsOpen places) same opened

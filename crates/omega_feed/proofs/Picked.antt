@@ -2,6 +2,7 @@
 use Rattle.std.proofs.Common.{◌≡◌, ℕ, zero, suc, ◌+◌, ◌<◌, ◌≤◌, Bool, true, false, cond, ◌||◌, ◌==◌, List, [], ◌∷◌, ◌++◌, Option, Some, None, map, drop, length, refl, subst, ap, sym, ◌∙◌, inl, inr, arith, add-one}
 use Rattle.std.specs.Prelude.{slice_get, option_and_then, is_some}
 use Rattle.std.specs.BTreeMap.{is_at}
+use Rattle.std.specs.BTreeSet as tree
 use Rattle.std.specs.BTreeSet.{BTreeSet}
 use Rattle.std.specs.List.{filter, filter_map, list_any, cons_option, AllByRecursion as Each}
 use Rattle.std.specs.List.Sorted.{IsStrictlySortedBy}
@@ -17,7 +18,7 @@ use Rattle.omega_model.specs.Requests.{request_of, is_waiting}
 use Rattle.omega_model.specs.Wanted.{WantedTask}
 use Rattle.omega_feed.specs.Asked.{Asked, activities_in, held_indexes, is_task_of, asked_extra, asked_extras, asked_wish, asked_wishes, extras_after, job_request, asked_requests}
 use Rattle.omega_feed.specs.Index.{StandsAt, place_request}
-use Rattle.omega_feed.specs.Open.{HasItsExtras, IsQuiet, OpenPlaces, OthersAreQuiet, RunsIfOf, is_among_own}
+use Rattle.omega_feed.specs.Open.{HasItsExtras, IsQuiet, OpenPlaces, OthersAreQuiet, RunsIfOf, is_open}
 use Rattle.omega_feed.proofs.HeldExtras.{few_extras, none_missing, none_wanted}
 use Rattle.omega_feed.specs.declared.jobs.RoutedJob.{RoutedJob}
 
@@ -203,25 +204,12 @@ covered asked cell scheduler places quiet p some =
       by_cases (Some job) is s closed =
           at_job job (job.scheduler == scheduler) refl s (λ own. quiet p job.job (subst (λ (n : ℕ). StandsAt asked.jobs p job.job n) own is) closed)
 
--- the requests at these places are all requests
-picked_up : (asked : Asked) (cell : Cell) (scheduler : ℕ) (places : List ℕ) → OwnAreQuiet asked cell scheduler places → Up places
-    → filter_map (place_request asked cell scheduler) places ≡ asked_requests asked cell scheduler
-picked_up asked cell scheduler places quiet up =
-    picked (λ job. cond (job.scheduler == scheduler) (job_request asked cell job) None) asked.jobs asked.jobs 0 places refl
-    up (each_from_zero places)
-    (λ p h s. covered asked cell scheduler places quiet p s)
-    ∙ filter_map_chosen (λ job. job.scheduler == scheduler) (job_request asked cell) asked.jobs
-
--- so are those at a scheduler's open places
+-- the requests at a scheduler's open places are all its requests
 pub picked_requests : (places : OpenPlaces) (asked : Asked) (cell : Cell) (scheduler : ℕ) (own : BTreeSet ℕ) → OthersAreQuiet places asked cell.tasks
-    → slice_get places scheduler ≡ Some own → IsStrictlySortedBy nat_cmp own.keys
+    → ((place : ℕ) → tree.contains nat_cmp own place ≡ is_open places scheduler place) → IsStrictlySortedBy nat_cmp own.keys
     → filter_map (place_request asked cell scheduler) own.keys ≡ asked_requests asked cell scheduler
-picked_requests places asked cell scheduler own quiet is sorted =
-    picked_up asked cell scheduler own.keys
-    (λ place job at closed. quiet place job scheduler at (ap (λ o. is_among_own o place) is ∙ closed)) (up_from own.keys sorted)
-
--- a scheduler that has none is asked nothing
-pub none_requested : (places : OpenPlaces) (asked : Asked) (cell : Cell) (scheduler : ℕ) → OthersAreQuiet places asked cell.tasks
-    → slice_get places scheduler ≡ None → [] ≡ asked_requests asked cell scheduler
-none_requested places asked cell scheduler quiet none =
-    picked_up asked cell scheduler [] (λ place job at closed. quiet place job scheduler at (ap (λ o. is_among_own o place) none)) tt
+picked_requests places asked cell scheduler own quiet same sorted =
+    picked (λ job. cond (job.scheduler == scheduler) (job_request asked cell job) None) asked.jobs asked.jobs 0 own.keys refl
+    (up_from own.keys sorted) (each_from_zero own.keys)
+    (λ p h s. covered asked cell scheduler own.keys (λ place job at closed. quiet place job scheduler at (sym (same place) ∙ closed)) p s)
+    ∙ filter_map_chosen (λ job. job.scheduler == scheduler) (job_request asked cell) asked.jobs

@@ -1,10 +1,10 @@
 -- Open places that are looked at one after the other: those whose job is quiet go.
-use Rattle.std.proofs.Common.{◌≡◌, ◌+◌, ◌<◌, ◌≤◌, ◌⊎◌, ℕ, Bool, true, false, List, [], ◌∷◌, length, refl, ap, sym, subst, ◌∙◌, inl, inr, arith}
-use Rattle.std.specs.Prelude.{option_map, slice_get}
+use Rattle.std.proofs.Common.{◌≡◌, ◌+◌, ◌<◌, ◌≤◌, ◌⊎◌, ℕ, Bool, true, false, List, [], ◌∷◌, Some, length, refl, ap, sym, subst, ◌∙◌, inl, inr, arith}
+use Rattle.std.specs.Prelude.{option_map, set, slice_get}
 use Rattle.std.specs.BTreeMap.{is_at}
 use Rattle.std.specs.BTreeSet as tree
 use Rattle.std.specs.BTreeSet.{BTreeSet}
-use Rattle.std.specs.List.{All, items_where_true, list_any, set}
+use Rattle.std.specs.List.{All, items_where_true, list_any}
 use Rattle.std.specs.List.Retain.{IsFiltered, ReturnsInTurn}
 use Rattle.std.specs.Ordering.{nat_cmp}
 use Rattle.std.proofs.lemmas.Bool.{eqb-true, cases_Bool, cases_eq, both_ways, or_cases, or_left, or_right}
@@ -13,7 +13,7 @@ use Rattle.std.proofs.lemmas.List.Elements.{All-head, All-tail}
 use Rattle.std.proofs.lemmas.Option.{slice_get_past}
 use Rattle.omega_model.specs.declared.cells.Task.{Task}
 use Rattle.omega_feed.specs.Asked.{Asked}
-use Rattle.omega_feed.specs.Open.{IsQuietAt, IsSettled, NoneIsQuiet, OpenPlaces, OthersAreQuiet, SameIsOpenForOthers, StayOpen, is_among_own, is_open}
+use Rattle.omega_feed.specs.Open.{IsQuietAt, IsSettled, NoneIsQuiet, OpenPlaces, OthersAreQuiet, SameIsOpenForOthers, SaysWaits, StayOpen, is_among_own, is_open}
 use Rattle.omega_feed.specs.declared.jobs.RoutedJob.{RoutedJob}
 use Rattle.omega_feed.proofs.OpenSets.{one_place, open_set_other, open_set_own}
 
@@ -58,20 +58,20 @@ of_place P (q ∷ places) all p e = elim (or_cases (is_at (nat_cmp p) q) _ e) [
 
 -- places are settled where each is looked at in turn, and stays if its job isn't quiet
 pub settled : (asked : Asked) (tasks : List Task) {F : Type 0} (R : F → ℕ → Bool → F → Type 0) (f : F)
-    → ((p : ℕ) (b : Bool) (f' : F) → R f p b f' → (b ≡ true → IsQuietAt asked tasks p → ⊥) × (b ≡ false → IsQuietAt asked tasks p) × (f' ≡ f))
+    → ((p : ℕ) (b : Bool) (f' : F) → R f p b f' → SaysWaits asked tasks p b × (f' ≡ f))
     → (before after : BTreeSet ℕ) → IsFiltered R f before.keys after.keys
     → ((p : ℕ) → tree.contains nat_cmp after p ≡ true → tree.contains nat_cmp before p ≡ true)
     → IsSettled asked tasks before after
 settled asked tasks R f told before after filtered fewer = record {
   left = λ p there.
-      elim (stays_or_goes R (IsQuietAt asked tasks) f (λ q b f' k. let one = told q b f' k in (one.1, one.2)) (is_at (nat_cmp p)) before.keys after.keys filtered there) [
+      elim (stays_or_goes R (IsQuietAt asked tasks) f (λ q b f' k. let one = told q b f' k in (λ e. subst (SaysWaits asked tasks q) e one.0, one.1)) (is_at (nat_cmp p)) before.keys after.keys filtered there) [
         | inl stays ↦ inl stays
         | inr gone ↦ inr (subst (IsQuietAt asked tasks) (one_place p gone.0 gone.1) gone.2)
       ];
   fewer = fewer;
   none_quiet = λ p there.
       of_place (λ q. IsQuietAt asked tasks q → ⊥) after.keys
-      (All-from_retain R (λ q. IsQuietAt asked tasks q → ⊥) f (λ q b f' k. let one = told q b f' k in (one.0, one.2)) before.keys after.keys filtered) p there;
+      (All-from_retain R (λ q. IsQuietAt asked tasks q → ⊥) f (λ q b f' k. let one = told q b f' k in (λ e. subst (SaysWaits asked tasks q) e one.0, one.1)) before.keys after.keys filtered) p there;
 }
 
 -- of a scheduler behind the last none is open

@@ -65,6 +65,11 @@ pub record IsQuiet (asked : Asked) (tasks : List Task) (job : ℕ) : Type 0 wher
 abbrev pub IsQuietAt : Asked → List Task → ℕ → Type 0
 IsQuietAt asked tasks place = (job : ℕ) → job_at asked.jobs place ≡ Some job → IsQuiet asked tasks job
 
+-- what an answer says of a place: that it isn't quiet, or that it is
+abbrev pub SaysWaits : Asked → List Task → ℕ → Bool → Type 0
+SaysWaits asked tasks place true = IsQuietAt asked tasks place → ⊥
+SaysWaits asked tasks place false = IsQuietAt asked tasks place
+
 -- each job at a place that isn't open for its scheduler is quiet
 abbrev pub OthersAreQuiet : OpenPlaces → Asked → List Task → Type 0
 OthersAreQuiet places asked tasks = (place job scheduler : ℕ) → StandsAt asked.jobs place job scheduler

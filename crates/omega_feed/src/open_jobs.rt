@@ -1,6 +1,8 @@
 //! The jobs of which something may have to be placed.
-ghost use Rattle.std.specs.Prelude.{◌≡◌, ◌<◌, ◌⊎◌, ℕ, [], false, true, length, option_map, slice_get, OnErr, OnOk};
-ghost use Rattle.omega_feed.specs.Open.{IsOpen, IsQuietAt, IsSettled, NoneIsQuiet, OpensAtMost, OthersAreQuiet, SameIsOpen, SameIsOpenForOthers, StayOpen, is_open};
+ghost use Rattle.std.specs.Prelude.{◌≡◌, ◌<◌, ◌⊎◌, ℕ, [], true, length, OnErr, OnOk};
+ghost use Rattle.std.specs.BTreeSet.{contains};
+ghost use Rattle.std.specs.Ordering.{nat_cmp};
+ghost use Rattle.omega_feed.specs.Open.{IsOpen, IsSettled, NoneIsQuiet, OpensAtMost, OthersAreQuiet, SameIsOpen, SameIsOpenForOthers, StayOpen, is_open};
 
 use crate::jobs::JobPlace;
 use crate::wanted::Wanted;
@@ -18,18 +20,21 @@ pub struct OpenJobs {
     alloc: Global,
     /// The places of each scheduler's jobs, from scheduler 0 on, up to the last one of which a job was opened.
     places: Vec<BTreeSet<usize>>,
+    /// The places of a scheduler behind that one: none.
+    none: BTreeSet<usize>,
     /// The place that was opened last, while it is open: rows that follow one another are mostly of one job.
     latest: Option<JobPlace>,
 }
 
 impl Model for OpenJobs {
+    ghost use Rattle.std.specs.Prelude.{◌≡◌, []};
     ghost use Rattle.omega_feed.specs.Open.{LatestIsOpen, OpenPlaces};
 
     ghost Value = { OpenPlaces };
 
     ghost view = { λ jobs. jobs.places.items };
 
-    ghost invariant = { λ jobs. LatestIsOpen jobs.places.items jobs.latest };
+    ghost invariant = { λ jobs. (jobs.none.keys ≡ []) × LatestIsOpen jobs.places.items jobs.latest };
 }
 
 impl OpenJobs {
@@ -40,6 +45,7 @@ impl OpenJobs {
         OpenJobs {
             alloc,
             places: Vec::new(alloc),
+            none: BTreeSet::new(alloc),
             latest: None,
         }
     }
@@ -83,11 +89,14 @@ impl OpenJobs {
         }
     }
 
-    /// The places of a scheduler's open jobs, in order. `None` where no job of it, nor of a later one, was ever open.
-    pub(crate) fn places(&self, scheduler: u32) -> Option<&BTreeSet<usize>>
-        ensures { option_map (λ places. places.now) result ≡ slice_get self.now scheduler }
+    /// The places that are open for a scheduler, in order.
+    pub(crate) fn places(&self, scheduler: u32) -> &BTreeSet<usize>
+        ensures { (place : ℕ) → contains nat_cmp result.now place ≡ is_open self.now scheduler place }
     {
-        self.places.get(scheduler as usize)
+        match self.places.get(scheduler as usize) {
+            Some(own) => own,
+            None => &self.none,
+        }
     }
 }
 
@@ -124,12 +133,5 @@ fn make_sets(
 fn close_quiet(places: &mut BTreeSet<usize>, wanted: &Wanted, board: &Board)
     ensures { IsSettled wanted.now board.now.tasks places.old places.new }
 {
-    places.retain(
-        |place|
-            ensures waits { result ≡ true → IsQuietAt wanted.now board.now.tasks place.now → ⊥ }
-            ensures quiet { result ≡ false → IsQuietAt wanted.now board.now.tasks place.now }
-        {
-            !wanted.is_quiet_at(*place, board)
-        },
-    );
+    places.retain(|place| wanted.waits_at(*place, board));
 }

@@ -20,7 +20,7 @@ ghost use Rattle.omega_feed.specs.Events.{HasOthers};
 ghost use Rattle.omega_feed.specs.Counted.{request_for};
 ghost use Rattle.omega_feed.specs.Index.{HasLowTask, StandsAt, routed_request, wanted_task};
 ghost use Rattle.omega_feed.specs.Left.{AreLeft};
-ghost use Rattle.omega_feed.specs.Open.{GetsNoExtras, IsOpen, IsQuietAt, OpensAtMost, OthersAreQuiet, RowOpens, StayOpen, is_missed};
+ghost use Rattle.omega_feed.specs.Open.{GetsNoExtras, IsOpen, IsQuietAt, OpensAtMost, OthersAreQuiet, RowOpens, SaysWaits, StayOpen, is_missed};
 
 use crate::activities::JobActivities;
 use crate::constraints::TaskConstraints;
@@ -205,7 +205,7 @@ impl Wanted {
     /// it gets no extras. Costs the job's blocks of slots and in those with a wanted task the slots, up to its
     /// first task that waits, and of each wanted task the logarithm of the number of those that run; of a job
     /// with activities this logarithm once more.
-    pub(crate) fn is_quiet_at(&self, place: usize, board: &Board) -> bool
+    fn is_quiet_at(&self, place: usize, board: &Board) -> bool
         ensures { IsTrue result ↔ IsQuietAt self.now board.now.tasks place }
     {
         let Some(RoutedJob { job, .. }) = self.jobs.at(place) else {
@@ -215,6 +215,13 @@ impl Wanted {
             return false;
         }
         self.gets_no_extras(job, board.running())
+    }
+
+    /// Whether the job at a place isn't quiet on the cell of a board. Costs what `is_quiet_at` costs.
+    pub(crate) fn waits_at(&self, place: usize, board: &Board) -> bool
+        ensures { SaysWaits self.now board.now.tasks place result }
+    {
+        !self.is_quiet_at(place, board)
     }
 
     /// Whether a job gets no extras while these tasks run: it has no activities, no task of it is wanted,
@@ -267,10 +274,7 @@ impl Wanted {
         ensures low { All HasLowIndex self.now.tasks }
     {
         let mut requests = CountedRequests::new(alloc);
-        let Some(places) = open_jobs.places(scheduler) else {
-            return Ok(requests);
-        };
-        for place in places.iter() {
+        for place in open_jobs.places(scheduler).iter() {
             let job = self.jobs.at(*place);
             if let Some(request) = self.request_of(alloc, job, scheduler, board)? {
                 requests.push(request)?;

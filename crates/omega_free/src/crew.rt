@@ -61,8 +61,12 @@ pub fn sync_idle(
     let Some((worker, rest)) = workers.split_first_mut() else {
         return Ok(());
     };
-    worker.sync_if_idle(alloc, indexes, settings, triggers, wanted, open_jobs, cell, now)?;
-    sync_idle(alloc, rest, indexes, settings, triggers, wanted, open_jobs, cell, now)
+    worker.sync_if_idle(
+        alloc, indexes, settings, triggers, wanted, open_jobs, cell, now,
+    )?;
+    sync_idle(
+        alloc, rest, indexes, settings, triggers, wanted, open_jobs, cell, now,
+    )
 }
 
 /// Of some workers that of this scheduler commits what is still wanted of its attempt. Answers the commit with its times.
@@ -119,7 +123,9 @@ pub fn sync_by(
         return Ok(());
     };
     if worker.scheduler() == by {
-        return worker.sync(alloc, indexes, settings, triggers, wanted, open_jobs, cell, now);
+        return worker.sync(
+            alloc, indexes, settings, triggers, wanted, open_jobs, cell, now,
+        );
     }
     sync_by(
         alloc, rest, by, indexes, settings, triggers, wanted, open_jobs, cell, now,

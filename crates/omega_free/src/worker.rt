@@ -109,7 +109,9 @@ impl Worker {
         if self.is_deciding() {
             return Ok(());
         }
-        self.sync(alloc, indexes, settings, triggers, wanted, open_jobs, cell, now)
+        self.sync(
+            alloc, indexes, settings, triggers, wanted, open_jobs, cell, now,
+        )
     }
 
     /// Commits what is still wanted of its attempt, and its desk takes what came of it; then it isn't deciding. Answers

@@ -41,13 +41,7 @@ pub(crate) fn open_and_begin(
     ensures workers { OnOk result (BeginAll demand.new.wanted cell.new.history workers.old.items workers.new.items) }
 {
     open_round(alloc, round, demand, cell)?;
-    begin_all(
-        alloc,
-        workers,
-        &demand.wanted,
-        &mut demand.open_jobs,
-        cell,
-    )?;
+    begin_all(alloc, workers, &demand.wanted, &mut demand.open_jobs, cell)?;
     Ok(())
 }
 

@@ -1,35 +1,58 @@
-use Rattle.std.proofs.Common.{◌≡◌, [], ℕ, List, ap, subst, ◌∙◌}
-use Rattle.std.specs.BTreeSet.{BTreeSet}
-use Rattle.std.proofs.lemmas.Bool.{both_ways}
-use Rattle.omega_feed.proofs.Settling.{AreSettled, others_settled, settled_closes, settled_stays}
+use Rattle.std.proofs.Common.{◌≡◌, ◌<◌, Some, length, refl, arith, set, sym, subst}
+use Rattle.std.specs.Prelude.{slice_get}
+use Rattle.std.proofs.lemmas.Option.{slice_get_read}
+use Rattle.omega_feed.specs.Open.{OpenPlaces, OthersAreQuiet, SameIsOpenForOthers, StayOpen}
+use Rattle.omega_feed.proofs.Settling.{none_past, settled_closed, settled_fewer, settled_others, settled_quiet}
 use Rattle.omega_feed.proofs.open_jobs.OpenJobs.settle.Goals as goal
 
-pub loop-place-preserved : goal.loop-place-preserved
-loop-place-preserved c =
+pub returns-then-scheduler-len-clause-quiet : goal.returns-then-scheduler-len-clause-quiet
+returns-then-scheduler-len-clause-quiet c =
     let asked = c.args.wanted.now in
     let tasks = c.args.board.now.tasks in
-    let all = c.into_iter-place-iterator.result in
-    let left = c.loop-place.places in
-    let P : List ℕ → Type 0 = λ rest. AreSettled asked tasks all rest left in
-    settled_closes asked tasks all c.in-Some.place.now c.next.new.self left (subst P c.in-Some.ensures.steps c.loop-place.invariant) (c.is_quiet_at.ensures.0 c.if-not-is_quiet_at.false)
+    let places : OpenPlaces = c.self.inside.places.items in
+    let own = c.index_mut.result.now in
+    let within : c.args.scheduler < length places = omega (arith, c.if-scheduler-len.true, c.len.ensures, c.self.inside.places.ok.0) in
+    let here : slice_get places c.args.scheduler ≡ Some own = slice_get_read places (length places) c.args.scheduler own refl within c.index_mut.ensures.value in
+    settled_quiet asked tasks places c.args.scheduler own c.close_quiet.new.places here within c.close_quiet.ensures
+    (subst (λ (them : OpenPlaces). OthersAreQuiet them asked tasks) (sym c.self.view_is) c.requires)
 
-pub loop-place-preserved-in_ok-insert : goal.loop-place-preserved-in_ok-insert
-loop-place-preserved-in_ok-insert c =
+pub returns-then-scheduler-len-clause-closed : goal.returns-then-scheduler-len-clause-closed
+returns-then-scheduler-len-clause-closed c =
     let asked = c.args.wanted.now in
     let tasks = c.args.board.now.tasks in
-    let all = c.into_iter-place-iterator.result in
-    let left = c.loop-place.places in
-    let P : List ℕ → Type 0 = λ rest. AreSettled asked tasks all rest left in
-    settled_stays asked tasks all c.in-Some.place.now c.next.new.self left (subst P c.in-Some.ensures.steps c.loop-place.invariant)
-    c.insert.new.self c.in_ok-insert.ensures.updates (λ quiet. both_ways _ c.if-not-is_quiet_at.true (c.is_quiet_at.ensures.1 quiet))
+    let places : OpenPlaces = c.self.inside.places.items in
+    let own = c.index_mut.result.now in
+    let within : c.args.scheduler < length places = omega (arith, c.if-scheduler-len.true, c.len.ensures, c.self.inside.places.ok.0) in
+    let here : slice_get places c.args.scheduler ≡ Some own = slice_get_read places (length places) c.args.scheduler own refl within c.index_mut.ensures.value in
+    settled_closed asked tasks places c.args.scheduler own c.close_quiet.new.places here within c.close_quiet.ensures
 
-pub returns-clause-ok : goal.returns-clause-ok
-returns-clause-ok c =
+pub returns-then-scheduler-len-clause-fewer : goal.returns-then-scheduler-len-clause-fewer
+returns-then-scheduler-len-clause-fewer c =
     let asked = c.args.wanted.now in
     let tasks = c.args.board.now.tasks in
-    let left = c.loop-place.places in
-    let all : c.into_iter-place-iterator.result ≡ c.args.self.now.keys =
-    c.into_iter-place-iterator.ensures.into_iter_gives ∙ c.iter-place-items.ensures.rest ∙ ap (λ (places : BTreeSet ℕ). places.keys) c.self.view_is in
-    let P : List ℕ → Type 0 = λ rest. AreSettled asked tasks c.into_iter-place-iterator.result rest left in
-    let Q : List ℕ → Type 0 = λ places. AreSettled asked tasks places [] left in
-    others_settled asked tasks c.args.self.now left (subst Q all (subst P c.in-None.ensures.steps.0 c.loop-place.invariant)) c.requires
+    let places : OpenPlaces = c.self.inside.places.items in
+    let own = c.index_mut.result.now in
+    let within : c.args.scheduler < length places = omega (arith, c.if-scheduler-len.true, c.len.ensures, c.self.inside.places.ok.0) in
+    let here : slice_get places c.args.scheduler ≡ Some own = slice_get_read places (length places) c.args.scheduler own refl within c.index_mut.ensures.value in
+    subst (StayOpen (set places c.args.scheduler c.close_quiet.new.places)) c.self.view_is
+    (settled_fewer asked tasks places c.args.scheduler own c.close_quiet.new.places here within c.close_quiet.ensures)
+
+pub returns-then-scheduler-len-clause-others : goal.returns-then-scheduler-len-clause-others
+returns-then-scheduler-len-clause-others c =
+    let asked = c.args.wanted.now in
+    let tasks = c.args.board.now.tasks in
+    let places : OpenPlaces = c.self.inside.places.items in
+    let own = c.index_mut.result.now in
+    let within : c.args.scheduler < length places = omega (arith, c.if-scheduler-len.true, c.len.ensures, c.self.inside.places.ok.0) in
+    let here : slice_get places c.args.scheduler ≡ Some own = slice_get_read places (length places) c.args.scheduler own refl within c.index_mut.ensures.value in
+    subst (λ (them : OpenPlaces). SameIsOpenForOthers c.args.scheduler them (set places c.args.scheduler c.close_quiet.new.places)) c.self.view_is
+    (settled_others asked tasks places c.args.scheduler own c.close_quiet.new.places here within c.close_quiet.ensures)
+
+pub returns-else-scheduler-len-clause-quiet : goal.returns-else-scheduler-len-clause-quiet
+returns-else-scheduler-len-clause-quiet c =
+    subst (λ (them : OpenPlaces). OthersAreQuiet them c.args.wanted.now c.args.board.now.tasks) (sym c.self.view_is) c.requires
+
+pub returns-else-scheduler-len-clause-closed : goal.returns-else-scheduler-len-clause-closed
+returns-else-scheduler-len-clause-closed c =
+    let past = c.if-scheduler-len.false in
+    none_past c.args.wanted.now c.args.board.now.tasks c.self.inside.places.items c.args.scheduler (omega (arith, past, c.len.ensures, c.self.inside.places.ok.0))
