@@ -23,4 +23,6 @@ returns c =
     (ap₂ ◌∷◌ c.make_choice-16.ensures
     (ap₂ ◌∷◌ c.make_choice-17.ensures
     (ap₂ ◌∷◌ c.make_choice-18.ensures
-    (ap₂ ◌∷◌ c.make_choice-19.ensures refl))))))))))))))))))
+    (ap₂ ◌∷◌ c.make_choice-19.ensures
+    (ap₂ ◌∷◌ c.make_choice-20.ensures
+    (ap₂ ◌∷◌ c.make_choice-21.ensures refl))))))))))))))))))))
