@@ -62,10 +62,11 @@ module _ {X Y : Type 0} (key : X → Option ℕ) (told : ℕ → X → Y) where
   -- a job has an item exactly where it is the job of one
   any_found : (job : ℕ) (items : List X) → list_any (λ k. k == job) (filter_map key items) ≡ is_some (found items job)
   any_found job [] = refl
-  any_found job (item ∷ items) = by_key (key item) refl where
-    by_key : (of : Option ℕ) → key item ≡ of → list_any (λ k. k == job) (filter_map key (item ∷ items)) ≡ is_some (found (item ∷ items) job)
-    by_key None is = rw is (any_found job items)
-    by_key (Some k) is = rw is (by_answer (k == job) (λ yes. rw yes refl) (λ no. rw no (any_found job items)))
+  any_found job (item ∷ items) = by_key (key item) refl (any_found job items) where
+    by_key : (of : Option ℕ) → key item ≡ of → list_any (λ k. k == job) (filter_map key items) ≡ is_some (found items job)
+        → list_any (λ k. k == job) (filter_map key (item ∷ items)) ≡ is_some (found (item ∷ items) job)
+    by_key None is rest = rw is rest
+    by_key (Some k) is rest = rw is (by_answer (k == job) (λ yes. rw yes refl) (λ no. rw no rest))
 
   -- an item behind others changes nothing of a job that has one among them
   stays : (items : List X) (item : X) (job : ℕ) → is_some (found items job) ≡ true

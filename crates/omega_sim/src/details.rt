@@ -12,7 +12,7 @@ ghost use Rattle.omega_sim.specs.TimeDetails.{first_commits_by, first_commits_of
 
 use crate::arrivals::Arrivals;
 use crate::firsts::FirstTimes;
-use crate::sums::{job_at, note_sync};
+use crate::sums::{job_at, note_sync, push_if};
 use crate::timed::Timed;
 use omega_model::{Entry, NoMemory, Seq};
 use std::alloc::Global;
@@ -46,9 +46,7 @@ pub fn first_commits(
     let mut syncs = FirstTimes::new(alloc);
     let mut firsts = Vec::new(alloc);
     for timed in times {
-        if let Some(first) = first_at(came, &syncs, history, timed) {
-            firsts.push(first)?;
-        }
+        push_if(&mut firsts, first_at(came, &syncs, history, timed))?;
         note_sync(&mut syncs, history, timed)?;
     }
     Ok(Seq::of(firsts))
@@ -66,7 +64,9 @@ fn first_at(
         → first_commits_by (time_at came.now) history.now (before ++ timed.now ∷ [])
         ≡ first_commits_by (time_at came.now) history.now before ++ cons_option result [] }
 {
-    let job = job_at(history, timed)?;
+    let Some(job) = job_at(history, timed) else {
+        return None;
+    };
     if syncs.of(job).is_some() {
         return None;
     }

@@ -55,12 +55,12 @@ pub fn committed_jobs(
     each_once(alloc, &jobs)
 }
 
-/// Appends a job, if there is one.
-fn push_if(jobs: &mut Vec<u64>, job: Option<u64>) -> Result<(), NoMemory>
-    ensures { OnOk result (jobs.new.items ≡ jobs.old.items ++ cons_option job []) }
+/// Appends an item, if there is one.
+pub fn push_if<T: Copy>(items: &mut Vec<T>, item: Option<T>) -> Result<(), NoMemory>
+    ensures { OnOk result (items.new.items ≡ items.old.items ++ cons_option item []) }
 {
-    if let Some(job) = job {
-        jobs.push(job)?;
+    if let Some(item) = item {
+        items.push(item)?;
     }
     Ok(())
 }
