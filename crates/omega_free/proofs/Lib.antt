@@ -13,3 +13,4 @@ pub mod WantedAnswers
 pub mod ReadyToCommit
 pub mod WorldSteps
 pub mod WholeRuns
+pub mod FreeSums

@@ -4,4 +4,4 @@ use Rattle.omega_free.proofs.world.World.into_run.Goals as goal
 
 pub returns : goal.returns
 returns c trace end left =
-    is_whole c.args.self trace c.result end c.into_run.ensures.history refl c.into_run.ensures.effects left refl
+    is_whole c.args.self trace _ end c.into_run-history.ensures.history refl c.into_run-history.ensures.effects left refl
