@@ -28,7 +28,7 @@ pub fn push_details(
     details: Option<TimeDetails>,
 ) -> Result<(), NoMemory>
     ensures { OnOk result ((lines : List Line) → bytes.old.items ≡ open_form format lines
-        → bytes.new.items ≡ open_form format (lines ++ lines_told details)) }
+        → bytes.new.items ≡ open_form format (lines ++ lines_told details.entry)) }
 {
     let Some(details) = details else {
         return Ok(());

@@ -85,7 +85,7 @@ impl Page {
         totals: &[TimeTotals],
         details: Option<TimeDetails>,
     ) -> Result<Bytes, NoMemory>
-        ensures { IfOk result (λ bytes. bytes ≡ in_wide_format self.format (self.lines ++ lines_of_totals totals.now ++ lines_told details)) }
+        ensures { IfOk result (λ bytes. bytes ≡ in_wide_format self.format (self.lines ++ lines_of_totals totals.now ++ lines_told details.entry)) }
     {
         let mut bytes = self.bytes;
         push_totals(self.format, &mut bytes, totals)?;

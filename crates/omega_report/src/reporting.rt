@@ -74,7 +74,7 @@ pub fn timed_report(
     ensures { IfOk result (λ bytes. (trace : TraceTables) (tasks : List WantedTask)
         → BeginsRoundsOf settings.now trace history.now → AreLeft tasks (state history.now) left.now
         → bytes ≡ in_wide_format settings.now.format
-        (lines_where settings.now trace tasks history.now ++ lines_of_totals totals.now ++ lines_told details)) }
+        (lines_where settings.now trace tasks history.now ++ lines_of_totals totals.now ++ lines_told details.entry)) }
 {
     whole_page(alloc, settings, history, effects, left)?.finish_with(totals, details)
 }

@@ -18,12 +18,13 @@ returns c =
     let settings = c.args.settings.now in
     let history = c.args.history.now in
     let page = c.in_ok-whole_page.field-0 in
-    let behind = lines_of_totals c.args.totals.now ++ lines_told c.args.details in
-    if_ok_weaker (λ (bytes : List ℕ). bytes ≡ in_wide_format page.format (page.lines ++ behind))
+    let totals = lines_of_totals c.args.totals.now in
+    let told = lines_told c.args.details in
+    if_ok_weaker (λ (bytes : List ℕ). bytes ≡ in_wide_format page.format (page.lines ++ totals ++ told))
     (λ (bytes : List ℕ). (trace : TraceTables) (due : List WantedTask) → BeginsRoundsOf settings trace history → AreLeft due (state history) c.args.left.now
-    → bytes ≡ in_wide_format settings.format (lines_where settings trace due history ++ behind))
+    → bytes ≡ in_wide_format settings.format (lines_where settings trace due history ++ totals ++ told))
     c.finish_with.result
     (λ bytes is trace due begun waits.
     let whole = c.in_ok-whole_page.ensures trace due begun waits in
-    is ∙ ap₂ (λ (format : Format) (lines : List Line). in_wide_format format (lines ++ behind)) whole.0 whole.1)
+    is ∙ ap₂ (λ (format : Format) (lines : List Line). in_wide_format format (lines ++ totals ++ told)) whole.0 whole.1)
     c.finish_with.ensures

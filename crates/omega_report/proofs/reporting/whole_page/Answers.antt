@@ -1,4 +1,4 @@
-use Rattle.std.proofs.Common.{◌≡◌, ap, ◌∙◌}
+use Rattle.std.proofs.Common.{◌≡◌, List, ap, ◌∙◌}
 use Rattle.std.specs.Prelude.{length}
 use Rattle.omega_feed.specs.Left.{AreLeft}
 use Rattle.omega_model.proofs.Answering.{if_ok_weaker}

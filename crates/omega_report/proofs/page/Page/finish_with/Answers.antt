@@ -1,4 +1,4 @@
-use Rattle.std.proofs.Common.{◌++◌, ap, ◌∙◌, append_assoc}
+use Rattle.std.proofs.Common.{◌++◌, ap, ◌∙◌}
 use Rattle.omega_report.specs.Details.{lines_told}
 use Rattle.omega_report.specs.JsonOfText.{in_wide_format}
 use Rattle.omega_report.specs.Pages.{PageState}
@@ -11,7 +11,5 @@ returns c =
     let lines = lines_read c.self.inside.bytes.items in
     let totals = lines_of_totals c.args.totals.now in
     let told = lines_told c.args.details in
-    let behind = totals ++ told in
-    c.of.ensures ∙ c.in_ok-end.ensures ((lines ++ totals) ++ told) (c.in_ok-push_details.ensures (lines ++ totals) (c.in_ok-push_totals.ensures lines c.self.invariant.form))
-    ∙ ap (in_wide_format c.self.inside.format) (append_assoc lines totals told)
-    ∙ ap (λ (p : PageState). in_wide_format p.format (p.lines ++ behind)) c.self.view_is
+    c.of.ensures ∙ c.in_ok-end.ensures (lines ++ totals ++ told) (c.in_ok-push_details.ensures (lines ++ totals) (c.in_ok-push_totals.ensures lines c.self.invariant.form))
+    ∙ ap (λ (p : PageState). in_wide_format p.format (p.lines ++ totals ++ told)) c.self.view_is
