@@ -10,7 +10,7 @@ pub mod NoHistory
 pub mod Ordering
 pub mod Unread
 pub mod Timing
-pub mod Told
+pub mod TellingTimes
 pub mod Written
 pub mod Replayed
 pub mod GoneOn

@@ -17,7 +17,7 @@ use Rattle.omega_top.specs.Clocks.{wanted_at_end}
 use Rattle.omega_top.specs.Reports.{IsReport, IsToldBy, ReportedBy, details_if, lines_of_told, told_if}
 use Rattle.omega_top.specs.declared.told.ToldTimes.{ToldTimes}
 use Rattle.omega_top.proofs.Clocks.{wanted_by_rounds}
-use Rattle.omega_top.proofs.Told.{untold_not_free}
+use Rattle.omega_top.proofs.TellingTimes.{untold_not_free}
 
 module _ (settings : Settings) (trace : TraceTables) (history : List Entry) where
   plain_by : (command : Command) (report : List ℕ) → IsToldBy command settings trace history None

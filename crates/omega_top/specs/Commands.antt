@@ -44,8 +44,8 @@ takes_turns Run = false
 takes_turns Simulate = false
 takes_turns Audit = false
 
--- the commits of a history stand in the order of a command: in turns, or by the virtual clock; on threads
--- any order will do. On `audit` nothing is run
+-- the commits of a history whose rounds wait for all schedulers stand in the order of a command: in turns, or by
+-- the clock of rounds; on threads any order will do. On `audit` nothing is run
 abbrev pub OrderedBy : Command → Settings → TraceTables → List Entry → Type 0
 OrderedBy Replay settings trace history = InTurns history
 OrderedBy Generate settings trace history = InTurns history

@@ -25,7 +25,15 @@ pub fn report_of_run(alloc: Global, settings: &Settings, run: &WholeRun) -> Resu
         Some(told) => {
             let totals = told.totals.as_slice();
             let details = told.lend_details();
-            timed_report(alloc, settings, history, &run.effects, &run.left, totals, details)
+            timed_report(
+                alloc,
+                settings,
+                history,
+                &run.effects,
+                &run.left,
+                totals,
+                details,
+            )
         }
     }
 }

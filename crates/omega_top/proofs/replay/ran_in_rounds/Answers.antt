@@ -1,6 +1,6 @@
 use Rattle.omega_top.proofs.NewWorlds.{in_run}
 use Rattle.omega_top.proofs.Timing.{rounds_of_trace}
-use Rattle.omega_top.proofs.Told.{of_some_trace}
+use Rattle.omega_top.proofs.TellingTimes.{of_some_trace}
 use Rattle.omega_top.proofs.replay.ran_in_rounds.Goals as goal
 
 pub told_by-requires-clause-run : goal.told_by-requires-clause-run

@@ -40,7 +40,7 @@ returns-in-Some c =
     let settings = c.args.settings.now in
     let run = c.args.run.now in
     let totals = c.as_slice-totals.result.now in
-    let details = c.lend_details.result in
+    let details = c.lend_details-details.result in
     if_ok_weaker (λ (bytes : List ℕ). (trace : TraceTables) (tasks : List WantedTask) → BeginsRoundsOf settings trace c.as_slice-history.result.now
     → AreLeft tasks (state c.as_slice-history.result.now) run.left
     → bytes ≡ in_wide_format settings.format (lines_where settings trace tasks c.as_slice-history.result.now ++ lines_of_totals totals ++ lines_told details))
@@ -52,5 +52,5 @@ returns-in-Some c =
     → bytes ≡ in_wide_format settings.format (lines_where settings trace tasks history ++ lines_of_totals totals ++ lines_told details))
     c.as_slice-history.ensures (says trace tasks) of.begins of.left
     ∙ ap₂ (λ (some : List TimeTotals) (lines : List Line). in_wide_format settings.format (lines_where settings trace tasks run.history ++ lines_of_totals some ++ lines))
-    c.as_slice-totals.ensures c.lend_details.ensures))
+    c.as_slice-totals.ensures c.lend_details-details.ensures))
     c.timed_report.ensures

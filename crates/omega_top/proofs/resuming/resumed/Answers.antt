@@ -8,7 +8,7 @@ use Rattle.omega_top.proofs.GoneOn.{keeps_whole, stops_from, stops_whole}
 use Rattle.omega_top.proofs.NewWorlds.{in_run, is_over}
 use Rattle.omega_top.proofs.Clocks.{resume_not_free}
 use Rattle.omega_top.proofs.Ordering.{by_resume}
-use Rattle.omega_top.proofs.Told.{nothing_told}
+use Rattle.omega_top.proofs.TellingTimes.{nothing_told}
 use Rattle.omega_top.proofs.resuming.resumed.Goals as goal
 
 pub returns-in_err-world-clause-refused : goal.returns-in_err-world-clause-refused

@@ -132,6 +132,12 @@ pub returns-clause-to_end : goal.returns-clause-to_end
 returns-clause-to_end g c bytes told done =
     rw c.omega_with.ensures.settings (c.omega_with.ensures.to_end bytes (λ table. c.enter.ensures.rests table ∙ told table) done)
 
+pub returns-clause-some_run : goal.returns-clause-some_run
+returns-clause-some_run g c = rw c.omega_with.ensures.settings c.omega_with.ensures.some_run
+
+pub returns-clause-some_free_run : goal.returns-clause-some_free_run
+returns-clause-some_free_run g c = rw c.omega_with.ensures.settings c.omega_with.ensures.some_free_run
+
 pub returns-then-is_err-clause-some_run : goal.returns-then-is_err-clause-some_run
 returns-then-is_err-clause-some_run g c = rw (c.refused-then-is_err.ensures.settings, c.refused-then-is_err.ensures.nothing, c.refused-then-is_err.ensures.status) (λ waits other. no_memory_run c.in-Ok.parsed.settings _ _ refl)
 
