@@ -1,5 +1,5 @@
 -- Runs by a clock: which clock the settings choose, and what follows of their histories.
-use Rattle.std.proofs.Common.{◌≡◌, ◌∙◌, ◌<◌, List, Bool, true, false, Option, Some, None, refl, sym, ap, subst, arith}
+use Rattle.std.proofs.Common.{◌≡◌, ◌∙◌, List, Bool, true, false, refl, sym, ap, subst, arith}
 use Rattle.std.specs.Prelude.{if◌then◌else◌}
 use Rattle.omega_free.specs.FreeRuns.{reading_of, wanted_last}
 use Rattle.omega_free_laws.specs.Free.{FreeRun}
@@ -9,7 +9,7 @@ use Rattle.omega_laws.specs.Simulated.{SimulatedWith}
 use Rattle.omega_laws.specs.VirtualTime.{Timed}
 use Rattle.omega_model.specs.Feed.{feed}
 use Rattle.omega_model.specs.Ranges.{IsInRange}
-use Rattle.omega_model.specs.Wanted.{WantedTask, wanted}
+use Rattle.omega_model.specs.Wanted.{wanted}
 use Rattle.omega_model.specs.declared.entries.Entry.{Entry}
 use Rattle.omega_model.specs.declared.rows.TraceTables.{TraceTables}
 use Rattle.omega_model.specs.declared.settings.Clock.{Clock}

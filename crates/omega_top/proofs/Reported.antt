@@ -12,7 +12,7 @@ use Rattle.omega_model.specs.declared.settings.Command.TheVariants.{Audit, Gener
 use Rattle.omega_model.specs.declared.settings.Settings.{Settings}
 use Rattle.omega_report.specs.JsonOfText.{in_wide_format}
 use Rattle.omega_sim.proofs.OneByOne.{totals_said}
-use Rattle.omega_sim.specs.TimeLines.{lines_of_time, lines_of_totals}
+use Rattle.omega_sim.specs.TimeLines.{lines_of_totals}
 use Rattle.omega_top.specs.Clocks.{wanted_at_end}
 use Rattle.omega_top.specs.Reports.{IsReport, IsToldBy, ReportedBy, details_if, lines_of_told, told_if}
 use Rattle.omega_top.specs.declared.told.ToldTimes.{ToldTimes}

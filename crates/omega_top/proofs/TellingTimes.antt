@@ -1,5 +1,5 @@
 -- What is told of the times of a run, by the command.
-use Rattle.std.proofs.Common.{◌≡◌, List, Option, Some, None, true, false, refl, subst, sym}
+use Rattle.std.proofs.Common.{◌≡◌, List, Option, Some, None, false, refl, subst, sym}
 use Rattle.omega_laws.specs.VirtualTime.{Timed}
 use Rattle.omega_model.specs.declared.entries.Entry.{Entry}
 use Rattle.omega_model.specs.declared.rows.Round.{Round}

@@ -1,4 +1,4 @@
-use Rattle.std.proofs.Common.{◌≡◌, ◌∙◌, List, subst, sym, true≢false}
+use Rattle.std.proofs.Common.{◌∙◌, List, subst, sym, true≢false}
 use Rattle.omega_feed.specs.Left.{AreLeft}
 use Rattle.omega_free.specs.FreeRuns.{reading_of}
 use Rattle.omega_free_laws.proofs.RoundsCounted.{free_rounds_counted}

@@ -1,4 +1,4 @@
-use Rattle.std.proofs.Common.{◌≡◌, true, sym, subst, true≢false, ◌∙◌, List}
+use Rattle.std.proofs.Common.{sym, subst, true≢false, ◌∙◌, List}
 use Rattle.omega_feed.specs.Left.{AreLeft}
 use Rattle.omega_model.specs.State.{state}
 use Rattle.omega_model.specs.Wanted.{WantedTask}

@@ -1,7 +1,4 @@
-use Rattle.std.proofs.Common.{◌∙◌, List, subst, sym, ap}
-use Rattle.omega_laws.specs.VirtualTime.{Timed}
-use Rattle.omega_model.specs.declared.rows.Round.{Round}
-use Rattle.omega_sim.specs.Arriving.{AreArrivals}
+use Rattle.std.proofs.Common.{subst, sym}
 use Rattle.omega_sim.specs.Summing.{SumsFit}
 use Rattle.omega_top.proofs.Timing.{timed_sums_fit, trace_in_bounds}
 use Rattle.omega_top.proofs.told.told_of.Goals as goal
