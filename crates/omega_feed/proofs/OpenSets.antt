@@ -1,5 +1,5 @@
 -- Sets of open places, one for each scheduler, of which one is changed.
-use Rattle.std.proofs.Common.{◌≡◌, ◌≢◌, ◌+◌, ◌<◌, ◌⊎◌, ℕ, zero, suc, Bool, true, false, cond, List, [], ◌∷◌, ◌++◌, Option, Some, None, length, refl, ap, sym, subst, ◌∙◌, inl, inr, arith}
+use Rattle.std.proofs.Common.{◌≡◌, ◌≢◌, ◌+◌, ◌<◌, ◌⊎◌, ℕ, zero, suc, Bool, true, false, cond, [], ◌∷◌, ◌++◌, Option, Some, None, length, refl, ap, sym, subst, ◌∙◌, inl, inr, arith}
 use Rattle.std.specs.Prelude.{set, slice_get}
 use Rattle.std.specs.BTreeMap.{is_at}
 use Rattle.std.specs.BTreeSet as tree
@@ -35,10 +35,6 @@ pub same_with_more : (before places more : OpenPlaces) (none : BTreeSet ℕ) →
 same_with_more before places more none empty is same =
     subst (SameIsOpen before) (sym is) (λ scheduler place. same_with_none places none empty scheduler place ∙ same scheduler place)
 
--- what is the same stays open
-pub same_stay : (before after : OpenPlaces) → SameIsOpen before after → StayOpen before after
-same_stay before after same scheduler place e = same scheduler place ∙ e
-
 -- what is open for a scheduler once it has another set
 pub open_set_own : (places : OpenPlaces) (s : ℕ) (own : BTreeSet ℕ) → s < length places → (place : ℕ) → is_open (set places s own) s place ≡ tree.contains nat_cmp own place
 open_set_own [] s own within place = absurd (omega (arith, within))
@@ -53,21 +49,13 @@ open_set_other (a ∷ places) zero own (suc other) place apart = refl
 open_set_other (a ∷ places) (suc s) own zero place apart = refl
 open_set_other (a ∷ places) (suc s) own (suc other) place apart = open_set_other places s own other place (λ same. apart (ap (λ (n : ℕ). suc n) same))
 
--- a set in which the same is open as before, or one place more
+-- one place more in the set of a scheduler
 module _ (before mid : OpenPlaces) (s : ℕ) (own new : BTreeSet ℕ) (same : SameIsOpen before mid) (here : slice_get mid s ≡ Some own) (within : s < length mid) where
   at_own : (place : ℕ) → is_open (set mid s new) s place ≡ tree.contains nat_cmp new place
   at_own place = open_set_own mid s new within place
 
   was_own : (place : ℕ) → tree.contains nat_cmp own place ≡ is_open before s place
   was_own place = sym (ap (λ o. is_among_own o place) here) ∙ same s place
-
-  pub set_same : new.keys ≡ own.keys → SameIsOpen before (set mid s new)
-  set_same unchanged scheduler place = elim (cases_eq scheduler s) [
-    | inl one ↦
-        subst (λ (n : ℕ). is_open (set mid s new) n place ≡ is_open before n place) (sym one)
-        (at_own place ∙ ap (list_any (is_at (nat_cmp place))) unchanged ∙ was_own place)
-    | inr other ↦ open_set_other mid s new scheduler place other ∙ same scheduler place
-  ]
 
   module _ (p : ℕ) (u : tree.Updates nat_cmp own new p true) where
     pub put_stays : StayOpen before (set mid s new)

@@ -2,7 +2,8 @@
 //!
 //! A round's entry and those of its rows are appended to the cell, while what the trace asks for follows them, with
 //! the jobs of which something may have to be placed. Such a job is open; the others are quiet, and nobody looks at
-//! them. Since commits evict tasks, the jobs of these are opened again before the next rows.
+//! them. Since commits evict tasks, the jobs of these are opened again before the next rows. No job is closed here: a
+//! scheduler's quiet ones are closed just before it is asked to place what its open ones want.
 //!
 //! Nothing is said here of schedulers, nor of when a round opens: a run says that.
 #![tactic(auto)]

@@ -1,9 +1,8 @@
-use Rattle.std.proofs.Common.{◌≡◌, ◌<◌, ℕ, List, Some, length, refl, set, sym, subst}
+use Rattle.std.proofs.Common.{◌≡◌, Some, length, refl}
 use Rattle.std.specs.Prelude.{slice_get}
-use Rattle.std.specs.BTreeSet.{BTreeSet}
 use Rattle.std.proofs.lemmas.Option.{slice_get_read}
 use Rattle.omega_feed.specs.Open.{OpenPlaces}
-use Rattle.omega_feed.proofs.OpenSets.{put_alone, put_opens, put_stays, same_stay, set_same}
+use Rattle.omega_feed.proofs.OpenSets.{put_alone, put_opens, put_stays}
 use Rattle.omega_feed.proofs.open_jobs.open_at.Goals as goal
 
 pub returns-clause-stay : goal.returns-clause-stay

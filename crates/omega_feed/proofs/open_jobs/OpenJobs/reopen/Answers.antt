@@ -1,4 +1,4 @@
-use Rattle.std.proofs.Common.{◌≡◌, ℕ, true, Some, rules, subst}
+use Rattle.std.proofs.Common.{◌≡◌, true, Some, rules, subst}
 use Rattle.omega_feed.specs.Open.{OpenPlaces, OpensAtMost, is_open}
 use Rattle.omega_feed.proofs.OpenSets.{is_opened, latest_open, none_to_open, opens_one}
 use Rattle.omega_feed.proofs.open_jobs.OpenJobs.reopen.Goals as goal
