@@ -1,7 +1,6 @@
-use Rattle.std.proofs.Common.{ℕ, Option, List, ap, ◌∙◌, arith}
+use Rattle.std.proofs.Common.{ℕ, Option, ap, ◌∙◌, arith}
 use Rattle.std.proofs.lemmas.List.{take_all}
 use Rattle.omega_feed.proofs.Cutting.{rounds_have}
-use Rattle.omega_laws.specs.VirtualTime.{Timed}
 use Rattle.omega_sim.specs.Arriving.{first_time}
 use Rattle.omega_sim.specs.Firsts.{time_at}
 use Rattle.omega_sim.specs.TimeDetails.{first_commits_by}
