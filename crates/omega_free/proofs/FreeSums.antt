@@ -15,7 +15,7 @@ use Rattle.omega_laws.specs.VirtualTime.{Timed, decision}
 use Rattle.omega_model.proofs.Growing.{by_place_push}
 use Rattle.omega_model.proofs.Fewer.{filter_fewer}
 use Rattle.omega_model.proofs.Lists.{by_answer, each_append, each_filter, each_map, each_of}
-use Rattle.omega_model.specs.Feed.{each_once, feed, is_of_round, round_at, round_number, rounds, time_of}
+use Rattle.omega_model.specs.Feed.{each_once, feed, is_of_round, round_at, round_number, time_of}
 use Rattle.omega_model.specs.Lawful.{rows_of}
 use Rattle.omega_model.specs.Policy.{schedulers}
 use Rattle.omega_model.specs.Ranges.{IsInRange}
@@ -38,7 +38,7 @@ use Rattle.omega_model.specs.declared.wishes.Wish.{Wish}
 use Rattle.omega_sim.specs.InBounds.{IsInBounds}
 use Rattle.omega_sim.specs.Summing.{IsTimely, SumsFit}
 use Rattle.omega_sim.proofs.Pigeons.{once_fits}
-use Rattle.omega_sim.proofs.Asked.{IsAsked, IsIn, requests_asked, requests_few}
+use Rattle.omega_sim.proofs.Asked.{IsAsked, IsIn, requests_asked}
 use Rattle.omega_sim.proofs.Shorter.{feed_few, jobs_few, rounds_few}
 use Rattle.omega_sim.proofs.Ticks.{IsWithin, longest, most_wishes}
 use Rattle.omega_free_laws.specs.CrewLaws.{IsOnIt}
