@@ -7,6 +7,5 @@ returns-clause-worker c = record {
   scheduler = search rules;
   attempts = search rules;
   tries = search rules;
-  indexes = c.new-2.ensures [];
   seen = tt;
 }
