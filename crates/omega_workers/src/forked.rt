@@ -35,7 +35,8 @@ pub fn sync_pieces<R: Threads + Sync>(
     if workers.len() < 2 || indexes.len() < 2 || pieces < 2 {
         return sync_each(alloc, cell, workers, &mut indexes[0]);
     }
-    let fewer = pieces / 2;
+    let below = pieces / 2;
+    let above = pieces - below;
     let (low, high) = workers.split_at_mut(workers.len() / 2);
     let (near, far) = indexes.split_at_mut(indexes.len() / 2);
     let (one, two) = join_mut(
@@ -48,7 +49,7 @@ pub fn sync_pieces<R: Threads + Sync>(
             ensures workers { AllHaveSyncedOrStay cell.entry.now.history low.entry.now low.exit.now }
             ensures indexes { Each (AreIndexesOf cell.entry.now.history) near.exit.now }
             ensures synced { OnOk result (Each IsNotDue low.exit.now) }
-        { sync_pieces(rt, alloc, cell, low, near, fewer) },
+        { sync_pieces(rt, alloc, cell, low, near, below) },
         &mut || -> Result<(), NoMemory>
             requires sync { IsSync R.row }
             requires ready { AreReady cell.now.history high.now }
@@ -57,7 +58,7 @@ pub fn sync_pieces<R: Threads + Sync>(
             ensures workers { AllHaveSyncedOrStay cell.entry.now.history high.entry.now high.exit.now }
             ensures indexes { Each (AreIndexesOf cell.entry.now.history) far.exit.now }
             ensures synced { OnOk result (Each IsNotDue high.exit.now) }
-        { sync_pieces(rt, alloc, cell, high, far, pieces - fewer) },
+        { sync_pieces(rt, alloc, cell, high, far, above) },
     );
     one?;
     two
