@@ -53,7 +53,7 @@ impl Crew {
             cell,
             workers,
             indexes,
-            ..
+            pieces: _,
         } = self;
         (cell, workers, indexes)
     }

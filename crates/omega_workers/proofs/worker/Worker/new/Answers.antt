@@ -1,4 +1,4 @@
-use Rattle.std.proofs.Common.{[], rules}
+use Rattle.std.proofs.Common.{rules}
 use Rattle.omega_workers.proofs.worker.Worker.new.Goals as goal
 
 pub returns-clause-worker : goal.returns-clause-worker
