@@ -86,12 +86,7 @@ impl Player {
         self.worker.plan = None;
         let view = shared.look(rt, alloc, &mut self.pass)?;
         gate.at(self.pass.number(), Point::Synced);
-        let plan = plan_first(
-            alloc,
-            &self.worker.desk,
-            &mut self.indexes,
-            view.cell(),
-        )?;
+        let plan = plan_first(alloc, &self.worker.desk, &mut self.indexes, view.cell())?;
         self.worker.plan = Some(plan);
         Ok(())
     }

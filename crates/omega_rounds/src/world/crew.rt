@@ -87,8 +87,9 @@ impl Crew {
             indexes,
             pieces,
         } = self;
-        let (cell, workers, indexes) =
-            play_shared(rt, alloc, settings, cell, workers, indexes, gate)?;
+        let (cell, workers, indexes) = play_shared(
+            rt, alloc, settings, cell, workers, indexes, gate,
+        )?;
         Ok(Crew {
             cell,
             workers,
