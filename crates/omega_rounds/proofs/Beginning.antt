@@ -82,15 +82,14 @@ pub worker_begins : (asked : Asked) (history : List Entry) (cell : Cell) (place 
     → ((settings : Settings) (trace : TraceTables) (rows : List Row) → asked ≡ asked_after settings trace rows → all ≡ all_requests settings trace rows cell place)
     → IsSameDesk old.desk new.desk → new.desk.attempts ≡ old.desk.attempts
     → left_at new.desk ≡ fresh (left_at old.desk).failing (still_tried old.desk.settings (left_at old.desk).failing all)
-    → new.indexes ≡ old.indexes → synced_of new ≡ None
+    → synced_of new ≡ None
     → BeginsWorker asked history place old new
-worker_begins asked history cell place all old new now are desk attempts left indexes synced = record {
+worker_begins asked history cell place all old new now are desk attempts left synced = record {
   desk = desk;
   attempts = attempts;
   left = λ settings trace rows asks.
       left
       ∙ ap (λ (rs : List Request). fresh (left_at old.desk).failing (still_tried old.desk.settings (left_at old.desk).failing rs))
       (are settings trace rows asks ∙ ap (λ (c : Cell). all_requests settings trace rows c place) now);
-  indexes = indexes;
   synced = synced;
 }

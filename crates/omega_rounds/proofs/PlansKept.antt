@@ -2,6 +2,7 @@
 use Rattle.std.proofs.Common.{◌≡◌, ◌≢◌, ◌≤◌, ◌<◌, ℕ, List, [], ◌∷◌, length, map, Option, Some, None, sym, ap, subst, ◌∙◌, arith, inl, inr, set}
 use Rattle.std.specs.Prelude.{IfSome, slice_get}
 use Rattle.std.proofs.lemmas.Bool.{ne_eqb}
+use Rattle.std.proofs.lemmas.List.{length-set}
 use Rattle.omega_model.specs.Policy.{schedulers}
 use Rattle.omega_model.specs.Ranges.{IsInRange}
 use Rattle.omega_model.specs.Touches.{seq}
@@ -13,42 +14,50 @@ use Rattle.omega_model.specs.declared.rows.TraceTables.{TraceTables}
 use Rattle.omega_model.specs.declared.settings.Settings.{Settings}
 use Rattle.omega_model.specs.Lawful.{opened}
 use Rattle.omega_model.proofs.Lists.{each_map}
-use Rattle.std.specs.List.{AllByRecursion as Each}
 use Rattle.omega_plan.specs.Indexes.{AreIndexesOf}
 use Rattle.omega_plan.specs.declared.indexes.Indexes.{Indexes}
 use Rattle.omega_desk.specs.Desks.{DeskState}
 use Rattle.omega_lock.specs.Lists.{StartsWith}
 use Rattle.omega_shared.specs.Commits.{GoesOnWithout}
 use Rattle.omega_laws.specs.NextCommit.{attempt}
-use Rattle.omega_workers.specs.Forked.{AreAllIndexesOf}
 use Rattle.omega_workers.specs.Plans.{HasPlan, IsPlan, IsReady}
 use Rattle.omega_workers.specs.Workers.{IsWorker}
 use Rattle.omega_workers.specs.WorkerSteps.{WorkerSteps}
-use Rattle.omega_workers.specs.declared.forked.PieceIndexes.{PieceIndexes}
 use Rattle.omega_workers.specs.declared.plans.Plan.{Plan}
 use Rattle.omega_workers.specs.declared.worker.Worker.{Worker}
 use Rattle.omega_workers.specs.declared.steps.Stepped.{Stepped}
 use Rattle.omega_workers.specs.declared.steps.Stepped.TheVariants.{Synced, Committed, Idle}
 use Rattle.omega_workers.proofs.CommitCounts.{commits_other, indexes_on}
+use Rattle.omega_workers.proofs.SyncedOrNot.{each_first}
+use Rattle.omega_rounds.specs.Keeping.{AreIndexesFor}
 use Rattle.omega_rounds.proofs.OpenedEntries.{indexes_opened}
 use Rattle.omega_rounds.proofs.WorkerLists.{set_cases}
 use Rattle.omega_rounds.proofs.Without.{attempt_without, front_without, longer_without}
 
--- indexes of some pieces, and those of all, are those of a longer history
-pub further_on : (further : List Indexes) (before after : List Entry) → StartsWith after before → Each (AreIndexesOf before) further → Each (AreIndexesOf after) further
-further_on further before after on are = each_map (AreIndexesOf before) (AreIndexesOf after) (λ one. indexes_on one before after on) further are
-
-pub all_indexes_on : (indexes : PieceIndexes) (before after : List Entry) → StartsWith after before → AreAllIndexesOf before indexes → AreAllIndexesOf after indexes
-all_indexes_on indexes before after on are = record {
-  first = indexes_on indexes.first before after on are.first;
-  further = further_on indexes.further.items before after on are.further;
+-- indexes of a history for each scheduler are those of a longer one
+pub indexes_for_on : (count : ℕ) (indexes : List Indexes) (before after : List Entry) → StartsWith after before → AreIndexesFor count before indexes
+    → AreIndexesFor count after indexes
+indexes_for_on count indexes before after on are = record {
+  count = are.count;
+  each = each_map (AreIndexesOf before) (AreIndexesOf after) (λ one. indexes_on one before after on) indexes are.each;
 }
 
-pub all_indexes_opened : (trace : TraceTables) (rows : List Row) (start : List Entry) (round : Round) (indexes : PieceIndexes) → AreAllIndexesOf start indexes
-    → AreAllIndexesOf (opened trace rows start round).history indexes
-all_indexes_opened trace rows start round indexes are = record {
-  first = indexes_opened trace rows start round indexes.first are.first;
-  further = each_map (AreIndexesOf start) (AreIndexesOf (opened trace rows start round).history) (indexes_opened trace rows start round) indexes.further.items are.further;
+-- also where the first are others
+pub indexes_for_first : (count : ℕ) (indexes : List Indexes) (first : Indexes) (before after : List Entry) → StartsWith after before → AreIndexesFor count before indexes
+    → AreIndexesOf after first → AreIndexesFor count after (set indexes 0 first)
+indexes_for_first count indexes first before after on are is =
+    let longer : AreIndexesFor count after indexes = indexes_for_on count indexes before after on are in
+    record {
+      count = length-set indexes 0 first ∙ are.count;
+      each = each_first (AreIndexesOf after) indexes first longer.each is;
+    }
+
+-- and those of one in which a round opens
+pub indexes_for_opened : (trace : TraceTables) (rows : List Row) (start : List Entry) (round : Round) (count : ℕ) (indexes : List Indexes) → AreIndexesFor count start indexes
+    → AreIndexesFor count (opened trace rows start round).history indexes
+indexes_for_opened trace rows start round count indexes are = record {
+  count = are.count;
+  each = each_map (AreIndexesOf start) (AreIndexesOf (opened trace rows start round).history) (indexes_opened trace rows start round) indexes are.each;
 }
 
 if_some : (P Q : Plan → Type 0) → ((plan : Plan) → P plan → Q plan) → (o : Option Plan) → IfSome o P → IfSome o Q

@@ -71,6 +71,7 @@ idle_played shared player may idle = record {
   first_length = refl;
   within = omega arith;
   worker = may.worker;
+  indexes = may.indexes;
   desk = λ trace rows opened_at within own. own;
   commits = λ opened_at within stand. stand;
   no_work = λ ok. not_first player.worker.desk.requests idle;

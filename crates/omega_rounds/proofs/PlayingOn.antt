@@ -30,15 +30,16 @@ use Rattle.omega_workers.specs.declared.plans.Plan.{Plan}
 use Rattle.omega_rounds.specs.declared.threads.player.Player.{Player}
 use Rattle.omega_rounds.proofs.DeskCommits.{own_desk_own}
 use Rattle.omega_laws.proofs.LastCommits.{after_last-within}
+use Rattle.omega_workers.proofs.CommitCounts.{indexes_on}
 use Rattle.omega_workers.proofs.HavingPlans.{seen_there, unsynced}
 use Rattle.omega_workers.proofs.WorkerCommits.{IsCommitting, answers_first, commits_first, fewer_left, worker_after}
-use Rattle.omega_rounds.proofs.Without.{after_last-without, attempt_without, desk_without, longer_without, worker_without, stand_without}
+use Rattle.omega_rounds.proofs.Without.{after_last-without, attempt_without, desk_without, indexes_without, longer_without, worker_without, stand_without}
 
 -- a turn after which the pass has seen commits of others, the desk is as before, and the indexes are those of
 -- what the pass has seen
 pub plays_on_without : (old new : Player) → IsWorker old.worker.desk.settings old.pass.seen old.pass.number old.worker
     → SpendsTurn old.pass new.pass → GoesOnWithout old.pass.number old.pass.seen new.pass.seen
-    → new.worker.desk ≡ old.worker.desk → AreIndexesOf new.pass.seen new.worker.indexes
+    → new.worker.desk ≡ old.worker.desk → AreIndexesOf new.pass.seen new.indexes
     → SyncedWithin (synced_of new.worker) (length new.pass.seen)
     → PlaysOn old new
 plays_on_without old new worker turn on same indexes seen =
@@ -54,9 +55,9 @@ plays_on_without old new worker turn on same indexes seen =
         scheduler = ap (λ (d : DeskState). d.scheduler) same ∙ worker.scheduler ∙ sym turn.number;
         attempts = ap (λ (d : DeskState). d.attempts) same ∙ here.attempts ∙ ap (λ (n : ℕ). commits_of n new.pass.seen) (sym turn.number);
         tries = subst (λ (d : DeskState). d.taken < settings.tries) (sym same) worker.tries;
-        indexes = indexes;
         seen = seen;
       };
+      indexes = indexes;
       desk = λ trace rows opened_at within is.
           subst (λ (d : DeskState). IsOwnDesk settings trace rows opened_at new.pass.seen new.pass.number d) (sym same)
           (subst (λ (n : ℕ). IsOwnDesk settings trace rows opened_at new.pass.seen n old.worker.desk) (sym turn.number)
@@ -69,7 +70,7 @@ plays_on_without old new worker turn on same indexes seen =
 -- also where it has no plan then
 pub plays_on_none : (old new : Player) → IsWorker old.worker.desk.settings old.pass.seen old.pass.number old.worker
     → SpendsTurn old.pass new.pass → GoesOnWithout old.pass.number old.pass.seen new.pass.seen
-    → new.worker.desk ≡ old.worker.desk → AreIndexesOf new.pass.seen new.worker.indexes → new.worker.plan ≡ None
+    → new.worker.desk ≡ old.worker.desk → AreIndexesOf new.pass.seen new.indexes → new.worker.plan ≡ None
     → PlaysOn old new
 plays_on_none old new worker turn on same indexes none =
     plays_on_without old new worker turn on same indexes
@@ -108,7 +109,7 @@ pub record PlayerCommits (old new : Player) (txn : Txn) (reply : Reply) : Type 0
   pub same : IsSameDesk old.worker.desk new.worker.desk
   pub attempts : new.worker.desk.attempts ≡ old.worker.desk.attempts + 1
   pub moved : after_outcomes old.worker.desk.settings (left_at old.worker.desk) old.worker.desk.requests reply.outcomes ≡ Some (left_at new.worker.desk)
-  pub indexes : new.worker.indexes ≡ old.worker.indexes
+  pub indexes : new.indexes ≡ old.indexes
   pub spent : new.worker.plan ≡ None
 
 module _ (old new : Player) (txn : Txn) (reply : Reply) (did : PlayerCommits old new txn reply) where
@@ -142,12 +143,19 @@ module _ (old new : Player) (txn : Txn) (reply : Reply) (did : PlayerCommits old
 
   worker_next : IsWorker settings new.pass.seen number new.worker
   worker_next = worker_after settings number before new.pass.seen old.worker new.worker.desk did.plans.request txn reply.outcomes committing
-      new.worker.indexes new.worker.plan did.spent (subst (AreIndexesOf before) (sym did.indexes) worker_before.indexes)
+      new.worker.plan did.spent
+
+  -- the indexes are those of what was there, and so of what is there now
+  indexes_next : AreIndexesOf new.pass.seen new.indexes
+  indexes_next =
+      subst (AreIndexesOf new.pass.seen) (sym did.indexes)
+      (indexes_on old.indexes before new.pass.seen (commit_after before number (length old.pass.seen) txn ∷ [], did.commits.commit_seen)
+      (indexes_without number old.pass.seen before did.commits.others old.indexes did.synced.indexes))
 
   first_next : CommitsFirst settings number before old.worker new.pass.seen new.worker reply.place
   first_next =
       commits_first settings number before new.pass.seen old.worker new.worker.desk did.plans.request txn reply.outcomes committing
-      new.worker.indexes new.worker.plan did.spent reply.place did.commits.answers.place
+      new.worker.plan did.spent reply.place did.commits.answers.place
 
   -- it had seen all that its pass had
   seen_all : first_next.seen ≡ length old.pass.seen
@@ -204,6 +212,7 @@ module _ (old new : Player) (txn : Txn) (reply : Reply) (did : PlayerCommits old
         first_length = did.turn.first_length;
         within = omega (arith, first, more);
         worker = subst (λ (n : ℕ). IsWorker settings new.pass.seen n new.worker) (sym did.turn.number) worker_next;
+        indexes = indexes_next;
         desk = λ trace rows opened_at within is.
             subst (λ (n : ℕ). IsOwnDesk settings trace rows opened_at new.pass.seen n new.worker.desk) (sym did.turn.number)
             (desk_after trace rows opened_at within is);
@@ -227,6 +236,7 @@ plays_on_both old now new first second =
       first_length = second.first_length ∙ first.first_length;
       within = omega (arith, longer, later);
       worker = subst (λ (s : Settings). IsWorker s new.pass.seen new.pass.number new.worker) same second.worker;
+      indexes = second.indexes;
       desk = λ trace rows opened_at within is.
           subst (λ (s : Settings). IsOwnDesk s trace rows opened_at new.pass.seen new.pass.number new.worker.desk) same
           (second.desk trace rows opened_at (omega (arith, within, longer))
@@ -266,6 +276,7 @@ module _ (shared : TableId) (old : Player) (may : MayPlay shared old) (work : ol
         known = subst (λ (s : Settings). now.pass.number < schedulers s) (sym same)
             (subst (λ (n : ℕ). n < schedulers old.worker.desk.settings) (sym on.number) may.known);
         worker = subst (λ (s : Settings). IsWorker s now.pass.seen now.pass.number now.worker) (sym same) on.worker;
+        indexes = on.indexes;
         all = all;
       }
 
@@ -283,6 +294,7 @@ may_play_after shared old now new may on turn desk spent fewer =
       known = subst (λ (s : Settings). new.pass.number < schedulers s) (sym same)
           (subst (λ (n : ℕ). n < schedulers old.worker.desk.settings) (sym on.number) may.known);
       worker = subst (λ (s : Settings). IsWorker s new.pass.seen new.pass.number new.worker) (sym same) on.worker;
+      indexes = on.indexes;
       turns = omega (arith, enough, less, turn, spent);
     }
 
@@ -294,6 +306,7 @@ plays_on_same shared player may = record {
   first_length = refl;
   within = omega arith;
   worker = may.worker;
+  indexes = may.indexes;
   desk = λ trace rows opened_at within is. is;
   commits = λ opened_at within stand. stand;
 }
@@ -326,7 +339,7 @@ plays_more shared old now new is on may spent failed = record {
 
 -- where it meets want of memory in an attempt it has played so far
 pub stopped : (shared : TableId) (old now new : Player) → IsPlaying shared old now → PlaysOn now new
-    → HasPlayed old (record { worker = new.worker; pass = new.pass; failed = true })
+    → HasPlayed old (record { worker = new.worker; indexes = new.indexes; pass = new.pass; failed = true })
 stopped shared old now new is on =
     let both = plays_on_both old now new is.plays_on on in
     record {
@@ -335,6 +348,7 @@ stopped shared old now new is on =
       first_length = both.first_length;
       within = both.within;
       worker = both.worker;
+      indexes = both.indexes;
       desk = both.desk;
       commits = both.commits;
       no_work = λ ok. absurd (cc ok);
@@ -343,13 +357,14 @@ stopped shared old now new is on =
 
 -- at its end it has played, whether or not it had met want of memory before
 pub played_all : (shared : TableId) (old now : Player) (failed : Bool) → IsPlaying shared old now
-    → now.worker.desk.requests ≡ [] → HasPlayed old (record { worker = now.worker; pass = now.pass; failed = failed })
+    → now.worker.desk.requests ≡ [] → HasPlayed old (record { worker = now.worker; indexes = now.indexes; pass = now.pass; failed = failed })
 played_all shared old now failed is none = record {
   of = is.plays_on.of;
   number = is.plays_on.number;
   first_length = is.plays_on.first_length;
   within = is.plays_on.within;
   worker = is.plays_on.worker;
+  indexes = is.plays_on.indexes;
   desk = is.plays_on.desk;
   commits = is.plays_on.commits;
   no_work = λ ok. none;

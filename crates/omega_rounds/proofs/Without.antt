@@ -83,7 +83,6 @@ module _ (scheduler : ℕ) (old new : List Entry) (on : GoesOnWithout scheduler 
     scheduler = is.scheduler;
     attempts = is.attempts ∙ sym commits_without;
     tries = is.tries;
-    indexes = indexes_without worker.indexes is.indexes;
     seen = synced_longer (synced_of worker) (length old) (length new) longer_without is.seen;
   }
 

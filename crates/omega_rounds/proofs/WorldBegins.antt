@@ -26,24 +26,21 @@ use Rattle.omega_model.specs.declared.rows.Round.{Round}
 use Rattle.omega_model.specs.declared.rows.TraceTables.{TraceTables}
 use Rattle.omega_model.specs.declared.settings.Settings.{Settings}
 use Rattle.omega_model.specs.declared.wishes.Request.{Request}
-use Rattle.omega_plan.specs.Indexes.{AreIndexesOf}
 use Rattle.omega_plan.specs.declared.indexes.Indexes.{Indexes}
 use Rattle.omega_desk.specs.Counts.{count_of}
 use Rattle.omega_desk.specs.Desks.{DeskState, left_at, still_tried}
 use Rattle.omega_workers.specs.AttemptsLeft.{attempts_left}
-use Rattle.omega_workers.specs.Forked.{AreAllIndexesOf}
-use Rattle.omega_workers.specs.declared.forked.PieceIndexes.{PieceIndexes}
 use Rattle.omega_laws.specs.InRound.{RoundIsOver, rows_now}
-use Rattle.omega_rounds.specs.Keeping.{HasBegun, HasNotBegun, IsLawful, IsWorld, world_at}
+use Rattle.omega_rounds.specs.Keeping.{AreIndexesFor, HasBegun, HasNotBegun, IsLawful, IsWorld, world_at}
 use Rattle.omega_laws.specs.NextCommit.{NobodyHasWork}
 use Rattle.omega_rounds.specs.Beginning.{BeginAll, BeginsWorker, IsAsked}
 use Rattle.omega_workers.specs.Workers.{HaveNoWork, IsDeskOf, IsRoutedTo, IsWorker, synced_of, to_do_of, SyncedWithin}
 use Rattle.omega_rounds.specs.Playing.{IsAtStart}
 use Rattle.omega_rounds.specs.Stages.{IsInRunOf, Source, Stage, next_stage, rows_begun, stage_of}
 use Rattle.omega_workers.specs.declared.worker.Worker.{Worker}
-use Rattle.omega_rounds.proofs.PlansKept.{all_indexes_opened}
+use Rattle.omega_rounds.proofs.PlansKept.{indexes_for_opened}
 use Rattle.omega_workers.proofs.HavingPlans.{plan_none}
-use Rattle.omega_rounds.proofs.OpenedEntries.{commits_opened, failed_opened, indexes_opened}
+use Rattle.omega_rounds.proofs.OpenedEntries.{commits_opened, failed_opened}
 use Rattle.omega_laws.proofs.Places.{take_next}
 use Rattle.omega_rounds.proofs.Requested.{open_own, requests_own}
 use Rattle.omega_laws.proofs.RoundGrows.{has_left_opened}
@@ -183,8 +180,6 @@ module _ (settings : Settings) (all : List Round) (asked : Asked) (begun old_pla
           attempts = begun_worker.attempts ∙ is.attempts ∙ sym (commits_opened trace (rows_begun stage) before round number)
               ∙ ap (λ (h : List Entry). commits_of number h) (sym same);
           tries = omega (arith, none, some);
-          indexes = subst (λ (k : Indexes). AreIndexesOf after k) (sym begun_worker.indexes)
-              (subst (λ (h : List Entry). AreIndexesOf h was.indexes) (sym same) (indexes_opened trace (rows_begun stage) before round was.indexes is.indexes));
           seen = subst (λ (synced : Option ℕ). SyncedWithin synced (length after)) (sym begun_worker.synced) tt;
         }
 
@@ -193,10 +188,10 @@ module _ (settings : Settings) (all : List Round) (asked : Asked) (begun old_pla
     nobody_later = seen_none synced_of new (λ number worker here. (begins.each number worker here).1.1.synced)
 
     -- indexes of the history are so still
-    pub indexes_later : (indexes : PieceIndexes) → AreAllIndexesOf before indexes → AreAllIndexesOf after indexes
-    indexes_later indexes are =
-        subst (λ (h : List Entry). AreAllIndexesOf h indexes) (sym (after_is world.made.0 world.made.1))
-        (all_indexes_opened world.made.0 (rows_begun stage) before round indexes are)
+    pub indexes_later : (count : ℕ) (indexes : List Indexes) → AreIndexesFor count before indexes → AreIndexesFor count after indexes
+    indexes_later count indexes are =
+        subst (λ (h : List Entry). AreIndexesFor count h indexes) (sym (after_is world.made.0 world.made.1))
+        (indexes_for_opened world.made.0 (rows_begun stage) before round count indexes are)
 
     -- the round of the definition begins
     pub begins_round : (trace : TraceTables) → IsInRunOf stage trace → BeginsRound trace (rows_begun stage) round (world_at before old) (world_at after new)

@@ -32,7 +32,7 @@ use Rattle.omega_rounds.specs.Stages.{IsInRunOf, Source, Stage, WorldState, rows
 use Rattle.omega_workers.specs.declared.worker.Worker.{Worker}
 use Rattle.omega_workers.specs.declared.steps.Stepped.{Stepped}
 use Rattle.omega_workers.specs.declared.steps.Stepped.TheVariants.{Synced, Committed, Idle}
-use Rattle.omega_workers.proofs.CommitCounts.{commits_other, indexes_on, synced_longer}
+use Rattle.omega_workers.proofs.CommitCounts.{commits_other, synced_longer}
 use Rattle.omega_rounds.proofs.DeskCommits.{desk_other, desk_own}
 use Rattle.omega_laws.proofs.Places.{take_next}
 use Rattle.omega_sim.proofs.Arrived.{rows_of_push}
@@ -91,7 +91,6 @@ module _ (settings : Settings) (before after : List Entry) (scheduler : ℕ) (ol
         scheduler = is.scheduler;
         attempts = is.attempts ∙ sym (commits_other number before entry (ne_eqb scheduler number (λ same. apart (sym same))));
         tries = is.tries;
-        indexes = indexes_on worker.indexes before (before ++ entry ∷ []) (entry ∷ [], refl) is.indexes;
         seen = synced_longer (synced_of worker) (length before) (length (before ++ entry ∷ []))
             (let count = length-append before (entry ∷ []) in omega (arith, count)) is.seen;
       })

@@ -27,7 +27,6 @@ pub record BeginsWorker (asked : Asked) (history : List Entry) (number : ℕ) (o
   pub left : (settings : Settings) (trace : TraceTables) (rows : List Row) → asked ≡ asked_after settings trace rows
       → left_at new.desk ≡ fresh (left_at old.desk).failing
       (still_tried old.desk.settings (left_at old.desk).failing (all_requests settings trace rows (state history) number))
-  pub indexes : new.indexes ≡ old.indexes
   pub synced : synced_of new ≡ None
 
 -- so does each worker

@@ -1,5 +1,6 @@
 -- What every world keeps.
 use Rattle.std.specs.Prelude.{◌≡◌, ◌⊎◌, ◌+◌, ◌≤◌, ℕ, List, [], Some, length, map, slice_get}
+use Rattle.std.specs.List.{AllByRecursion as Each}
 use Rattle.omega_model.specs.Policy.{schedulers}
 use Rattle.omega_model.specs.Ranges.{IsInRange}
 use Rattle.omega_model.specs.Stepping.{IsInRound, rows_end}
@@ -8,6 +9,8 @@ use Rattle.omega_model.specs.World.{NobodySynced, World}
 use Rattle.omega_model.specs.declared.entries.Entry.{Entry}
 use Rattle.omega_model.specs.declared.rows.TraceTables.{TraceTables}
 use Rattle.omega_model.specs.declared.settings.Settings.{Settings}
+use Rattle.omega_plan.specs.Indexes.{AreIndexesOf}
+use Rattle.omega_plan.specs.declared.indexes.Indexes.{Indexes}
 use Rattle.omega_workers.specs.Plans.{HasPlan}
 use Rattle.omega_workers.specs.Workers.{IsDeskOf, IsWorker, synced_of}
 use Rattle.omega_rounds.specs.Stages.{IsInRunOf, Stage, rows_begun, synced_at}
@@ -45,6 +48,11 @@ pub record IsLawful (trace : TraceTables) (stage : Stage) (history : List Entry)
   pub run : HasNotBegun stage (world_at history workers) ⊎ HasBegun trace stage (world_at history workers)
   pub desks : (scheduler : ℕ) (worker : Worker) → slice_get workers scheduler ≡ Some worker
       → IsDeskOf stage.settings trace (rows_begun stage) stage.opened_at history scheduler worker.desk
+
+-- there are indexes of a history for each of so many schedulers
+pub record AreIndexesFor (schedulers : ℕ) (history : List Entry) (indexes : List Indexes) : Type 0 where
+  pub count : length indexes ≡ schedulers
+  pub each : Each (AreIndexesOf history) indexes
 
 -- what every world keeps: the settings are in their ranges; the wanted tasks are those after the rows of
 -- the rounds that have begun; there is a worker for each scheduler, with its plan where it has synced; the

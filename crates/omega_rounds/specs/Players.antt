@@ -13,6 +13,7 @@ use Rattle.omega_model.specs.declared.entries.Entry.TheVariants.{Commit}
 use Rattle.omega_model.specs.declared.rows.Row.{Row}
 use Rattle.omega_model.specs.declared.rows.TraceTables.{TraceTables}
 use Rattle.omega_model.specs.declared.settings.Settings.{Settings}
+use Rattle.omega_plan.specs.Indexes.{AreIndexesOf}
 use Rattle.omega_workers.specs.Workers.{IsRoutedTo, IsWorker, synced_of, to_do_of}
 use Rattle.omega_rounds.specs.declared.threads.player.Player.{Player}
 
@@ -42,16 +43,17 @@ OwnMayStand settings opened_at scheduler history =
     → MayStand settings opened_at scheduler (take place history) entry
 
 -- a player may play in a round on this shared cell: its worker is that of its scheduler beside what its pass has
--- seen, and its pass has two turns for each attempt that it can still make
+-- seen, its indexes are those of that history, and its pass has two turns for each attempt that it can still make
 pub record MayPlay (shared : TableId) (player : Player) : Type 0 where
   pub of : player.pass.of ≡ shared
   pub range : IsInRange player.worker.desk.settings
   pub known : player.pass.number < schedulers player.worker.desk.settings
   pub worker : IsWorker player.worker.desk.settings player.pass.seen player.pass.number player.worker
+  pub indexes : AreIndexesOf player.pass.seen player.indexes
   pub turns : 2 * to_do_of player.worker ≤ player.pass.turns
 
 -- a player has played: its pass has seen at least as many entries as before, and beside what it has seen its worker
--- is still that of its scheduler. Its desk is right for each trace for which it was; and if all its commits since a
+-- is still that of its scheduler, with indexes of that history. Its desk is right for each trace for which it was; and if all its commits since a
 -- place could stand where they did, so can all that it has there now. Unless it met want of memory, nothing is left
 -- at its desk, and its scheduler has not synced since its last commit, if it hadn't before
 pub record HasPlayed (old new : Player) : Type 0 where
@@ -60,6 +62,7 @@ pub record HasPlayed (old new : Player) : Type 0 where
   pub first_length : new.pass.first_length ≡ old.pass.first_length
   pub within : length old.pass.seen ≤ length new.pass.seen
   pub worker : IsWorker old.worker.desk.settings new.pass.seen new.pass.number new.worker
+  pub indexes : AreIndexesOf new.pass.seen new.indexes
   pub desk : (trace : TraceTables) (rows : List Row) (opened_at : ℕ) → opened_at ≤ length old.pass.seen
       → IsOwnDesk old.worker.desk.settings trace rows opened_at old.pass.seen old.pass.number old.worker.desk
       → IsOwnDesk old.worker.desk.settings trace rows opened_at new.pass.seen new.pass.number new.worker.desk

@@ -8,6 +8,7 @@ ghost use Rattle.omega_model.specs.Ranges.{IsInRange};
 ghost use Rattle.omega_model.specs.declared.rows.TraceTables.{TraceTables};
 ghost use Rattle.omega_shared.specs.Passes.{new_pass};
 ghost use Rattle.omega_rounds.specs.Closed.{AreBack, Suffice};
+ghost use Rattle.omega_rounds.specs.Keeping.{AreIndexesFor};
 ghost use Rattle.omega_workers.specs.Workers.{IsWorker};
 ghost use Rattle.omega_rounds.specs.Stages.{AllHaveBegun, IsInRunOf};
 ghost use Rattle.omega_workers.specs.declared.worker.Worker.{Worker};
@@ -20,6 +21,7 @@ use crate::world::World;
 use omega_cell::Cell;
 use omega_io::Gate;
 use omega_model::{NoMemory, Settings};
+use omega_plan::Indexes;
 use omega_shared::{Pass, SharedCell};
 use omega_workers::Worker;
 use player::Player;
@@ -62,36 +64,38 @@ pub fn on_threads<R: Threads + Wait + Sync, G: Gate + Sync>(
 }
 
 /// Lets the schedulers of these workers work until nothing is left at any desk, each on a thread of its
-/// own with so many turns at the cell, and answers the cell and the workers. Where memory runs out both
-/// are gone. May wait.
+/// own and with indexes of its own, and answers the cell, the workers and the indexes. Where memory runs out
+/// all are gone. May wait.
 pub(crate) fn play_shared<R: Threads + Wait + Sync, G: Gate + Sync>(
     rt: &R,
     alloc: Global,
     settings: &Settings,
     cell: Cell,
     workers: Vec<Worker>,
-    turns: u32,
+    indexes: Vec<Indexes>,
     gate: &G,
-) -> Result<(Cell, Vec<Worker>), NoMemory>
+) -> Result<(Cell, Vec<Worker>, Vec<Indexes>), NoMemory>
     requires sync { IsSync R.row × IsSync G.row }
     requires range { IsInRange settings.now }
     requires short { length cell.history < 2 ^ 63 }
     requires count { length workers.items ≡ schedulers settings.now }
     requires each { (number : ℕ) (worker : Worker) → slice_get workers.items number ≡ Some worker
         → IsWorker settings.now cell.history number worker }
-    requires suffice { Suffice settings.now workers.items turns }
+    requires indexes { AreIndexesFor (schedulers settings.now) cell.history indexes.items }
     ensures back { IfOk result (λ back. AreBack settings.now cell.history back.0.history workers.items back.1.items) }
+    ensures indexes { IfOk result (λ back. AreIndexesFor (schedulers settings.now) back.0.history back.2.items) }
 {
+    let turns = turns_for(settings, workers.as_slice())?;
     let (shared, passes) = share(rt, alloc, cell, settings.schedulers(), turns)?;
-    let mut players = players_of(alloc, workers, passes)?;
+    let mut players = players_of(alloc, workers, indexes, passes)?;
     play_all(rt, alloc, &shared, &mut players, gate);
-    let (workers, passes) = back_from(alloc, players)?;
-    Ok((shared.close(rt, passes), workers))
+    let (workers, indexes, passes) = back_from(alloc, players)?;
+    Ok((shared.close(rt, passes), workers, indexes))
 }
 
 /// How many turns at the cell each scheduler gets: two for each attempt, where all have as many requests as
 /// the desk with the most, and make all tries for each. 2^32 turns or more are answered as want of memory.
-pub(crate) fn turns_for(settings: &Settings, workers: &[Worker]) -> Result<u32, NoMemory>
+fn turns_for(settings: &Settings, workers: &[Worker]) -> Result<u32, NoMemory>
     ensures { IfOk result (Suffice settings.now workers.now) }
 {
     let most = most_requests(workers);
@@ -115,36 +119,51 @@ fn most_requests(workers: &[Worker]) -> u128
     most
 }
 
-/// The players of the schedulers, by number. Where memory runs out the workers and passes are gone.
+/// The players of the schedulers, by number. Where memory runs out all that is handed in is gone.
 fn players_of(
     alloc: Global,
     workers: Vec<Worker>,
+    indexes: Vec<Indexes>,
     passes: Vec<Pass>,
 ) -> Result<Vec<Player>, NoMemory>
     requires as_many { length passes.items ≡ length workers.items }
+    requires indexes { length indexes.items ≡ length workers.items }
     ensures workers { IfOk result (λ players. map (λ player. player.worker) players.items ≡ workers.items) }
+    ensures indexes { IfOk result (λ players. map (λ player. player.indexes) players.items ≡ indexes.items) }
     ensures passes { IfOk result (λ players. map (λ player. player.pass) players.items ≡ passes.items) }
     ensures fresh { IfOk result (λ players. All (λ player. player.failed ≡ false) players.items) }
 {
     let room = Vec::with_capacity(alloc, workers.len())?;
-    Ok(paired(workers, passes, room))
+    Ok(paired(workers, indexes, passes, room))
 }
 
-/// Each worker with its pass. There is room for them.
-fn paired(workers: Vec<Worker>, passes: Vec<Pass>, mut players: Vec<Player>) -> Vec<Player>
+/// Each worker with its indexes and its pass. There is room for them.
+fn paired(
+    workers: Vec<Worker>,
+    indexes: Vec<Indexes>,
+    passes: Vec<Pass>,
+    mut players: Vec<Player>,
+) -> Vec<Player>
     requires as_many { length passes.items ≡ length workers.items }
+    requires indexes { length indexes.items ≡ length workers.items }
     requires room { (players.items ≡ []) × (length workers.items ≤ vec_capacity players) }
     ensures workers { map (λ player. player.worker) result.items ≡ workers.items }
+    ensures indexes { map (λ player. player.indexes) result.items ≡ indexes.items }
     ensures passes { map (λ player. player.pass) result.items ≡ passes.items }
     ensures fresh { All (λ player. player.failed ≡ false) result.items }
 {
+    let mut indexes = indexes.into_iter();
     let mut passes = passes.into_iter();
     for worker in workers {
+        let Some(own) = indexes.next() else {
+            unreachable!()
+        };
         let Some(pass) = passes.next() else {
             unreachable!()
         };
         players.push_reserved(Player {
             worker,
+            indexes: own,
             pass,
             failed: false,
         });
@@ -152,19 +171,24 @@ fn paired(workers: Vec<Worker>, passes: Vec<Pass>, mut players: Vec<Player>) -> 
     players
 }
 
-/// The workers and the passes of players that have played. Where one has met want of memory, or memory runs
-/// out, they are gone.
-fn back_from(alloc: Global, players: Vec<Player>) -> Result<(Vec<Worker>, Vec<Pass>), NoMemory>
+/// The workers, the indexes and the passes of players that have played. Where one has met want of memory, or
+/// memory runs out, they are gone.
+fn back_from(
+    alloc: Global,
+    players: Vec<Player>,
+) -> Result<(Vec<Worker>, Vec<Indexes>, Vec<Pass>), NoMemory>
     ensures succeeded { OnOk result (list_any (λ player. player.failed) players.items ≡ false) }
     ensures workers { IfOk result (λ back. back.0.items ≡ map (λ player. player.worker) players.items) }
-    ensures passes { IfOk result (λ back. back.1.items ≡ map (λ player. player.pass) players.items) }
+    ensures indexes { IfOk result (λ back. back.1.items ≡ map (λ player. player.indexes) players.items) }
+    ensures passes { IfOk result (λ back. back.2.items ≡ map (λ player. player.pass) players.items) }
 {
     if any_failed(&players) {
         return Err(NoMemory);
     }
     let workers = Vec::with_capacity(alloc, players.len())?;
+    let indexes = Vec::with_capacity(alloc, players.len())?;
     let passes = Vec::with_capacity(alloc, players.len())?;
-    Ok(apart(players, workers, passes))
+    Ok(apart(players, workers, indexes, passes))
 }
 
 /// Whether one of these players has met want of memory.
@@ -181,23 +205,32 @@ fn has_failed(player: &Player) -> bool
     player.failed
 }
 
-/// The workers and the passes of players. There is room for them.
+/// The workers, the indexes and the passes of players. There is room for them.
 fn apart(
     players: Vec<Player>,
     mut workers: Vec<Worker>,
+    mut indexes: Vec<Indexes>,
     mut passes: Vec<Pass>,
-) -> (Vec<Worker>, Vec<Pass>)
+) -> (Vec<Worker>, Vec<Indexes>, Vec<Pass>)
     requires workers { (workers.items ≡ []) × (length players.items ≤ vec_capacity workers) }
+    requires indexes { (indexes.items ≡ []) × (length players.items ≤ vec_capacity indexes) }
     requires passes { (passes.items ≡ []) × (length players.items ≤ vec_capacity passes) }
     ensures workers { result.0.items ≡ map (λ player. player.worker) players.items }
-    ensures passes { result.1.items ≡ map (λ player. player.pass) players.items }
+    ensures indexes { result.1.items ≡ map (λ player. player.indexes) players.items }
+    ensures passes { result.2.items ≡ map (λ player. player.pass) players.items }
 {
     for player in players {
-        let Player { worker, pass, .. } = player;
+        let Player {
+            worker,
+            indexes: own,
+            pass,
+            ..
+        } = player;
         workers.push_reserved(worker);
+        indexes.push_reserved(own);
         passes.push_reserved(pass);
     }
-    (workers, passes)
+    (workers, indexes, passes)
 }
 
 /// Shares a cell. Where memory runs out the cell is gone. May wait.

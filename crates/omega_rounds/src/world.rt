@@ -1,5 +1,5 @@
 //! Schedulers over one cell, round by round.
-ghost use Rattle.std.specs.Prelude.{◌≡◌, ◌<◌, [], ℕ, None, length, take, IfOk, IfSome, OnErr, OnOk};
+ghost use Rattle.std.specs.Prelude.{◌≡◌, ◌<◌, [], ℕ, None, List, length, take, IfOk, IfSome, OnErr, OnOk};
 ghost use Rattle.std.specs.Thread.{IsSync};
 ghost use Rattle.omega_cell.specs.Effects.{AreEffects};
 ghost use Rattle.omega_feed.specs.Asked.{asked_after};
@@ -13,11 +13,12 @@ ghost use Rattle.omega_model.specs.Ranges.{IsInRange};
 ghost use Rattle.omega_model.specs.State.{state};
 ghost use Rattle.omega_model.specs.Wanted.{wanted};
 ghost use Rattle.omega_model.specs.World.{NobodySynced};
+ghost use Rattle.omega_model.specs.declared.entries.Entry.{Entry};
 ghost use Rattle.omega_model.specs.declared.rows.TraceTables.{TraceTables};
 ghost use Rattle.omega_rounds.specs.Closed.{IsDone};
 ghost use Rattle.omega_rounds.specs.Going.{GoesOn, IsOverAtLast, LeavesToDo, MovesOn, OpensRound, ReachesRound, StepsOn};
 ghost use Rattle.omega_rounds.specs.InTime.{HasWishesLeft, IsNoneWithoutWork, rows_time};
-ghost use Rattle.omega_rounds.specs.Keeping.{IsNew, LawfulWorld};
+ghost use Rattle.omega_rounds.specs.Keeping.{AreIndexesFor, IsNew, LawfulWorld};
 ghost use Rattle.omega_rounds.specs.Beginning.{AreNewWorkers};
 ghost use Rattle.omega_rounds.specs.Playing.{IsAtStart, IsInSomeRun, SyncsTurn};
 ghost use Rattle.omega_rounds.specs.Stages.{AllHaveBegun, IsInRunOf, first_stage, rows_begun, world_of};
@@ -33,10 +34,11 @@ use course::Course;
 use crew::Crew;
 use omega_cell::{Cell, Effects};
 use omega_feed::{EventRounds, Events, OpenJobs, WaitingTasks, Wanted};
-use omega_io::Gate;
+use omega_io::{Gate, pieces_on};
 use omega_model::{Entries, Entry, NoMemory, Settings, TraceTables};
 use omega_opening::{Demand, reopen_since};
-use omega_workers::{PieceIndexes, Stepped, Worker, are_worth_threads, first_at_work, sync_pieces};
+use omega_plan::Indexes;
+use omega_workers::{Stepped, Worker, are_worth_threads, first_at_work, sync_pieces};
 pub use remains::Remains;
 use std::alloc::Global;
 use std::marker::Model;
@@ -59,8 +61,8 @@ pub struct World {
 impl Model for World {
     ghost use Rattle.std.specs.Prelude.{map};
     ghost use Rattle.std.specs.List.{sum_by};
-    ghost use Rattle.omega_workers.specs.Forked.{AreAllIndexesOf};
-    ghost use Rattle.omega_rounds.specs.Keeping.{IsWorld};
+    ghost use Rattle.omega_model.specs.Policy.{schedulers};
+    ghost use Rattle.omega_rounds.specs.Keeping.{AreIndexesFor, IsWorld};
     ghost use Rattle.omega_opening.specs.Reopening.{WereQuiet};
     ghost use Rattle.omega_workers.specs.Workers.{synced_of, to_do_of};
     ghost use Rattle.omega_rounds.specs.Stages.{WorldState, stage_of};
@@ -71,7 +73,7 @@ impl Model for World {
 
     ghost invariant = { λ w. IsWorld (stage_of w.course.settings w.course.rounds w.course.demand.wanted w.course.begun w.course.opened_at) w.course.demand.wanted.tasks w.crew.cell.history w.crew.workers.items
         × WereQuiet w.course.demand.open_jobs w.course.demand.wanted w.course.opened_at w.crew.cell.history
-        × AreAllIndexesOf w.crew.cell.history w.crew.indexes };
+        × AreIndexesFor (schedulers w.course.settings) w.crew.cell.history w.crew.indexes.items };
 }
 
 impl World {
@@ -89,6 +91,7 @@ impl World {
         let demand = Demand { wanted, open_jobs };
         let rounds = EventRounds::cut(alloc, events, settings.window)?;
         let workers = new_workers(alloc, settings)?;
+        let indexes = new_indexes(alloc, settings)?;
         Ok(World {
             alloc,
             course: Course {
@@ -101,7 +104,8 @@ impl World {
             crew: Crew {
                 cell: Cell::new(alloc),
                 workers,
-                indexes: PieceIndexes::new(alloc),
+                indexes,
+                pieces: None,
             },
         })
     }
@@ -244,7 +248,8 @@ impl World {
     {
         let alloc = self.alloc;
         let worker = &mut self.crew.workers[scheduler as usize];
-        let stepped = worker.step(alloc, &mut self.crew.indexes.first, &mut self.crew.cell)?;
+        let first = &mut self.crew.indexes[0];
+        let stepped = worker.step(alloc, first, &mut self.crew.cell)?;
         Ok(stepped)
     }
 
@@ -253,10 +258,8 @@ impl World {
     /// is free; each of them looks at a few machines mostly, and at worst at all.
     pub(crate) fn is_worth_threads(&self) -> bool {
         let crew = &self.crew;
-        let unseen = crew.indexes.unseen(crew.cell.history().len() as u64);
-        let workers = crew.workers.as_slice();
-        crew.indexes.pieces != Some(1)
-            && are_worth_threads(workers, &crew.indexes.first, crew.cell.board(), unseen)
+        crew.pieces != Some(1)
+            && are_worth_threads(crew.workers.as_slice(), crew.indexes.as_slice(), &crew.cell)
     }
 
     /// Lets all schedulers that have work and haven't synced do so. They are cut into pieces that work at the
@@ -268,14 +271,14 @@ impl World {
         ensures synced { OnOk result (SyncsTurn self.old self.new) }
         ensures to_do { self.new.to_do ≡ self.old.to_do }
     {
-        self.crew.indexes.prepare(rt, self.alloc)?;
+        let pieces = known_pieces(rt, &mut self.crew.pieces);
         sync_pieces(
             rt,
             self.alloc,
             &self.crew.cell,
             &mut self.crew.workers,
-            &mut self.crew.indexes.first,
-            &mut self.crew.indexes.further,
+            &mut self.crew.indexes,
+            pieces,
         )
     }
 
@@ -381,4 +384,25 @@ fn new_workers(alloc: Global, settings: &Settings) -> Result<Vec<Worker>, NoMemo
         workers.push(Worker::new(alloc, settings, scheduler))?;
     }
     Ok(workers)
+}
+
+/// The indexes of the empty board, for each scheduler. They take no memory beside the list.
+fn new_indexes(alloc: Global, settings: &Settings) -> Result<Vec<Indexes>, NoMemory>
+    ensures { IfOk result (λ indexes. (history : List Entry) → AreIndexesFor (schedulers settings.now) history indexes.items) }
+{
+    let mut all = Vec::new(alloc);
+    for _ in 0..settings.schedulers() {
+        all.push(Indexes::new(alloc))?;
+    }
+    Ok(all)
+}
+
+/// In how many pieces plans are made: asked for once, and known from then on.
+fn known_pieces<R: Threads>(rt: &R, known: &mut Option<usize>) -> usize {
+    if let Some(pieces) = *known {
+        return pieces;
+    }
+    let pieces = pieces_on(rt);
+    *known = Some(pieces);
+    pieces
 }

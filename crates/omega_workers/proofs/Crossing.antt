@@ -8,11 +8,15 @@ use Rattle.omega_workers.specs.contracts.worker.Worker as Worker
 
 -- a worker
 pub worker_send : IsSend (Worker.the_field).row
-worker_send = search (indexes.the_field_send, plan.the_send, desk.the_send, sendable) depth 40
+worker_send = search (plan.the_send, desk.the_send, sendable) depth 40
+
+-- indexes
+pub indexes_send : IsSend (Indexes.the_field).row
+indexes_send = indexes.the_field_send
 
 -- a worker and indexes that are lent to another thread
 pub lent_worker_send : IsSend Worker.the_row
-lent_worker_send = search (indexes.the_field_send, plan.the_send, desk.the_send, sendable) depth 40
+lent_worker_send = search (plan.the_send, desk.the_send, sendable) depth 40
 
 pub lent_indexes_send : IsSend Indexes.the_row
 lent_indexes_send = indexes.the_send

@@ -1,7 +1,7 @@
 -- Workers that were let sync at the same time.
-use Rattle.std.proofs.Common.{◌≡◌, ◌+◌, ℕ, zero, suc, List, [], ◌∷◌, ◌++◌, length, Some, refl, ap, subst, arith, inl, inr}
+use Rattle.std.proofs.Common.{◌≡◌, ◌<◌, ◌+◌, ℕ, zero, suc, List, [], ◌∷◌, ◌++◌, get_or, length, Some, refl, set, ap, subst, arith, inl, inr}
 use Rattle.std.specs.Prelude.{slice_get}
-use Rattle.std.specs.List.{sum_by}
+use Rattle.std.specs.List.{sum_by, AllByRecursion as Each}
 use Rattle.std.proofs.lemmas.List.Sums.{sum_by-cons}
 use Rattle.omega_model.specs.declared.entries.Entry.{Entry}
 use Rattle.omega_desk.specs.Desks.{DeskState, left_at}
@@ -10,6 +10,16 @@ use Rattle.omega_workers.specs.Forked.{AllHaveSyncedOrStay, AreReady, HasSyncedO
 use Rattle.omega_workers.specs.Plans.{IsReady}
 use Rattle.omega_workers.specs.Workers.{to_do_of}
 use Rattle.omega_workers.specs.declared.worker.Worker.{Worker}
+
+-- what holds of each of a list does so once another, of which it holds, is the first
+pub each_first : {X : Type 0} (P : X → Type 0) (xs : List X) (x : X) → Each P xs → P x → Each P (set xs 0 x)
+each_first P [] x each holds = tt
+each_first P (first ∷ xs) x each holds = (holds, each.1)
+
+-- and of the first
+pub of_first : {X : Type 0} (P : X → Type 0) (xs : List X) (x : X) → 0 < length xs → Each P xs → P (get_or xs 0 x)
+of_first P [] x some each = absurd (omega (arith, some))
+of_first P (first ∷ xs) x some each = each.0
 
 -- two pieces of which each has been let sync
 pub may_both : (history : List Entry) (olds news others nows : List Worker) → AllHaveSyncedOrStay history olds news → AllHaveSyncedOrStay history others nows

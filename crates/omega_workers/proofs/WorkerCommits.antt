@@ -9,8 +9,6 @@ use Rattle.omega_model.specs.declared.entries.Entry.{Entry}
 use Rattle.omega_model.specs.declared.entries.Entry.TheVariants.{Commit}
 use Rattle.omega_model.specs.declared.settings.Settings.{Settings}
 use Rattle.omega_model.specs.declared.wishes.Request.{Request}
-use Rattle.omega_plan.specs.Indexes.{AreIndexesOf}
-use Rattle.omega_plan.specs.declared.indexes.Indexes.{Indexes}
 use Rattle.omega_desk.specs.Desks.{AnswersFirst, DeskState, IsSameDesk, left_at}
 use Rattle.omega_desk.specs.Walks.{are_wished}
 use Rattle.omega_workers.specs.AttemptsLeft.{attempts_left}
@@ -21,7 +19,7 @@ use Rattle.omega_workers.specs.declared.plans.Plan.{Plan}
 use Rattle.omega_workers.specs.declared.worker.Worker.{Worker}
 use Rattle.omega_workers.proofs.Answering.{planned_answers}
 use Rattle.omega_workers.proofs.AttemptsLeft.{attempt_less}
-use Rattle.omega_workers.proofs.CommitCounts.{commits_own, indexes_on}
+use Rattle.omega_workers.proofs.CommitCounts.{commits_own}
 use Rattle.omega_workers.proofs.HavingPlans.{unsynced}
 
 -- no request is the first where none is left
@@ -91,25 +89,24 @@ module _ (settings : Settings) (scheduler : ℕ) (before after : List Entry) (ol
   left_moved : after_outcomes settings (left_at old.desk) old.desk.requests outcomes ≡ Some (left_at desk)
   left_moved = subst (λ (s : Settings). after_outcomes s (left_at old.desk) old.desk.requests outcomes ≡ Some (left_at desk)) on.worker.settings on.moved
 
-  pub worker_after : (indexes : Indexes) (plan : Option Plan) → plan ≡ None → AreIndexesOf before indexes → IsWorker settings after scheduler (record { desk = desk; indexes = indexes; plan = plan })
-  worker_after indexes plan none are =
+  pub worker_after : (plan : Option Plan) → plan ≡ None → IsWorker settings after scheduler (record { desk = desk; plan = plan })
+  worker_after plan none =
       let parts = first_some old.desk.requests request on.first in
       let next = moved_to settings (left_at old.desk) (left_at desk) old.desk.requests request parts.0 outcomes parts.1 left_moved in
       let less = attempt_less settings (left_at old.desk) request parts.0 outcomes on.tries parts.1 on.worker.tries in
       let entry : Entry = Commit scheduler on.seen txn (reply_of before on.seen txn) in
-      subst (λ (h : List Entry). IsWorker settings h scheduler (record { desk = desk; indexes = indexes; plan = plan })) (sym on.appended) (record {
+      subst (λ (h : List Entry). IsWorker settings h scheduler (record { desk = desk; plan = plan })) (sym on.appended) (record {
         settings = on.same.settings ∙ on.worker.settings;
         scheduler = on.same.scheduler ∙ on.worker.scheduler;
         attempts = on.attempts ∙ ap (λ (n : ℕ). n + 1) on.worker.attempts
             ∙ sym (commits_own scheduler on.seen txn (reply_of before on.seen txn) before);
         tries = subst (λ (s : Standing). s.taken < settings.tries) (sym next) less.1;
-        indexes = indexes_on indexes before (before ++ entry ∷ []) (entry ∷ [], refl) are;
-        seen = subst (λ (o : Option ℕ). SyncedWithin o (length (before ++ entry ∷ []))) (sym (unsynced (record { desk = desk; indexes = indexes; plan = plan }) none)) tt;
+        seen = subst (λ (o : Option ℕ). SyncedWithin o (length (before ++ entry ∷ []))) (sym (unsynced (record { desk = desk; plan = plan }) none)) tt;
       })
 
-  pub commits_first : (indexes : Indexes) (plan : Option Plan) → plan ≡ None → (place : ℕ) → place ≡ length before
-      → CommitsFirst settings scheduler before old after (record { desk = desk; indexes = indexes; plan = plan }) place
-  commits_first indexes plan none place at_end =
+  pub commits_first : (plan : Option Plan) → plan ≡ None → (place : ℕ) → place ≡ length before
+      → CommitsFirst settings scheduler before old after (record { desk = desk; plan = plan }) place
+  commits_first plan none place at_end =
       let parts = first_some old.desk.requests request on.first in
       record {
         request = request;
@@ -120,7 +117,7 @@ module _ (settings : Settings) (scheduler : ℕ) (before after : List Entry) (ol
         at_end = at_end;
         appended = on.appended
             ∙ ap (λ (t : Txn). before ++ Commit scheduler on.seen t (reply_of before on.seen t) ∷ []) on.is;
-        spent = unsynced (record { desk = desk; indexes = indexes; plan = plan }) none;
+        spent = unsynced (record { desk = desk; plan = plan }) none;
         moved = subst (λ (os : List Outcome). after_outcomes settings (left_at old.desk) old.desk.requests os ≡ Some (left_at desk))
             (on.outcome ∙ ap (λ (t : Txn). outcomes_of t.claims (reply_of before on.seen t)) on.is) left_moved;
       }

@@ -1,18 +1,11 @@
--- Workers that sync at the same time, each piece of them with indexes of its own.
+-- Workers that sync at the same time.
 use Rattle.std.specs.Prelude.{◌≡◌, ◌⊎◌, List, [], ◌∷◌, None}
-use Rattle.omega_plan.specs.Indexes.{AreIndexesOf}
 use Rattle.omega_model.specs.declared.entries.Entry.{Entry}
 use Rattle.std.specs.List.{AllByRecursion as Each}
 use Rattle.omega_workers.specs.Plans.{IsReady}
 use Rattle.omega_workers.specs.Workers.{synced_of}
 use Rattle.omega_workers.specs.WorkerSteps.{SyncsWorker}
-use Rattle.omega_workers.specs.declared.forked.PieceIndexes.{PieceIndexes}
 use Rattle.omega_workers.specs.declared.worker.Worker.{Worker}
-
--- the indexes of all pieces are indexes of a history
-pub record AreAllIndexesOf (history : List Entry) (indexes : PieceIndexes) : Type 0 where
-  pub first : AreIndexesOf history indexes.first
-  pub further : Each (AreIndexesOf history) indexes.further.items
 
 -- each worker is ready for a step beside a history
 abbrev pub AreReady : List Entry → List Worker → Type 0

@@ -1,4 +1,4 @@
--- A scheduler's worker: its desk, its indexes, and how much it has seen; what its plan is stands in `Plans`.
+-- A scheduler's worker: its desk, and how much it has seen; what its plan is stands in `Plans`.
 use Rattle.std.specs.Prelude.{◌≡◌, ◌<◌, ◌≤◌, ℕ, Bool, List, [], Option, Some, IfSome, All, is_some, length, option_map, slice_get}
 use Rattle.omega_model.specs.Requests.{failed}
 use Rattle.omega_model.specs.Routing.{scheduler_of}
@@ -8,7 +8,6 @@ use Rattle.omega_model.specs.declared.rows.Row.{Row}
 use Rattle.omega_model.specs.declared.rows.TraceTables.{TraceTables}
 use Rattle.omega_model.specs.declared.settings.Settings.{Settings}
 use Rattle.omega_model.specs.declared.wishes.Request.{Request}
-use Rattle.omega_plan.specs.Indexes.{AreIndexesOf}
 use Rattle.omega_desk.specs.Counts.{count_of}
 use Rattle.omega_desk.specs.Desks.{DeskState, left_at}
 use Rattle.omega_workers.specs.AttemptsLeft.{attempts_left}
@@ -36,14 +35,13 @@ abbrev pub SyncedWithin : Option ℕ → ℕ → Type 0
 SyncedWithin synced count = IfSome synced (λ seen. seen ≤ count)
 
 -- a worker is that of a scheduler beside a history: the desk is the scheduler's, has had as many attempts as
--- the history has commits of it, and a try left for its first request; the indexes are those of the history;
--- and where the scheduler has synced, it has seen a front of the history
+-- the history has commits of it, and a try left for its first request; and where the scheduler has synced, it has
+-- seen a front of the history
 pub record IsWorker (chosen : Settings) (history : List Entry) (number : ℕ) (worker : Worker) : Type 0 where
   pub settings : worker.desk.settings ≡ chosen
   pub scheduler : worker.desk.scheduler ≡ number
   pub attempts : worker.desk.attempts ≡ commits_of number history
   pub tries : worker.desk.taken < chosen.tries
-  pub indexes : AreIndexesOf history worker.indexes
   pub seen : SyncedWithin (synced_of worker) (length history)
 
 -- a scheduler works on the job of a request

@@ -1,4 +1,4 @@
-//! A scheduler's worker: its desk, its indexes of the cell, and its plan.
+//! A scheduler's worker: its desk and its plan.
 ghost use Rattle.std.specs.Prelude.{◌≡◌, ◌≢◌, [], None, Some, position, IfOk, IsSome, OnOk, OnErr};
 ghost use Rattle.std.specs.List.{All};
 ghost use Rattle.omega_plan.specs.Indexes.{AreIndexesOf};
@@ -25,8 +25,6 @@ use std::alloc::Global;
 #[derive(Drop)]
 pub struct Worker {
     pub desk: Desk,
-    /// What it plans by on a thread of its own; else those of the empty board, which take no memory.
-    pub indexes: Indexes,
     /// What it has planned, if the scheduler has synced since its last commit.
     pub plan: Option<Plan>,
 }
@@ -41,7 +39,6 @@ impl Worker {
     {
         Worker {
             desk: Desk::new(alloc, settings, scheduler),
-            indexes: Indexes::new(alloc),
             plan: None,
         }
     }
@@ -55,7 +52,6 @@ impl Worker {
         ensures attempts { self.new.desk.attempts ≡ self.old.desk.attempts }
         ensures left { OnOk result (left_at self.new.desk ≡ fresh (left_at self.old.desk).failing
             (still_tried self.old.desk.settings (left_at self.old.desk).failing requests)) }
-        ensures indexes { self.new.indexes ≡ self.old.indexes }
         ensures synced { OnOk result (synced_of self.new ≡ None) }
     {
         self.desk.begin(requests)?;
@@ -77,8 +73,7 @@ impl Worker {
         self.desk.wish_count()
     }
 
-    /// One step of the worker's scheduler over a cell, beside which indexes of its history stand that all may
-    /// use. Where memory runs out, the history, the desk and whether the scheduler has synced are as before.
+    /// One step of the worker's scheduler over a cell, with indexes of its history. Where memory runs out, the history, the desk and whether the scheduler has synced are as before.
     pub fn step(
         &mut self,
         alloc: Global,

@@ -12,6 +12,7 @@ use crate::attempt::start_on;
 use crate::worker::Worker;
 use omega_attrs::eligible;
 use omega_board::Board;
+use omega_cell::Cell;
 use omega_fit::FitIndex;
 use omega_model::{Constraints, Need};
 use omega_plan::Indexes;
@@ -28,23 +29,32 @@ const THREADS: u64 = 4_000;
 /// What an entry costs that the indexes of the further pieces haven't seen, in looks.
 const UNSEEN: u64 = 4;
 
-/// Whether it is quicker to make the next plans of these workers on threads: whether all of them but the longest
-/// take at least as long as threads cost, where the indexes of the further pieces haven't seen `unseen` entries.
+/// Whether it is quicker to make the next plans of these workers on threads, in pieces that use these indexes:
+/// whether all of them but the longest take at least as long as threads cost.
 /// No clause pins the answer: it decides what the plans cost alone, and they are the same either way.
-pub fn are_worth_threads(
-    workers: &[Worker],
-    indexes: &Indexes,
-    board: &Board,
-    unseen: u64,
-) -> bool {
+pub fn are_worth_threads(workers: &[Worker], indexes: &[Indexes], cell: &Cell) -> bool {
+    let Some((first, further)) = indexes.split_first() else {
+        return false;
+    };
     let mut all: u64 = 0;
     let mut longest: u64 = 0;
     for worker in workers {
-        let looks = looks_of(worker, indexes.free(), board);
+        let looks = looks_of(worker, first.free(), cell.board());
         all = all.saturating_add(looks);
         longest = longest.max(looks);
     }
+    let unseen = unseen_by(further, cell.history().len() as u64);
     all.saturating_sub(longest) >= unseen.saturating_mul(UNSEEN).saturating_add(THREADS)
+}
+
+/// How many of so many entries those of some indexes that have seen most haven't seen. Some of the others may be
+/// used by no piece.
+fn unseen_by(indexes: &[Indexes], entries: u64) -> u64 {
+    let mut seen: u64 = 0;
+    for one in indexes {
+        seen = seen.max(one.seen());
+    }
+    entries.saturating_sub(seen)
 }
 
 /// About how many looks a worker's next plan takes; 0 where it makes none in this step.

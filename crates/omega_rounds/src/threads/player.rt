@@ -7,15 +7,17 @@ ghost use Rattle.omega_workers.specs.Workers.{synced_of, to_do_of};
 
 use omega_io::{Gate, Point};
 use omega_model::NoMemory;
+use omega_plan::Indexes;
 use omega_shared::{Pass, SharedCell};
 use omega_workers::{Plan, Worker, plan_first};
 use std::alloc::Global;
 use std::sync::Wait;
 
-/// A worker with its pass to the shared cell, and whether it has met want of memory.
+/// A worker with indexes to plan by and its pass to the shared cell, and whether it has met want of memory.
 #[derive(Drop)]
 pub(crate) struct Player {
     pub worker: Worker,
+    pub indexes: Indexes,
     pub pass: Pass,
     pub failed: bool,
 }
@@ -84,12 +86,7 @@ impl Player {
         self.worker.plan = None;
         let view = shared.look(rt, alloc, &mut self.pass)?;
         gate.at(self.pass.number(), Point::Synced);
-        let plan = plan_first(
-            alloc,
-            &self.worker.desk,
-            &mut self.worker.indexes,
-            view.cell(),
-        )?;
+        let plan = plan_first(alloc, &self.worker.desk, &mut self.indexes, view.cell())?;
         self.worker.plan = Some(plan);
         Ok(())
     }

@@ -4,14 +4,16 @@ ghost use Rattle.std.specs.Thread.{IsSync};
 ghost use Rattle.omega_model.specs.Policy.{schedulers};
 ghost use Rattle.omega_model.specs.Ranges.{IsInRange};
 ghost use Rattle.omega_rounds.specs.Closed.{AreBack};
+ghost use Rattle.omega_rounds.specs.Keeping.{AreIndexesFor};
 ghost use Rattle.omega_workers.specs.Workers.{IsWorker};
 ghost use Rattle.omega_workers.specs.declared.worker.Worker.{Worker};
 
-use crate::threads::{play_shared, turns_for};
+use crate::threads::play_shared;
 use omega_cell::Cell;
 use omega_io::Gate;
 use omega_model::{NoMemory, Settings};
-use omega_workers::{PieceIndexes, Worker};
+use omega_plan::Indexes;
+use omega_workers::Worker;
 use std::alloc::Global;
 use std::sync::Wait;
 use std::thread::Threads;
@@ -22,8 +24,11 @@ use std::thread::Threads;
 pub(crate) struct Crew {
     pub cell: Cell,
     pub workers: Vec<Worker>,
-    /// What the workers plan by where they take steps of the world.
-    pub indexes: PieceIndexes,
+    /// What the workers plan by: indexes for each of them, so that all may plan at the same time. On threads
+    /// each plans by its own; else all plan by the first, or each piece of them by one.
+    pub indexes: Vec<Indexes>,
+    /// In how many pieces plans are made; `None` before anybody has asked.
+    pub pieces: Option<usize>,
 }
 
 impl Drop for Crew {
@@ -32,13 +37,14 @@ impl Drop for Crew {
             cell: _,
             workers: _,
             indexes: _,
+            pieces: _,
         } = self;
     }
 }
 
 impl Crew {
-    /// The cell itself, the workers, and what they plan by where they take steps of the world.
-    pub fn into_parts(self) -> (Cell, Vec<Worker>, PieceIndexes)
+    /// The cell itself, the workers, and what they plan by.
+    pub fn into_parts(self) -> (Cell, Vec<Worker>, Vec<Indexes>)
         ensures cell { result.0 ≡ self.cell }
         ensures workers { result.1 ≡ self.workers }
         ensures indexes { result.2 ≡ self.indexes }
@@ -47,6 +53,7 @@ impl Crew {
             cell,
             workers,
             indexes,
+            pieces: _,
         } = self;
         (cell, workers, indexes)
     }
@@ -66,9 +73,10 @@ impl Crew {
         requires count { length self.workers.items ≡ schedulers settings.now }
         requires each { (number : ℕ) (worker : Worker) → slice_get self.workers.items number ≡ Some worker
             → IsWorker settings.now self.cell.history number worker }
+        requires indexes { AreIndexesFor (schedulers settings.now) self.cell.history self.indexes.items }
         ensures back { IfOk result (λ crew.
             AreBack settings.now self.cell.history crew.cell.history self.workers.items crew.workers.items) }
-        ensures indexes { IfOk result (λ crew. crew.indexes ≡ self.indexes) }
+        ensures indexes { IfOk result (λ crew. AreIndexesFor (schedulers settings.now) crew.cell.history crew.indexes.items) }
     {
         if self.cell.history().len() as u64 >= 1 << 63 {
             return Err(NoMemory);
@@ -77,13 +85,16 @@ impl Crew {
             cell,
             workers,
             indexes,
+            pieces,
         } = self;
-        let turns = turns_for(settings, workers.as_slice())?;
-        let (cell, workers) = play_shared(rt, alloc, settings, cell, workers, turns, gate)?;
+        let (cell, workers, indexes) = play_shared(
+            rt, alloc, settings, cell, workers, indexes, gate,
+        )?;
         Ok(Crew {
             cell,
             workers,
             indexes,
+            pieces,
         })
     }
 }

@@ -2,7 +2,8 @@
 
 use super::course::Course;
 use omega_board::Board;
-use omega_workers::{PieceIndexes, Worker};
+use omega_plan::Indexes;
+use omega_workers::Worker;
 
 /// What is left of a world once its history is taken: nobody looks at it any more. To let it go costs the trees of
 /// the running tasks and these, the rows of the events and the tasks of the trace, so a program that ends need not
@@ -13,7 +14,7 @@ pub struct Remains {
     pub(super) board: Board,
     pub(super) course: Course,
     pub(super) workers: Vec<Worker>,
-    pub(super) indexes: PieceIndexes,
+    pub(super) indexes: Vec<Indexes>,
 }
 
 impl Drop for Remains {

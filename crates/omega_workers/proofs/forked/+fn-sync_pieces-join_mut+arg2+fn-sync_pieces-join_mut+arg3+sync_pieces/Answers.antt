@@ -33,33 +33,3 @@ returns-clause-workers g t c =
 
 pub sync_each-requires-clause-ready : goal.sync_each-requires-clause-ready
 sync_each-requires-clause-ready g t c = c.requires.ready
-
-pub sync_each-requires-clause-indexes : goal.sync_each-requires-clause-indexes
-sync_each-requires-clause-indexes g t c = c.requires.first
-
-pub returns-then-workers-lt2-clause-workers : goal.returns-then-workers-lt2-clause-workers
-returns-then-workers-lt2-clause-workers g t c = c.sync_each.ensures.workers
-
-pub returns-then-workers-lt2-clause-first : goal.returns-then-workers-lt2-clause-first
-returns-then-workers-lt2-clause-first g t c = c.sync_each.ensures.indexes
-
-pub returns-then-workers-lt2-clause-further : goal.returns-then-workers-lt2-clause-further
-returns-then-workers-lt2-clause-further g t c = c.requires.further
-
-pub returns-then-workers-lt2-clause-synced : goal.returns-then-workers-lt2-clause-synced
-returns-then-workers-lt2-clause-synced g t c = c.sync_each.ensures.synced
-
-pub sync_each-requires-in_default-clause-ready : goal.sync_each-requires-in_default-clause-ready
-sync_each-requires-in_default-clause-ready g t c = c.requires.ready
-
-pub sync_each-requires-in_default-clause-indexes : goal.sync_each-requires-in_default-clause-indexes
-sync_each-requires-in_default-clause-indexes g t c = c.requires.first
-
-pub returns-in_default-clause-workers : goal.returns-in_default-clause-workers
-returns-in_default-clause-workers g t c = c.sync_each-in_default.ensures.workers
-
-pub returns-in_default-clause-first : goal.returns-in_default-clause-first
-returns-in_default-clause-first g t c = c.sync_each-in_default.ensures.indexes
-
-pub returns-in_default-clause-synced : goal.returns-in_default-clause-synced
-returns-in_default-clause-synced g t c = c.sync_each-in_default.ensures.synced

@@ -12,6 +12,7 @@ use Rattle.omega_model.specs.declared.rows.Round.{Round}
 use Rattle.omega_model.specs.declared.rows.Row.{Row}
 use Rattle.omega_model.specs.declared.rows.TraceTables.{TraceTables}
 use Rattle.omega_rounds.specs.Going.{OpensRound}
+use Rattle.omega_model.specs.Policy.{schedulers}
 use Rattle.omega_rounds.specs.Keeping.{IsWorld, world_at}
 use Rattle.omega_rounds.specs.Beginning.{BeginAll, IsAsked}
 use Rattle.omega_workers.specs.Workers.{HaveNoWork}
@@ -74,7 +75,7 @@ invariant_of-world c =
           c.self.invariant.0 next c.open_and_begin.new.cell.history c.open_and_begin.new.workers.items idle history begins)),
       quiet_at_end c.open_and_begin.new.demand.open_jobs c.open_and_begin.new.demand.wanted c.open_and_begin.new.cell.history _ c.history.ensures.history quiet,
       indexes_later c.self.inside.course.settings c.self.inside.course.rounds c.self.inside.course.demand.wanted c.self.inside.course.begun c.self.inside.course.opened_at c.self.inside.crew.cell.history c.self.inside.crew.workers.items round
-          c.self.invariant.0 next c.open_and_begin.new.cell.history c.open_and_begin.new.workers.items idle history begins c.self.inside.crew.indexes c.self.invariant.2,
+          c.self.invariant.0 next c.open_and_begin.new.cell.history c.open_and_begin.new.workers.items idle history begins (schedulers c.self.inside.course.settings) c.self.inside.crew.indexes.items c.self.invariant.2,
     )
 
 pub returns-clause-run : goal.returns-clause-run

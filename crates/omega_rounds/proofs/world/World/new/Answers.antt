@@ -12,7 +12,7 @@ invariant_of-result c = (
   world_new c.args.settings.now c.args.tables c.in_ok-rounds.rounds c.in_ok-events.wanted c.new.result.history c.in_ok-workers.workers.items c.requires
       (c.in_ok-rounds.ensures ∙ ap (gathered c.args.settings.now.window) c.in_ok-events.ensures.events) c.in_ok-events.ensures.wanted c.new.ensures c.in_ok-workers.ensures,
   all_quiet c.new-open_jobs.result c.in_ok-events.wanted (state (take 0 c.new.result.history)).tasks (ap (λ (asked : Asked). asked.tasks) c.in_ok-events.ensures.wanted),
-  c.new-2.ensures c.new.result.history,
+  c.in_ok-indexes.ensures c.new.result.history,
 )
 
 pub returns-clause-is_new : goal.returns-clause-is_new

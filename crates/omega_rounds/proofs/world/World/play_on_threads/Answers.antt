@@ -2,12 +2,10 @@ use Rattle.std.proofs.Common.{◌<◌, ◌∙◌, List, ap, subst, sym}
 use Rattle.std.specs.List.{position}
 use Rattle.omega_model.specs.World.{NobodySynced}
 use Rattle.omega_rounds.specs.Closed.{IsDone}
-use Rattle.omega_workers.specs.Forked.{AreAllIndexesOf}
 use Rattle.omega_workers.specs.Workers.{HaveNoWork, has_work}
 use Rattle.omega_rounds.specs.Stages.{WorldState, stage_of, world_of}
 use Rattle.omega_workers.specs.declared.worker.Worker.{Worker}
 use Rattle.omega_rounds.proofs.ClosedRounds.{closed_done, world_closed}
-use Rattle.omega_rounds.proofs.PlansKept.{all_indexes_on}
 use Rattle.omega_rounds.proofs.Reopened.{were_quiet}
 use Rattle.omega_rounds.proofs.WorldBegins.{nobody_works}
 use Rattle.omega_rounds.proofs.WorldGoes.{idle_found}
@@ -23,8 +21,7 @@ invariant_of-result g c = (
   were_quiet (stage_of c.self.inside.course.settings c.self.inside.course.rounds c.self.inside.course.demand.wanted c.self.inside.course.begun c.self.inside.course.opened_at) c.self.inside.course.demand.wanted.tasks
       c.self.inside.crew.cell.history c.self.inside.crew.workers.items c.self.invariant.0 c.self.inside.course.demand.open_jobs c.self.inside.course.demand.wanted c.in_ok-crew.crew.cell.history
       c.in_ok-crew.ensures.back.begins c.self.invariant.1,
-  subst (AreAllIndexesOf c.in_ok-crew.crew.cell.history) (sym c.in_ok-crew.ensures.indexes)
-      (all_indexes_on c.self.inside.crew.indexes c.self.inside.crew.cell.history c.in_ok-crew.crew.cell.history c.in_ok-crew.ensures.back.begins c.self.invariant.2),
+  c.in_ok-crew.ensures.indexes,
 )
 
 pub returns-then-is_none-clause-done : goal.returns-then-is_none-clause-done

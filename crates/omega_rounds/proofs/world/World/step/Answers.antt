@@ -1,14 +1,16 @@
-use Rattle.std.proofs.Common.{◌≡◌, ◌<◌, ◌∙◌, ℕ, List, length, get_or, set, Result, Ok, Err, Some, sym, subst}
+use Rattle.std.proofs.Common.{◌≡◌, ◌<◌, ◌∙◌, ℕ, List, length, get_or, set, Result, Ok, Err, Some, sym, subst, arith}
 use Rattle.std.specs.Prelude.{slice_get, OnErr}
 use Rattle.std.proofs.lemmas.Option.{slice_get_read}
 use Rattle.omega_model.specs.Policy.{schedulers}
 use Rattle.omega_model.specs.declared.rows.TraceTables.{TraceTables}
+use Rattle.omega_plan.specs.Indexes.{AreIndexesOf}
+use Rattle.omega_workers.proofs.SyncedOrNot.{of_first}
 use Rattle.omega_rounds.specs.Going.{LeavesToDo, StepsOn}
 use Rattle.omega_rounds.specs.Stages.{IsInRunOf, WorldState, rows_begun, stage_of}
 use Rattle.omega_workers.specs.declared.worker.Worker.{Worker}
 use Rattle.omega_workers.specs.declared.steps.Stepped.{Stepped}
 use Rattle.omega_workers.specs.declared.steps.Stepped.TheVariants.{Synced, Committed, Idle}
-use Rattle.omega_rounds.proofs.PlansKept.{further_on, ready_at, ready_for, steps_for}
+use Rattle.omega_rounds.proofs.PlansKept.{indexes_for_first, ready_at, ready_for, steps_for}
 use Rattle.omega_rounds.proofs.Reopened.{goes_on_same, goes_on_step, were_quiet}
 use Rattle.omega_rounds.proofs.WorldSteps.{LeavesAt, seen_as, state_at, step_is, to_do_after, world_after, world_kept}
 use Rattle.omega_rounds.proofs.world.World.step.Goals as goal
@@ -37,6 +39,12 @@ step-requires-clause-ready c =
     (c.self.invariant.0.each_worker c.args.scheduler c.index_mut-worker.result.now here) c.self.invariant.0.range known
     (c.self.invariant.0.each_plan c.args.scheduler c.index_mut-worker.result.now here)
 
+pub step-requires-clause-indexes : goal.step-requires-clause-indexes
+step-requires-clause-indexes c =
+    subst (AreIndexesOf c.self.inside.crew.cell.history) (sym c.index_mut-first.ensures.value)
+    (of_first (AreIndexesOf c.self.inside.crew.cell.history) c.self.inside.crew.indexes.items c.index_mut-first.result.now
+    (let count = c.self.invariant.2.count in omega (arith, count)) c.self.invariant.2.each)
+
 pub invariant_of-self : goal.invariant_of-self
 invariant_of-self c =
     let known = knows c.args.scheduler _ _ c.self.view_is c.requires in
@@ -52,11 +60,8 @@ invariant_of-self c =
       were_quiet stage c.self.inside.course.demand.wanted.tasks c.self.inside.crew.cell.history c.self.inside.crew.workers.items c.self.invariant.0
           c.self.inside.course.demand.open_jobs c.self.inside.course.demand.wanted c.step.new.cell.history
           (goes_on_same c.self.inside.crew.cell.history c.step.new.cell.history c.in_err-stepped.ensures.err) c.self.invariant.1,
-      record {
-        first = c.step.ensures.indexes;
-        further = further_on c.self.inside.crew.indexes.further.items c.self.inside.crew.cell.history c.step.new.cell.history
-            (goes_on_same c.self.inside.crew.cell.history c.step.new.cell.history c.in_err-stepped.ensures.err) c.self.invariant.2.further;
-      },
+      indexes_for_first (schedulers c.self.inside.course.settings) c.self.inside.crew.indexes.items c.step.new.indexes c.self.inside.crew.cell.history c.step.new.cell.history
+          (goes_on_same c.self.inside.crew.cell.history c.step.new.cell.history c.in_err-stepped.ensures.err) c.self.invariant.2 c.step.ensures.indexes,
     )
 
 pub returns-in_err-stepped-clause-err : goal.returns-in_err-stepped-clause-err
@@ -88,12 +93,9 @@ invariant_of-self-2 c =
           c.self.inside.course.demand.open_jobs c.self.inside.course.demand.wanted c.step.new.cell.history
           (goes_on_step c.self.inside.course.settings c.args.scheduler c.self.inside.crew.cell.history c.step.new.cell.history c.index_mut-worker.result.now c.step.new.self
           c.in_ok-stepped.stepped did) c.self.invariant.1,
-      record {
-        first = c.step.ensures.indexes;
-        further = further_on c.self.inside.crew.indexes.further.items c.self.inside.crew.cell.history c.step.new.cell.history
-            (goes_on_step c.self.inside.course.settings c.args.scheduler c.self.inside.crew.cell.history c.step.new.cell.history c.index_mut-worker.result.now c.step.new.self
-            c.in_ok-stepped.stepped did) c.self.invariant.2.further;
-      },
+      indexes_for_first (schedulers c.self.inside.course.settings) c.self.inside.crew.indexes.items c.step.new.indexes c.self.inside.crew.cell.history c.step.new.cell.history
+          (goes_on_step c.self.inside.course.settings c.args.scheduler c.self.inside.crew.cell.history c.step.new.cell.history c.index_mut-worker.result.now c.step.new.self
+          c.in_ok-stepped.stepped did) c.self.invariant.2 c.step.ensures.indexes,
     )
 
 pub returns-clause-step : goal.returns-clause-step

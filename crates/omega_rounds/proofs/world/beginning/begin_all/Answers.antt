@@ -30,7 +30,7 @@ loop-i-preserved c =
       begun = begun_more c.args.wanted.now c.args.cell.now.history c.args.workers.now.items c.loop-i.workers.items c.loop-i.i c.index_mut.result.now c.begin.new.self c.loop-i.invariant.begun
           (slice_get_read c.loop-i.workers.items (length c.loop-i.workers.items) c.loop-i.i c.index_mut.result.now refl within c.index_mut.ensures.value)
           (worker_begins c.args.wanted.now c.args.cell.now.history _ c.loop-i.i c.in_ok-requests.requests c.index_mut.result.now c.begin.new.self c.board-board.ensures.current c.in_ok-requests.ensures.requests
-          c.begin.ensures.desk c.begin.ensures.attempts c.in_ok-begin.ensures.left c.begin.ensures.indexes c.in_ok-begin.ensures.synced);
+          c.begin.ensures.desk c.begin.ensures.attempts c.in_ok-begin.ensures.left c.in_ok-begin.ensures.synced);
       quiet = quiet_on c.settle.new.self c.args.wanted.now _ _ c.board-board.ensures.current c.settle.ensures.quiet;
     }
 

@@ -49,7 +49,7 @@ returns-in-Ok-clause-ready c = record {
         same = c.take-in-Ok.ensures.desk;
         attempts = c.take-in-Ok.ensures.attempts;
         moved = c.take-in-Ok.ensures.left;
-      }) c.args.self.now.indexes c.take.new.self c.take.ensures.after c.requires.ready.is_worker.indexes);
-  plan = plan_none c.commit-reply.new.self.history (record { desk = c.take-in-Ok.new.self; indexes = c.args.self.now.indexes; plan = c.take.new.self })
-      (unsynced (record { desk = c.take-in-Ok.new.self; indexes = c.args.self.now.indexes; plan = c.take.new.self }) c.take.ensures.after);
+      }) c.take.new.self c.take.ensures.after);
+  plan = plan_none c.commit-reply.new.self.history (record { desk = c.take-in-Ok.new.self; plan = c.take.new.self })
+      (unsynced (record { desk = c.take-in-Ok.new.self; plan = c.take.new.self }) c.take.ensures.after);
 }

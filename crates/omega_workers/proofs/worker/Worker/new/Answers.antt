@@ -1,4 +1,4 @@
-use Rattle.std.proofs.Common.{[], rules}
+use Rattle.std.proofs.Common.{rules}
 use Rattle.omega_workers.proofs.worker.Worker.new.Goals as goal
 
 pub returns-clause-worker : goal.returns-clause-worker
@@ -7,6 +7,5 @@ returns-clause-worker c = record {
   scheduler = search rules;
   attempts = search rules;
   tries = search rules;
-  indexes = c.new-2.ensures [];
   seen = tt;
 }

@@ -18,7 +18,6 @@ returns-clause-ready c =
         scheduler = refl;
         attempts = was.attempts;
         tries = was.tries;
-        indexes = was.indexes;
         seen = c.in_ok-plan.ensures.plan.within;
       };
       plan = c.in_ok-plan.ensures.plan;

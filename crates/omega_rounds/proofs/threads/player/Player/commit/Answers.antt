@@ -20,9 +20,9 @@ returns-in_default-commit_planned-clause-plays_on g c =
     let was : Player = c.args.self.now in
     let others = c.in_default-commit_planned.ensures.seen in
     plays_on_none was
-    (record { worker = record { desk = was.worker.desk; indexes = was.worker.indexes; plan = c.take.new.self }; pass = c.commit_planned.new.pass; failed = was.failed })
+    (record { worker = record { desk = was.worker.desk; plan = c.take.new.self }; indexes = was.indexes; pass = c.commit_planned.new.pass; failed = was.failed })
     c.requires.synced.worker c.commit_planned.ensures.turn others refl
-    (indexes_without was.pass.number was.pass.seen c.commit_planned.new.pass.seen others was.worker.indexes c.requires.synced.worker.indexes)
+    (indexes_without was.pass.number was.pass.seen c.commit_planned.new.pass.seen others was.indexes c.requires.synced.indexes)
     c.take.ensures.after
 
 pub take-requires-2-clause-answers : goal.take-requires-2-clause-answers
@@ -42,7 +42,7 @@ returns-clause-plays_on g c =
     let was : Player = c.args.self.now in
     let plan = c.in-Some.field-0 in
     let all = planned_all c.args.shared.now.of was plan c.requires.synced c.in-Some.ensures.value in
-    let after : Player = record { worker = record { desk = c.take-2.new.self; indexes = was.worker.indexes; plan = c.take.new.self }; pass = c.commit_planned.new.pass; failed = was.failed } in
+    let after : Player = record { worker = record { desk = c.take-2.new.self; plan = c.take.new.self }; indexes = was.indexes; pass = c.commit_planned.new.pass; failed = was.failed } in
     plays_on_commit was after plan.txn c.in-Ok.reply
     (record {
       shared = c.args.shared.now.of;
@@ -59,4 +59,4 @@ returns-clause-plays_on g c =
 
 pub returns-clause-spent : goal.returns-clause-spent
 returns-clause-spent g c =
-    unsynced (record { desk = c.take-2.new.self; indexes = c.args.self.now.worker.indexes; plan = c.take.new.self }) c.take.ensures.after
+    unsynced (record { desk = c.take-2.new.self; plan = c.take.new.self }) c.take.ensures.after

@@ -9,15 +9,15 @@ use Rattle.omega_rounds.proofs.threads.player.Player.sync.Goals as goal
 pub returns-in_err-view-clause-plays_on : goal.returns-in_err-view-clause-plays_on
 returns-in_err-view-clause-plays_on g c =
     plays_on_without c.args.self.now
-    (record { worker = record { desk = c.args.self.now.worker.desk; indexes = c.args.self.now.worker.indexes; plan = None }; pass = c.look.new.pass; failed = c.args.self.now.failed })
+    (record { worker = record { desk = c.args.self.now.worker.desk; plan = None }; indexes = c.args.self.now.indexes; pass = c.look.new.pass; failed = c.args.self.now.failed })
     c.requires.may_play.worker c.look.ensures.turn c.look.ensures.seen refl
-    (indexes_without c.args.self.now.pass.number c.args.self.now.pass.seen c.look.new.pass.seen c.look.ensures.seen c.args.self.now.worker.indexes c.requires.may_play.worker.indexes) tt
+    (indexes_without c.args.self.now.pass.number c.args.self.now.pass.seen c.look.new.pass.seen c.look.ensures.seen c.args.self.now.indexes c.requires.may_play.indexes) tt
 
 pub returns-in_err-plan-clause-plays_on : goal.returns-in_err-plan-clause-plays_on
 returns-in_err-plan-clause-plays_on g c =
     let same : c.cell.result.now.history ≡ c.look.new.pass.seen = c.cell.ensures ∙ c.in_ok-view.ensures.view in
     plays_on_without c.args.self.now
-    (record { worker = record { desk = c.args.self.now.worker.desk; indexes = c.plan_first.new.indexes; plan = None }; pass = c.look.new.pass; failed = c.args.self.now.failed })
+    (record { worker = record { desk = c.args.self.now.worker.desk; plan = None }; indexes = c.plan_first.new.indexes; pass = c.look.new.pass; failed = c.args.self.now.failed })
     c.requires.may_play.worker c.look.ensures.turn c.look.ensures.seen refl
     (subst (λ (h : List Entry). AreIndexesOf h c.plan_first.new.indexes) same c.plan_first.ensures.indexes) tt
 
@@ -26,7 +26,7 @@ returns-clause-plays_on g c =
     let same : c.cell.result.now.history ≡ c.look.new.pass.seen = c.cell.ensures ∙ c.in_ok-view.ensures.view in
     let all : c.in_ok-plan.plan.seen ≡ length c.look.new.pass.seen = c.in_ok-plan.ensures.seen ∙ ap (λ (h : List Entry). length h) same in
     plays_on_without c.args.self.now
-    (record { worker = record { desk = c.args.self.now.worker.desk; indexes = c.plan_first.new.indexes; plan = Some c.in_ok-plan.plan }; pass = c.look.new.pass; failed = c.args.self.now.failed })
+    (record { worker = record { desk = c.args.self.now.worker.desk; plan = Some c.in_ok-plan.plan }; indexes = c.plan_first.new.indexes; pass = c.look.new.pass; failed = c.args.self.now.failed })
     c.requires.may_play.worker c.look.ensures.turn c.look.ensures.seen refl
     (subst (λ (h : List Entry). AreIndexesOf h c.plan_first.new.indexes) same c.plan_first.ensures.indexes) (omega (arith, all))
 
