@@ -4,7 +4,7 @@
 //! The definitions give the next step after the steps before; a run is their repetition until it is
 //! over. How tasks end is a reading of the trace that they are handed: by the trace's rows, or when
 //! a task has run for as long as it did in the trace. No function here does anything: its contract
-//! is the law, and who needs a law cites the lemma behind it. No command runs by this clock yet.
+//! is the law, and who needs a law cites the lemma behind it.
 #![tactic(auto)]
 
 mod histories;
