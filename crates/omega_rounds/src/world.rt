@@ -388,6 +388,7 @@ fn new_workers(alloc: Global, settings: &Settings) -> Result<Vec<Worker>, NoMemo
 
 /// The indexes of the empty board, for each scheduler. They take no memory beside the list.
 fn new_indexes(alloc: Global, settings: &Settings) -> Result<Vec<Indexes>, NoMemory>
+    requires { IsInRange settings.now }
     ensures { IfOk result (λ indexes. (history : List Entry) → AreIndexesFor (schedulers settings.now) history indexes.items) }
 {
     let mut all = Vec::new(alloc);

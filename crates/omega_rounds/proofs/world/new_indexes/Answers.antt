@@ -12,3 +12,12 @@ loop-preserved c = λ history.
       count = omega (arith, count, length-append c.loop.all.items (c.new.result ∷ []));
       each = each_append (AreIndexesOf history) c.loop.all.items (c.new.result ∷ []) kept.each (c.new.ensures history, tt);
     })
+
+pub returns : goal.returns
+returns c = λ history.
+    let kept = c.loop.invariant history in
+    let count = kept.count in
+    record {
+      count = omega (arith, count, c.loop-test.false, c.loop.auto.counter-end, c.schedulers-end.ensures);
+      each = kept.each;
+    }

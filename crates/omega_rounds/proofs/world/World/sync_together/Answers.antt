@@ -35,8 +35,8 @@ pub sync_pieces-requires-clause-indexes : goal.sync_pieces-requires-clause-index
 sync_pieces-requires-clause-indexes g c κs within =
     subst (Each (AreIndexesOf c.self.inside.crew.cell.history)) (sym c.deref_mut-2.ensures.value) c.self.invariant.2.each
 
-pub invariant_of-self-2 : goal.invariant_of-self-2
-invariant_of-self-2 g c =
+pub invariant_of-self : goal.invariant_of-self
+invariant_of-self g c =
     let stage = stage_of c.self.inside.course.settings c.self.inside.course.rounds c.self.inside.course.demand.wanted c.self.inside.course.begun c.self.inside.course.opened_at in
     let history = c.self.inside.crew.cell.history in
     let olds = c.self.inside.crew.workers in

@@ -1,10 +1,19 @@
-use Rattle.std.proofs.Common.{◌≡◌, ◌∙◌, ◌+◌, ◌<◌, ◌^◌, ℕ, None, Some, List, length, refl, ap, subst, arith}
+use Rattle.std.proofs.Common.{◌≡◌, ◌∙◌, ◌+◌, ◌<◌, ◌^◌, ℕ, None, Some, List, length, refl, sym, ap, ap₂, subst, arith}
 use Rattle.omega_plan.specs.Indexes.{AreIndexesOf}
+use Rattle.omega_model.specs.Work.{commits_of}
 use Rattle.omega_model.specs.declared.entries.Entry.{Entry}
 use Rattle.omega_workers.specs.Plans.{IsPlan}
 use Rattle.omega_rounds.proofs.PlayingOn.{plays_on_without}
-use Rattle.omega_rounds.proofs.Without.{indexes_without}
+use Rattle.omega_rounds.proofs.Without.{commits_without, indexes_without}
 use Rattle.omega_rounds.proofs.threads.player.Player.sync.Goals as goal
+
+pub plan_first-requires-clause-up_to : goal.plan_first-requires-clause-up_to
+plan_first-requires-clause-up_to g c =
+    let same : c.cell.result.now.history ≡ c.look.new.pass.seen = c.cell.ensures ∙ c.in_ok-view.ensures.view in
+    let is = c.requires.may_play.worker in
+    is.attempts
+    ∙ sym (commits_without c.args.self.now.pass.number c.args.self.now.pass.seen c.look.new.pass.seen c.look.ensures.seen)
+    ∙ ap₂ commits_of (sym is.scheduler) (sym same)
 
 pub returns-in_err-view-clause-plays_on : goal.returns-in_err-view-clause-plays_on
 returns-in_err-view-clause-plays_on g c =
