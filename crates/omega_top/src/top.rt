@@ -163,7 +163,7 @@ pub fn omega<R: Threads + Wait + Sync, T: Tables, K: Sink, G: Gate + Sync, P: Ke
 }
 
 /// What `omega` does once the words are read and folder and path are entered, under any settings in their
-/// ranges.
+/// ranges. How tasks end by the free clock, which no word says yet, isn't looked at: the trace's rows end them.
 pub fn omega_with<R: Threads + Wait + Sync, T: Tables, K: Sink, G: Gate + Sync, P: Keeper>(
     rt: &R,
     alloc: Global,
