@@ -237,6 +237,8 @@ chosen() {
     shape nowhere 5000 replay
     shape lopsided 5000 replay
     shape many_rounds 10000 replay
+    shape overtaken 50000 simulate --clock free --window 1000000
+    shape overtaken 50000 simulate --clock free --window 1000000 --batch 8
     shape comes_back 10000 replay
     shape given_up 2000 replay --give-up 1
     shape large_job 500000 replay

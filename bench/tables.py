@@ -518,6 +518,15 @@ def many_rounds(files, size):
     rounds_of(files, size, 20)
 
 
+def overtaken(files, size):
+    """Jobs that fit nowhere, and then a round in each of a fifth as many seconds"""
+    files.machine(1, 0.1, 0.1)
+    for job in range(size):
+        files.task(0, job, 0, 0, 0.5)
+    for number in range(1, size // 5 + 1):
+        files.task(number * SECOND, 0, 0, 8, 0.5)
+
+
 def comes_back(files, size):
     """One machine with many tasks, which goes and comes back in each of 50 rounds"""
     window = 300 * SECOND
@@ -700,7 +709,7 @@ SHAPES = {shape.__name__: shape for shape in (
     one_job, apart, never_fits, one_machine, long_runs, attributes, scarce, map_reduce, half_full, full, evicting,
     too_little, victims, one_by_one, updates, shrinking, crowded, levels, ranks, ranks_in_turn, taking_over,
     same_tree, other_trees, one_note, machines_apart, machines_in_row, constraints, matched, unset_in_order, unset_backwards, set_in_turn,
-    nowhere, lopsided, many_rounds, comes_back, given_up, large_job,
+    nowhere, lopsided, many_rounds, overtaken, comes_back, given_up, large_job,
     one_waits, restarts, most_ended, left_apart, short_rounds, extras, many_extras, extras_alike, commas, commas_quoted,
     too_many_rows, quotes, long_text)}
 
