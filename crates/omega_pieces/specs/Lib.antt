@@ -1,0 +1,4 @@
+pub mod PieceRows
+pub mod Courses
+pub mod Kept
+pub mod Due

@@ -1,0 +1,81 @@
+//! How far a task is.
+ghost use Rattle.std.specs.Prelude.{◌≡◌, ◌+◌, ℕ, IfOk};
+ghost use Rattle.omega_free_laws.specs.Lives.{Pieces, with_own_row};
+ghost use Rattle.omega_model.specs.Wanted.{ends};
+ghost use Rattle.omega_pieces.specs.Courses.{IsCourse, course_at, life_ended};
+
+use omega_model::{NoMemory, TaskKey, TaskRow};
+use std::collections::BTreeMap;
+
+/// How far a task is by the rows that were applied, and how often it has ended.
+#[derive(Clone, Copy, Debug)]
+pub(crate) struct Course {
+    /// Since when the life of its last piece counts, in microseconds, if a row of that has asked for the task.
+    pub since: Option<u64>,
+    /// How many of its pieces its rows have ended.
+    pub cuts: u64,
+    /// How often it has ended.
+    pub ended: u64,
+}
+
+/// How far a task is among these. Costs the logarithm of their number.
+pub(crate) fn course_at(courses: &BTreeMap<TaskKey, Course>, key: TaskKey) -> Course
+    ensures { result ≡ course_at courses.now key }
+{
+    match courses.get(&key) {
+        Some(course) => *course,
+        None => Course {
+            since: None,
+            cuts: 0,
+            ended: 0,
+        },
+    }
+}
+
+/// How far a task is after one more row of its own. 2^64 pieces, which no memory holds, are answered as want of
+/// memory.
+pub(crate) fn with_row(course: Course, row: &TaskRow) -> Result<Course, NoMemory>
+    ensures { (pieces : Pieces) (often : ℕ) → IsCourse pieces often course → IfOk result (IsCourse (with_own_row pieces row.now) often) }
+{
+    match row.code {
+        0 => Ok(Course {
+            since: Some(course.since.unwrap_or(row.time)),
+            ..course
+        }),
+        1 => Ok(Course {
+            since: Some(row.time),
+            ..course
+        }),
+        _ if life_ended(course.since, row).is_some() => Ok(Course {
+            since: None,
+            cuts: one_more(course.cuts)?,
+            ended: course.ended,
+        }),
+        _ => Ok(course),
+    }
+}
+
+/// The life of the piece that a row of a task ends, in microseconds, if it ends one, where the piece's life counts since
+/// then.
+pub(crate) fn life_ended(since: Option<u64>, row: &TaskRow) -> Option<u64>
+    ensures { result ≡ life_ended since row.now }
+{
+    if !ends(row) {
+        return None;
+    }
+    Some(row.time.saturating_sub(since?))
+}
+
+/// Whether a row ends its task.
+pub(crate) fn ends(row: &TaskRow) -> bool
+    ensures { result ≡ ends row.now.code }
+{
+    3 <= row.code && row.code <= 6
+}
+
+/// A count with one more; 2^64, which no memory holds, is answered as want of memory.
+pub(crate) fn one_more(count: u64) -> Result<u64, NoMemory>
+    ensures { IfOk result (λ more. more ≡ count + 1) }
+{
+    count.checked_add(1).ok_or(NoMemory)
+}

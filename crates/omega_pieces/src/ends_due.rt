@@ -1,0 +1,186 @@
+//! When running tasks are due to end.
+ghost use Rattle.std.specs.Prelude.{◌≡◌, ◌<◌, ◌+◌, ◌++◌, ◌∷◌, [], ℕ, List, Some, None, IsSome, length, option_map, IfOk, OnOk};
+ghost use Rattle.std.specs.BTreeMap as tree;
+ghost use Rattle.std.specs.BTreeMap.{btree_map_len};
+ghost use Rattle.omega_feed.specs.Index.{key_cmp};
+ghost use Rattle.omega_free_laws.specs.Lives.{first_own_end};
+ghost use Rattle.omega_laws.specs.VirtualTime.{Timed};
+ghost use Rattle.omega_model.specs.State.{state};
+ghost use Rattle.omega_model.specs.declared.entries.Entry.{Entry};
+ghost use Rattle.omega_model.specs.declared.entries.Entry.TheVariants.{Commit};
+ghost use Rattle.omega_model.specs.declared.rows.Row.{Row};
+ghost use Rattle.omega_model.specs.declared.rows.TraceTables.{TraceTables};
+ghost use Rattle.omega_pieces.specs.Due.{AreAsBefore, AreQueued, IsFirstDue, KeepsEnds};
+ghost use Rattle.omega_pieces.specs.Kept.{KeepsPieces};
+
+use crate::task_pieces::TaskPieces;
+use omega_model::{Judgement, NoMemory, TaskKey, Txn};
+use omega_running::{FIRST_EXTRA, Running};
+use std::alloc::Global;
+use std::collections::{BTreeMap, BTreeSet};
+use std::marker::Model;
+
+/// When tasks are due to end, in microseconds, by task.
+type Times = BTreeMap<TaskKey, u128>;
+
+/// The same in order of time, then of task.
+type Queue = BTreeSet<(u128, TaskKey)>;
+
+/// An end that is due: the task, the machine on which it runs, and when, in microseconds.
+#[derive(Clone, Copy, Debug)]
+pub struct DueEnd {
+    pub key: TaskKey,
+    pub machine: u64,
+    pub time: u128,
+}
+
+impl Model for DueEnd {
+    ghost use Rattle.omega_free_laws.specs.Lives.{DueEnd as LifeEnd};
+
+    ghost Value = { LifeEnd };
+
+    ghost view = { λ d. record { key = d.key; machine = d.machine; time = d.time } };
+
+    ghost inverse = { λ v. record { key = v.key; machine = v.machine; time = v.time } };
+}
+
+/// When each of some tasks is due to end, found by task and in order of time. A contract sees the times by task.
+///
+/// The time of a task that no longer runs is void, and is taken off when it comes first, or when the task is placed again.
+#[derive(Drop)]
+pub struct EndsDue {
+    times: Times,
+    queue: Queue,
+}
+
+impl Model for EndsDue {
+    ghost use Rattle.std.specs.Prelude.{ℕ};
+    ghost use Rattle.std.specs.BTreeMap.{BTreeMap};
+    ghost use Rattle.omega_model.specs.declared.cells.TaskKey.{TaskKey};
+    ghost use Rattle.omega_pieces.specs.Due.{AreQueued};
+
+    ghost Value = { BTreeMap TaskKey ℕ };
+
+    ghost view = { λ ends. ends.times };
+
+    ghost invariant = { λ ends. AreQueued ends.times ends.queue };
+}
+
+impl EndsDue {
+    /// No end is due, since no task runs.
+    pub fn new(alloc: Global) -> EndsDue
+        ensures { (trace : TraceTables) → KeepsEnds trace [] [] result }
+    {
+        EndsDue {
+            times: BTreeMap::new(alloc),
+            queue: BTreeSet::new(alloc),
+        }
+    }
+
+    /// A transaction has been committed at this time, in microseconds: each task of the trace that it placed is due to
+    /// end when it will have run for the life of its piece, if that has one. A time of 2^128 or later is answered as want of
+    /// memory. After a refused call nothing is said of the ends.
+    /// Costs for each placed claim the logarithms of the number of tasks and of the number of ends.
+    pub fn commit(
+        &mut self,
+        pieces: &TaskPieces,
+        time: u128,
+        txn: &Txn,
+        reply: &[Judgement],
+    ) -> Result<(), NoMemory>
+        ensures { (trace : TraceTables) (rows : List Row) (history : List Entry) (times : List Timed) (by seen : ℕ) (timed : Timed)
+            → KeepsPieces trace rows history pieces.now → KeepsEnds trace history times self.old
+            → timed.place ≡ length history → timed.time ≡ time
+            → OnOk result (KeepsEnds trace (history ++ Commit by seen txn.now reply.now ∷ []) (times ++ timed ∷ []) self.new) }
+    {
+        for (claim, judgement) in txn.claims.as_slice().iter().zip(reply) {
+            if judgement.verdict.is_placed() && claim.key.index < FIRST_EXTRA {
+                let due = later(time, pieces.life(claim.key))?;
+                self.set(claim.key, due)?;
+            }
+        }
+        Ok(())
+    }
+
+    /// Sets when a task is due to end, if it is, in place of what was set before.
+    fn set(&mut self, key: TaskKey, time: Option<u128>) -> Result<(), NoMemory>
+        ensures { OnOk result (tree.Updates key_cmp self.old self.new key time) }
+    {
+        take_off(&mut self.times, &mut self.queue, key);
+        match time {
+            Some(time) => put(&mut self.times, &mut self.queue, key, time),
+            None => Ok(()),
+        }
+    }
+
+    /// The end that is due first among those of the tasks that run: the one with the least time, and of several at one
+    /// time the one of the least name. `None` exactly where no running task is due to end. Void times that come before it are
+    /// taken off.
+    /// Costs the logarithm of the number of tasks for itself, and as much for each void time, once.
+    pub fn first(&mut self, running: &Running) -> Option<DueEnd>
+        ensures first { (trace : TraceTables) (history : List Entry) (times : List Timed) → running.now.tasks ≡ (state history).tasks
+            → KeepsEnds trace history times self.old → result ≡ first_own_end trace history times }
+        ensures kept { (trace : TraceTables) (history : List Entry) (times : List Timed) → running.now.tasks ≡ (state history).tasks
+            → KeepsEnds trace history times self.old → KeepsEnds trace history times self.new }
+    {
+        first_running(&mut self.times, &mut self.queue, running)
+    }
+}
+
+/// The end that is due first among those of the tasks that run, once void times before it are taken off.
+fn first_running(times: &mut Times, queue: &mut Queue, running: &Running) -> Option<DueEnd>
+    requires { AreQueued times.old queue.old }
+    ensures queued { AreQueued times.new queue.new }
+    ensures same { AreAsBefore running.now.tasks times.old times.new }
+    ensures first { IsFirstDue running.now.tasks times.new result }
+{
+    while let Some((time, key)) = queue.first().copied() {
+        if let Some(task) = running.get(key) {
+            return Some(DueEnd {
+                key,
+                machine: task.machine,
+                time,
+            });
+        }
+        take_off(times, queue, key);
+    }
+    None
+}
+
+/// Takes a task's time off, if it has one.
+fn take_off(times: &mut Times, queue: &mut Queue, key: TaskKey)
+    requires { AreQueued times.old queue.old }
+    ensures queued { AreQueued times.new queue.new }
+    ensures times { tree.Updates key_cmp times.old times.new key None }
+    ensures fewer { IsSome (tree.get key_cmp times.old key) → btree_map_len times.new < btree_map_len times.old }
+{
+    if let Some(time) = times.remove(&key) {
+        queue.remove(&(time, key));
+    }
+}
+
+/// Puts in the time of a task that has none. A refused call leaves the times.
+fn put(times: &mut Times, queue: &mut Queue, key: TaskKey, time: u128) -> Result<(), NoMemory>
+    requires queued { AreQueued times.old queue.old }
+    requires none { tree.get key_cmp times.old key ≡ None }
+    ensures queued { AreQueued times.new queue.new }
+    ensures times { OnOk result (tree.Updates key_cmp times.old times.new key (Some time)) }
+{
+    queue.insert((time, key))?;
+    if times.insert(key, time).is_err() {
+        queue.remove(&(time, key));
+        return Err(NoMemory);
+    }
+    Ok(())
+}
+
+/// When a task is due to end that was placed at this time and has this life, both in microseconds; `None` where it has
+/// none.
+fn later(time: u128, life: Option<u64>) -> Result<Option<u128>, NoMemory>
+    ensures { IfOk result (λ due. due ≡ option_map (λ life. time + life) life) }
+{
+    match life {
+        Some(life) => Ok(Some(time.checked_add(u128::from(life)).ok_or(NoMemory)?)),
+        None => Ok(None),
+    }
+}
