@@ -1,0 +1,11 @@
+pub mod PieceOrder
+pub mod Counting
+pub mod WantedByName
+pub mod AfterEnds
+pub mod PieceRows
+pub mod CoursesOn
+pub mod LivesOn
+pub mod LeastEnds
+pub mod Queued
+pub mod EndsOn
+pub mod FirstDue

@@ -39,6 +39,11 @@ life_since time (Some since) = Some (time - since)
 abbrev pub life_ended : Option ℕ → TaskFields → Option ℕ
 life_ended since row = if ends row.code then life_since row.time since else None
 
+-- the lives by piece, with one more where there is one
+abbrev pub lives_with : (TaskKey × ℕ → Option ℕ) → TaskKey × ℕ → Option ℕ → TaskKey × ℕ → Option ℕ
+lives_with lives piece None other = lives other
+lives_with lives piece (Some life) other = if tree.is_at (piece_cmp piece) other then Some life else lives other
+
 -- the lives are those of the pieces that these rows have ended, each by its task and its number
 abbrev pub AreLives : List Row → BTreeMap (TaskKey × ℕ) ℕ → Type 0
 AreLives rows lives = (key : TaskKey) (number : ℕ) → tree.get piece_cmp lives (key, number) ≡ slice_get (pieces_of key rows).lives number

@@ -1,26 +1,14 @@
 -- What is kept of the pieces of a trace's tasks.
-use Rattle.std.specs.Prelude.{◌≡◌, ◌<◌, ℕ, List, [], map, slice_get, unwrap_or}
+use Rattle.std.specs.Prelude.{◌≡◌, ℕ, List, slice_get}
 use Rattle.std.specs.BTreeMap as tree
-use Rattle.std.specs.BTreeMap.{BTreeMap}
-use Rattle.omega_model.specs.Fields.{TaskFields}
 use Rattle.omega_model.specs.declared.cells.TaskKey.{TaskKey}
 use Rattle.omega_model.specs.declared.entries.Entry.{Entry}
 use Rattle.omega_model.specs.declared.rows.Row.{Row}
-use Rattle.omega_model.specs.declared.rows.Row.TheVariants.{Task as TaskEvent}
 use Rattle.omega_model.specs.declared.rows.TraceTables.{TraceTables}
 use Rattle.omega_free_laws.specs.Lives.{ended, lives_of, pieces_of}
 use Rattle.omega_pieces.specs.Courses.{IsCourse, course_at, piece_cmp}
-use Rattle.omega_pieces.specs.PieceRows.{piece_rows}
+use Rattle.omega_pieces.specs.Held.{AreHeld}
 use Rattle.omega_pieces.specs.declared.task_pieces.TaskPieces.{TaskPieces}
-
--- the rows that are held of a task's piece of this number
-abbrev pub held_rows : BTreeMap (TaskKey × ℕ) (List TaskFields) → TaskKey → ℕ → List TaskFields
-held_rows held key number = unwrap_or (tree.get piece_cmp held (key, number)) []
-
--- the rows that are held of pieces that are to come are these pieces' rows among those that were applied
-abbrev pub AreHeld : List Row → (TaskKey → ℕ) → BTreeMap (TaskKey × ℕ) (List TaskFields) → Type 0
-AreHeld rows often held =
-    (key : TaskKey) (number : ℕ) → often key < number → map (λ row. TaskEvent row) (held_rows held key number) ≡ piece_rows key number rows
 
 -- the pieces are those of a trace's tasks, once these of its rows were applied and the tasks have ended as in a history
 pub record KeepsPieces (trace : TraceTables) (rows : List Row) (history : List Entry) (pieces : TaskPieces) : Type 0 where

@@ -1,7 +1,10 @@
 //! How far a task is.
-ghost use Rattle.std.specs.Prelude.{◌≡◌, ◌+◌, ℕ, IfOk};
-ghost use Rattle.omega_free_laws.specs.Lives.{Pieces, with_own_row};
+ghost use Rattle.std.specs.Prelude.{◌≡◌, ◌+◌, ℕ, List, IfOk};
+ghost use Rattle.omega_free_laws.specs.Lives.{Pieces, counts, ended, pieces_of, with_own_row};
 ghost use Rattle.omega_model.specs.Wanted.{ends};
+ghost use Rattle.omega_model.specs.declared.entries.Entry.{Entry};
+ghost use Rattle.omega_model.specs.declared.rows.Row.{Row};
+ghost use Rattle.omega_model.specs.declared.rows.Row.TheVariants.{Task as TaskEvent};
 ghost use Rattle.omega_pieces.specs.Courses.{IsCourse, course_at, life_ended};
 
 use omega_model::{NoMemory, TaskKey, TaskRow};
@@ -71,6 +74,14 @@ pub(crate) fn ends(row: &TaskRow) -> bool
     ensures { result ≡ ends row.now.code }
 {
     3 <= row.code && row.code <= 6
+}
+
+/// Whether a row counts of a task that is so far.
+pub(crate) fn counts_at(course: Course, row: &TaskRow) -> bool
+    ensures { (rows : List Row) (history : List Entry) → IsCourse (pieces_of row.now.key rows) (ended history row.now.key) course
+        → result ≡ counts history rows (TaskEvent row.now) }
+{
+    !ends(row) && course.cuts == course.ended
 }
 
 /// A count with one more; 2^64, which no memory holds, is answered as want of memory.

@@ -1,20 +1,22 @@
 //! When running tasks are due to end.
-ghost use Rattle.std.specs.Prelude.{◌≡◌, ◌<◌, ◌+◌, ◌++◌, ◌∷◌, [], ℕ, List, Some, None, IsSome, length, option_map, IfOk, OnOk};
+ghost use Rattle.std.specs.Prelude.{◌≡◌, ◌<◌, ◌+◌, ◌++◌, ◌∷◌, [], ℕ, List, Some, None, IsSome, length, IfOk, OnOk};
 ghost use Rattle.std.specs.BTreeMap as tree;
 ghost use Rattle.std.specs.BTreeMap.{btree_map_len};
+ghost use Rattle.std.specs.List.{fold, zip};
 ghost use Rattle.omega_feed.specs.Index.{key_cmp};
 ghost use Rattle.omega_free_laws.specs.Lives.{first_own_end};
 ghost use Rattle.omega_laws.specs.VirtualTime.{Timed};
 ghost use Rattle.omega_model.specs.State.{state};
+ghost use Rattle.omega_model.specs.declared.cells.TaskKey.{TaskKey};
 ghost use Rattle.omega_model.specs.declared.entries.Entry.{Entry};
 ghost use Rattle.omega_model.specs.declared.entries.Entry.TheVariants.{Commit};
 ghost use Rattle.omega_model.specs.declared.rows.Row.{Row};
 ghost use Rattle.omega_model.specs.declared.rows.TraceTables.{TraceTables};
-ghost use Rattle.omega_pieces.specs.Due.{AreAsBefore, AreQueued, IsFirstDue, KeepsEnds};
+ghost use Rattle.omega_pieces.specs.Due.{AreAsBefore, AreQueued, IsFirstDue, KeepsEnds, SetsDue, due_after, due_at, due_when};
 ghost use Rattle.omega_pieces.specs.Kept.{KeepsPieces};
 
 use crate::task_pieces::TaskPieces;
-use omega_model::{Judgement, NoMemory, TaskKey, Txn};
+use omega_model::{Claim, Judgement, NoMemory, TaskKey, Txn};
 use omega_running::{FIRST_EXTRA, Running};
 use std::alloc::Global;
 use std::collections::{BTreeMap, BTreeSet};
@@ -54,16 +56,15 @@ pub struct EndsDue {
 }
 
 impl Model for EndsDue {
-    ghost use Rattle.std.specs.Prelude.{ℕ};
-    ghost use Rattle.std.specs.BTreeMap.{BTreeMap};
+    ghost use Rattle.std.specs.Prelude.{ℕ, List};
     ghost use Rattle.omega_model.specs.declared.cells.TaskKey.{TaskKey};
     ghost use Rattle.omega_pieces.specs.Due.{AreQueued};
 
-    ghost Value = { BTreeMap TaskKey ℕ };
+    ghost Value = { List (TaskKey × ℕ) };
 
-    ghost view = { λ ends. ends.times };
+    ghost view = { λ ends. ends.times.entries };
 
-    ghost invariant = { λ ends. AreQueued ends.times ends.queue };
+    ghost invariant = { λ ends. AreQueued ends.times.entries ends.queue };
 }
 
 impl EndsDue {
@@ -93,23 +94,57 @@ impl EndsDue {
             → timed.place ≡ length history → timed.time ≡ time
             → OnOk result (KeepsEnds trace (history ++ Commit by seen txn.now reply.now ∷ []) (times ++ timed ∷ []) self.new) }
     {
-        for (claim, judgement) in txn.claims.as_slice().iter().zip(reply) {
-            if judgement.verdict.is_placed() && claim.key.index < FIRST_EXTRA {
-                let due = later(time, pieces.life(claim.key))?;
-                self.set(claim.key, due)?;
-            }
+        self.claims(pieces, time, txn.claims.as_slice(), reply)?;
+        Ok(())
+    }
+
+    /// The same by the transaction's claims.
+    fn claims(
+        &mut self,
+        pieces: &TaskPieces,
+        time: u128,
+        claims: &[Claim],
+        reply: &[Judgement],
+    ) -> Result<(), NoMemory>
+        ensures { (trace : TraceTables) (rows : List Row) (history : List Entry) → KeepsPieces trace rows history pieces.now → (key : TaskKey)
+            → OnOk result (due_at self.new key ≡ fold (due_after key (due_when trace history time key)) (due_at self.old key) (zip claims.now reply.now)) }
+    {
+        for (claim, judgement) in claims.iter().zip(reply) {
+            self.claim(pieces, time, claim, judgement)?;
         }
+        Ok(())
+    }
+
+    /// The same of one claim.
+    fn claim(
+        &mut self,
+        pieces: &TaskPieces,
+        time: u128,
+        claim: &Claim,
+        judgement: &Judgement,
+    ) -> Result<(), NoMemory>
+        ensures { (trace : TraceTables) (rows : List Row) (history : List Entry) → KeepsPieces trace rows history pieces.now → (key : TaskKey)
+            → OnOk result (due_at self.new key ≡ due_after key (due_when trace history time key) (due_at self.old key) (claim.now, judgement.now)) }
+    {
+        if !judgement.verdict.is_placed() {
+            return Ok(());
+        }
+        let due = due_when(pieces, time, claim.key)?;
+        self.set(claim.key, due)?;
         Ok(())
     }
 
     /// Sets when a task is due to end, if it is, in place of what was set before.
     fn set(&mut self, key: TaskKey, time: Option<u128>) -> Result<(), NoMemory>
-        ensures { OnOk result (tree.Updates key_cmp self.old self.new key time) }
+        ensures { OnOk result (SetsDue self.old self.new key time) }
     {
         take_off(&mut self.times, &mut self.queue, key);
         match time {
-            Some(time) => put(&mut self.times, &mut self.queue, key, time),
             None => Ok(()),
+            Some(time) => {
+                put(&mut self.times, &mut self.queue, key, time)?;
+                Ok(())
+            }
         }
     }
 
@@ -129,10 +164,10 @@ impl EndsDue {
 
 /// The end that is due first among those of the tasks that run, once void times before it are taken off.
 fn first_running(times: &mut Times, queue: &mut Queue, running: &Running) -> Option<DueEnd>
-    requires { AreQueued times.old queue.old }
-    ensures queued { AreQueued times.new queue.new }
-    ensures same { AreAsBefore running.now.tasks times.old times.new }
-    ensures first { IsFirstDue running.now.tasks times.new result }
+    requires { AreQueued times.old.entries queue.old }
+    ensures queued { AreQueued times.new.entries queue.new }
+    ensures same { AreAsBefore running.now.tasks times.old.entries times.new.entries }
+    ensures first { IsFirstDue running.now.tasks times.new.entries result }
 {
     while let Some((time, key)) = queue.first().copied() {
         if let Some(task) = running.get(key) {
@@ -149,8 +184,8 @@ fn first_running(times: &mut Times, queue: &mut Queue, running: &Running) -> Opt
 
 /// Takes a task's time off, if it has one.
 fn take_off(times: &mut Times, queue: &mut Queue, key: TaskKey)
-    requires { AreQueued times.old queue.old }
-    ensures queued { AreQueued times.new queue.new }
+    requires { AreQueued times.old.entries queue.old }
+    ensures queued { AreQueued times.new.entries queue.new }
     ensures times { tree.Updates key_cmp times.old times.new key None }
     ensures fewer { IsSome (tree.get key_cmp times.old key) → btree_map_len times.new < btree_map_len times.old }
 {
@@ -161,9 +196,9 @@ fn take_off(times: &mut Times, queue: &mut Queue, key: TaskKey)
 
 /// Puts in the time of a task that has none. A refused call leaves the times.
 fn put(times: &mut Times, queue: &mut Queue, key: TaskKey, time: u128) -> Result<(), NoMemory>
-    requires queued { AreQueued times.old queue.old }
+    requires queued { AreQueued times.old.entries queue.old }
     requires none { tree.get key_cmp times.old key ≡ None }
-    ensures queued { AreQueued times.new queue.new }
+    ensures queued { AreQueued times.new.entries queue.new }
     ensures times { OnOk result (tree.Updates key_cmp times.old times.new key (Some time)) }
 {
     queue.insert((time, key))?;
@@ -174,13 +209,20 @@ fn put(times: &mut Times, queue: &mut Queue, key: TaskKey, time: u128) -> Result
     Ok(())
 }
 
-/// When a task is due to end that was placed at this time and has this life, both in microseconds; `None` where it has
-/// none.
-fn later(time: u128, life: Option<u64>) -> Result<Option<u128>, NoMemory>
-    ensures { IfOk result (λ due. due ≡ option_map (λ life. time + life) life) }
+/// When a task is due to end that is placed at this time, in microseconds; `None` where it isn't one of the trace, or its
+/// piece under way has no life.
+fn due_when(pieces: &TaskPieces, time: u128, key: TaskKey) -> Result<Option<u128>, NoMemory>
+    ensures { (trace : TraceTables) (rows : List Row) (history : List Entry) → KeepsPieces trace rows history pieces.now
+        → IfOk result (λ due. due ≡ due_when trace history time key) }
 {
-    match life {
-        Some(life) => Ok(Some(time.checked_add(u128::from(life)).ok_or(NoMemory)?)),
+    if key.index >= FIRST_EXTRA {
+        return Ok(None);
+    }
+    match pieces.life(key) {
+        Some(life) => {
+            let due = time.checked_add(u128::from(life)).ok_or(NoMemory)?;
+            Ok(Some(due))
+        }
         None => Ok(None),
     }
 }

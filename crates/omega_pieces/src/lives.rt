@@ -1,9 +1,11 @@
 //! The lives of a trace's tasks.
-ghost use Rattle.std.specs.Prelude.{◌≡◌, ◌++◌, ◌∷◌, [], List, IfOk, OnOk};
+ghost use Rattle.std.specs.Prelude.{◌≡◌, ◌<◌, ◌+◌, ◌++◌, ◌∷◌, [], ℕ, List, IfOk, OnOk, length, take};
+ghost use Rattle.std.specs.BTreeMap as tree;
 ghost use Rattle.omega_model.specs.Lawful.{rows_of};
 ghost use Rattle.omega_model.specs.declared.rows.Row.{Row};
 ghost use Rattle.omega_model.specs.declared.rows.Row.TheVariants.{Task as TaskEvent};
-ghost use Rattle.omega_pieces.specs.Courses.{AreLives, KeepsLives};
+ghost use Rattle.omega_model.specs.declared.cells.TaskKey.{TaskKey};
+ghost use Rattle.omega_pieces.specs.Courses.{AreLives, KeepsLives, lives_with, piece_cmp};
 
 use crate::course::{Course, course_at, life_ended, with_row};
 use omega_feed::EventRounds;
@@ -25,11 +27,28 @@ pub(crate) fn lives_of(alloc: Global, rounds: &EventRounds) -> Result<Lives, NoM
     let mut courses = BTreeMap::new(alloc);
     let mut lives = BTreeMap::new(alloc);
     for place in 0..rounds.len() {
-        if let Some(round) = rounds.get(alloc, place)? {
-            note_rows(&mut courses, &mut lives, round.rows.as_slice())?;
-        }
+        note_round(alloc, &mut courses, &mut lives, rounds, place)?;
     }
     Ok(lives)
+}
+
+/// Notes the lives of the pieces that the rows of the round at a place end, and how far their tasks are then.
+fn note_round(
+    alloc: Global,
+    courses: &mut Courses,
+    lives: &mut Lives,
+    rounds: &EventRounds,
+    place: usize,
+) -> Result<(), NoMemory>
+    requires { place < length rounds.now }
+    ensures { KeepsLives (rows_of (take place rounds.now)) courses.old lives.old
+        → OnOk result (KeepsLives (rows_of (take (place + 1) rounds.now)) courses.new lives.new) }
+{
+    let Some(round) = rounds.get(alloc, place)? else {
+        unreachable!()
+    };
+    note_rows(courses, lives, round.rows.as_slice())?;
+    Ok(())
 }
 
 /// Notes the lives of the pieces that some more rows end, and how far their tasks are then.
@@ -37,22 +56,44 @@ fn note_rows(courses: &mut Courses, lives: &mut Lives, rows: &[Row]) -> Result<(
     ensures { (before : List Row) → KeepsLives before courses.old lives.old → OnOk result (KeepsLives (before ++ rows.now) courses.new lives.new) }
 {
     for row in rows {
-        if let Row::Task(row) = row {
-            note_row(courses, lives, row)?;
-        }
+        note_row(courses, lives, row)?;
     }
     Ok(())
 }
 
 /// Notes the life of the piece that a row ends, if it ends one, and how far its task is then.
-fn note_row(courses: &mut Courses, lives: &mut Lives, row: &TaskRow) -> Result<(), NoMemory>
+fn note_row(courses: &mut Courses, lives: &mut Lives, row: &Row) -> Result<(), NoMemory>
+    ensures { (before : List Row) → KeepsLives before courses.old lives.old → OnOk result (KeepsLives (before ++ row.now ∷ []) courses.new lives.new) }
+{
+    match row {
+        Row::Machine(_) => Ok(()),
+        Row::Attr(_) => Ok(()),
+        Row::Task(row) => {
+            note_task_row(courses, lives, row)?;
+            Ok(())
+        }
+    }
+}
+
+/// The same of a task row.
+fn note_task_row(courses: &mut Courses, lives: &mut Lives, row: &TaskRow) -> Result<(), NoMemory>
     ensures { (before : List Row) → KeepsLives before courses.old lives.old
         → OnOk result (KeepsLives (before ++ TaskEvent row.now ∷ []) courses.new lives.new) }
 {
     let course = course_at(courses, row.key);
-    if let Some(life) = life_ended(course.since, row) {
-        lives.insert((row.key, course.cuts), life)?;
+    let life = life_ended(course.since, row);
+    note_life(lives, (row.key, course.cuts), life)?;
+    let moved = with_row(course, row)?;
+    courses.insert(row.key, moved)?;
+    Ok(())
+}
+
+/// Notes the life of a piece, if there is one.
+fn note_life(lives: &mut Lives, piece: (TaskKey, u64), life: Option<u64>) -> Result<(), NoMemory>
+    ensures { (other : TaskKey × ℕ) → OnOk result (tree.get piece_cmp lives.new other ≡ lives_with (tree.get piece_cmp lives.old) piece life other) }
+{
+    if let Some(life) = life {
+        lives.insert(piece, life)?;
     }
-    courses.insert(row.key, with_row(course, row)?)?;
     Ok(())
 }

@@ -13,8 +13,8 @@ ghost use Rattle.omega_model.specs.declared.rows.TraceTables.{TraceTables};
 ghost use Rattle.omega_pieces.specs.Kept.{KeepsPieces};
 ghost use Rattle.omega_pieces.specs.PieceRows.{piece_rows};
 
-use crate::course::{Course, course_at, ends, one_more, with_row};
-use crate::held::{HeldRows, hold};
+use crate::course::{Course, counts_at, course_at, one_more, with_row};
+use crate::held::{HeldRows, hold_early};
 use crate::lives::{Courses, Lives, lives_of};
 use omega_feed::EventRounds;
 use omega_model::{NoMemory, Seq, TaskKey, TaskRow};
@@ -58,12 +58,10 @@ impl TaskPieces {
             → OnOk result (KeepsPieces trace (rows ++ TaskEvent row.now ∷ []) history self.new) }
     {
         let course = course_at(&self.courses, row.key);
-        let wanting = !ends(row);
-        if wanting && course.ended < course.cuts {
-            hold(alloc, &mut self.held, course.cuts, row)?;
-        }
-        self.courses.insert(row.key, with_row(course, row)?)?;
-        Ok(wanting && course.cuts == course.ended)
+        hold_early(alloc, &mut self.held, course, row)?;
+        let moved = with_row(course, row)?;
+        self.courses.insert(row.key, moved)?;
+        Ok(counts_at(course, row))
     }
 
     /// A task has ended once more. Answers the rows that were held of the piece that begins with this, which count from now

@@ -1,0 +1,93 @@
+-- The lives of pieces after one more row.
+use Rattle.std.proofs.Common.{◌≡◌, ℕ, zero, suc, Bool, true, false, cond, List, [], ◌∷◌, ◌++◌, Option, Some, None, length, refl, sym, ap, subst, ◌∙◌, arith}
+use Rattle.std.specs.Prelude.{◌==◌, ◌&&◌, ◌-◌, slice_get}
+use Rattle.std.specs.BTreeMap as tree
+use Rattle.std.specs.BTreeMap.{BTreeMap}
+use Rattle.std.proofs.lemmas.Bool.{eqb-true}
+use Rattle.omega_free_laws.specs.Lives.{Pieces, cut_at, pieces_after, pieces_of, with_own_row}
+use Rattle.omega_model.proofs.InOrder.{key_itself, key_same}
+use Rattle.omega_model.proofs.Lists.{by_answer}
+use Rattle.omega_model.specs.Fields.{TaskFields}
+use Rattle.omega_model.specs.Keys.{same_key}
+use Rattle.omega_model.specs.Wanted.{ends}
+use Rattle.omega_model.specs.declared.cells.TaskKey.{TaskKey}
+use Rattle.omega_model.specs.declared.rows.Row.{Row}
+use Rattle.omega_model.specs.declared.rows.Row.TheVariants.{Task as TaskEvent}
+use Rattle.omega_pieces.specs.Courses.{AreLives, IsCourse, KeepsLives, course_at, life_ended, life_since, lives_with, piece_cmp}
+use Rattle.omega_pieces.specs.declared.course.Course.{Course}
+use Rattle.omega_pieces.proofs.CoursesOn.{pieces_other, pieces_own, pieces_push}
+use Rattle.omega_pieces.proofs.PieceOrder.{at_piece}
+
+-- the lives with one more, if there is one
+abbrev lives_more : List ℕ → Option ℕ → List ℕ
+lives_more lives None = lives
+lives_more lives (Some life) = lives ++ life ∷ []
+
+cut_lives : (pieces : Pieces) (time : ℕ) (since : Option ℕ) → (cut_at pieces time since).lives ≡ lives_more pieces.lives (life_since time since)
+cut_lives pieces time None = refl
+cut_lives pieces time (Some since) = refl
+
+own_lives : (pieces : Pieces) (row : TaskFields) → (with_own_row pieces row).lives ≡ lives_more pieces.lives (life_ended pieces.since row)
+own_lives pieces row =
+    by_answer (row.code == 0)
+    (λ t. let none : ends row.code ≡ false = ap ends (eqb-true row.code 0 t) in rw (t, none) refl)
+    (λ f. by_answer (row.code == 1)
+    (λ t. let none : ends row.code ≡ false = ap ends (eqb-true row.code 1 t) in rw (f, t, none) refl)
+    (λ g. by_answer (ends row.code)
+    (λ t. rw (f, g, t) (cut_lives pieces row.time pieces.since))
+    (λ h. rw (f, g, h) refl)))
+
+get_push : {X : Type 0} (xs : List X) (x : X) (n : ℕ) → slice_get (xs ++ x ∷ []) n ≡ cond (length xs == n) (Some x) (slice_get xs n)
+get_push [] x zero = refl
+get_push [] x (suc n) = refl
+get_push (y ∷ xs) x zero = refl
+get_push (y ∷ xs) x (suc n) = get_push xs x n
+
+module _ (rows : List Row) (row : TaskFields) (course : Course) (old new : BTreeMap (TaskKey × ℕ) ℕ) where
+  beside : (key : TaskKey) (number : ℕ) → same_key row.key key ≡ false → (life : Option ℕ)
+      → lives_with (tree.get piece_cmp old) (row.key, course.cuts) life (key, number) ≡ tree.get piece_cmp old (key, number)
+  beside key number differ None = refl
+  beside key number differ (Some life) =
+      ap (λ (b : Bool). cond b (Some life) (tree.get piece_cmp old (key, number))) (at_piece row.key key course.cuts number ∙ rw differ refl)
+
+  own : (lives : List ℕ) (number : ℕ) (life : Option ℕ) → course.cuts ≡ length lives → tree.get piece_cmp old (row.key, number) ≡ slice_get lives number
+      → lives_with (tree.get piece_cmp old) (row.key, course.cuts) life (row.key, number) ≡ slice_get (lives_more lives life) number
+  own lives number None cuts is = is
+  own lives number (Some life) cuts is =
+      ap (λ (b : Bool). cond b (Some life) (tree.get piece_cmp old (row.key, number)))
+      (at_piece row.key row.key course.cuts number ∙ ap (λ (b : Bool). b && course.cuts == number) (key_itself row.key) ∙ ap (λ (n : ℕ). n == number) cuts)
+      ∙ ap (λ (found : Option ℕ). cond (length lives == number) (Some life) found) is
+      ∙ sym (get_push lives life number)
+
+  pub lives_row : IsCourse (pieces_of row.key rows) 0 course
+      → ((other : TaskKey × ℕ) → tree.get piece_cmp new other ≡ lives_with (tree.get piece_cmp old) (row.key, course.cuts) (life_ended course.since row) other)
+      → AreLives rows old → AreLives (rows ++ TaskEvent row ∷ []) new
+  lives_row is updates are key number =
+      by_answer (same_key row.key key)
+      (λ t. subst (λ (k : TaskKey). tree.get piece_cmp new (k, number) ≡ slice_get (pieces_of k (rows ++ TaskEvent row ∷ [])).lives number) (key_same row.key key t) here)
+      (λ f. updates (key, number) ∙ beside key number f (life_ended course.since row) ∙ are key number
+      ∙ ap (λ (it : Pieces). slice_get it.lives number) (sym (pieces_other key rows row f))) where
+        here : tree.get piece_cmp new (row.key, number) ≡ slice_get (pieces_of row.key (rows ++ TaskEvent row ∷ [])).lives number
+        here =
+            updates (row.key, number)
+            ∙ own (pieces_of row.key rows).lives number (life_ended course.since row) is.cuts (are row.key number)
+            ∙ ap (λ (since : Option ℕ). slice_get (lives_more (pieces_of row.key rows).lives (life_ended since row)) number) is.since
+            ∙ ap (λ (lives : List ℕ). slice_get lives number) (sym (own_lives (pieces_of row.key rows) row))
+            ∙ ap (λ (it : Pieces). slice_get it.lives number) (sym (pieces_own row.key rows row (key_itself row.key)))
+
+-- no row
+pub keeps_none : (courses : BTreeMap TaskKey Course) (lives : BTreeMap (TaskKey × ℕ) ℕ) → tree.IsEmpty courses → tree.IsEmpty lives → KeepsLives [] courses lives
+keeps_none courses lives none no_lives = record {
+  courses_are = λ key. rw none (record { since = refl; cuts = refl; ended = refl });
+  lives_are = λ key number. rw no_lives refl;
+}
+
+-- a row of another table
+pub keeps_other : (before : List Row) (row : Row) (courses : BTreeMap TaskKey Course) (lives : BTreeMap (TaskKey × ℕ) ℕ)
+    → ((key : TaskKey) (pieces : Pieces) → pieces_after key pieces row ≡ pieces) → KeepsLives before courses lives → KeepsLives (before ++ row ∷ []) courses lives
+keeps_other before row courses lives stays keeps = record {
+  courses_are = λ key. subst (λ (pieces : Pieces). IsCourse pieces 0 (course_at courses key)) (sym (same key)) (keeps.courses_are key);
+  lives_are = λ key number. keeps.lives_are key number ∙ ap (λ (pieces : Pieces). slice_get pieces.lives number) (sym (same key));
+} where
+  same : (key : TaskKey) → pieces_of key (before ++ row ∷ []) ≡ pieces_of key before
+  same key = pieces_push key before row ∙ stays key (pieces_of key before)

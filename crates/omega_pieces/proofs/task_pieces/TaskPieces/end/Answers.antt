@@ -1,0 +1,45 @@
+use Rattle.std.proofs.Common.{◌≡◌, ◌+◌, ◌++◌, ◌∷◌, [], ℕ, List, Option, map, ap, ◌∙◌, arith}
+use Rattle.std.specs.Prelude.{unwrap_or}
+use Rattle.omega_free_laws.specs.Lives.{ended}
+use Rattle.omega_model.specs.Fields.{TaskFields}
+use Rattle.omega_model.specs.declared.entries.Entry.TheVariants.{End}
+use Rattle.omega_model.specs.declared.rows.Row.TheVariants.{Task as TaskEvent}
+use Rattle.omega_pieces.specs.Held.{held_rows}
+use Rattle.omega_pieces.specs.declared.course.Course.{Course}
+use Rattle.omega_pieces.proofs.AfterEnds.{wanted_ended}
+use Rattle.omega_pieces.proofs.Counting.{ended_once}
+use Rattle.omega_pieces.proofs.CoursesOn.{courses_end}
+use Rattle.omega_pieces.proofs.PieceRows.{held_less}
+use Rattle.omega_pieces.proofs.task_pieces.TaskPieces.end.Goals as goal
+
+pub returns-clause-held : goal.returns-clause-held
+returns-clause-held c trace rows history keeps =
+    let key = c.args.key in
+    let next : c.in_ok-ended.ended ≡ ended history key + 1 =
+    c.in_ok-ended.ensures ∙ ap (λ (it : Course). it.ended + 1) c.course_at-course.ensures ∙ ap (λ (n : ℕ). n + 1) (keeps.courses key).ended in
+    let found : c.unwrap_or.result ≡ held_rows c.args.self.now.held key c.in_ok-ended.ended =
+    c.unwrap_or.ensures ∙ ap (λ z. unwrap_or c.remove.result z) c.new.ensures ∙ ap (λ z. unwrap_or z []) c.remove.ensures.value in
+    ap (map (λ (row : TaskFields). TaskEvent row)) (found ∙ ap (held_rows c.args.self.now.held key) next)
+    ∙ keeps.held key (ended history key + 1) (omega arith)
+
+pub returns-clause-wanted : goal.returns-clause-wanted
+returns-clause-wanted c trace rows history keeps machine end named code =
+    wanted_ended history c.args.key machine rows (map (λ (row : TaskFields). TaskEvent row) c.unwrap_or.result) end named code
+    (returns-clause-held c trace rows history keeps)
+
+pub returns-clause-kept : goal.returns-clause-kept
+returns-clause-kept c trace rows history keeps machine =
+    let key = c.args.key in
+    let old = c.args.self.now in
+    let at = c.course_at-course.ensures in
+    let next : c.in_ok-ended.ended ≡ ended history key + 1 =
+    c.in_ok-ended.ensures ∙ ap (λ (it : Course). it.ended + 1) at ∙ ap (λ (n : ℕ). n + 1) (keeps.courses key).ended in
+    record {
+      lives = keeps.lives;
+      courses = courses_end rows (ended history) (ended (history ++ End key machine ∷ [])) old.courses c.insert.new.self key
+          (record { since = c.course_at-course.result.since; cuts = c.course_at-course.result.cuts; ended = c.in_ok-ended.ended })
+          (ended_once history key machine) c.in_ok-insert.ensures.updates
+          (ap (λ (it : Course). it.since) at) (ap (λ (it : Course). it.cuts) at) (c.in_ok-ended.ensures ∙ ap (λ (it : Course). it.ended + 1) at) keeps.courses;
+      held = held_less rows (ended history) (ended (history ++ End key machine ∷ [])) old.held c.remove.new.self key c.in_ok-ended.ended next
+          (ended_once history key machine) c.remove.ensures.updates keeps.held;
+    }
