@@ -152,15 +152,10 @@ pub keeps_commit : (trace : TraceTables) (history : List Entry) (times : List Ti
     → KeepsEnds trace history times old → KeepsEnds trace (history ++ Commit by seen txn reply ∷ []) (times ++ timed ∷ []) new
 keeps_commit trace history times old new by seen txn reply timed at are keeps = record {
   within = after.0;
-  each = each_map (HasUnless trace new (placed_in (zip txn.claims reply)) (length history) later (times ++ timed ∷ []))
-      (HasItsTime trace new later (times ++ timed ∷ [])) (λ task has. by_answer (placed_in (zip txn.claims reply) task.key) (is_placed task) (is_old task has)) (state later).tasks after.1;
+  each = each_map (HasUnless trace new (placed_in (zip txn.claims reply)) (length history) (history ++ Commit by seen txn reply ∷ []) (times ++ timed ∷ []))
+      (HasItsTime trace new (history ++ Commit by seen txn reply ∷ []) (times ++ timed ∷ []))
+      (λ task has. by_answer (placed_in (zip txn.claims reply) task.key) (is_placed task) (is_old task has)) (state (history ++ Commit by seen txn reply ∷ [])).tasks after.1;
 } where
-  later : List Entry
-  later = history ++ Commit by seen txn reply ∷ []
-
-  decided : List (Claim × Judgement)
-  decided = zip txn.claims reply
-
   set : (key : TaskKey) → due_at new key ≡ cond (placed_in (zip txn.claims reply) key) (due_when trace history timed.time key) (due_at old key)
   set key = are key ∙ after_claims key (due_when trace history timed.time key) (due_at old key) (zip txn.claims reply)
 

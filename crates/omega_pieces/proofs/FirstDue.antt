@@ -1,6 +1,6 @@
 -- The end that comes first by the times that are kept is the one that is due first.
 use Rattle.std.proofs.Common.{◌≡◌, ◌<◌, ℕ, Bool, true, false, List, [], ◌∷◌, Option, Some, None, refl, sym, ap, subst, ◌∙◌, inl, inr, arith}
-use Rattle.std.specs.Prelude.{◌⊎◌, IsSome, nat_lt, option_map, slice_get, if◌then◌else◌}
+use Rattle.std.specs.Prelude.{◌⊎◌, nat_lt, option_map, slice_get, if◌then◌else◌}
 use Rattle.std.specs.List.{filter_map, AllByRecursion as Each}
 use Rattle.std.specs.Ordering.{is_gt, nat_cmp, ordering_then}
 use Rattle.std.specs.declared.cmp.Ordering.{Ordering}
@@ -14,17 +14,18 @@ use Rattle.omega_free_laws.proofs.LivesTimes.{found_holds}
 use Rattle.omega_free_laws.specs.Lives.{DueEnd, end_at, end_of_task, ended, first_end, first_own_end, lives_of, placing}
 use Rattle.omega_laws.proofs.Suited.{OfValue}
 use Rattle.omega_laws.specs.VirtualTime.{Timed}
+use Rattle.omega_model.proofs.InOrder.{key_same}
 use Rattle.omega_model.proofs.Lists.{by_answer, each_both}
 use Rattle.omega_model.specs.Cell.{task_at}
 use Rattle.omega_model.specs.ExtraTasks.{first_extra}
-use Rattle.omega_model.specs.Keys.{key_lt}
+use Rattle.omega_model.specs.Keys.{key_lt, same_key}
 use Rattle.omega_model.specs.State.{state}
 use Rattle.omega_model.specs.declared.cells.Task.{Task}
 use Rattle.omega_model.specs.declared.cells.TaskKey.{TaskKey}
 use Rattle.omega_model.specs.declared.entries.Entry.{Entry}
 use Rattle.omega_model.specs.declared.rows.TraceTables.{TraceTables}
 use Rattle.omega_running.proofs.Kept.{found_key}
-use Rattle.omega_pieces.specs.Due.{AreAsBefore, ComesFirst, HasItsTime, IsFirstDue, KeepsEnds, due_at, end_cmp}
+use Rattle.omega_pieces.specs.Due.{AreAsBefore, ComesFirst, HasItsTime, IsFirstDue, KeepsEnds, SetsDue, due_at, end_cmp}
 use Rattle.omega_pieces.proofs.LeastEnds.{NotBefore, least_is_own_end}
 
 -- an end after which another comes is due before it, or at the same time and its task has no greater name
@@ -67,12 +68,11 @@ module _ (trace : TraceTables) (history : List Entry) (times : List Timed) where
         by_parts (Some timed) (Some life) is =
             let same = same_Some _ end is in (sym (ap (λ (it : DueEnd). it.key) same), sym (ap (λ (it : DueEnd). it.machine) same))
 
-  one_end : (due : DueEnd) (key : TaskKey) (machine time : ℕ) → due.key ≡ key → due.machine ≡ machine → due.time ≡ time
-      → due ≡ (let it : DueEnd = record { key = key; machine = machine; time = time } in it)
-  one_end due key machine time a b c =
-      ap (λ (k : TaskKey). let it : DueEnd = record { key = k; machine = due.machine; time = due.time } in it) a
-      ∙ ap (λ (m : ℕ). let it : DueEnd = record { key = key; machine = m; time = due.time } in it) b
-      ∙ ap (λ (t : ℕ). let it : DueEnd = record { key = key; machine = machine; time = t } in it) c
+  one_end : (due other : DueEnd) → due.key ≡ other.key → due.machine ≡ other.machine → due.time ≡ other.time → due ≡ other
+  one_end due other same_key same_machine same_time =
+      ap (λ (key : TaskKey). let it : DueEnd = record { key = key; machine = due.machine; time = due.time } in it) same_key
+      ∙ ap (λ (machine : ℕ). let it : DueEnd = record { key = other.key; machine = machine; time = due.time } in it) same_machine
+      ∙ ap (λ (time : ℕ). let it : DueEnd = record { key = other.key; machine = other.machine; time = time } in it) same_time
 
   module _ (running : List Task) (ends : List (TaskKey × ℕ)) (are : running ≡ (state history).tasks) (keeps : KeepsEnds trace history times ends) where
     least_of : (due : DueEnd) → ComesFirst running ends due → (task : Task) → task.key ≡ due.key → task_at (state history).tasks task.key ≡ Some task
@@ -103,7 +103,7 @@ module _ (trace : TraceTables) (history : List Entry) (times : List Timed) where
           by_end task named on runs None is has = absurd (none-some due.time has)
           by_end task named on runs (Some end) is has =
               let parts = end_is task end is in
-              let same : end ≡ due = one_end end due.key due.machine due.time (parts.0 ∙ named) (parts.1 ∙ on) (same_Some end.time due.time has) in
+              let same : end ≡ due = one_end end due (parts.0 ∙ named) (parts.1 ∙ on) (same_Some end.time due.time has) in
               least_of due first task named runs (is ∙ ap (λ (it : DueEnd). Some it) same)
 
           by_task : (found : Option Task) → task_at (state history).tasks due.key ≡ found → option_map (λ (task : Task). task.machine) found ≡ Some due.machine
@@ -134,6 +134,14 @@ pub keeps_as : (trace : TraceTables) (history : List Entry) (times : List Timed)
 keeps_as trace history times running old new are same keeps = record {
   within = keeps.within;
   each = each_both (λ (task : Task). task_at (state history).tasks task.key ≡ Some task) (HasItsTime trace old history times) (HasItsTime trace new history times)
-      (λ task runs has. same task.key (subst (λ (found : Option Task). IsSome found) (sym (ap (λ (tasks : List Task). task_at tasks task.key) are ∙ runs)) tt) ∙ has)
+      (λ task runs has. same task (ap (λ (tasks : List Task). task_at tasks task.key) are ∙ runs) ∙ has)
       (state history).tasks (each_runs history) keeps.each;
 }
+
+-- so they are once the time of a task that doesn't run is taken off
+pub still_as : (running : List Task) (old mid new : List (TaskKey × ℕ)) (key : TaskKey) → task_at running key ≡ None → SetsDue mid new key None
+    → AreAsBefore running old mid → AreAsBefore running old new
+still_as running old mid new key none sets same task runs =
+    by_answer (same_key key task.key)
+    (λ t. absurd (none-some task (sym none ∙ ap (task_at running) (key_same key task.key t) ∙ runs)))
+    (λ f. sets task.key ∙ rw f (same task runs))

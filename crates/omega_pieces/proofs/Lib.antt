@@ -3,9 +3,10 @@ pub mod Counting
 pub mod WantedByName
 pub mod AfterEnds
 pub mod PieceRows
-pub mod CoursesOn
+pub mod FurtherOn
 pub mod LivesOn
 pub mod LeastEnds
 pub mod Queued
+pub mod Zipped
 pub mod EndsOn
 pub mod FirstDue

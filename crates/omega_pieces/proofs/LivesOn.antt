@@ -13,9 +13,9 @@ use Rattle.omega_model.specs.Wanted.{ends}
 use Rattle.omega_model.specs.declared.cells.TaskKey.{TaskKey}
 use Rattle.omega_model.specs.declared.rows.Row.{Row}
 use Rattle.omega_model.specs.declared.rows.Row.TheVariants.{Task as TaskEvent}
-use Rattle.omega_pieces.specs.Courses.{AreLives, IsCourse, KeepsLives, course_at, life_ended, life_since, lives_with, piece_cmp}
-use Rattle.omega_pieces.specs.declared.course.Course.{Course}
-use Rattle.omega_pieces.proofs.CoursesOn.{pieces_other, pieces_own, pieces_push}
+use Rattle.omega_pieces.specs.HowFar.{AreLives, IsProgress, KeepsLives, progress_at, life_ended, life_since, lives_with, piece_cmp}
+use Rattle.omega_pieces.specs.declared.progress.Progress.{Progress}
+use Rattle.omega_pieces.proofs.FurtherOn.{pieces_other, pieces_own, pieces_push}
 use Rattle.omega_pieces.proofs.PieceOrder.{at_piece}
 
 -- the lives with one more, if there is one
@@ -43,50 +43,50 @@ get_push [] x (suc n) = refl
 get_push (y ∷ xs) x zero = refl
 get_push (y ∷ xs) x (suc n) = get_push xs x n
 
-module _ (rows : List Row) (row : TaskFields) (course : Course) (old new : BTreeMap (TaskKey × ℕ) ℕ) where
+module _ (rows : List Row) (row : TaskFields) (progress : Progress) (old new : BTreeMap (TaskKey × ℕ) ℕ) where
   beside : (key : TaskKey) (number : ℕ) → same_key row.key key ≡ false → (life : Option ℕ)
-      → lives_with (tree.get piece_cmp old) (row.key, course.cuts) life (key, number) ≡ tree.get piece_cmp old (key, number)
+      → lives_with (tree.get piece_cmp old) (row.key, progress.cuts) life (key, number) ≡ tree.get piece_cmp old (key, number)
   beside key number differ None = refl
   beside key number differ (Some life) =
-      ap (λ (b : Bool). cond b (Some life) (tree.get piece_cmp old (key, number))) (at_piece row.key key course.cuts number ∙ rw differ refl)
+      ap (λ (b : Bool). cond b (Some life) (tree.get piece_cmp old (key, number))) (at_piece row.key key progress.cuts number ∙ rw differ refl)
 
-  own : (lives : List ℕ) (number : ℕ) (life : Option ℕ) → course.cuts ≡ length lives → tree.get piece_cmp old (row.key, number) ≡ slice_get lives number
-      → lives_with (tree.get piece_cmp old) (row.key, course.cuts) life (row.key, number) ≡ slice_get (lives_more lives life) number
+  own : (lives : List ℕ) (number : ℕ) (life : Option ℕ) → progress.cuts ≡ length lives → tree.get piece_cmp old (row.key, number) ≡ slice_get lives number
+      → lives_with (tree.get piece_cmp old) (row.key, progress.cuts) life (row.key, number) ≡ slice_get (lives_more lives life) number
   own lives number None cuts is = is
   own lives number (Some life) cuts is =
       ap (λ (b : Bool). cond b (Some life) (tree.get piece_cmp old (row.key, number)))
-      (at_piece row.key row.key course.cuts number ∙ ap (λ (b : Bool). b && course.cuts == number) (key_itself row.key) ∙ ap (λ (n : ℕ). n == number) cuts)
+      (at_piece row.key row.key progress.cuts number ∙ ap (λ (b : Bool). b && progress.cuts == number) (key_itself row.key) ∙ ap (λ (n : ℕ). n == number) cuts)
       ∙ ap (λ (found : Option ℕ). cond (length lives == number) (Some life) found) is
       ∙ sym (get_push lives life number)
 
-  pub lives_row : IsCourse (pieces_of row.key rows) 0 course
-      → ((other : TaskKey × ℕ) → tree.get piece_cmp new other ≡ lives_with (tree.get piece_cmp old) (row.key, course.cuts) (life_ended course.since row) other)
+  pub lives_row : IsProgress (pieces_of row.key rows) 0 progress
+      → ((other : TaskKey × ℕ) → tree.get piece_cmp new other ≡ lives_with (tree.get piece_cmp old) (row.key, progress.cuts) (life_ended progress.since row) other)
       → AreLives rows old → AreLives (rows ++ TaskEvent row ∷ []) new
   lives_row is updates are key number =
       by_answer (same_key row.key key)
       (λ t. subst (λ (k : TaskKey). tree.get piece_cmp new (k, number) ≡ slice_get (pieces_of k (rows ++ TaskEvent row ∷ [])).lives number) (key_same row.key key t) here)
-      (λ f. updates (key, number) ∙ beside key number f (life_ended course.since row) ∙ are key number
+      (λ f. updates (key, number) ∙ beside key number f (life_ended progress.since row) ∙ are key number
       ∙ ap (λ (it : Pieces). slice_get it.lives number) (sym (pieces_other key rows row f))) where
         here : tree.get piece_cmp new (row.key, number) ≡ slice_get (pieces_of row.key (rows ++ TaskEvent row ∷ [])).lives number
         here =
             updates (row.key, number)
-            ∙ own (pieces_of row.key rows).lives number (life_ended course.since row) is.cuts (are row.key number)
+            ∙ own (pieces_of row.key rows).lives number (life_ended progress.since row) is.cuts (are row.key number)
             ∙ ap (λ (since : Option ℕ). slice_get (lives_more (pieces_of row.key rows).lives (life_ended since row)) number) is.since
             ∙ ap (λ (lives : List ℕ). slice_get lives number) (sym (own_lives (pieces_of row.key rows) row))
             ∙ ap (λ (it : Pieces). slice_get it.lives number) (sym (pieces_own row.key rows row (key_itself row.key)))
 
 -- no row
-pub keeps_none : (courses : BTreeMap TaskKey Course) (lives : BTreeMap (TaskKey × ℕ) ℕ) → tree.IsEmpty courses → tree.IsEmpty lives → KeepsLives [] courses lives
-keeps_none courses lives none no_lives = record {
-  courses_are = λ key. rw none (record { since = refl; cuts = refl; ended = refl });
+pub keeps_none : (by_task : BTreeMap TaskKey Progress) (lives : BTreeMap (TaskKey × ℕ) ℕ) → tree.IsEmpty by_task → tree.IsEmpty lives → KeepsLives [] by_task lives
+keeps_none by_task lives none no_lives = record {
+  progress_are = λ key. rw none (record { since = refl; cuts = refl; ended = refl });
   lives_are = λ key number. rw no_lives refl;
 }
 
 -- a row of another table
-pub keeps_other : (before : List Row) (row : Row) (courses : BTreeMap TaskKey Course) (lives : BTreeMap (TaskKey × ℕ) ℕ)
-    → ((key : TaskKey) (pieces : Pieces) → pieces_after key pieces row ≡ pieces) → KeepsLives before courses lives → KeepsLives (before ++ row ∷ []) courses lives
-keeps_other before row courses lives stays keeps = record {
-  courses_are = λ key. subst (λ (pieces : Pieces). IsCourse pieces 0 (course_at courses key)) (sym (same key)) (keeps.courses_are key);
+pub keeps_other : (before : List Row) (row : Row) (by_task : BTreeMap TaskKey Progress) (lives : BTreeMap (TaskKey × ℕ) ℕ)
+    → ((key : TaskKey) (pieces : Pieces) → pieces_after key pieces row ≡ pieces) → KeepsLives before by_task lives → KeepsLives (before ++ row ∷ []) by_task lives
+keeps_other before row by_task lives stays keeps = record {
+  progress_are = λ key. subst (λ (pieces : Pieces). IsProgress pieces 0 (progress_at by_task key)) (sym (same key)) (keeps.progress_are key);
   lives_are = λ key number. keeps.lives_are key number ∙ ap (λ (pieces : Pieces). slice_get pieces.lives number) (sym (same key));
 } where
   same : (key : TaskKey) → pieces_of key (before ++ row ∷ []) ≡ pieces_of key before

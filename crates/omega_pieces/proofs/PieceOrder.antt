@@ -13,8 +13,8 @@ use Rattle.omega_model.proofs.InOrder.{key_itself}
 use Rattle.omega_model.proofs.Lists.{by_answer}
 use Rattle.omega_model.specs.Keys.{same_key}
 use Rattle.omega_model.specs.declared.cells.TaskKey.{TaskKey}
-use Rattle.omega_pieces.specs.Courses.{course_at, piece_cmp, unstarted}
-use Rattle.omega_pieces.specs.declared.course.Course.{Course}
+use Rattle.omega_pieces.specs.HowFar.{progress_at, piece_cmp, unstarted}
+use Rattle.omega_pieces.specs.declared.progress.Progress.{Progress}
 
 pub at_key : (a b : TaskKey) → tree.is_at (key_cmp a) b ≡ same_key a b
 at_key a b = by_order (key_cmp a b) (facts a b) where
@@ -43,9 +43,9 @@ at_piece key other m n =
     ∙ ap (λ (b : Bool). same_key key other && b) (at_number m n)
 
 -- how far tasks are once it was set for one
-pub course_set : (old new : BTreeMap TaskKey Course) (key : TaskKey) (course : Course) → tree.Updates key_cmp old new key (Some course)
-    → (other : TaskKey) → course_at new other ≡ cond (same_key key other) course (course_at old other)
-course_set old new key course updates other =
-    ap (λ (found : Option Course). unwrap_or found unstarted)
-    (updates.0 other ∙ ap (λ (b : Bool). cond b (Some course) (tree.get key_cmp old other)) (at_key key other))
+pub progress_set : (old new : BTreeMap TaskKey Progress) (key : TaskKey) (progress : Progress) → tree.Updates key_cmp old new key (Some progress)
+    → (other : TaskKey) → progress_at new other ≡ cond (same_key key other) progress (progress_at old other)
+progress_set old new key progress updates other =
+    ap (λ (found : Option Progress). unwrap_or found unstarted)
+    (updates.0 other ∙ ap (λ (b : Bool). cond b (Some progress) (tree.get key_cmp old other)) (at_key key other))
     ∙ by_answer (same_key key other) (λ t. rw t refl) (λ f. rw f refl)

@@ -13,10 +13,10 @@ use Rattle.omega_model.specs.declared.cells.TaskKey.{TaskKey}
 use Rattle.omega_model.specs.declared.rows.Row.{Row}
 use Rattle.omega_model.specs.declared.rows.Row.TheVariants.{Task as TaskEvent}
 use Rattle.omega_free_laws.specs.Lives.{pieces_of}
-use Rattle.omega_pieces.specs.Courses.{IsCourse, piece_cmp}
+use Rattle.omega_pieces.specs.HowFar.{IsProgress, piece_cmp}
 use Rattle.omega_pieces.specs.Held.{AreHeld, held_rows}
 use Rattle.omega_pieces.specs.PieceRows.{is_of_piece, piece_rows, piece_rows_behind}
-use Rattle.omega_pieces.specs.declared.course.Course.{Course}
+use Rattle.omega_pieces.specs.declared.progress.Progress.{Progress}
 use Rattle.omega_pieces.proofs.PieceOrder.{at_piece}
 
 behind_push : (key : TaskKey) (number : ℕ) (before rows : List Row) (row : Row)
@@ -50,9 +50,9 @@ pub of_no_piece : (key : TaskKey) (number : ℕ) (rows : List Row) (row : TaskFi
 of_no_piece key number rows row ends_it = rw ends_it (by_answer (same_key row.key key) (λ t. rw t refl) (λ f. rw f refl))
 
 -- a row of a piece that is under way or over is of none that is to come
-pub of_no_later : (rows : List Row) (often : TaskKey → ℕ) (row : TaskFields) (course : Course) → IsCourse (pieces_of row.key rows) (often row.key) course
-    → course.cuts ≤ course.ended → (key : TaskKey) (number : ℕ) → often key < number → is_of_piece key number rows (TaskEvent row) ≡ false
-of_no_later rows often row course is low key number less =
+pub of_no_later : (rows : List Row) (often : TaskKey → ℕ) (row : TaskFields) (progress : Progress) → IsProgress (pieces_of row.key rows) (often row.key) progress
+    → progress.cuts ≤ progress.ended → (key : TaskKey) (number : ℕ) → often key < number → is_of_piece key number rows (TaskEvent row) ≡ false
+of_no_later rows often row progress is low key number less =
     by_answer (same_key row.key key)
     (λ t.
     let same : often row.key ≡ often key = ap often (key_same row.key key t) in

@@ -40,11 +40,11 @@ module _ (old new : List (TaskKey × ℕ)) (queue after : BTreeSet (ℕ × TaskK
         own : same_key key named ≡ true → (set.contains end_cmp after (other, named) ≡ true) ↔ (due_at new named ≡ Some other)
         own t = (
           λ stands. absurd (by_answer (time == other)
-          (λ e. both_ways _ (rw (e, t) at found) stands)
-          (λ e.
-          let before : set.contains end_cmp queue (other, named) ≡ true = sym (rw (e, t) at found) ∙ stands in
-          let same : time ≡ other = same_Some time other (sym had ∙ ap (due_at old) (key_same key named t) ∙ (are other named).0 before) in
-          both_ways _ e (eq-eqb time other same))),
+              (λ e. both_ways _ (rw (e, t) at found) stands)
+              (λ e.
+              let before : set.contains end_cmp queue (other, named) ≡ true = sym (rw (e, t) at found) ∙ stands in
+              let same : time ≡ other = same_Some time other (sym had ∙ ap (due_at old) (key_same key named t) ∙ (are other named).0 before) in
+              both_ways _ e (eq-eqb time other same))),
           λ due. absurd (none-some other (sym (sets named ∙ rw t refl) ∙ due)),
         )
 
@@ -67,13 +67,13 @@ module _ (old new : List (TaskKey × ℕ)) (queue after : BTreeSet (ℕ × TaskK
         own t =
             let there : due_at new named ≡ Some time = sets named ∙ rw t refl in (
               λ stands. by_answer (time == other)
-              (λ e. there ∙ ap (λ (n : ℕ). Some n) (eqb-true time other e))
-              (λ e.
-              let before : set.contains end_cmp queue (other, named) ≡ true = sym (rw (e, t) at found) ∙ stands in
-              absurd (none-some other (sym none ∙ ap (due_at old) (key_same key named t) ∙ (are other named).0 before))),
+                  (λ e. there ∙ ap (λ (n : ℕ). Some n) (eqb-true time other e))
+                  (λ e.
+                  let before : set.contains end_cmp queue (other, named) ≡ true = sym (rw (e, t) at found) ∙ stands in
+                  absurd (none-some other (sym none ∙ ap (due_at old) (key_same key named t) ∙ (are other named).0 before))),
               λ due.
-              let same : (time == other) ≡ true = eq-eqb time other (same_Some time other (sym there ∙ due)) in
-              rw (same, t) at found,
+                  let same : (time == other) ≡ true = eq-eqb time other (same_Some time other (sym there ∙ due)) in
+                  rw (same, t) at found,
             )
 
         apart : same_key key named ≡ false → (set.contains end_cmp after (other, named) ≡ true) ↔ (due_at new named ≡ Some other)

@@ -1,5 +1,5 @@
 -- When running tasks are due to end.
-use Rattle.std.specs.Prelude.{◌≡◌, ◌<◌, ◌+◌, ◌↔◌, ◌&&◌, ℕ, Bool, true, List, Option, Some, None, IsSome, false, length, nat_lt, option_map, slice_get, if◌then◌else◌}
+use Rattle.std.specs.Prelude.{◌≡◌, ◌<◌, ◌+◌, ◌↔◌, ◌&&◌, ℕ, Bool, true, List, Option, Some, None, false, length, nat_lt, option_map, slice_get, if◌then◌else◌}
 use Rattle.std.specs.BTreeMap as tree
 use Rattle.std.specs.BTreeSet as set
 use Rattle.std.specs.BTreeSet.{BTreeSet}
@@ -51,7 +51,7 @@ SetsDue old new key time = (other : TaskKey) → due_at new other ≡ (if same_k
 
 -- the tasks that run have the times that they had
 abbrev pub AreAsBefore : List Task → List (TaskKey × ℕ) → List (TaskKey × ℕ) → Type 0
-AreAsBefore running old new = (key : TaskKey) → IsSome (task_at running key) → due_at new key ≡ due_at old key
+AreAsBefore running old new = (task : Task) → task_at running task.key ≡ Some task → due_at new task.key ≡ due_at old task.key
 
 -- this is the end of a running task that is due first by these times: no task has a time before it, or one at that time and
 -- a lesser name
@@ -64,6 +64,12 @@ pub record ComesFirst (running : List Task) (times : List (TaskKey × ℕ)) (due
 abbrev pub IsFirstDue : List Task → List (TaskKey × ℕ) → Option DueEnd → Type 0
 IsFirstDue running times None = (key : TaskKey) → due_at times key ≡ None
 IsFirstDue running times (Some due) = ComesFirst running times due
+
+-- this is the first end of a queue, if there is one
+abbrev pub IsFirstOf : BTreeSet (ℕ × TaskKey) → Option (ℕ × TaskKey) → Type 0
+IsFirstOf queue None = (time : ℕ) (key : TaskKey) → set.contains end_cmp queue (time, key) ≡ false
+IsFirstOf queue (Some first) =
+    (set.contains end_cmp queue (first.0, first.1) ≡ true) × ((time : ℕ) (key : TaskKey) → set.contains end_cmp queue (time, key) ≡ true → is_gt (end_cmp (first.0, first.1) (time, key)) ≡ false)
 
 -- when a task is due to end that is placed at this time, if it is one of the trace and its piece under way has a life
 abbrev pub due_when : TraceTables → List Entry → ℕ → TaskKey → Option ℕ

@@ -6,7 +6,7 @@ use Rattle.omega_model.specs.Fields.{TaskFields}
 use Rattle.omega_model.specs.declared.cells.TaskKey.{TaskKey}
 use Rattle.omega_model.specs.declared.rows.Row.{Row}
 use Rattle.omega_model.specs.declared.rows.Row.TheVariants.{Task as TaskEvent}
-use Rattle.omega_pieces.specs.Courses.{piece_cmp}
+use Rattle.omega_pieces.specs.HowFar.{piece_cmp}
 use Rattle.omega_pieces.specs.PieceRows.{piece_rows}
 
 -- the rows that are held of a task's piece of this number

@@ -6,12 +6,12 @@ use Rattle.omega_model.specs.declared.entries.Entry.{Entry}
 use Rattle.omega_model.specs.declared.rows.Row.{Row}
 use Rattle.omega_model.specs.declared.rows.TraceTables.{TraceTables}
 use Rattle.omega_free_laws.specs.Lives.{ended, lives_of, pieces_of}
-use Rattle.omega_pieces.specs.Courses.{IsCourse, course_at, piece_cmp}
+use Rattle.omega_pieces.specs.HowFar.{IsProgress, progress_at, piece_cmp}
 use Rattle.omega_pieces.specs.Held.{AreHeld}
 use Rattle.omega_pieces.specs.declared.task_pieces.TaskPieces.{TaskPieces}
 
 -- the pieces are those of a trace's tasks, once these of its rows were applied and the tasks have ended as in a history
 pub record KeepsPieces (trace : TraceTables) (rows : List Row) (history : List Entry) (pieces : TaskPieces) : Type 0 where
   pub lives : (key : TaskKey) (number : ℕ) → tree.get piece_cmp pieces.lives (key, number) ≡ slice_get (lives_of trace key) number
-  pub courses : (key : TaskKey) → IsCourse (pieces_of key rows) (ended history key) (course_at pieces.courses key)
+  pub progress : (key : TaskKey) → IsProgress (pieces_of key rows) (ended history key) (progress_at pieces.by_task key)
   pub held : AreHeld rows (ended history) pieces.held

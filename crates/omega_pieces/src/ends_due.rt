@@ -12,7 +12,7 @@ ghost use Rattle.omega_model.specs.declared.entries.Entry.{Entry};
 ghost use Rattle.omega_model.specs.declared.entries.Entry.TheVariants.{Commit};
 ghost use Rattle.omega_model.specs.declared.rows.Row.{Row};
 ghost use Rattle.omega_model.specs.declared.rows.TraceTables.{TraceTables};
-ghost use Rattle.omega_pieces.specs.Due.{AreAsBefore, AreQueued, IsFirstDue, KeepsEnds, SetsDue, due_after, due_at, due_when};
+ghost use Rattle.omega_pieces.specs.Due.{AreAsBefore, AreQueued, IsFirstDue, IsFirstOf, KeepsEnds, SetsDue, due_after, due_at, due_when};
 ghost use Rattle.omega_pieces.specs.Kept.{KeepsPieces};
 
 use crate::task_pieces::TaskPieces;
@@ -169,17 +169,34 @@ fn first_running(times: &mut Times, queue: &mut Queue, running: &Running) -> Opt
     ensures same { AreAsBefore running.now.tasks times.old.entries times.new.entries }
     ensures first { IsFirstDue running.now.tasks times.new.entries result }
 {
-    while let Some((time, key)) = queue.first().copied() {
-        if let Some(task) = running.get(key) {
-            return Some(DueEnd {
-                key,
-                machine: task.machine,
-                time,
-            });
+    while let Some(first) = first_of(queue) {
+        match running.get(first.1) {
+            Some(task) => return Some(end_of(first, task.machine)),
+            None => take_off(times, queue, first.1),
         }
-        take_off(times, queue, key);
     }
     None
+}
+
+/// The end of a task on this machine that is due then.
+fn end_of(first: (u128, TaskKey), machine: u64) -> DueEnd
+    ensures { result ≡ record { key = first.1; machine = machine; time = first.0 } }
+{
+    DueEnd {
+        key: first.1,
+        machine,
+        time: first.0,
+    }
+}
+
+/// The first of a queue. Takes time logarithmic in its length.
+fn first_of(queue: &Queue) -> Option<(u128, TaskKey)>
+    ensures { IsFirstOf queue.now result }
+{
+    match queue.first() {
+        Some(first) => Some(*first),
+        None => None,
+    }
 }
 
 /// Takes a task's time off, if it has one.
@@ -202,11 +219,13 @@ fn put(times: &mut Times, queue: &mut Queue, key: TaskKey, time: u128) -> Result
     ensures times { OnOk result (tree.Updates key_cmp times.old times.new key (Some time)) }
 {
     queue.insert((time, key))?;
-    if times.insert(key, time).is_err() {
-        queue.remove(&(time, key));
-        return Err(NoMemory);
+    match times.insert(key, time) {
+        Ok(_) => Ok(()),
+        Err(_) => {
+            queue.remove(&(time, key));
+            Err(NoMemory)
+        }
     }
-    Ok(())
 }
 
 /// When a task is due to end that is placed at this time, in microseconds; `None` where it isn't one of the trace, or its

@@ -5,10 +5,10 @@
 //! their task has ended. `EndsDue` knows when the tasks that run are due to end.
 #![tactic(auto)]
 
-mod course;
 mod ends_due;
 mod held;
 mod lives;
+mod progress;
 mod task_pieces;
 
 pub use ends_due::{DueEnd, EndsDue};

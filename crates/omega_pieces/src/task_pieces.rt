@@ -13,9 +13,9 @@ ghost use Rattle.omega_model.specs.declared.rows.TraceTables.{TraceTables};
 ghost use Rattle.omega_pieces.specs.Kept.{KeepsPieces};
 ghost use Rattle.omega_pieces.specs.PieceRows.{piece_rows};
 
-use crate::course::{Course, counts_at, course_at, one_more, with_row};
 use crate::held::{HeldRows, hold_early};
-use crate::lives::{Courses, Lives, lives_of};
+use crate::lives::{ByTask, Lives, lives_of};
+use crate::progress::{Progress, counts_at, one_more, progress_at, with_row};
 use omega_feed::EventRounds;
 use omega_model::{NoMemory, Seq, TaskKey, TaskRow};
 use std::alloc::Global;
@@ -29,7 +29,7 @@ use std::collections::BTreeMap;
 #[derive(Drop)]
 pub struct TaskPieces {
     lives: Lives,
-    courses: Courses,
+    by_task: ByTask,
     held: HeldRows,
 }
 
@@ -42,7 +42,7 @@ impl TaskPieces {
         let lives = lives_of(alloc, rounds)?;
         Ok(TaskPieces {
             lives,
-            courses: BTreeMap::new(alloc),
+            by_task: BTreeMap::new(alloc),
             held: BTreeMap::new(alloc),
         })
     }
@@ -57,11 +57,11 @@ impl TaskPieces {
         ensures kept { (trace : TraceTables) (rows : List Row) (history : List Entry) → KeepsPieces trace rows history self.old
             → OnOk result (KeepsPieces trace (rows ++ TaskEvent row.now ∷ []) history self.new) }
     {
-        let course = course_at(&self.courses, row.key);
-        hold_early(alloc, &mut self.held, course, row)?;
-        let moved = with_row(course, row)?;
-        self.courses.insert(row.key, moved)?;
-        Ok(counts_at(course, row))
+        let progress = progress_at(&self.by_task, row.key);
+        hold_early(alloc, &mut self.held, progress, row)?;
+        let moved = with_row(progress, row)?;
+        self.by_task.insert(row.key, moved)?;
+        Ok(counts_at(progress, row))
     }
 
     /// A task has ended once more. Answers the rows that were held of the piece that begins with this, which count from now
@@ -78,13 +78,10 @@ impl TaskPieces {
         ensures kept { (trace : TraceTables) (rows : List Row) (history : List Entry) → KeepsPieces trace rows history self.old
             → (machine : ℕ) → OnOk result (KeepsPieces trace rows (history ++ End key machine ∷ []) self.new) }
     {
-        let course = course_at(&self.courses, key);
-        let ended = one_more(course.ended)?;
-        self.courses.insert(key, Course { ended, ..course })?;
-        Ok(self
-            .held
-            .remove(&(key, ended))
-            .unwrap_or(Seq::new(alloc)))
+        let progress = progress_at(&self.by_task, key);
+        let ended = one_more(progress.ended)?;
+        self.by_task.insert(key, Progress { ended, ..progress })?;
+        Ok(self.held.remove(&(key, ended)).unwrap_or(Seq::new(alloc)))
     }
 
     /// The life of a task's piece that is under way, in microseconds; `None` exactly where no row of the trace ends that
@@ -93,7 +90,7 @@ impl TaskPieces {
         ensures { (trace : TraceTables) (rows : List Row) (history : List Entry) → KeepsPieces trace rows history self.now
             → result ≡ slice_get (lives_of trace key) (ended history key) }
     {
-        let course = course_at(&self.courses, key);
-        self.lives.get(&(key, course.ended)).copied()
+        let progress = progress_at(&self.by_task, key);
+        self.lives.get(&(key, progress.ended)).copied()
     }
 }

@@ -3,7 +3,7 @@ use Rattle.std.specs.Prelude.{unwrap_or}
 use Rattle.std.specs.BTreeMap as tree
 use Rattle.omega_model.specs.Fields.{TaskFields}
 use Rattle.omega_model.specs.declared.cells.TaskKey.{TaskKey}
-use Rattle.omega_pieces.specs.Courses.{piece_cmp}
+use Rattle.omega_pieces.specs.HowFar.{piece_cmp}
 use Rattle.omega_pieces.specs.Held.{held_rows}
 use Rattle.omega_pieces.proofs.PieceRows.{set_anew}
 use Rattle.omega_pieces.proofs.held.hold.Goals as goal

@@ -2,12 +2,12 @@ use Rattle.std.proofs.Common.{◌≡◌, ℕ, ap, subst, take}
 use Rattle.std.proofs.lemmas.List.{take_all}
 use Rattle.omega_model.specs.Lawful.{rows_of}
 use Rattle.omega_model.specs.declared.rows.Row.{Row}
-use Rattle.omega_pieces.specs.Courses.{AreLives}
+use Rattle.omega_pieces.specs.HowFar.{AreLives}
 use Rattle.omega_pieces.proofs.LivesOn.{keeps_none}
 use Rattle.omega_pieces.proofs.lives.lives_of.Goals as goal
 
 pub loop-place-init : goal.loop-place-init
-loop-place-init c = keeps_none c.new-courses.result c.new-lives.result c.new-courses.ensures.empty c.new-lives.ensures.empty
+loop-place-init c = keeps_none c.new-by_task.result c.new-lives.result c.new-by_task.ensures.empty c.new-lives.ensures.empty
 
 pub loop-place-preserved : goal.loop-place-preserved
 loop-place-preserved c = c.in_ok-note_round.ensures c.loop-place.invariant

@@ -5,10 +5,10 @@ use Rattle.omega_model.specs.Fields.{TaskFields}
 use Rattle.omega_model.specs.declared.entries.Entry.TheVariants.{End}
 use Rattle.omega_model.specs.declared.rows.Row.TheVariants.{Task as TaskEvent}
 use Rattle.omega_pieces.specs.Held.{held_rows}
-use Rattle.omega_pieces.specs.declared.course.Course.{Course}
+use Rattle.omega_pieces.specs.declared.progress.Progress.{Progress}
 use Rattle.omega_pieces.proofs.AfterEnds.{wanted_ended}
 use Rattle.omega_pieces.proofs.Counting.{ended_once}
-use Rattle.omega_pieces.proofs.CoursesOn.{courses_end}
+use Rattle.omega_pieces.proofs.FurtherOn.{progress_end}
 use Rattle.omega_pieces.proofs.PieceRows.{held_less}
 use Rattle.omega_pieces.proofs.task_pieces.TaskPieces.end.Goals as goal
 
@@ -16,7 +16,7 @@ pub returns-clause-held : goal.returns-clause-held
 returns-clause-held c trace rows history keeps =
     let key = c.args.key in
     let next : c.in_ok-ended.ended ≡ ended history key + 1 =
-    c.in_ok-ended.ensures ∙ ap (λ (it : Course). it.ended + 1) c.course_at-course.ensures ∙ ap (λ (n : ℕ). n + 1) (keeps.courses key).ended in
+    c.in_ok-ended.ensures ∙ ap (λ (it : Progress). it.ended + 1) c.progress_at-progress.ensures ∙ ap (λ (n : ℕ). n + 1) (keeps.progress key).ended in
     let found : c.unwrap_or.result ≡ held_rows c.args.self.now.held key c.in_ok-ended.ended =
     c.unwrap_or.ensures ∙ ap (λ z. unwrap_or c.remove.result z) c.new.ensures ∙ ap (λ z. unwrap_or z []) c.remove.ensures.value in
     ap (map (λ (row : TaskFields). TaskEvent row)) (found ∙ ap (held_rows c.args.self.now.held key) next)
@@ -31,15 +31,15 @@ pub returns-clause-kept : goal.returns-clause-kept
 returns-clause-kept c trace rows history keeps machine =
     let key = c.args.key in
     let old = c.args.self.now in
-    let at = c.course_at-course.ensures in
+    let at = c.progress_at-progress.ensures in
     let next : c.in_ok-ended.ended ≡ ended history key + 1 =
-    c.in_ok-ended.ensures ∙ ap (λ (it : Course). it.ended + 1) at ∙ ap (λ (n : ℕ). n + 1) (keeps.courses key).ended in
+    c.in_ok-ended.ensures ∙ ap (λ (it : Progress). it.ended + 1) at ∙ ap (λ (n : ℕ). n + 1) (keeps.progress key).ended in
     record {
       lives = keeps.lives;
-      courses = courses_end rows (ended history) (ended (history ++ End key machine ∷ [])) old.courses c.insert.new.self key
-          (record { since = c.course_at-course.result.since; cuts = c.course_at-course.result.cuts; ended = c.in_ok-ended.ended })
+      progress = progress_end rows (ended history) (ended (history ++ End key machine ∷ [])) old.by_task c.insert.new.self key
+          (record { since = c.progress_at-progress.result.since; cuts = c.progress_at-progress.result.cuts; ended = c.in_ok-ended.ended })
           (ended_once history key machine) c.in_ok-insert.ensures.updates
-          (ap (λ (it : Course). it.since) at) (ap (λ (it : Course). it.cuts) at) (c.in_ok-ended.ensures ∙ ap (λ (it : Course). it.ended + 1) at) keeps.courses;
+          (ap (λ (it : Progress). it.since) at) (ap (λ (it : Progress). it.cuts) at) (c.in_ok-ended.ensures ∙ ap (λ (it : Progress). it.ended + 1) at) keeps.progress;
       held = held_less rows (ended history) (ended (history ++ End key machine ∷ [])) old.held c.remove.new.self key c.in_ok-ended.ended next
           (ended_once history key machine) c.remove.ensures.updates keeps.held;
     }

@@ -7,6 +7,6 @@ use Rattle.omega_pieces.proofs.task_pieces.TaskPieces.new.Goals as goal
 pub returns : goal.returns
 returns c trace all = record {
   lives = λ key number. c.in_ok-lives.ensures key number ∙ ap (λ (rows : List Row). slice_get (pieces_of key rows).lives number) all;
-  courses = λ key. rw c.new.ensures.empty (record { since = refl; cuts = refl; ended = refl });
+  progress = λ key. rw c.new.ensures.empty (record { since = refl; cuts = refl; ended = refl });
   held = λ key number less. rw c.new-2.ensures.empty refl;
 }

@@ -10,25 +10,25 @@ use Rattle.omega_model.specs.declared.cells.TaskKey.{TaskKey}
 use Rattle.omega_model.specs.declared.rows.Row.{Row}
 use Rattle.omega_free_laws.specs.Lives.{Pieces, pieces_of}
 use Rattle.omega_feed.specs.Index.{key_cmp}
-use Rattle.omega_pieces.specs.declared.course.Course.{Course}
+use Rattle.omega_pieces.specs.declared.progress.Progress.{Progress}
 
 -- the order of pieces: by task, then by number
 abbrev pub piece_cmp : TaskKey × ℕ → TaskKey × ℕ → Ordering
 piece_cmp a b = ordering_then (key_cmp a.0 b.0) (nat_cmp a.1 b.1)
 
 -- a task of which no row was applied, and that hasn't ended
-abbrev pub unstarted : Course
+abbrev pub unstarted : Progress
 unstarted = record { since = None; cuts = 0; ended = 0 }
 
 -- how far a task is
-abbrev pub course_at : BTreeMap TaskKey Course → TaskKey → Course
-course_at courses key = unwrap_or (tree.get key_cmp courses key) unstarted
+abbrev pub progress_at : BTreeMap TaskKey Progress → TaskKey → Progress
+progress_at by_task key = unwrap_or (tree.get key_cmp by_task key) unstarted
 
 -- a task with these pieces that has ended so often is so far
-pub record IsCourse (pieces : Pieces) (often : ℕ) (course : Course) : Type 0 where
-  pub since : course.since ≡ pieces.since
-  pub cuts : course.cuts ≡ length pieces.lives
-  pub ended : course.ended ≡ often
+pub record IsProgress (pieces : Pieces) (often : ℕ) (progress : Progress) : Type 0 where
+  pub since : progress.since ≡ pieces.since
+  pub cuts : progress.cuts ≡ length pieces.lives
+  pub ended : progress.ended ≡ often
 
 -- how long a piece lived whose life counts since then and that a row at this time ends
 abbrev pub life_since : ℕ → Option ℕ → Option ℕ
@@ -49,6 +49,6 @@ abbrev pub AreLives : List Row → BTreeMap (TaskKey × ℕ) ℕ → Type 0
 AreLives rows lives = (key : TaskKey) (number : ℕ) → tree.get piece_cmp lives (key, number) ≡ slice_get (pieces_of key rows).lives number
 
 -- after these rows, where no task has ended, the tasks are so far, and these are the lives
-pub record KeepsLives (rows : List Row) (courses : BTreeMap TaskKey Course) (lives : BTreeMap (TaskKey × ℕ) ℕ) : Type 0 where
-  pub courses_are : (key : TaskKey) → IsCourse (pieces_of key rows) 0 (course_at courses key)
+pub record KeepsLives (rows : List Row) (by_task : BTreeMap TaskKey Progress) (lives : BTreeMap (TaskKey × ℕ) ℕ) : Type 0 where
+  pub progress_are : (key : TaskKey) → IsProgress (pieces_of key rows) 0 (progress_at by_task key)
   pub lives_are : AreLives rows lives

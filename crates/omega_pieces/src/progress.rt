@@ -5,14 +5,14 @@ ghost use Rattle.omega_model.specs.Wanted.{ends};
 ghost use Rattle.omega_model.specs.declared.entries.Entry.{Entry};
 ghost use Rattle.omega_model.specs.declared.rows.Row.{Row};
 ghost use Rattle.omega_model.specs.declared.rows.Row.TheVariants.{Task as TaskEvent};
-ghost use Rattle.omega_pieces.specs.Courses.{IsCourse, course_at, life_ended};
+ghost use Rattle.omega_pieces.specs.HowFar.{IsProgress, progress_at, life_ended};
 
 use omega_model::{NoMemory, TaskKey, TaskRow};
 use std::collections::BTreeMap;
 
 /// How far a task is by the rows that were applied, and how often it has ended.
 #[derive(Clone, Copy, Debug)]
-pub(crate) struct Course {
+pub(crate) struct Progress {
     /// Since when the life of its last piece counts, in microseconds, if a row of that has asked for the task.
     pub since: Option<u64>,
     /// How many of its pieces its rows have ended.
@@ -22,12 +22,12 @@ pub(crate) struct Course {
 }
 
 /// How far a task is among these. Costs the logarithm of their number.
-pub(crate) fn course_at(courses: &BTreeMap<TaskKey, Course>, key: TaskKey) -> Course
-    ensures { result ≡ course_at courses.now key }
+pub(crate) fn progress_at(by_task: &BTreeMap<TaskKey, Progress>, key: TaskKey) -> Progress
+    ensures { result ≡ progress_at by_task.now key }
 {
-    match courses.get(&key) {
-        Some(course) => *course,
-        None => Course {
+    match by_task.get(&key) {
+        Some(progress) => *progress,
+        None => Progress {
             since: None,
             cuts: 0,
             ended: 0,
@@ -37,24 +37,24 @@ pub(crate) fn course_at(courses: &BTreeMap<TaskKey, Course>, key: TaskKey) -> Co
 
 /// How far a task is after one more row of its own. 2^64 pieces, which no memory holds, are answered as want of
 /// memory.
-pub(crate) fn with_row(course: Course, row: &TaskRow) -> Result<Course, NoMemory>
-    ensures { (pieces : Pieces) (often : ℕ) → IsCourse pieces often course → IfOk result (IsCourse (with_own_row pieces row.now) often) }
+pub(crate) fn with_row(progress: Progress, row: &TaskRow) -> Result<Progress, NoMemory>
+    ensures { (pieces : Pieces) (often : ℕ) → IsProgress pieces often progress → IfOk result (IsProgress (with_own_row pieces row.now) often) }
 {
     match row.code {
-        0 => Ok(Course {
-            since: Some(course.since.unwrap_or(row.time)),
-            ..course
+        0 => Ok(Progress {
+            since: Some(progress.since.unwrap_or(row.time)),
+            ..progress
         }),
-        1 => Ok(Course {
+        1 => Ok(Progress {
             since: Some(row.time),
-            ..course
+            ..progress
         }),
-        _ if life_ended(course.since, row).is_some() => Ok(Course {
+        _ if life_ended(progress.since, row).is_some() => Ok(Progress {
             since: None,
-            cuts: one_more(course.cuts)?,
-            ended: course.ended,
+            cuts: one_more(progress.cuts)?,
+            ended: progress.ended,
         }),
-        _ => Ok(course),
+        _ => Ok(progress),
     }
 }
 
@@ -77,11 +77,11 @@ pub(crate) fn ends(row: &TaskRow) -> bool
 }
 
 /// Whether a row counts of a task that is so far.
-pub(crate) fn counts_at(course: Course, row: &TaskRow) -> bool
-    ensures { (rows : List Row) (history : List Entry) → IsCourse (pieces_of row.now.key rows) (ended history row.now.key) course
+pub(crate) fn counts_at(progress: Progress, row: &TaskRow) -> bool
+    ensures { (rows : List Row) (history : List Entry) → IsProgress (pieces_of row.now.key rows) (ended history row.now.key) progress
         → result ≡ counts history rows (TaskEvent row.now) }
 {
-    !ends(row) && course.cuts == course.ended
+    !ends(row) && progress.cuts == progress.ended
 }
 
 /// A count with one more; 2^64, which no memory holds, is answered as want of memory.

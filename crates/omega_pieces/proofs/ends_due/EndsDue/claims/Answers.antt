@@ -1,0 +1,17 @@
+use Rattle.std.proofs.Common.{◌≡◌, ℕ, Option, List, ap, sym, ◌∙◌}
+use Rattle.std.specs.List.{fold, zip}
+use Rattle.std.specs.Iterator.Adapters.{zip_first, zip_second}
+use Rattle.std.specs.Slice.Iter.{iter_rest}
+use Rattle.std.proofs.lemmas.Slice.Zip.{either_empty_from_Zip}
+use Rattle.omega_model.specs.declared.claims.Claim.{Claim}
+use Rattle.omega_model.specs.declared.claims.Judgement.{Judgement}
+use Rattle.omega_pieces.specs.Due.{due_after, due_at, due_when}
+use Rattle.omega_pieces.proofs.Zipped.{zipped_out}
+use Rattle.omega_pieces.proofs.ends_due.EndsDue.claims.Goals as goal
+
+pub returns : goal.returns
+returns c trace rows history keeps key =
+    let left = c.loop-claim.claim-iterator in
+    let none = zipped_out (iter_rest (zip_first left)) (iter_rest (zip_second left)) (either_empty_from_Zip left c.next.new.self c.next.result c.in-None.is c.next.ensures.steps) in
+    sym (ap (fold (due_after key (due_when trace history c.args.time key)) (due_at c.loop-claim.self key)) none)
+    ∙ c.loop-claim.invariant trace rows history keeps key
