@@ -5,6 +5,7 @@ pub mod AfterEnds
 pub mod PieceRows
 pub mod FurtherOn
 pub mod LivesOn
+pub mod PiecesOn
 pub mod LeastEnds
 pub mod Queued
 pub mod Zipped

@@ -1,6 +1,7 @@
 //! How far a task is.
-ghost use Rattle.std.specs.Prelude.{◌≡◌, ◌+◌, ℕ, List, IfOk};
+ghost use Rattle.std.specs.Prelude.{◌≡◌, ◌<◌, ◌+◌, ℕ, List, IfOk};
 ghost use Rattle.omega_free_laws.specs.Lives.{Pieces, counts, ended, pieces_of, with_own_row};
+ghost use Rattle.omega_model.specs.ExtraTasks.{first_extra};
 ghost use Rattle.omega_model.specs.Wanted.{ends};
 ghost use Rattle.omega_model.specs.declared.entries.Entry.{Entry};
 ghost use Rattle.omega_model.specs.declared.rows.Row.{Row};
@@ -78,8 +79,9 @@ pub(crate) fn ends(row: &TaskRow) -> bool
 
 /// Whether a row counts of a task that is so far.
 pub(crate) fn counts_at(progress: Progress, row: &TaskRow) -> bool
-    ensures { (rows : List Row) (history : List Entry) → IsProgress (pieces_of row.now.key rows) (ended history row.now.key) progress
+    ensures counts { (rows : List Row) (history : List Entry) → IsProgress (pieces_of row.now.key rows) (ended history row.now.key) progress
         → result ≡ counts history rows (TaskEvent row.now) }
+    ensures low { row.now.key.index < first_extra }
 {
     !ends(row) && progress.cuts == progress.ended
 }

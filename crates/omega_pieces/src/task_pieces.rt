@@ -1,6 +1,7 @@
 //! The pieces of a trace's tasks, and which rows count.
-ghost use Rattle.std.specs.Prelude.{◌≡◌, ◌+◌, ◌++◌, ◌∷◌, [], ℕ, List, map, slice_get, IfOk, OnOk};
+ghost use Rattle.std.specs.Prelude.{◌≡◌, ◌<◌, ◌+◌, ◌++◌, ◌∷◌, [], ℕ, List, map, slice_get, IfOk, OnOk};
 ghost use Rattle.omega_free_laws.specs.Lives.{counting, counts, ended, lives_of};
+ghost use Rattle.omega_model.specs.ExtraTasks.{first_extra};
 ghost use Rattle.omega_model.specs.Feed.{feed};
 ghost use Rattle.omega_model.specs.Fields.{TaskFields};
 ghost use Rattle.omega_model.specs.Lawful.{rows_of};
@@ -64,18 +65,18 @@ impl TaskPieces {
         Ok(counts_at(progress, row))
     }
 
-    /// A task has ended once more. Answers the rows that were held of the piece that begins with this, which count from now
-    /// on, in the order in which they were applied: what is wanted then is what a row that ends the task leaves, and what
-    /// these rows make of that. After a refused call nothing is said of the pieces.
+    /// A task of the trace has ended once more. Answers the rows that were held of the piece that begins with this, which
+    /// count from now on, in the order in which they were applied: what is wanted then is what a row that ends the task
+    /// leaves, and what these rows make of that. After a refused call nothing is said of the pieces.
     /// Costs the logarithms of the number of tasks and of the number of pieces of which rows are held.
     pub fn end(&mut self, alloc: Global, key: TaskKey) -> Result<Seq<TaskRow>, NoMemory>
-        ensures held { (trace : TraceTables) (rows : List Row) (history : List Entry) → KeepsPieces trace rows history self.old
+        ensures held { (trace : TraceTables) (rows : List Row) (history : List Entry) → KeepsPieces trace rows history self.old → key.index < first_extra
             → IfOk result (λ held. map (λ row. TaskEvent row) held ≡ piece_rows key (ended history key + 1) rows) }
-        ensures wanted { (trace : TraceTables) (rows : List Row) (history : List Entry) → KeepsPieces trace rows history self.old
+        ensures wanted { (trace : TraceTables) (rows : List Row) (history : List Entry) → KeepsPieces trace rows history self.old → key.index < first_extra
             → (machine : ℕ) (end : TaskFields) → end.key ≡ key → end.code ≡ 4
             → IfOk result (λ held. wanted (counting rows (history ++ End key machine ∷ []))
             ≡ wanted (counting rows history ++ TaskEvent end ∷ map (λ row. TaskEvent row) held)) }
-        ensures kept { (trace : TraceTables) (rows : List Row) (history : List Entry) → KeepsPieces trace rows history self.old
+        ensures kept { (trace : TraceTables) (rows : List Row) (history : List Entry) → KeepsPieces trace rows history self.old → key.index < first_extra
             → (machine : ℕ) → OnOk result (KeepsPieces trace rows (history ++ End key machine ∷ []) self.new) }
     {
         let progress = progress_at(&self.by_task, key);
@@ -84,11 +85,11 @@ impl TaskPieces {
         Ok(self.held.remove(&(key, ended)).unwrap_or(Seq::new(alloc)))
     }
 
-    /// The life of a task's piece that is under way, in microseconds; `None` exactly where no row of the trace ends that
+    /// The life of the piece of a task of the trace that is under way, in microseconds; `None` exactly where no row of the trace ends that
     /// piece. Costs the logarithms of the number of tasks and of that of lives.
     pub fn life(&self, key: TaskKey) -> Option<u64>
         ensures { (trace : TraceTables) (rows : List Row) (history : List Entry) → KeepsPieces trace rows history self.now
-            → result ≡ slice_get (lives_of trace key) (ended history key) }
+            → key.index < first_extra → result ≡ slice_get (lives_of trace key) (ended history key) }
     {
         let progress = progress_at(&self.by_task, key);
         self.lives.get(&(key, progress.ended)).copied()
