@@ -2,7 +2,7 @@
 use Rattle.std.proofs.Common.{◌≡◌, ◌<◌, ◌≤◌, ◌+◌, ℕ, zero, suc, Bool, true, false, cond, List, [], ◌∷◌, ◌++◌, Option, Some, None, length, map, refl, sym, ap, ap₂, subst, ◌∙◌, inl, inr, arith, length-append}
 use Rattle.std.specs.Prelude.{◌⊎◌, ◌==◌, ◌&&◌, ◌||◌, IsSome, nat_lt, option_map, slice_get, if◌then◌else◌}
 use Rattle.std.specs.List.{fold, list_any, zip, AllByRecursion as Each}
-use Rattle.std.proofs.lemmas.Bool.{and_parts, both_ways}
+use Rattle.std.proofs.lemmas.Bool.{both_ways, lt-ltb}
 use Rattle.std.proofs.lemmas.Option.{slice_get_past}
 use Rattle.omega_free_laws.proofs.DueEnds.{each_runs, ended_same}
 use Rattle.omega_free_laws.proofs.LivesTimes.{each_unmapped}
@@ -10,6 +10,7 @@ use Rattle.omega_free_laws.proofs.Running.{AreWithin, EachRunning, Stays, commit
 use Rattle.omega_free_laws.specs.Lives.{DueEnd, did_place, end_at, end_of_task, ended, is_end_of, lives_of, placing, places_task}
 use Rattle.omega_laws.proofs.Places.{get_seam}
 use Rattle.omega_laws.specs.VirtualTime.{Timed}
+use Rattle.omega_model.proofs.InOrder.{key_same}
 use Rattle.omega_model.proofs.Lists.{by_answer, each_both, each_map}
 use Rattle.omega_model.proofs.RowEnds.{EndInTurn, end_task}
 use Rattle.omega_model.specs.Cell.{task_at}
@@ -182,3 +183,17 @@ keeps_commit trace history times old new by seen txn reply timed at are keeps = 
   is_old : (task : Task) → HasUnless trace new (placed_in (zip txn.claims reply)) (length history) (history ++ Commit by seen txn reply ∷ []) (times ++ timed ∷ []) task
       → placed_in (zip txn.claims reply) task.key ≡ false → HasItsTime trace new (history ++ Commit by seen txn reply ∷ []) (times ++ timed ∷ []) task
   is_old task has f = has f (ap (did_place task.key) (get_seam history (Commit by seen txn reply) []) ∙ f)
+
+-- ---- one claim
+
+pub due_low : (trace : TraceTables) (history : List Entry) (time : ℕ) (key : TaskKey) (life : Option ℕ) → key.index < first_extra
+    → life ≡ slice_get (lives_of trace key) (ended history key) → option_map (λ (life : ℕ). time + life) life ≡ due_when trace history time key
+due_low trace history time key life low same =
+    let is : nat_lt key.index first_extra ≡ true = lt-ltb key.index first_extra low in rw is (ap (option_map (λ (life : ℕ). time + life)) same)
+
+pub set_claim : (trace : TraceTables) (history : List Entry) (time : ℕ) (claim : Claim) (judgement : Judgement) (key : TaskKey) (due : Option ℕ) → admits judgement ≡ true
+    → cond (same_key claim.key key) (due_when trace history time claim.key) due ≡ due_after key (due_when trace history time key) due (claim, judgement)
+set_claim trace history time claim judgement key due placed =
+    by_answer (same_key claim.key key)
+    (λ t. rw (placed, t) (ap (due_when trace history time) (key_same claim.key key t)))
+    (λ f. rw (placed, f) refl)

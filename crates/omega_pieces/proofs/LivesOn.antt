@@ -1,9 +1,9 @@
 -- The lives of pieces after one more row.
-use Rattle.std.proofs.Common.{◌≡◌, ℕ, zero, suc, Bool, true, false, cond, List, [], ◌∷◌, ◌++◌, Option, Some, None, length, refl, sym, ap, subst, ◌∙◌, arith}
+use Rattle.std.proofs.Common.{◌≡◌, ℕ, zero, suc, Bool, true, false, cond, List, [], ◌∷◌, ◌++◌, Option, Some, None, length, refl, sym, ap, subst, ◌∙◌, inl, inr, arith}
 use Rattle.std.specs.Prelude.{◌==◌, ◌&&◌, ◌-◌, slice_get}
 use Rattle.std.specs.BTreeMap as tree
 use Rattle.std.specs.BTreeMap.{BTreeMap}
-use Rattle.std.proofs.lemmas.Bool.{eqb-true}
+use Rattle.std.proofs.lemmas.Bool.{cases_eq, eq-eqb, eqb-true, ne_eqb}
 use Rattle.omega_free_laws.specs.Lives.{Pieces, cut_at, pieces_after, pieces_of, with_own_row}
 use Rattle.omega_model.proofs.InOrder.{key_itself, key_same}
 use Rattle.omega_model.proofs.Lists.{by_answer}
@@ -39,16 +39,23 @@ own_lives pieces row =
 
 get_push : {X : Type 0} (xs : List X) (x : X) (n : ℕ) → slice_get (xs ++ x ∷ []) n ≡ cond (length xs == n) (Some x) (slice_get xs n)
 get_push [] x zero = refl
-get_push [] x (suc n) = refl
-get_push (y ∷ xs) x zero = refl
-get_push (y ∷ xs) x (suc n) = get_push xs x n
+get_push {X} [] x (suc n) = let apart : (length {A = X} [] == suc n) ≡ false = ne_eqb (length {A = X} []) (suc n) (λ d. omega (arith, d)) in rw apart refl
+get_push (y ∷ xs) x zero = let apart : (length (y ∷ xs) == 0) ≡ false = ne_eqb (length (y ∷ xs)) 0 (λ d. omega (arith, d)) in rw apart refl
+get_push (y ∷ xs) x (suc n) =
+    get_push xs x n
+    ∙ ap (λ (b : Bool). cond b (Some x) (slice_get xs n))
+    (elim (cases_eq (length xs) n) [
+      | inl e ↦ eq-eqb (length xs) n e ∙ sym (eq-eqb (length (y ∷ xs)) (suc n) (omega (arith, e)))
+      | inr d ↦ ne_eqb (length xs) n d ∙ sym (ne_eqb (length (y ∷ xs)) (suc n) (λ e. d (omega (arith, e))))
+    ])
 
 module _ (rows : List Row) (row : TaskFields) (progress : Progress) (old new : BTreeMap (TaskKey × ℕ) ℕ) where
   beside : (key : TaskKey) (number : ℕ) → same_key row.key key ≡ false → (life : Option ℕ)
       → lives_with (tree.get piece_cmp old) (row.key, progress.cuts) life (key, number) ≡ tree.get piece_cmp old (key, number)
   beside key number differ None = refl
   beside key number differ (Some life) =
-      ap (λ (b : Bool). cond b (Some life) (tree.get piece_cmp old (key, number))) (at_piece row.key key progress.cuts number ∙ rw differ refl)
+      let apart : (same_key row.key key && progress.cuts == number) ≡ false = rw differ refl in
+      ap (λ (b : Bool). cond b (Some life) (tree.get piece_cmp old (key, number))) (at_piece row.key key progress.cuts number ∙ apart)
 
   own : (lives : List ℕ) (number : ℕ) (life : Option ℕ) → progress.cuts ≡ length lives → tree.get piece_cmp old (row.key, number) ≡ slice_get lives number
       → lives_with (tree.get piece_cmp old) (row.key, progress.cuts) life (row.key, number) ≡ slice_get (lives_more lives life) number

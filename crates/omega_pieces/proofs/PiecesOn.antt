@@ -27,6 +27,9 @@ use Rattle.omega_pieces.proofs.PieceRows.{piece_push}
 pub own_is : (history : List Entry) (key : TaskKey) → key.index < first_extra → own_ended history key ≡ ended history key
 own_is history key low = let is : nat_lt key.index first_extra ≡ true = lt-ltb key.index first_extra low in rw is refl
 
+pub own_none : (key : TaskKey) → own_ended [] key ≡ 0
+own_none key = by_answer (nat_lt key.index first_extra) (λ t. rw t refl) (λ f. rw f refl)
+
 pub own_once : (history : List Entry) (key : TaskKey) (machine : ℕ) → key.index < first_extra → (other : TaskKey)
     → own_ended (history ++ End key machine ∷ []) other ≡ own_ended history other + cond (same_key key other) 1 0
 own_once history key machine low other =

@@ -1,11 +1,12 @@
 -- The times by task and the queue of them, once one is taken off or put in.
-use Rattle.std.proofs.Common.{◌≡◌, ℕ, Bool, true, false, cond, List, Option, Some, None, refl, sym, ap, ap₂, ◌∙◌}
+use Rattle.std.proofs.Common.{◌≡◌, ◌<◌, ℕ, Bool, true, false, cond, List, [], ◌∷◌, length, arith, Option, Some, None, refl, sym, ap, ap₂, ◌∙◌}
 use Rattle.std.specs.Prelude.{◌==◌, ◌&&◌, ◌↔◌}
 use Rattle.std.specs.BTreeMap as tree
 use Rattle.std.specs.BTreeMap.{BTreeMap}
 use Rattle.std.specs.BTreeSet as set
 use Rattle.std.specs.BTreeSet.{BTreeSet}
-use Rattle.std.specs.Ordering.{is_eq, nat_cmp}
+use Rattle.std.specs.List.{list_any}
+use Rattle.std.specs.Ordering.{nat_cmp}
 use Rattle.std.proofs.lemmas.Bool.{and_parts, both_ways, eq-eqb, eqb-true}
 use Rattle.std.proofs.lemmas.Option.{none-some, same_Some}
 use Rattle.omega_feed.specs.Index.{key_cmp}
@@ -42,7 +43,7 @@ module _ (old new : List (TaskKey × ℕ)) (queue after : BTreeSet (ℕ × TaskK
           λ stands. absurd (by_answer (time == other)
               (λ e. both_ways _ (rw (e, t) at found) stands)
               (λ e.
-              let before : set.contains end_cmp queue (other, named) ≡ true = sym (rw (e, t) at found) ∙ stands in
+              let before : set.contains end_cmp queue (other, named) ≡ true = sym (rw e at found) ∙ stands in
               let same : time ≡ other = same_Some time other (sym had ∙ ap (due_at old) (key_same key named t) ∙ (are other named).0 before) in
               both_ways _ e (eq-eqb time other same))),
           λ due. absurd (none-some other (sym (sets named ∙ rw t refl) ∙ due)),
@@ -69,7 +70,7 @@ module _ (old new : List (TaskKey × ℕ)) (queue after : BTreeSet (ℕ × TaskK
               λ stands. by_answer (time == other)
                   (λ e. there ∙ ap (λ (n : ℕ). Some n) (eqb-true time other e))
                   (λ e.
-                  let before : set.contains end_cmp queue (other, named) ≡ true = sym (rw (e, t) at found) ∙ stands in
+                  let before : set.contains end_cmp queue (other, named) ≡ true = sym (rw e at found) ∙ stands in
                   absurd (none-some other (sym none ∙ ap (due_at old) (key_same key named t) ∙ (are other named).0 before))),
               λ due.
                   let same : (time == other) ≡ true = eq-eqb time other (same_Some time other (sym there ∙ due)) in
@@ -105,3 +106,8 @@ queue_back times queue more after key time none first second are other named = (
       (λ stands. absurd (none-some other (sym none ∙ ap (due_at times) (key_same key named parts.1) ∙ (are other named).0 stands)))
       (λ f. gone ∙ sym f))
       (λ f. (rw f at taken) ∙ (rw f at put))
+
+-- nothing stands in an empty queue
+pub none_there : (keys : List (ℕ × TaskKey)) (end : ℕ × TaskKey) → (0 < length keys → ⊥) → list_any (tree.is_at (end_cmp end)) keys ≡ false
+none_there [] end none = refl
+none_there (first ∷ keys) end none = absurd (none (omega arith))

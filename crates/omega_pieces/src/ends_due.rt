@@ -239,9 +239,16 @@ fn due_when(pieces: &TaskPieces, time: u128, key: TaskKey) -> Result<Option<u128
     }
     match pieces.life(key) {
         Some(life) => {
-            let due = time.checked_add(u128::from(life)).ok_or(NoMemory)?;
+            let due = later(time, life)?;
             Ok(Some(due))
         }
         None => Ok(None),
     }
+}
+
+/// So much later, in microseconds; 2^128 or more is answered as want of memory.
+fn later(time: u128, life: u64) -> Result<u128, NoMemory>
+    ensures { IfOk result (λ due. due ≡ time + life) }
+{
+    time.checked_add(u128::from(life)).ok_or(NoMemory)
 }

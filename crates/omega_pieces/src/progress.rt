@@ -72,7 +72,8 @@ pub(crate) fn life_ended(since: Option<u64>, row: &TaskRow) -> Option<u64>
 
 /// Whether a row ends its task.
 pub(crate) fn ends(row: &TaskRow) -> bool
-    ensures { result ≡ ends row.now.code }
+    ensures ends { result ≡ ends row.now.code }
+    ensures low { row.now.key.index < first_extra }
 {
     3 <= row.code && row.code <= 6
 }

@@ -1,4 +1,4 @@
-use Rattle.std.proofs.Common.{◌≡◌, ℕ, ap, subst, take}
+use Rattle.std.proofs.Common.{◌≡◌, ap, arith, List, subst}
 use Rattle.std.proofs.lemmas.List.{take_all}
 use Rattle.omega_model.specs.Lawful.{rows_of}
 use Rattle.omega_model.specs.declared.rows.Row.{Row}
@@ -11,3 +11,10 @@ loop-place-init c = keeps_none c.new-by_task.result c.new-lives.result c.new-by_
 
 pub loop-place-preserved : goal.loop-place-preserved
 loop-place-preserved c = c.in_ok-note_round.ensures c.loop-place.invariant
+
+pub returns : goal.returns
+returns c =
+    let test = c.loop-place-test.false in
+    let len = c.len.ensures in
+    subst (λ (rows : List Row). AreLives rows c.loop-place.lives) (ap rows_of (take_all c.loop-place.place c.args.rounds.now (omega (arith, test, len))))
+    c.loop-place.invariant.lives_are

@@ -18,3 +18,8 @@ loop-row-preserved c before keeps =
     ∙ ap (λ (it : List Row). before ++ it) (sym (take_more rows place row c.loop-row-test.true)) in
     subst (λ (it : List Row). KeepsLives it c.note_row.new.by_task c.note_row.new.lives) next
     (c.in_ok-note_row.ensures (before ++ take place rows) (c.loop-row.invariant before keeps))
+
+pub returns : goal.returns
+returns c before keeps =
+    subst (λ (rows : List Row). KeepsLives (before ++ rows) c.loop-row.by_task c.loop-row.lives)
+    (take_all c.loop-row.row-index c.args.rows.now c.loop-row-test.false) (c.loop-row.invariant before keeps)

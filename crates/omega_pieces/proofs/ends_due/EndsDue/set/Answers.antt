@@ -11,12 +11,12 @@ returns-in-None c =
     subst (λ (time : Option ℕ). SetsDue c.args.self.now new.entries key time) (sym c.in-None.is)
     (subst (λ (old : List (TaskKey × ℕ)). SetsDue old new.entries key None) c.self.view_is (sets_due c.self.inside.times new key None c.take_off.ensures.times))
 
-pub returns-in-Some : goal.returns-in-Some
-returns-in-Some c =
+pub returns-in_ok-put-in-Some : goal.returns-in_ok-put-in-Some
+returns-in_ok-put-in-Some c =
     let key = c.args.key in
     let mid = c.take_off.new.times in
     let new = c.put.new.times in
     subst (λ (time : Option ℕ). SetsDue c.args.self.now new.entries key time) (sym c.in-Some.is)
     (subst (λ (old : List (TaskKey × ℕ)). SetsDue old new.entries key (Some c.in-Some.time)) c.self.view_is
     (sets_over c.self.inside.times.entries mid.entries new.entries key (Some c.in-Some.time)
-    (sets_due c.self.inside.times mid key None c.take_off.ensures.times) (sets_due mid new key (Some c.in-Some.time) c.in_ok-put.ensures.times)))
+    (sets_due c.self.inside.times mid key None c.take_off.ensures.times) (sets_due mid new key (Some c.in-Some.time) c.in_ok-put-in-Some.ensures.times)))
