@@ -1,6 +1,7 @@
 -- The end that comes first by the times that are kept is the one that is due first.
 use Rattle.std.proofs.Common.{◌≡◌, ◌<◌, ℕ, Bool, true, false, List, [], ◌∷◌, Option, Some, None, refl, sym, ap, subst, ◌∙◌, inl, inr, arith}
 use Rattle.std.specs.Prelude.{◌⊎◌, nat_lt, option_map, slice_get, if◌then◌else◌}
+use Rattle.std.specs.BTreeSet.{BTreeSet}
 use Rattle.std.specs.List.{filter_map, AllByRecursion as Each}
 use Rattle.std.specs.Ordering.{is_gt, nat_cmp, ordering_then}
 use Rattle.std.specs.declared.cmp.Ordering.{Ordering}
@@ -25,7 +26,7 @@ use Rattle.omega_model.specs.declared.cells.TaskKey.{TaskKey}
 use Rattle.omega_model.specs.declared.entries.Entry.{Entry}
 use Rattle.omega_model.specs.declared.rows.TraceTables.{TraceTables}
 use Rattle.omega_running.proofs.Kept.{found_key}
-use Rattle.omega_pieces.specs.Due.{AreAsBefore, ComesFirst, HasItsTime, IsFirstDue, KeepsEnds, SetsDue, due_at, end_cmp}
+use Rattle.omega_pieces.specs.Due.{AreAsBefore, AreQueued, ComesFirst, HasItsTime, IsFirstDue, IsFirstOf, KeepsEnds, SetsDue, due_at, end_cmp}
 use Rattle.omega_pieces.proofs.LeastEnds.{NotBefore, least_is_own_end}
 
 -- an end after which another comes is due before it, or at the same time and its task has no greater name
@@ -145,3 +146,10 @@ still_as running old mid new key none sets same task runs =
     by_answer (same_key key task.key)
     (λ t. absurd (none-some task (sym none ∙ ap (task_at running) (key_same key task.key t) ∙ runs)))
     (λ f. sets task.key ∙ rw f (same task runs))
+
+-- no task has a time where the queue is empty
+pub none_due : (times : List (TaskKey × ℕ)) (queue : BTreeSet (ℕ × TaskKey)) → AreQueued times queue → IsFirstOf queue None → (key : TaskKey) → due_at times key ≡ None
+none_due times queue queued empty key = by_time (due_at times key) refl where
+  by_time : (found : Option ℕ) → due_at times key ≡ found → due_at times key ≡ None
+  by_time None is = is
+  by_time (Some time) is = absurd (both_ways _ (empty time key) ((queued time key).1 is))

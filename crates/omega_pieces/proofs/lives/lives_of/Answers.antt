@@ -15,6 +15,6 @@ loop-place-preserved c = c.in_ok-note_round.ensures c.loop-place.invariant
 pub returns : goal.returns
 returns c =
     let test = c.loop-place-test.false in
-    let len = c.len.ensures in
+    let len = c.len-place-end.ensures in
     subst (λ (rows : List Row). AreLives rows c.loop-place.lives) (ap rows_of (take_all c.loop-place.place c.args.rounds.now (omega (arith, test, len))))
     c.loop-place.invariant.lives_are
