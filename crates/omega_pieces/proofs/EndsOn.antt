@@ -1,19 +1,17 @@
 -- The ends that are due after one more entry, and the one that is due first.
-use Rattle.std.proofs.Common.{◌≡◌, ◌<◌, ◌≤◌, ◌+◌, ℕ, zero, suc, Bool, true, false, cond, List, [], ◌∷◌, ◌++◌, Option, Some, None, length, map, refl, sym, ap, ap₂, subst, ◌∙◌, inl, inr, arith, length-append}
-use Rattle.std.specs.Prelude.{◌⊎◌, ◌==◌, ◌&&◌, ◌||◌, IsSome, nat_lt, option_map, slice_get, if◌then◌else◌}
-use Rattle.std.specs.List.{fold, list_any, zip, AllByRecursion as Each}
+use Rattle.std.proofs.Common.{◌≡◌, ◌<◌, ◌≤◌, ◌+◌, ℕ, zero, suc, Bool, true, false, cond, List, [], ◌∷◌, ◌++◌, Option, Some, None, length, map, refl, sym, ap, ap₂, ◌∙◌, arith}
+use Rattle.std.specs.Prelude.{◌&&◌, nat_lt, option_map, slice_get, if◌then◌else◌}
+use Rattle.std.specs.List.{fold, list_any, zip}
 use Rattle.std.proofs.lemmas.Bool.{both_ways, lt-ltb}
 use Rattle.std.proofs.lemmas.Option.{slice_get_past}
-use Rattle.omega_free_laws.proofs.DueEnds.{each_runs, ended_same}
-use Rattle.omega_free_laws.proofs.LivesTimes.{each_unmapped}
-use Rattle.omega_free_laws.proofs.Running.{AreWithin, EachRunning, Stays, commit_step, ends_step, is_plain, placing_new, placing_old, placing_same, plain_step}
-use Rattle.omega_free_laws.specs.Lives.{DueEnd, did_place, end_at, end_of_task, ended, is_end_of, lives_of, placing, places_task}
+use Rattle.omega_free_laws.proofs.DueEnds.{ended_same}
+use Rattle.omega_free_laws.proofs.Running.{EachRunning, Stays, commit_step, ends_step, is_plain, placing_new, placing_old, placing_same, plain_step}
+use Rattle.omega_free_laws.specs.Lives.{DueEnd, did_place, end_at, ended, is_end_of, lives_of, placing, places_task}
 use Rattle.omega_laws.proofs.Places.{get_seam}
 use Rattle.omega_laws.specs.VirtualTime.{Timed}
 use Rattle.omega_model.proofs.InOrder.{key_same}
-use Rattle.omega_model.proofs.Lists.{by_answer, each_both, each_map}
+use Rattle.omega_model.proofs.Lists.{by_answer, each_map}
 use Rattle.omega_model.proofs.RowEnds.{EndInTurn, end_task}
-use Rattle.omega_model.specs.Cell.{task_at}
 use Rattle.omega_model.specs.ExtraTasks.{first_extra}
 use Rattle.omega_model.specs.Keys.{same_key}
 use Rattle.omega_model.specs.Reply.{admits}

@@ -1,6 +1,6 @@
 -- What is kept of pieces after one more entry, and after a row of another table.
 use Rattle.std.proofs.Common.{◌≡◌, ◌<◌, ◌+◌, ℕ, Bool, true, false, cond, List, [], ◌∷◌, ◌++◌, refl, sym, ap, subst, ◌∙◌, append-nil}
-use Rattle.std.specs.Prelude.{nat_lt, slice_get, if◌then◌else◌}
+use Rattle.std.specs.Prelude.{nat_lt, if◌then◌else◌}
 use Rattle.std.proofs.lemmas.Bool.{both_ways, lt-ltb, ltb-true}
 use Rattle.omega_free_laws.proofs.DueEnds.{ended_same}
 use Rattle.omega_free_laws.specs.Lives.{Pieces, ended, is_end_of, pieces_after, pieces_of}

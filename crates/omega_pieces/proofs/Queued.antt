@@ -1,16 +1,15 @@
 -- The times by task and the queue of them, once one is taken off or put in.
-use Rattle.std.proofs.Common.{◌≡◌, ◌<◌, ℕ, Bool, true, false, cond, List, [], ◌∷◌, length, arith, Option, Some, None, refl, sym, ap, ap₂, ◌∙◌}
+use Rattle.std.proofs.Common.{◌≡◌, ℕ, Bool, true, false, cond, List, Option, Some, None, refl, sym, ap, ap₂, ◌∙◌}
 use Rattle.std.specs.Prelude.{◌==◌, ◌&&◌, ◌↔◌}
 use Rattle.std.specs.BTreeMap as tree
 use Rattle.std.specs.BTreeMap.{BTreeMap}
 use Rattle.std.specs.BTreeSet as set
 use Rattle.std.specs.BTreeSet.{BTreeSet}
-use Rattle.std.specs.List.{list_any}
 use Rattle.std.specs.Ordering.{nat_cmp}
 use Rattle.std.proofs.lemmas.Bool.{and_parts, both_ways, eq-eqb, eqb-true}
 use Rattle.std.proofs.lemmas.Option.{none-some, same_Some}
 use Rattle.omega_feed.specs.Index.{key_cmp}
-use Rattle.omega_model.proofs.InOrder.{key_itself, key_same}
+use Rattle.omega_model.proofs.InOrder.{key_same}
 use Rattle.omega_model.proofs.Lists.{by_answer}
 use Rattle.omega_model.specs.Keys.{same_key}
 use Rattle.omega_model.specs.declared.cells.TaskKey.{TaskKey}
@@ -106,8 +105,3 @@ queue_back times queue more after key time none first second are other named = (
       (λ stands. absurd (none-some other (sym none ∙ ap (due_at times) (key_same key named parts.1) ∙ (are other named).0 stands)))
       (λ f. gone ∙ sym f))
       (λ f. (rw f at taken) ∙ (rw f at put))
-
--- nothing stands in an empty queue
-pub none_there : (keys : List (ℕ × TaskKey)) (end : ℕ × TaskKey) → (0 < length keys → ⊥) → list_any (tree.is_at (end_cmp end)) keys ≡ false
-none_there [] end none = refl
-none_there (first ∷ keys) end none = absurd (none (omega arith))

@@ -1,4 +1,4 @@
-use Rattle.std.proofs.Common.{◌≡◌, sym, ◌∙◌}
+use Rattle.std.proofs.Common.{sym, ◌∙◌}
 use Rattle.omega_pieces.proofs.PieceRows.{held_kept, held_more, of_no_later, of_no_piece}
 use Rattle.omega_pieces.proofs.held.hold_early.Goals as goal
 

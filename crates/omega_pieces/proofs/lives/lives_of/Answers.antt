@@ -1,4 +1,4 @@
-use Rattle.std.proofs.Common.{◌≡◌, ap, arith, List, subst}
+use Rattle.std.proofs.Common.{ap, arith, List, subst}
 use Rattle.std.proofs.lemmas.List.{take_all}
 use Rattle.omega_model.specs.Lawful.{rows_of}
 use Rattle.omega_model.specs.declared.rows.Row.{Row}

@@ -1,7 +1,7 @@
 use Rattle.std.proofs.Common.{◌≡◌, ℕ, true, cond, Option, ap, sym, ◌∙◌}
 use Rattle.omega_model.specs.Keys.{same_key}
 use Rattle.omega_model.specs.Reply.{admits}
-use Rattle.omega_pieces.specs.Due.{due_at, due_when}
+use Rattle.omega_pieces.specs.Due.{due_at}
 use Rattle.omega_pieces.proofs.EndsOn.{set_claim}
 use Rattle.omega_pieces.proofs.ends_due.EndsDue.claim.Goals as goal
 

@@ -1,8 +1,4 @@
-use Rattle.std.proofs.Common.{◌≡◌, ℕ, List, subst, sym}
-use Rattle.omega_laws.specs.VirtualTime.{Timed}
-use Rattle.omega_model.specs.State.{state}
-use Rattle.omega_model.specs.declared.entries.Entry.{Entry}
-use Rattle.omega_model.specs.declared.rows.TraceTables.{TraceTables}
+use Rattle.std.proofs.Common.{subst, sym}
 use Rattle.omega_pieces.specs.Due.{KeepsEnds}
 use Rattle.omega_pieces.proofs.FirstDue.{first_is, keeps_as}
 use Rattle.omega_pieces.proofs.ends_due.EndsDue.first.Goals as goal

@@ -1,9 +1,7 @@
-use Rattle.std.proofs.Common.{◌≡◌, ◌+◌, ◌++◌, ◌∷◌, [], ℕ, List, map, ap, subst, sym, ◌∙◌, arith}
+use Rattle.std.proofs.Common.{◌≡◌, ◌+◌, ◌++◌, ◌∷◌, [], ℕ, map, ap, ◌∙◌, arith}
 use Rattle.std.specs.Prelude.{unwrap_or}
-use Rattle.omega_free_laws.specs.Lives.{ended}
 use Rattle.omega_model.specs.Fields.{TaskFields}
 use Rattle.omega_model.specs.declared.entries.Entry.TheVariants.{End}
-use Rattle.omega_model.specs.declared.rows.Row.{Row}
 use Rattle.omega_model.specs.declared.rows.Row.TheVariants.{Task as TaskEvent}
 use Rattle.omega_pieces.specs.Held.{held_rows}
 use Rattle.omega_pieces.specs.Kept.{own_ended}

@@ -1,4 +1,4 @@
-use Rattle.std.proofs.Common.{◌≡◌, ℕ, List, [], ap, refl, subst, sym, ◌∙◌}
+use Rattle.std.proofs.Common.{ℕ, List, [], ap, refl, subst, sym, ◌∙◌}
 use Rattle.std.specs.Prelude.{slice_get}
 use Rattle.omega_free_laws.specs.Lives.{pieces_of}
 use Rattle.omega_model.specs.declared.rows.Row.{Row}
