@@ -1,0 +1,13 @@
+pub mod PieceOrder
+pub mod Counting
+pub mod WantedByName
+pub mod AfterEnds
+pub mod PieceRows
+pub mod FurtherOn
+pub mod LivesOn
+pub mod PiecesOn
+pub mod LeastEnds
+pub mod Queued
+pub mod Zipped
+pub mod EndsOn
+pub mod FirstDue

@@ -1,0 +1,5 @@
+pub mod PieceRows
+pub mod HowFar
+pub mod Held
+pub mod Kept
+pub mod Due
