@@ -13,4 +13,5 @@ pub mod WantedAnswers
 pub mod ReadyToCommit
 pub mod WorldSteps
 pub mod WholeRuns
+pub mod ReadingsOf
 pub mod FreeSums

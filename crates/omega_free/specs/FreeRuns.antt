@@ -7,14 +7,21 @@ use Rattle.omega_model.specs.State.{state}
 use Rattle.omega_model.specs.Wanted.{WantedTask, wanted}
 use Rattle.omega_model.specs.declared.entries.Entry.{Entry}
 use Rattle.omega_model.specs.declared.rows.TraceTables.{TraceTables}
+use Rattle.omega_model.specs.declared.settings.Ends.{Ends}
+use Rattle.omega_model.specs.declared.settings.Ends.TheVariants.{Own, Trace}
 use Rattle.omega_model.specs.declared.settings.Settings.{Settings}
 use Rattle.omega_free_laws.specs.Free.{FreeRun}
-use Rattle.omega_free_laws.specs.Readings.{Reading, by_rows}
+use Rattle.omega_free_laws.specs.Readings.{Reading, by_lives, by_rows}
 use Rattle.omega_free.specs.declared.run.WholeRun.{WholeRun}
 
--- how a trace is read under these settings: tasks end where its rows end them
+-- how a trace is read where its tasks end so
+abbrev pub reading_by : Ends → TraceTables → Reading
+reading_by Trace trace = by_rows trace
+reading_by Own trace = by_lives trace
+
+-- how a trace is read under these settings
 abbrev pub reading_of : Settings → TraceTables → Reading
-reading_of settings trace = by_rows trace
+reading_of settings trace = reading_by settings.ends trace
 
 -- the tasks of a trace that are wanted after a history that all its rows came into
 abbrev pub wanted_last : Settings → TraceTables → List Entry → List WantedTask

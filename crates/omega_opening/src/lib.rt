@@ -13,5 +13,5 @@ mod opening;
 mod reopening;
 
 pub use demand::Demand;
-pub use opening::open_round;
+pub use opening::{apply_row, open_round};
 pub use reopening::reopen_since;

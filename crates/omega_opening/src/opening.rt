@@ -73,8 +73,9 @@ fn open(
     Ok(())
 }
 
-/// Appends the entries of the row that was taken last.
-fn apply_row(
+/// Appends the entries of the row that was taken last, and opens the jobs of the tasks that they may stop. More than
+/// `MOST_MACHINES` machines are answered as want of memory. Costs what the entries change.
+pub fn apply_row(
     alloc: Global,
     cell: &mut Cell,
     wanted: &Wanted,
