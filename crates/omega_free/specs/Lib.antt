@@ -3,6 +3,7 @@ pub mod KeptAttempts
 pub mod FreeWorkers
 pub mod FreeWorlds
 pub mod StepsTold
+pub mod KeptEnds
 pub mod KeptWorlds
 pub mod NextEvents
 pub mod FreeLoop
