@@ -4,6 +4,7 @@ pub mod FreeWorkers
 pub mod FreeWorlds
 pub mod EndsLeft
 pub mod StepsTold
+pub mod KeptEnds
 pub mod KeptWorlds
 pub mod NextEvents
 pub mod FreeLoop
