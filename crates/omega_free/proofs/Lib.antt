@@ -15,3 +15,4 @@ pub mod WorldSteps
 pub mod WholeRuns
 pub mod ReadingsOf
 pub mod FreeSums
+pub mod LivesTame

@@ -2,6 +2,7 @@ pub mod PassDesks
 pub mod KeptAttempts
 pub mod FreeWorkers
 pub mod FreeWorlds
+pub mod EndsLeft
 pub mod StepsTold
 pub mod KeptEnds
 pub mod EndsBy
