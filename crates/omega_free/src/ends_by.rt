@@ -1,7 +1,8 @@
 //! How a round, an end and a commit come in, where tasks end by the trace's rows or of themselves.
-ghost use Rattle.std.specs.Prelude.{◌≡◌, ◌≤◌, ◌++◌, ◌∷◌, [], true, List, IfOk, OnOk, All, drop, length};
+ghost use Rattle.std.specs.Prelude.{◌≡◌, ◌≤◌, ◌<◌, [], true, List, IfOk, OnOk, All, drop, length};
 ghost use Rattle.std.specs.List.{fold};
 ghost use Rattle.omega_feed.specs.Open.{OthersAreQuiet};
+ghost use Rattle.omega_model.specs.ExtraTasks.{first_extra};
 ghost use Rattle.omega_model.specs.Feed.{feed};
 ghost use Rattle.omega_model.specs.Lawful.{opened, rows_of};
 ghost use Rattle.omega_model.specs.State.{state};
@@ -108,6 +109,7 @@ pub(crate) fn end_by(
     cell: &mut Cell,
     looked_at: usize,
 ) -> Result<usize, NoMemory>
+    requires low { end.key.index < first_extra }
     requires within { looked_at ≤ length cell.old.history }
     requires commits { All (λ entry. is_commit entry ≡ true) (drop looked_at cell.old.history) }
     requires quiet { WereQuiet demand.old.open_jobs demand.old.wanted looked_at cell.old.history }
