@@ -1,5 +1,5 @@
 -- A moment is a world's at first, and after each of its steps.
-use Rattle.std.proofs.Common.{◌≡◌, ◌+◌, ℕ, zero, suc, List, [], ◌∷◌, ◌++◌, Option, Some, length, add-zero, refl, sym, ap, ap₂, subst, ◌∙◌, arith, map}
+use Rattle.std.proofs.Common.{◌≡◌, ◌+◌, ℕ, zero, suc, List, [], ◌∷◌, ◌++◌, Option, Some, None, length, add-zero, refl, sym, ap, ap₂, subst, ◌∙◌, arith, map}
 use Rattle.std.specs.Prelude.{IfSome}
 use Rattle.std.specs.List.{range_with_len}
 use Rattle.std.proofs.lemmas.List.Elements.{All-nil}
@@ -186,3 +186,8 @@ begins settings trace world history asked coming count times workers are = recor
   there = begins_by settings trace settings.ends world history asked coming count times workers are;
   order = order_first settings (reading_of settings trace);
 }
+
+-- no end is due then
+pub none_first : (ends : Ends) (trace : TraceTables) → None ≡ (reading_by ends trace).end_due [] []
+none_first Trace trace = refl
+none_first Own trace = refl

@@ -14,6 +14,7 @@ pub mod ReadyToCommit
 pub mod WorldSteps
 pub mod WholeRuns
 pub mod ReadingsOf
+pub mod KeptEnds
 pub mod FreeSums
 pub mod LivesTame
 pub mod OwnOpened
