@@ -16,3 +16,5 @@ pub mod WholeRuns
 pub mod ReadingsOf
 pub mod FreeSums
 pub mod LivesTame
+pub mod OwnOpened
+pub mod OwnEnded
