@@ -18,3 +18,4 @@ pub mod FreeSums
 pub mod LivesTame
 pub mod OwnOpened
 pub mod OwnEnded
+pub mod RowsTaken

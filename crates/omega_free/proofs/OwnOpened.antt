@@ -30,7 +30,7 @@ use Rattle.omega_pieces.proofs.PiecesOn.{keeps_entry}
 -- ---- which rows count
 
 -- more rows, behind those before them
-behind_more : (history : List Entry) (before some more : List Row)
+pub behind_more : (history : List Entry) (before some more : List Row)
     → counting_behind history before (some ++ more) ≡ counting_behind history before some ++ counting_behind history (before ++ some) more
 behind_more history before [] more = ap (λ (all : List Row). counting_behind history all more) (sym (append-nil before))
 behind_more history before (row ∷ some) more =
