@@ -19,3 +19,4 @@ pub mod LivesTame
 pub mod OwnOpened
 pub mod OwnEnded
 pub mod RowsTaken
+pub mod OwnPasts

@@ -1,7 +1,7 @@
 -- A task ends of itself: its entries are those of a row that ends it, and its extras' ends change no count.
-use Rattle.std.proofs.Common.{◌≡◌, ◌<◌, ◌≤◌, ◌++◌, ◌∷◌, ℕ, Bool, true, false, List, [], Option, Some, map, refl, sym, ap, ap₂, subst, ◌∙◌, arith, append-nil, append_assoc}
+use Rattle.std.proofs.Common.{◌≡◌, ◌<◌, ◌≤◌, ◌++◌, ◌∷◌, ℕ, Bool, true, false, List, [], Some, map, refl, sym, ap, ap₂, subst, ◌∙◌, arith, append-nil, append_assoc}
 use Rattle.std.specs.Prelude.{◌==◌, ◌&&◌, if◌then◌else◌, nat_le, not, length}
-use Rattle.std.specs.List.{filter, AllByRecursion as Each}
+use Rattle.std.specs.List.{AllByRecursion as Each}
 use Rattle.std.proofs.lemmas.Bool.{and_parts, leb-true}
 use Rattle.omega_model.proofs.InOrder.{key_same}
 use Rattle.omega_model.proofs.Lists.{by_answer, each_map, each_passes}
@@ -21,7 +21,7 @@ use Rattle.omega_model.specs.declared.rows.Row.TheVariants.{Machine, Attr as Att
 use Rattle.omega_model.specs.declared.rows.TraceTables.{TraceTables}
 use Rattle.omega_laws.specs.VirtualTime.{Timed}
 use Rattle.omega_free_laws.specs.FreeSteps.{end_entries, ended_alone}
-use Rattle.omega_free_laws.specs.Lives.{DueEnd, counting, counting_behind, counts, ended, first_own_end, pieces_of}
+use Rattle.omega_free_laws.specs.Lives.{DueEnd, counting, counting_behind, counts, first_own_end, pieces_of}
 use Rattle.omega_free_laws.specs.LivesLaws.{IsDueEnd}
 use Rattle.omega_free_laws.specs.Readings.{by_lives}
 use Rattle.omega_free_laws.proofs.DueEnds.{ended_same, own_end_is}
@@ -58,7 +58,7 @@ abbrev IsHigh : Task → Type 0
 IsHigh task = first_extra ≤ task.key.index
 
 module _ (P : List Entry → Type 0)
-  (stays : (history : List Entry) (key : TaskKey) (machine : ℕ) → first_extra ≤ key.index → P history → P (history ++ End key machine ∷ [])) where
+    (stays : (history : List Entry) (key : TaskKey) (machine : ℕ) → first_extra ≤ key.index → P history → P (history ++ End key machine ∷ [])) where
   high_ends : (history : List Entry) (some : List Task) → Each IsHigh some → P history → P (history ++ map (λ task. End task.key task.machine) some)
   high_ends history [] high holds = subst P (sym (append-nil history)) holds
   high_ends history (task ∷ some) high holds =

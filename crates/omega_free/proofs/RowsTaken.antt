@@ -1,5 +1,5 @@
 -- Rows that are applied to the pieces of their tasks one after the other.
-use Rattle.std.proofs.Common.{◌≡◌, ◌++◌, ◌∷◌, [], List, refl, sym, ap, subst, ◌∙◌, append-nil, append_assoc}
+use Rattle.std.proofs.Common.{◌≡◌, ◌++◌, ◌∷◌, [], List, sym, ap, subst, ◌∙◌, append-nil, append_assoc}
 use Rattle.std.specs.List.{AllByRecursion as Each}
 use Rattle.omega_model.proofs.Lists.{each_append}
 use Rattle.omega_model.specs.declared.entries.Entry.{Entry}

@@ -1,10 +1,9 @@
 use Rattle.std.specs.Prelude.{IfOk}
-use Rattle.std.proofs.Common.{◌≡◌, ◌++◌, ◌∷◌, [], Bool, rules, sym, subst, ◌∙◌, ap}
+use Rattle.std.proofs.Common.{◌≡◌, ◌++◌, ◌∷◌, [], sym, subst}
 use Rattle.omega_free_laws.specs.Lives.{counts}
 use Rattle.omega_model.specs.declared.rows.Row.{Row}
 use Rattle.omega_pieces.proofs.PiecesOn.{keeps_attr_row, keeps_machine_row}
 use Rattle.omega_pieces.specs.Kept.{KeepsPieces}
-use Rattle.omega_free.specs.KeptEnds.{IsLowRow}
 use Rattle.omega_free.proofs.own_ends.take_row.Goals as goal
 
 pub returns-in-Machine-clause-kept : goal.returns-in-Machine-clause-kept
@@ -21,4 +20,3 @@ pub returns-in-Task-clause-counts : goal.returns-in-Task-clause-counts
 returns-in-Task-clause-counts c trace before history keeps =
     subst (λ (row : Row). IfOk c.take.result (λ counted. counted ≡ counts history before row)) (sym c.in-Task.is)
     (c.take.ensures.counts trace before history keeps)
-
