@@ -18,3 +18,6 @@ pub mod KeptEnds
 pub mod FreeSums
 pub mod LivesTame
 pub mod OwnOpened
+pub mod OwnEnded
+pub mod RowsTaken
+pub mod OwnPasts

@@ -1,5 +1,5 @@
 -- A round opens where tasks end of themselves: those of its rows that count are what the definitions heed.
-use Rattle.std.proofs.Common.{◌≡◌, ℕ, Bool, true, false, not, List, [], ◌∷◌, ◌++◌, length, refl, sym, ap, subst, ◌∙◌, append-nil, append_assoc}
+use Rattle.std.proofs.Common.{◌≡◌, ℕ, true, false, List, [], ◌∷◌, ◌++◌, length, refl, sym, ap, ◌∙◌, append-nil, append_assoc}
 use Rattle.std.specs.Prelude.{◌==◌, if◌then◌else◌}
 use Rattle.std.specs.List.{filter, fold}
 use Rattle.omega_model.proofs.Lists.{by_answer}
@@ -30,7 +30,7 @@ use Rattle.omega_pieces.proofs.PiecesOn.{keeps_entry}
 -- ---- which rows count
 
 -- more rows, behind those before them
-behind_more : (history : List Entry) (before some more : List Row)
+pub behind_more : (history : List Entry) (before some more : List Row)
     → counting_behind history before (some ++ more) ≡ counting_behind history before some ++ counting_behind history (before ++ some) more
 behind_more history before [] more = ap (λ (all : List Row). counting_behind history all more) (sym (append-nil before))
 behind_more history before (row ∷ some) more =

@@ -168,11 +168,28 @@ fn those_that_count(
 {
     let mut counting = Seq::new(alloc);
     for row in rows.into_items() {
-        if take_row(alloc, pieces, &row)? {
-            counting.push(row)?;
-        }
+        take_next(alloc, pieces, &mut counting, row)?;
     }
     Ok(counting)
+}
+
+/// Applies one more row, and puts it behind those that count, if it does.
+fn take_next(
+    alloc: Global,
+    pieces: &mut TaskPieces,
+    counting: &mut Seq<Row>,
+    row: Row,
+) -> Result<(), NoMemory>
+    ensures counting { (trace : TraceTables) (before : List Row) (history : List Entry) → KeepsPieces trace before history pieces.old
+        → OnOk result (counting.new ≡ counting.old ++ counting_behind history before (row ∷ [])) }
+    ensures kept { (trace : TraceTables) (before : List Row) (history : List Entry) → KeepsPieces trace before history pieces.old
+        → OnOk result (KeepsPieces trace (before ++ row ∷ []) history pieces.new) }
+    ensures low { OnOk result (IsLowRow row) }
+{
+    if take_row(alloc, pieces, &row)? {
+        counting.push(row)?;
+    }
+    Ok(())
 }
 
 /// Applies a row to the pieces of its task, if it is a task row, and answers whether it counts.
@@ -186,8 +203,18 @@ fn take_row(alloc: Global, pieces: &mut TaskPieces, row: &Row) -> Result<bool, N
     match row {
         Row::Machine(_) => Ok(true),
         Row::Attr(_) => Ok(true),
-        Row::Task(row) => pieces.take(alloc, row),
+        Row::Task(row) => {
+            has_low_index(row);
+            pieces.take(alloc, row)
+        }
     }
+}
+
+/// A row is of no extra task, by its type. Does nothing: the contract says it.
+fn has_low_index(row: &TaskRow)
+    ensures { row.now.key.index < first_extra }
+{
+    let _key = row.key;
 }
 
 /// A row that ends a task of the trace.
