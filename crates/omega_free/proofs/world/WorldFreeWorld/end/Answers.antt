@@ -1,6 +1,7 @@
 use Rattle.std.proofs.Common.{◌≡◌, ◌++◌, ◌∙◌, ℕ, List, length, take, drop, refl, sym, ap, subst}
 use Rattle.std.proofs.lemmas.Result.{on_ok_weaker}
 use Rattle.omega_plan.proofs.Tells.{written_back}
+use Rattle.omega_free_laws.specs.Lives.{DueEnd}
 use Rattle.omega_free.specs.FreeWorkers.{AreCounted, AreKnown, SyncIfIdle}
 use Rattle.omega_free.specs.declared.worker.Worker.{Worker}
 use Rattle.omega_free.specs.declared.world.World.{World}
@@ -34,6 +35,7 @@ returns-clause-ends c =
     let news : List Worker = c.sync_idle.new.workers in
     let back : take old.workers.len (news ++ drop (length news) old.workers.items) ≡ news =
     written_back old.workers.items c.deref_mut.result.now news old.workers.len c.deref_mut.ensures.value c.deref_mut.ensures.len c.sync_idle.auto.workers in
+    let time : c.end.inside.time ≡ c.in-Some.end.time = ap (λ (due : DueEnd). due.time) c.end.view_is in
     on_ok_weaker c.sync_idle.result
     (λ syncs trace moment is other first. ends_stand old _ c.in-Some.end c.end_by.new.own (record {
       due_was = c.in-Some.is;
@@ -51,6 +53,7 @@ returns-clause-ends c =
       syncs = λ reading past now counted.
           subst (λ (workers : List Worker). SyncIfIdle old.settings reading past c.in-Some.end.time old.workers.items workers) (sym back)
           (subst (λ (workers : List Worker). SyncIfIdle old.settings reading past c.in-Some.end.time workers news) c.deref_mut.ensures.value
-          (syncs reading past now (subst (AreCounted c.end_by.new.cell.history) (sym c.deref_mut.ensures.value) counted)));
+          (subst (λ (n : ℕ). SyncIfIdle old.settings reading past n c.deref_mut.result.now news) time
+          (syncs reading past now (subst (AreCounted c.end_by.new.cell.history) (sym c.deref_mut.ensures.value) counted))));
     }) trace moment is other first)
     c.sync_idle.ensures.syncs
