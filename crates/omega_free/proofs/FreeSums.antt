@@ -58,7 +58,7 @@ use Rattle.omega_free_laws.proofs.StepsLeft.{Ready, own_less, synced_less, synce
 use Rattle.omega_free_laws.proofs.Stretches.{OpenedSoFar, opened_so_far}
 
 -- all rows are earlier, and no life is longer
-abbrev latest : ℕ
+abbrev pub latest : ℕ
 latest = 18446744073709551616
 
 -- what keeps the times of a run small, however its trace is read: no more rows count than there are, and tasks end of

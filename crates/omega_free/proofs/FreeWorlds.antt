@@ -1,5 +1,5 @@
 -- A moment is a world's at first, and after each of its steps.
-use Rattle.std.proofs.Common.{◌≡◌, ◌+◌, ℕ, zero, suc, List, [], ◌∷◌, ◌++◌, Option, Some, length, add-zero, sym, ap, ap₂, subst, ◌∙◌, arith, map}
+use Rattle.std.proofs.Common.{◌≡◌, ◌+◌, ℕ, zero, suc, List, [], ◌∷◌, ◌++◌, Option, Some, None, length, add-zero, refl, sym, ap, ap₂, subst, ◌∙◌, arith, map}
 use Rattle.std.specs.Prelude.{IfSome}
 use Rattle.std.specs.List.{range_with_len}
 use Rattle.std.proofs.lemmas.List.Elements.{All-nil}
@@ -10,15 +10,20 @@ use Rattle.omega_model.specs.Feed.{rounds}
 use Rattle.omega_model.specs.Policy.{schedulers}
 use Rattle.omega_model.specs.Work.{Standing}
 use Rattle.omega_model.specs.declared.entries.Entry.{Entry}
+use Rattle.omega_model.specs.declared.entries.Entry.TheVariants.{End}
 use Rattle.omega_model.specs.declared.rows.Round.{Round}
 use Rattle.omega_model.specs.declared.rows.TraceTables.{TraceTables}
+use Rattle.omega_model.specs.declared.settings.Ends.{Ends}
+use Rattle.omega_model.specs.declared.settings.Ends.TheVariants.{Own, Trace}
 use Rattle.omega_model.specs.declared.settings.Settings.{Settings}
 use Rattle.omega_workers.specs.Workers.{IsRoutedTo}
-use Rattle.omega_free_laws.specs.FreeSteps.{DueCommit, Moment, beginning, committing, due_entry, first_due, idle_scheduler, opening, past_opened, past_with}
-use Rattle.omega_free_laws.specs.Readings.{Reading, by_rows}
-use Rattle.omega_free_laws.proofs.CrewLaws.{due_routed, order_committed, order_first, order_opened}
+use Rattle.omega_free_laws.specs.FreeSteps.{DueCommit, Moment, beginning, committing, due_entry, ending, first_due, idle_scheduler, opening, past_ended, past_opened, past_with, triggers_of_end}
+use Rattle.omega_free_laws.specs.Lives.{DueEnd}
+use Rattle.omega_free_laws.specs.Readings.{Reading}
+use Rattle.omega_free_laws.proofs.CrewLaws.{due_routed, order_committed, order_ended, order_first, order_opened}
 use Rattle.omega_free_laws.proofs.DueCommits.{due_is_own}
-use Rattle.omega_free_laws.proofs.Seen.{stays_opened}
+use Rattle.omega_free_laws.proofs.Seen.{stays_ended, stays_opened}
+use Rattle.omega_free.specs.FreeRuns.{reading_by, reading_of}
 use Rattle.omega_free.specs.FreeWorkers.{AreNewWorkers, AreWorkersNow, IsNewWorker, SyncIfIdle, SyncIfIts, TakeIfDue}
 use Rattle.omega_free.specs.FreeWorlds.{FreeState, Stands, StandsThere}
 use Rattle.omega_free.specs.KeptAttempts.{IsKeptFor, KeptAttempt, attempt_of}
@@ -59,6 +64,30 @@ module _ (settings : Settings) (reading : Reading) where
   opens moment round rest old new first stands history asked coming count times did = record {
     there = stands_opened moment round rest old new first stands.there history asked coming count times did;
     order = order_opened settings reading moment round rest stands.order;
+  }
+
+  -- ---- an end
+
+  -- and once a task has ended
+  pub ends : (moment : Moment) (end : DueEnd) (old new : FreeState) → Stands settings reading moment old
+      → new.history ≡ (past_ended reading moment.past end moment.coming).history
+      → new.asked ≡ asked_at settings reading (past_ended reading moment.past end moment.coming)
+      → new.coming ≡ old.coming → new.triggers ≡ old.triggers + triggers_of_end moment.coming → new.times ≡ old.times
+      → SyncIfIdle settings reading (past_ended reading moment.past end moment.coming) end.time old.workers new.workers
+      → Stands settings reading (ending settings reading moment end) new
+  ends moment end old new stands history asked coming count times did = record {
+    there = record {
+      history = history;
+      asked = asked;
+      coming = coming ∙ stands.there.coming;
+      triggers_are = count ∙ ap (λ (n : ℕ). n + triggers_of_end moment.coming) stands.there.triggers_are;
+      workers = workers_synced settings reading (past_ended reading moment.past end moment.coming) end.time moment.crew old.workers new.workers
+          (stays_ended (λ (before : List Entry). AreWorkersNow settings reading.trace before moment.crew old.workers)
+          (λ before key machine are. workers_none settings reading.trace before (End key machine) refl moment.crew old.workers are)
+          reading moment.past.rows moment.past.history end stands.there.workers) did;
+      times = times ∙ stands.there.times;
+    };
+    order = order_ended settings reading moment end stands.order;
   }
 
   -- ---- a commit
@@ -127,18 +156,38 @@ new_workers settings trace first (suc n) (worker ∷ workers) count are =
     )
 
 -- the first moment is that of a new world
-pub begins : (settings : Settings) (trace : TraceTables) (world : FreeState) → world.history ≡ [] → world.asked ≡ asked_after settings trace []
-    → world.coming ≡ rounds trace settings.window → world.triggers ≡ 0 → world.times ≡ []
-    → length world.workers ≡ schedulers settings → AreNewWorkers settings 0 world.workers
-    → Stands settings (by_rows trace) (beginning settings (by_rows trace)) world
-begins settings trace world history asked coming count times workers are = record {
-  there = record {
+module _ (settings : Settings) (trace : TraceTables) where
+  begins_by : (ends : Ends) (world : FreeState) → world.history ≡ [] → world.asked ≡ asked_after settings trace []
+      → world.coming ≡ rounds trace settings.window → world.triggers ≡ 0 → world.times ≡ []
+      → length world.workers ≡ schedulers settings → AreNewWorkers settings 0 world.workers
+      → StandsThere settings (reading_by ends trace) (beginning settings (reading_by ends trace)) world
+  begins_by Trace world history asked coming count times workers are = record {
     history = history;
     asked = asked;
     coming = coming;
     triggers_are = count;
     workers = new_workers settings trace 0 (schedulers settings) world.workers workers are;
     times = times;
-  };
-  order = order_first settings (by_rows trace);
+  }
+  begins_by Own world history asked coming count times workers are = record {
+    history = history;
+    asked = asked;
+    coming = coming;
+    triggers_are = count;
+    workers = new_workers settings trace 0 (schedulers settings) world.workers workers are;
+    times = times;
+  }
+
+pub begins : (settings : Settings) (trace : TraceTables) (world : FreeState) → world.history ≡ [] → world.asked ≡ asked_after settings trace []
+    → world.coming ≡ rounds trace settings.window → world.triggers ≡ 0 → world.times ≡ []
+    → length world.workers ≡ schedulers settings → AreNewWorkers settings 0 world.workers
+    → Stands settings (reading_of settings trace) (beginning settings (reading_of settings trace)) world
+begins settings trace world history asked coming count times workers are = record {
+  there = begins_by settings trace settings.ends world history asked coming count times workers are;
+  order = order_first settings (reading_of settings trace);
 }
+
+-- no end is due then
+pub none_first : (ends : Ends) (trace : TraceTables) → None ≡ (reading_by ends trace).end_due [] []
+none_first Trace trace = refl
+none_first Own trace = refl

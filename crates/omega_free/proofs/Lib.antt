@@ -14,4 +14,10 @@ pub mod ReadyToCommit
 pub mod WorldSteps
 pub mod WholeRuns
 pub mod ReadingsOf
+pub mod KeptEnds
 pub mod FreeSums
+pub mod LivesTame
+pub mod OwnOpened
+pub mod OwnEnded
+pub mod RowsTaken
+pub mod OwnPasts

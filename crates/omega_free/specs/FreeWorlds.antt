@@ -43,7 +43,8 @@ attempts_of_workers settings all pass [] = 0
 attempts_of_workers settings all pass (worker ∷ workers) =
     (length worker.desk.requests * settings.tries - worker.desk.taken + (all - worker.begun) * pass) + attempts_of_workers settings all pass workers
 
--- how many steps are left in a world at most, where no task ends of itself
-abbrev pub steps_left : Settings → FreeState → ℕ
-steps_left settings world =
-    length world.coming + attempts_of_workers settings (world.triggers + length world.coming) (length world.asked.jobs * settings.tries) world.workers
+-- how many steps are left in a world at most, where so many tasks at most will still end of themselves
+abbrev pub steps_left : Settings → ℕ → FreeState → ℕ
+steps_left settings left world =
+    (length world.coming + left)
+    + attempts_of_workers settings (world.triggers + (length world.coming + left)) (length world.asked.jobs * settings.tries) world.workers

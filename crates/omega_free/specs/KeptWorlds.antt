@@ -9,9 +9,10 @@ use Rattle.omega_model.specs.declared.rows.TraceTables.{TraceTables}
 use Rattle.omega_opening.specs.Reopening.{WereQuiet}
 use Rattle.omega_plan.specs.Indexes.{AreIndexesOf}
 use Rattle.omega_free_laws.specs.FreeSteps.{Moment}
-use Rattle.omega_free_laws.specs.Readings.{by_rows}
 use Rattle.omega_free.specs.FreeLoop.{StandsOver}
+use Rattle.omega_free.specs.FreeRuns.{reading_of}
 use Rattle.omega_free.specs.FreeWorlds.{FreeState, Stands}
+use Rattle.omega_free.specs.KeptEnds.{KeepsEndsBy}
 use Rattle.omega_free.specs.declared.next_round.NextRound.{NextRound}
 use Rattle.omega_free.specs.declared.world.World.{World}
 
@@ -26,7 +27,7 @@ state_of world = record {
   history = world.cell.history;
   asked = world.demand.wanted;
   coming = drop world.opened world.rounds;
-  triggers = world.opened;
+  triggers = world.triggers;
   workers = world.workers.items;
   times = world.times;
 }
@@ -41,12 +42,15 @@ pub record KeepsWorld (world : World) : Type 0 where
   pub quiet : WereQuiet world.demand.open_jobs world.demand.wanted world.looked_at world.cell.history
   pub indexes : AreIndexesOf world.cell.history world.indexes
 
--- in the run of a trace in which tasks end by its rows, this moment is the world's, and the trace's rounds are its rounds
+-- in the run of a trace as these settings have it read this moment is the world's, its rounds are the trace's, and it keeps
+-- what is due to end
 pub record StandsIn (world : World) (trace : TraceTables) (moment : Moment) : Type 0 where
-  pub stands : Stands world.settings (by_rows trace) moment (state_of world)
+  pub stands : Stands world.settings (reading_of world.settings trace) moment (state_of world)
   pub keeps : KeepsWorld world
   pub rounds : world.rounds ≡ rounds trace world.settings.window
+  pub ends : KeepsEndsBy world.settings.ends trace moment.past.rows moment.past.history moment.times world.own
+  pub due : world.due_end ≡ (reading_of world.settings trace).end_due moment.past.history moment.times
 
--- in the run of a trace in which tasks end by its rows, a world stands where it is over
+-- in the run of a trace a world stands where it is over
 abbrev pub IsAtEnd : World → TraceTables → Type 0
-IsAtEnd world trace = StandsOver StandsIn (λ settings trace. by_rows trace) world.settings trace world
+IsAtEnd world trace = StandsOver StandsIn reading_of world.settings trace world

@@ -2,7 +2,10 @@ pub mod PassDesks
 pub mod KeptAttempts
 pub mod FreeWorkers
 pub mod FreeWorlds
+pub mod EndsLeft
 pub mod StepsTold
+pub mod KeptEnds
+pub mod EndsBy
 pub mod KeptWorlds
 pub mod NextEvents
 pub mod FreeLoop

@@ -1,40 +1,37 @@
 //! Schedulers over one cell, none of which waits for another.
-ghost use Rattle.std.specs.Prelude.{◌≡◌, ◌≤◌, ◌<◌, ◌+◌, ◌++◌, ◌∷◌, [], true, List, IfOk, OnOk, All, drop, length};
-ghost use Rattle.std.specs.List.{fold};
-ghost use Rattle.omega_feed.specs.Open.{OthersAreQuiet};
+ghost use Rattle.std.specs.Prelude.{◌≡◌, ◌+◌, [], IfOk, length};
 ghost use Rattle.omega_feed.specs.Asked.{asked_after};
 ghost use Rattle.omega_feed.specs.Left.{AreLeft};
 ghost use Rattle.omega_model.specs.Feed.{feed};
-ghost use Rattle.omega_model.specs.Lawful.{opened};
 ghost use Rattle.omega_model.specs.Policy.{schedulers};
 ghost use Rattle.omega_model.specs.Ranges.{IsInRange};
 ghost use Rattle.omega_model.specs.State.{state};
-ghost use Rattle.omega_model.specs.Touches.{is_commit};
-ghost use Rattle.omega_model.specs.Wanted.{wanted as wanted_tasks, wanted_after};
-ghost use Rattle.omega_model.specs.declared.rows.Row.{Row};
 ghost use Rattle.omega_model.specs.declared.rows.TraceTables.{TraceTables};
-ghost use Rattle.omega_opening.specs.Reopening.{WereQuiet};
 ghost use Rattle.omega_free_laws.specs.FreeSteps.{beginning};
-ghost use Rattle.omega_free_laws.specs.Readings.{by_rows};
 ghost use Rattle.omega_free.specs.FreeWorkers.{AreNewWorkers};
-ghost use Rattle.omega_free.specs.FreeRuns.{IsWholeRun};
+ghost use Rattle.omega_free.specs.EndsBy.{cause_of_end};
+ghost use Rattle.omega_free.specs.FreeRuns.{IsWholeRun, reading_of};
 ghost use Rattle.omega_free.specs.KeptWorlds.{IsAtEnd, StandsIn};
 
 use crate::clock::FreeWorld;
 use crate::crew::{commit_by, first_due, sync_by, sync_idle};
+use crate::ends_by::{end_by, first_end, look_on, note_commit, open_by, own_ends};
 use crate::next_round::{NextRound, next_round};
+use crate::own_ends::OwnEnds;
 use crate::remains::Remains;
 use crate::run::WholeRun;
 use crate::worker::Worker;
 use omega_cell::Cell;
 use omega_feed::{EventRounds, Events, OpenJobs, WaitingTasks, Wanted};
-use omega_model::{NoMemory, Round, Settings, TraceTables};
-use omega_opening::{Demand, open_round, reopen_since};
+use omega_model::{NoMemory, Settings, TraceTables};
+use omega_opening::Demand;
+use omega_pieces::DueEnd;
 use omega_plan::Indexes;
 use omega_sim::Times;
 use std::alloc::Global;
 
-/// Schedulers that share one cell and work on a trace by the free clock, where tasks end by the trace's rows.
+/// Schedulers that share one cell and work on a trace by the free clock, where tasks end by the trace's rows or of
+/// themselves.
 ///
 /// It writes its `Drop` out, so that whoever lets it go cites one function.
 pub struct World {
@@ -44,6 +41,8 @@ pub struct World {
     pub rounds: EventRounds,
     /// How many of them have opened.
     pub opened: usize,
+    /// How often there was cause for a new pass: rounds that opened, and ends while a round was to come.
+    pub triggers: usize,
     /// The next one.
     pub next: Option<NextRound>,
     /// What the trace asks for so far.
@@ -57,6 +56,10 @@ pub struct World {
     pub indexes: Indexes,
     /// The times of the commits so far.
     pub times: Times,
+    /// What is kept of ends, where tasks end of themselves.
+    pub own: Option<OwnEnds>,
+    /// The end that is due first.
+    pub due_end: Option<DueEnd>,
 }
 
 impl Drop for World {
@@ -66,6 +69,7 @@ impl Drop for World {
             settings: _,
             rounds: _,
             opened: _,
+            triggers: _,
             next: _,
             demand: _,
             looked_at: _,
@@ -73,6 +77,8 @@ impl Drop for World {
             workers: _,
             indexes: _,
             times: _,
+            own: _,
+            due_end: _,
         } = self;
     }
 }
@@ -80,22 +86,24 @@ impl Drop for World {
 impl World {
     /// The world of a trace at the first moment: nothing has happened. Takes the tables over, and gives their memory back
     /// but for the rows of the events and of constraints. Costs a few look-ups for each row, and a sort of tables of events
-    /// that aren't in order of time.
+    /// that aren't in order of time; where tasks end of themselves a copy of each row once more.
     pub fn new(alloc: Global, settings: &Settings, tables: TraceTables) -> Result<World, NoMemory>
         requires { IsInRange settings.now }
         ensures settings { IfOk result (λ world. world.settings ≡ settings.now) }
-        ensures stands { IfOk result (λ world. StandsIn world tables (beginning settings.now (by_rows tables))) }
+        ensures stands { IfOk result (λ world. StandsIn world tables (beginning settings.now (reading_of settings.now tables))) }
     {
         let (events, wanted) = events_and_wanted(alloc, settings, tables)?;
         let open_jobs = OpenJobs::new(alloc);
         let rounds = EventRounds::cut(alloc, events, settings.window)?;
         let next = next_round(alloc, &rounds, 0)?;
+        let own = own_ends(alloc, settings, &rounds)?;
         let workers = new_workers(alloc, settings)?;
         Ok(World {
             alloc,
             settings: *settings,
             rounds,
             opened: 0,
+            triggers: 0,
             next,
             demand: Demand { wanted, open_jobs },
             looked_at: 0,
@@ -103,6 +111,8 @@ impl World {
             workers,
             indexes: Indexes::new(alloc),
             times: Times::new(alloc),
+            own,
+            due_end: None,
         })
     }
 
@@ -124,6 +134,7 @@ impl World {
             settings: _,
             rounds,
             opened: _,
+            triggers: _,
             next: _,
             demand,
             looked_at: _,
@@ -131,6 +142,8 @@ impl World {
             workers,
             indexes,
             times,
+            own: _,
+            due_end: _,
         } = self;
         let (history, effects, board) = cell.into_run();
         WholeRun {
@@ -150,20 +163,19 @@ impl World {
 }
 
 impl FreeWorld for World {
-    ghost use Rattle.omega_free_laws.specs.Readings.{by_rows};
-    ghost use Rattle.omega_free_laws.specs.StepsLeft.{none_left};
-    ghost use Rattle.omega_free_laws.proofs.DueEnds.{rows_bound};
+    ghost use Rattle.omega_free.specs.EndsLeft.{bounds_of, left_at, left_of};
+    ghost use Rattle.omega_free.specs.FreeRuns.{reading_of};
     ghost use Rattle.omega_free.specs.FreeWorlds.{steps_left};
     ghost use Rattle.omega_free.specs.KeptWorlds.{StandsIn, state_of};
     ghost use Rattle.omega_free.specs.StepsTold.{steps_left_told};
 
     ghost settings = { λ world. world.settings };
 
-    ghost reads = { λ settings trace. by_rows trace };
+    ghost reads = { reading_of };
 
-    ghost left = { λ settings trace. none_left };
+    ghost left = { left_of };
 
-    ghost bounds = { λ settings trace. rows_bound trace };
+    ghost bounds = { bounds_of };
 
     ghost stands = { λ world trace moment. StandsIn world trace moment };
 
@@ -171,13 +183,13 @@ impl FreeWorld for World {
 
     ghost times = { λ world. world.times };
 
-    ghost to_come = { λ world. steps_left world.settings (state_of world) };
+    ghost to_come = { λ world. steps_left world.settings (left_at world.settings world.rounds world.cell.history) (state_of world) };
 
     ghost tells_history = { λ world trace moment is. is.stands.there.history };
 
     ghost tells_times = { λ world trace moment is. is.stands.there.times };
 
-    ghost tells_to_come = { λ world trace moment is. steps_left_told world.settings trace moment (state_of world) is.stands.there };
+    ghost tells_to_come = { λ world trace moment is. steps_left_told world.settings trace moment world.rounds (state_of world) is.keeps.range.window.0 is.rounds is.stands.there };
 
     fn round_due(&self) -> Option<u128> {
         match &self.next {
@@ -187,7 +199,10 @@ impl FreeWorld for World {
     }
 
     fn end_due(&self) -> Option<u128> {
-        None
+        match self.due_end {
+            Some(end) => Some(end.time),
+            None => None,
+        }
     }
 
     fn commit_due(&self) -> Option<(u32, u128)> {
@@ -198,21 +213,24 @@ impl FreeWorld for World {
         let Some(NextRound { round, due }) = self.next.take() else {
             return Ok(());
         };
-        self.looked_at = open_rows(
+        self.looked_at = open_by(
             self.alloc,
             round,
+            &mut self.own,
             &mut self.demand,
             &mut self.cell,
             self.looked_at,
         )?;
+        self.due_end = first_end(&mut self.own, &self.cell);
         self.opened = one_more(self.opened)?;
+        self.triggers = one_more(self.triggers)?;
         self.next = next_round(self.alloc, &self.rounds, self.opened)?;
         sync_idle(
             self.alloc,
             &mut self.workers,
             &mut self.indexes,
             &self.settings,
-            self.opened as u64,
+            self.triggers as u64,
             &self.demand.wanted,
             &mut self.demand.open_jobs,
             &self.cell,
@@ -221,7 +239,30 @@ impl FreeWorld for World {
     }
 
     fn end(&mut self) -> Result<(), NoMemory> {
-        Ok(())
+        let Some(end) = self.due_end else {
+            return Ok(());
+        };
+        self.looked_at = end_by(
+            self.alloc,
+            end,
+            &mut self.own,
+            &mut self.demand,
+            &mut self.cell,
+            self.looked_at,
+        )?;
+        self.due_end = first_end(&mut self.own, &self.cell);
+        self.triggers = with_end(self.triggers, &self.next)?;
+        sync_idle(
+            self.alloc,
+            &mut self.workers,
+            &mut self.indexes,
+            &self.settings,
+            self.triggers as u64,
+            &self.demand.wanted,
+            &mut self.demand.open_jobs,
+            &self.cell,
+            end.time,
+        )
     }
 
     fn commit(&mut self, scheduler: u32) -> Result<(), NoMemory> {
@@ -234,6 +275,8 @@ impl FreeWorld for World {
             &mut self.cell,
         )?;
         self.times.push(timed)?;
+        note_commit(&mut self.own, timed.time, &self.cell)?;
+        self.due_end = first_end(&mut self.own, &self.cell);
         self.looked_at = look_on(&mut self.demand, &self.cell, self.looked_at)?;
         sync_by(
             self.alloc,
@@ -241,7 +284,7 @@ impl FreeWorld for World {
             scheduler,
             &mut self.indexes,
             &self.settings,
-            self.opened as u64,
+            self.triggers as u64,
             &self.demand.wanted,
             &mut self.demand.open_jobs,
             &self.cell,
@@ -285,42 +328,13 @@ fn one_more(count: usize) -> Result<usize, NoMemory>
     count.checked_add(1).ok_or(NoMemory)
 }
 
-/// Opens a round, where up to a place of the cell's history entries were looked at for tasks that they stopped, and
-/// commits stand behind it. Answers up to where they were looked at then, which is the end. Costs the rows, what their
-/// entries change, and the commits.
-fn open_rows(
-    alloc: Global,
-    round: Round,
-    demand: &mut Demand,
-    cell: &mut Cell,
-    looked_at: usize,
-) -> Result<usize, NoMemory>
-    requires within { looked_at ≤ length cell.old.history }
-    requires commits { All (λ entry. is_commit entry ≡ true) (drop looked_at cell.old.history) }
-    requires quiet { WereQuiet demand.old.open_jobs demand.old.wanted looked_at cell.old.history }
-    ensures history { (trace : TraceTables) (rows : List Row) → demand.old.wanted.disks ≡ trace.disks
-        → demand.old.wanted.tasks ≡ wanted_tasks rows
-        → OnOk result (cell.new.history ≡ (opened trace rows cell.old.history round).history) }
-    ensures wanted { OnOk result (demand.new.wanted
-        ≡ record demand.old.wanted { tasks = fold wanted_after demand.old.wanted.tasks round.rows }) }
-    ensures quiet { OnOk result (OthersAreQuiet demand.new.open_jobs demand.new.wanted (state cell.new.history).tasks) }
-    ensures place { IfOk result (λ place. place ≡ length cell.new.history) }
+/// How often there was cause for a new pass once a task has ended, where this is the next round: once more if there is
+/// one. 2^64 times, which no memory holds, are answered as want of memory.
+fn with_end(triggers: usize, next: &Option<NextRound>) -> Result<usize, NoMemory>
+    ensures { IfOk result (λ more. more ≡ triggers + cause_of_end next.now) }
 {
-    reopen_since(demand, cell, looked_at)?;
-    open_round(alloc, round, demand, cell)?;
-    Ok(cell.history().len())
-}
-
-/// Looks at the entries behind a place of a cell's history, which are commits, for tasks that they evicted, and opens
-/// their jobs. Answers up to where they were looked at then, which is the end. Costs the commits.
-fn look_on(demand: &mut Demand, cell: &Cell, looked_at: usize) -> Result<usize, NoMemory>
-    requires within { looked_at ≤ length cell.now.history }
-    requires commits { All (λ entry. is_commit entry ≡ true) (drop looked_at cell.now.history) }
-    requires quiet { WereQuiet demand.old.open_jobs demand.old.wanted looked_at cell.now.history }
-    ensures wanted { demand.new.wanted ≡ demand.old.wanted }
-    ensures quiet { OnOk result (OthersAreQuiet demand.new.open_jobs demand.new.wanted (state cell.now.history).tasks) }
-    ensures place { IfOk result (λ place. place ≡ length cell.now.history) }
-{
-    reopen_since(demand, cell, looked_at)?;
-    Ok(cell.history().len())
+    match next {
+        Some(_) => one_more(triggers),
+        None => Ok(triggers),
+    }
 }

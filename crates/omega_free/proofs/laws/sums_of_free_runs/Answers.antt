@@ -1,8 +1,9 @@
-use Rattle.omega_free_laws.specs.StepsLeft.{none_left}
+use Rattle.omega_free.specs.EndsLeft.{left_of}
 use Rattle.omega_free.specs.FreeRuns.{reading_of}
-use Rattle.omega_free.proofs.FreeSums.{free_sums_fit, rows_tame}
+use Rattle.omega_free.proofs.FreeSums.{free_sums_fit}
+use Rattle.omega_free.proofs.LivesTame.{tame_by}
 use Rattle.omega_free.proofs.laws.sums_of_free_runs.Goals as goal
 
 pub returns : goal.returns
 returns c settings trace history times range bounds free =
-    free_sums_fit settings (reading_of settings trace) range none_left (rows_tame trace bounds) history times free
+    free_sums_fit settings (reading_of settings trace) range (left_of settings trace) (tame_by settings.ends trace bounds) history times free

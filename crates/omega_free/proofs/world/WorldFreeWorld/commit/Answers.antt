@@ -3,6 +3,7 @@ use Rattle.std.specs.Vec.{with_items}
 use Rattle.std.proofs.lemmas.Result.{on_ok_weaker}
 use Rattle.omega_laws.specs.VirtualTime.{Timed}
 use Rattle.omega_plan.proofs.Tells.{written_back}
+use Rattle.omega_free.specs.EndsBy.{NotesBy}
 use Rattle.omega_free.specs.FreeWorkers.{AreKnown, OneMayCommit}
 use Rattle.omega_free.specs.declared.worker.Worker.{Worker}
 use Rattle.omega_free.specs.declared.world.World.{World}
@@ -79,10 +80,11 @@ returns-clause-commits c =
     written_back between.items c.deref_mut-2.result.now news between.len c.deref_mut-2.ensures.value c.deref_mut-2.ensures.len c.sync_by.auto.workers in
     let time : c.timed.inside.time ≡ c.in_ok-timed.timed.time = ap (λ (t : Timed). t.time) c.timed.view_is in
     on_ok_weaker c.sync_by.result
-    (λ syncs. commits_by old _ c.args.scheduler c.in_ok-timed.timed middles (record {
+    (λ syncs. commits_by old _ c.args.scheduler c.in_ok-timed.timed middles c.note_commit.new.own (record {
       settings_are = refl;
       rounds_are = refl;
       opened_are = refl;
+      triggers_are = refl;
       next_are = refl;
       committed = subst (CommitsFrom old.settings old.demand.wanted.tasks old.cell.history c.commit_by.new.cell.history c.args.scheduler c.in_ok-timed.timed)
           c.deref_mut.ensures.value c.in_ok-timed.ensures.commits;
@@ -93,8 +95,10 @@ returns-clause-commits c =
       looked = c.in_ok-self.ensures.place;
       indexes = c.sync_by.ensures.indexes;
       times = c.in_ok-push.ensures.ok;
-      syncs = subst (λ (workers : List Worker). SyncsFrom old.settings c.look_on.new.demand.wanted c.commit_by.new.cell.history old.opened c.in_ok-timed.timed.time c.args.scheduler middles workers) (sym back_again)
-          (subst (λ (workers : List Worker). SyncsFrom old.settings c.look_on.new.demand.wanted c.commit_by.new.cell.history old.opened c.in_ok-timed.timed.time c.args.scheduler workers news) shown
-          (subst (λ (n : ℕ). SyncsFrom old.settings c.look_on.new.demand.wanted c.commit_by.new.cell.history old.opened n c.args.scheduler c.deref_mut-2.result.now news) time syncs));
+      notes = subst (λ (n : ℕ). NotesBy n c.commit_by.new.cell.history old.own c.note_commit.new.own) time c.in_ok-note_commit.ensures;
+      finds = c.first_end-self.ensures;
+      syncs = subst (λ (workers : List Worker). SyncsFrom old.settings c.look_on.new.demand.wanted c.commit_by.new.cell.history old.triggers c.in_ok-timed.timed.time c.args.scheduler middles workers) (sym back_again)
+          (subst (λ (workers : List Worker). SyncsFrom old.settings c.look_on.new.demand.wanted c.commit_by.new.cell.history old.triggers c.in_ok-timed.timed.time c.args.scheduler workers news) shown
+          (subst (λ (n : ℕ). SyncsFrom old.settings c.look_on.new.demand.wanted c.commit_by.new.cell.history old.triggers n c.args.scheduler c.deref_mut-2.result.now news) time syncs));
     }))
     c.sync_by.ensures.syncs

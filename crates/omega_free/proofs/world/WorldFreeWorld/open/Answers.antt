@@ -1,15 +1,10 @@
 use Rattle.std.proofs.Common.{◌≡◌, ◌++◌, ◌∙◌, ℕ, List, length, take, drop, refl, sym, ap, subst}
 use Rattle.std.proofs.lemmas.Result.{on_ok_weaker}
-use Rattle.omega_model.specs.declared.entries.Entry.{Entry}
-use Rattle.omega_model.specs.declared.rows.Row.{Row}
 use Rattle.omega_plan.proofs.Tells.{written_back}
-use Rattle.omega_plan.specs.Indexes.{AreIndexesOf}
-use Rattle.omega_free_laws.specs.Free.{after}
-use Rattle.omega_free_laws.specs.Readings.{by_rows}
 use Rattle.omega_free.specs.FreeWorkers.{AreCounted, AreKnown, SyncIfIdle}
 use Rattle.omega_free.specs.declared.worker.Worker.{Worker}
 use Rattle.omega_free.specs.declared.world.World.{World}
-use Rattle.omega_free.proofs.WorldSteps.{asked_with, indexes_opened, known_in, none_to_come, opened_stands}
+use Rattle.omega_free.proofs.WorldSteps.{known_in, none_to_come, opened_asks, opened_indexes, opened_stands}
 use Rattle.omega_free.proofs.world.WorldFreeWorld.open.Goals as goal
 
 pub returns-in_default-clause-opens : goal.returns-in_default-clause-opens
@@ -21,20 +16,14 @@ sync_idle-requires-clause-known c =
     subst (AreKnown c.args.self.now.settings) (sym c.deref_mut.ensures.value) (known_in c.args.self.now c.requires.0 _ c.requires.1.1)
 
 pub sync_idle-requires-clause-asked : goal.sync_idle-requires-clause-asked
-sync_idle-requires-clause-asked c = record {
-  settings = c.args.self.now.settings;
-  trace = c.requires.0;
-  rows = (after c.args.self.now.settings (by_rows c.requires.0) c.requires.1.0).past.rows ++ c.in-Some.field-0.round.rows;
-  asks = asked_with c.args.self.now c.requires.0 _ c.requires.1.1 c.in-Some.field-0.round.rows c.open_rows.new.demand.wanted c.in_ok-self.ensures.wanted;
-}
+sync_idle-requires-clause-asked c =
+    opened_asks c.args.self.now c.requires.0 _ c.requires.1.1 c.in-Some.field-0.round c.open_by.new.cell.history c.open_by.new.demand.wanted c.open_by.new.own
+    c.in_ok-self.ensures.opens
 
 pub sync_idle-requires-clause-indexes : goal.sync_idle-requires-clause-indexes
 sync_idle-requires-clause-indexes c =
-    let rows : List Row = (after c.args.self.now.settings (by_rows c.requires.0) c.requires.1.0).past.rows in
-    let asks = c.requires.1.1.stands.there.asked in
-    subst (λ (h : List Entry). AreIndexesOf h c.args.self.now.indexes)
-    (sym (c.in_ok-self.ensures.history c.requires.0 rows (ap (λ a. a.disks) asks) (ap (λ a. a.tasks) asks)))
-    (indexes_opened c.requires.0 rows c.args.self.now.cell.history c.in-Some.field-0.round c.args.self.now.indexes c.requires.1.1.keeps.indexes)
+    opened_indexes c.args.self.now c.requires.0 _ c.requires.1.1 c.in-Some.field-0.round c.open_by.new.cell.history c.open_by.new.demand.wanted c.open_by.new.own
+    c.in_ok-self.ensures.opens
 
 pub returns-clause-opens : goal.returns-clause-opens
 returns-clause-opens c =
@@ -43,14 +32,15 @@ returns-clause-opens c =
     let back : take old.workers.len (news ++ drop (length news) old.workers.items) ≡ news =
     written_back old.workers.items c.deref_mut.result.now news old.workers.len c.deref_mut.ensures.value c.deref_mut.ensures.len c.sync_idle.auto.workers in
     on_ok_weaker c.sync_idle.result
-    (λ syncs trace moment is first rest ahead. opened_stands old _ c.in-Some.field-0.round c.in-Some.field-0.due (record {
+    (λ syncs trace moment is first rest ahead. opened_stands old _ c.in-Some.field-0.round c.in-Some.field-0.due c.open_by.new.own (record {
       next_was = sym c.take.ensures.value ∙ c.in-Some.is;
       settings_are = refl;
       rounds_are = refl;
       opened_are = c.in_ok-self-2.ensures;
-      next_is = c.in_ok-self-3.ensures;
-      history = c.in_ok-self.ensures.history;
-      taken = c.in_ok-self.ensures.wanted;
+      triggers_are = c.in_ok-self-3.ensures;
+      next_is = c.in_ok-self-4.ensures;
+      opens = c.in_ok-self.ensures.opens;
+      finds = c.first_end-self.ensures;
       quiet = c.sync_idle.ensures.quiet;
       looked = c.in_ok-self.ensures.place;
       indexes = c.sync_idle.ensures.indexes;
@@ -59,6 +49,6 @@ returns-clause-opens c =
           subst (λ (workers : List Worker). SyncIfIdle old.settings reading past c.in-Some.field-0.due old.workers.items workers) (sym back)
           (subst (λ (workers : List Worker). SyncIfIdle old.settings reading past c.in-Some.field-0.due workers news) c.deref_mut.ensures.value
           (subst (λ (n : ℕ). SyncIfIdle old.settings reading past n c.deref_mut.result.now news) c.from.ensures
-          (syncs reading past now (subst (AreCounted c.open_rows.new.cell.history) (sym c.deref_mut.ensures.value) counted))));
+          (syncs reading past now (subst (AreCounted c.open_by.new.cell.history) (sym c.deref_mut.ensures.value) counted))));
     }) trace moment is first rest ahead)
     c.sync_idle.ensures.syncs
