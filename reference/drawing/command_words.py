@@ -19,7 +19,7 @@ CHOSEN: dict[str, dict[str, list]] = {
     'coarse': {'rule': ['coarse'], 'batch': [2, 3, 4]},
     'mapreduce': {'extra': ['max', 'cap', 'cap', 'relative'], 'cap': [30, 60, 100]},
     'give-up': {'give-up': [1, 2, 3], 'tries': [1, 2, 5]},
-    'lives': {'clock': ['free'], 'ends': ['trace', 'own', 'own', 'own']},
+    'lives': {'clock': ['free'], 'ends': ['trace', 'own', 'own', 'own', 'own'], 'preempt': ['none', 'service', 'all', 'all']},
 }
 # What a program must refuse, put behind the words.
 WRONG = (['--seed'], ['extra'], ['--batch', '31'], ['--rule', 'loose'], ['--help'], ['--window', '0'], ['-h'],
@@ -28,9 +28,12 @@ WRONG = (['--seed'], ['extra'], ['--batch', '31'], ['--rule', 'loose'], ['--help
 
 
 def decision_times(scene: Scene, name: str) -> list[int]:
-    """Decisions that take from no time to longer than some rounds, the usual time among them."""
-    usual = 5_000 if 'task' in name else 100_000
-    return [0, 1, usual, *(min(10**9, part * scene.window // 4) for part in (1, 3, 4, 6, 20)), 10**9]
+    """Decisions that take from no time to longer than some rounds, the usual time among them. Where lives of tasks are
+    the theme most are shorter than a round, so that many tasks are placed and end before all rounds have opened."""
+    usual, parts = 5_000 if 'task' in name else 100_000, (1, 3, 4, 6, 20)
+    if scene.theme == 'lives':
+        return [0, 1, *(min(10**9, part * scene.window // 20) for part in parts * 2), usual]
+    return [0, 1, usual, *(min(10**9, part * scene.window // 4) for part in parts), 10**9]
 
 
 def values(scene: Scene) -> dict[str, Callable]:
@@ -61,7 +64,7 @@ def names_for(scene: Scene, command: str, commands: list[str]) -> list[str]:
     left_out = set((*CLOCKS, *TIMES) if 'simulate' not in commands else ())
     left_out |= set() if {'resume', 'audit'} & set(commands) else {'kept'}
     names = {name for name in sorted(values(scene)) if rng.random() < 0.45} - left_out
-    names |= set(CHOSEN.get(scene.theme, ())) - left_out
+    names |= {*CHOSEN.get(scene.theme, ()), *(TIMES if scene.theme == 'lives' else ())} - left_out
     if command == 'simulate':
         names |= {name for name in (*CLOCKS, *TIMES) if rng.random() < 0.6}
     if command == 'generate':
