@@ -6,8 +6,8 @@
 #     bench/bench.sh PROGRAM SECTION..                        some of the tables below
 #     bench/bench.sh PROGRAM page                             all of them, written into docs/SPEED.md
 #
-# Sections: scales parts rows machines schedulers words threads constrained shapes chosen plans kept. ROWS are rows
-# of task_events, LOAD is as in tables.py. Each line is the median of five runs (BENCH_RUNS) with their range, or one
+# Sections: scales parts rows machines schedulers words threads constrained ends shapes chosen plans kept. ROWS are
+# rows of task_events, LOAD is as in tables.py. Each line is the median of five runs (BENCH_RUNS) with their range, or one
 # run that took more than ten seconds.
 #
 # Elapsed is the time on the clock and Processor the time of all threads. Multiple is Processor as a
@@ -198,6 +198,15 @@ constrained() {
     done
 }
 
+# By the free clock, where tasks end by the trace and where each runs for as long as it did there.
+ends() {
+    header '| Machines | Rows of tasks | Load | Words'
+    for n in 1 8 30; do
+        one 12500 1000000 75 simulate --clock free --window 1000000 --ends trace --batch $n
+        one 12500 1000000 75 simulate --clock free --window 1000000 --ends own --batch $n
+    done
+}
+
 shapes() {
     header '| Shape | Size | Words'
     shape one_job 100000 replay
@@ -239,6 +248,9 @@ chosen() {
     shape many_rounds 10000 replay
     shape overtaken 50000 simulate --clock free --window 1000000
     shape overtaken 50000 simulate --clock free --window 1000000 --batch 8
+    shape due_at_once 200000 simulate --clock free --ends own --window 1000000
+    shape held_back 200000 simulate --clock free --ends own --window 1000000
+    shape ends_beside_extras 100000 simulate --clock free --ends own --window 1000000 --extra cap --cap 0
     shape comes_back 10000 replay
     shape given_up 2000 replay --give-up 1
     shape large_job 500000 replay
@@ -313,7 +325,7 @@ kept_anew() { # FOLDER FILE WHERE
     echo "| \`resume\` into a new file$3 | $(cells "$seconds") |"
 }
 
-sections=(scales parts rows machines schedulers words threads constrained shapes chosen plans kept)
+sections=(scales parts rows machines schedulers words threads constrained ends shapes chosen plans kept)
 
 # Puts what each section prints between that section's marks on the page, and the date and the processor above.
 page() {

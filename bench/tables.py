@@ -527,6 +527,43 @@ def overtaken(files, size):
         files.task(number * SECOND, 0, 0, 8, 0.5)
 
 
+def due_at_once(files, size):
+    """One job of many tasks that are due to end at one time, beside a fourth as many jobs that fit nowhere"""
+    files.machine(1, 0.1, 0.1)
+    for index in range(size):
+        files.task(0, 0, index, 0, 0)
+    for job in range(1, size // 4 + 1):
+        files.task(0, job, 0, 0, 0.5)
+    for index in range(size):
+        files.task(20_000 * SECOND, 0, index, 4, 0)
+    files.task(100_000 * SECOND, 0, 0, 8, 0)
+
+
+def held_back(files, size):
+    """Ten tasks that come again very often before they have ended for the first time"""
+    files.machine(1)
+    for job in range(10):
+        files.task(0, job, 0, 0, 0.01)
+    for number in range(size // 10):
+        for job in range(10):
+            files.task(SECOND + 2 * number, job, 0, 4, 0.01)
+            files.task(SECOND + 2 * number + 1, job, 0, 0, 0.01)
+    files.task(1_000_000 * SECOND, 0, 0, 8, 0.01)
+
+
+def ends_beside_extras(files, size):
+    """One job of many tasks that are due to end at one time, beside a fifth as many MapReduce jobs without extra tasks"""
+    files.machine(1)
+    for index in range(size):
+        files.task(0, 0, index, 0, 0)
+    for job in range(1, size // 5 + 1):
+        files.task(0, job, 0, 0, '1e-6')
+        files.put('mapreduce_jobs', job, 8)
+    for index in range(size):
+        files.task(20_000 * SECOND, 0, index, 4, 0)
+    files.task(100_000 * SECOND, 0, 0, 8, 0)
+
+
 def comes_back(files, size):
     """One machine with many tasks, which goes and comes back in each of 50 rounds"""
     window = 300 * SECOND
@@ -709,7 +746,7 @@ SHAPES = {shape.__name__: shape for shape in (
     one_job, apart, never_fits, one_machine, long_runs, attributes, scarce, map_reduce, half_full, full, evicting,
     too_little, victims, one_by_one, updates, shrinking, crowded, levels, ranks, ranks_in_turn, taking_over,
     same_tree, other_trees, one_note, machines_apart, machines_in_row, constraints, matched, unset_in_order, unset_backwards, set_in_turn,
-    nowhere, lopsided, many_rounds, overtaken, comes_back, given_up, large_job,
+    nowhere, lopsided, many_rounds, overtaken, due_at_once, held_back, ends_beside_extras, comes_back, given_up, large_job,
     one_waits, restarts, most_ended, left_apart, short_rounds, extras, many_extras, extras_alike, commas, commas_quoted,
     too_many_rows, quotes, long_text)}
 

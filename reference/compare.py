@@ -1,14 +1,13 @@
 #!/usr/bin/env python3
 """Compares a program with the reference on random tables and words.
 
-    compare.py PROGRAM FROM TO [--keeper memory] [--coming] [--processors N] [COMMAND..]
+    compare.py PROGRAM FROM TO [--keeper memory] [--processors N] [COMMAND..]
 
 Each number from FROM up to, and without, TO is a case: of four one has tables spoiled byte by byte, and of ten one is
 of medium size. The program runs in a folder with the tables. Standard output, standard error and the exit status must
 be those of the reference; a report of `run` must be that of a lawful history; and what is kept must be the same. A case
 that fails is shown with how `tables.py` makes it. Where commands are named, the words are of these. `--keeper memory`
-is for a program whose kept lines begin empty and end with it. `--coming` draws words that the proved program doesn't
-take yet, so it is for one that does: tasks that end by their lives.
+is for a program whose kept lines begin empty and end with it.
 """
 import argparse
 import os
@@ -92,14 +91,13 @@ def compared(program: str, keeper: str, case: Case, folder: str) -> tuple[Answer
     return got, faults
 
 
-def one(program: str, keeper: str, commands: list[str], coming: bool, number: int) -> Result:
+def one(program: str, keeper: str, commands: list[str], number: int) -> Result:
     """The case of a number."""
     size, spoil = size_of(number), is_spoiled(number)
-    case = draw_case(number, size, spoil, commands, coming)
+    case = draw_case(number, size, spoil, commands)
     with tempfile.TemporaryDirectory() as folder:
         got, faults = compared(program, keeper, case, folder)
-    flags = (' --spoil' if spoil else '') + (' --coming' if coming else '')
-    made = f'tables.py {number} FOLDER --size {size}{flags} {" ".join(commands)}'
+    made = f'tables.py {number} FOLDER --size {size}{" --spoil" if spoil else ""} {" ".join(commands)}'
     command = next((word for word in case.words if word in COMMANDS), 'none')
     return Result(made, f'{command} {got.status}', [f'words {case.words}', *faults] if faults else [])
 
@@ -110,7 +108,6 @@ def parsed() -> argparse.Namespace:
     parser.add_argument('first', type=int, metavar='FROM')
     parser.add_argument('end', type=int, metavar='TO')
     parser.add_argument('--keeper', choices=['database', 'memory'], default='database')
-    parser.add_argument('--coming', action='store_true')
     parser.add_argument('--processors', type=int, default=os.cpu_count())
     parser.add_argument('commands', nargs='*', metavar='COMMAND')
     args = parser.parse_intermixed_args()
@@ -125,7 +122,7 @@ def parsed() -> argparse.Namespace:
 def main() -> int:
     args, kinds, failed = parsed(), Counter(), 0
     with Pool(args.processors) as pool:
-        work = partial(one, args.program, args.keeper, args.commands, args.coming)
+        work = partial(one, args.program, args.keeper, args.commands)
         for result in pool.imap(work, range(args.first, args.end), chunksize=4):
             kinds[result.kind] += 1
             if result.faults:

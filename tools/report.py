@@ -21,7 +21,7 @@ from omegatools.events import json_lines_of
 from omegatools.figures import conflicts_over_time, picture, use_over_time, waits_by_kind
 from omegatools.reports import Report, report_lines
 from omegatools.tables import compare_table, conflicts_table, rounds_table, schedulers_table, show
-from omegatools.waits import COLUMNS, QUANTILE_COLUMNS, Tables, Waits, quantile_rows, row_of
+from omegatools.waits import COLUMNS, QUANTILE_COLUMNS, Tables, quantile_rows, row_of, wishes_of
 from omegatools.words import DEFAULT_WINDOW, Words, words_beside
 
 
@@ -36,6 +36,12 @@ def window_of(path: str, chosen: Optional[str]) -> int:
     if window < 1:
         raise Refusal('a window is at least a microsecond')
     return window
+
+
+def has_own_ends(path: str, chosen: Optional[str]) -> bool:
+    """Whether tasks end by their own lives in the report."""
+    words = words_of_report(path)
+    return chosen == 'own' if chosen is not None else words is not None and words.has_own_ends()
 
 
 def tables_of(path: str, chosen: Optional[Path]) -> Optional[Path]:
@@ -71,7 +77,8 @@ def events(words: argparse.Namespace) -> None:
 
 def waits(words: argparse.Namespace) -> None:
     """For each task a row, and the quantiles on standard error; or these alone on standard output."""
-    found = Waits(Tables(words.tables, window_of(words.report, words.window)), words.report).wishes
+    found = wishes_of(Tables(words.tables, window_of(words.report, words.window)), words.report,
+                      has_own_ends(words.report, words.ends))
     if not words.quantiles:
         show([COLUMNS, *map(row_of, found)])
     show([QUANTILE_COLUMNS, *quantile_rows(found)], sys.stdout if words.quantiles else sys.stderr)
@@ -87,7 +94,8 @@ def plot(words: argparse.Namespace) -> None:
              'conflicts': conflicts_over_time(report, window, duration(words.per) if words.per else None)}
     tables = tables_of(words.report, words.tables)
     if tables is not None:
-        drawn['waits'] = waits_by_kind(Waits(Tables(tables, window), words.report).wishes)
+        drawn['waits'] = waits_by_kind(wishes_of(Tables(tables, window), words.report,
+                                                 has_own_ends(words.report, words.ends)))
     words.folder.mkdir(parents=True, exist_ok=True)
     for name, draw in drawn.items():
         print(put(words.folder / ('%s.%s' % (name, words.format)), picture(draw, words.format)))
@@ -107,8 +115,8 @@ def make_page(words: argparse.Namespace) -> None:
     for path in words.reports:
         window = window_of(path, words.window)
         report = Report(path)
-        found, why = waits_of(path, tables_of(path, words.tables), window) if path != '-' else (
-            None, 'The report came from standard input.')
+        found, why = waits_of(path, tables_of(path, words.tables), window, has_own_ends(path, words.ends)) \
+            if path != '-' else (None, 'The report came from standard input.')
         runs.append(Run(name_of(path), report, words_of_report(path), window, found, why))
     print(put(words.file, page(words.title, runs).encode()))
 
@@ -130,6 +138,10 @@ def parser() -> argparse.ArgumentParser:
         added.add_argument('--window', metavar='TIME', help='how long a round is')
         return added
 
+    def of_ends(added: argparse.ArgumentParser) -> None:
+        added.add_argument('--ends', choices=('trace', 'own'), help='for the waits, how tasks end in the report; by '
+                           'default what the file `words` beside it says')
+
     command('rounds', rounds, 'what is used where each round ends').add_argument('report', metavar='REPORT')
     command('schedulers', schedulers, 'commits and conflicts of each scheduler').add_argument('report', metavar='REPORT')
     added = command('conflicts', conflicts, 'commits and conflicts by scheduler and time')
@@ -141,6 +153,7 @@ def parser() -> argparse.ArgumentParser:
     added = command('waits', waits, 'for each task when it was submitted, first placed, evicted, displaced and ended '
                     '(microseconds), or that it never ran; and on standard error the quantiles of the wait by kind '
                     'of job (seconds). How long decisions take on `simulate` isn\'t in these times')
+    of_ends(added)
     added.add_argument('--quantiles', action='store_true', help='print these alone, on standard output')
     added.add_argument('tables', metavar='TABLES', type=Path, help='the folder of the tables')
     added.add_argument('report', metavar='REPORT')
@@ -148,6 +161,7 @@ def parser() -> argparse.ArgumentParser:
             '`words` beside it').add_argument('reports', metavar='REPORT', nargs='+')
     added = command('plot', plot, 'use and conflicts over time, and waits by kind of job, as figures in a folder')
     added.add_argument('--format', choices=('svg', 'png', 'pdf'), default='svg', help='svg by default')
+    of_ends(added)
     added.add_argument('--per', metavar='TIME', help='how long a span of time is in the figure of conflicts; '
                        'by default one that suits the length of the report')
     added.add_argument('--tables', metavar='TABLES', type=Path, help='the folder of the tables, for the waits; '
@@ -155,6 +169,7 @@ def parser() -> argparse.ArgumentParser:
     added.add_argument('report', metavar='REPORT')
     added.add_argument('folder', metavar='FOLDER', type=Path)
     added = command('page', make_page, 'one page of HTML on some runs, which needs nothing else')
+    of_ends(added)
     added.add_argument('--tables', metavar='TABLES', type=Path, help='the folder of the tables, for the waits; '
                        'by default that of the file `words` beside the report')
     added.add_argument('--title', default='Runs of omega', help='`Runs of omega` by default')

@@ -22,7 +22,7 @@ class Case(NamedTuple):
 
 def draw_tables(scene: Scene) -> dict[Table, bytes]:
     """The bytes of the tables; some have a bad row, and an empty one may be left out."""
-    rng, is_of_lives = scene.rng, scene.rng.random() < (0.6 if scene.is_coming else 0.25)
+    rng, is_of_lives = scene.rng, scene.theme == 'lives' or scene.rng.random() < 0.2
     rows = (LifeRows if is_of_lives else Rows)(scene).all()
     if rng.random() < 0.07:
         spoil_a_row(rng, rows)
@@ -35,13 +35,10 @@ def draw_tables(scene: Scene) -> dict[Table, bytes]:
     return tables
 
 
-def draw_case(number: int, size: str = 'small', spoil: bool = False, commands: list[str] | None = None,
-              coming: bool = False) -> Case:
-    """The case of a number, of a size; with words of some commands alone, or with tables spoiled byte by byte, or with
-    words that the program doesn't take yet, and tables for these."""
+def draw_case(number: int, size: str = 'small', spoil: bool = False, commands: list[str] | None = None) -> Case:
+    """The case of a number, of a size; with words of some commands alone, or with tables spoiled byte by byte."""
     commands = commands or list(COMMANDS)
-    drawn_by = f'{number} {size} {spoil} {" ".join(commands)}{" coming" if coming else ""}'
-    scene = Scene(random.Random(drawn_by), SIZES[size], coming)
+    scene = Scene(random.Random(f'{number} {size} {spoil} {" ".join(commands)}'), SIZES[size])
     tables = draw_tables(scene)
     tables = spoil_tables(scene.rng, tables) if spoil else tables
     words = draw_words(scene, commands)

@@ -17,10 +17,12 @@ class LifeRows(Rows):
         scene.times = self.moments()
 
     def moments(self) -> list[int]:
-        """Times within a few windows, some of them twice and some side by side."""
+        """Times within a few windows, some of them twice and some side by side; and a few behind, so that rounds are left
+        where most tasks end."""
         rng, end = self.rng, self.scene.window * self.rng.randint(1, 8)
         some = [rng.randrange(end) for _ in range(rng.randint(2, 16))]
-        return sorted(some + [time + rng.choice([0, 1]) for time in some])
+        later = [end + rng.randrange(3 * end) for _ in range(rng.randint(0, 4))]
+        return sorted(some + [time + rng.choice([0, 1]) for time in some] + later)
 
     def job(self, job: int) -> list[Fields]:
         """A job has a few tasks. They may end all at once, and one of them may come again right then."""

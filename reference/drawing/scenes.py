@@ -2,9 +2,9 @@
 import random
 from typing import NamedTuple
 
-# Themes make certain refusals, evictions or extras come often.
+# Themes make certain refusals, evictions, extras or ends come often.
 THEMES = ('free', 'free', 'evictions', 'evictions', 'gangs', 'coarse', 'mapreduce', 'mapreduce', 'attributes',
-          'give-up')
+          'give-up', 'lives', 'lives')
 LARGE_IDS = (2**64 - 1, 6221861800)
 
 
@@ -21,12 +21,10 @@ SIZES = {'small': Size((0, 4), (2, 9), 4, 4), 'medium': Size((3, 12), (8, 30), 6
 
 
 class Scene:
-    """A theme, and the machines, jobs, times, names and amounts of which rows are made. One of what is coming has words
-    that the reference takes and the program doesn't yet."""
+    """A theme, and the machines, jobs, times, names and amounts of which rows are made."""
 
-    def __init__(self, rng: random.Random, size: Size, is_coming: bool = False) -> None:
+    def __init__(self, rng: random.Random, size: Size) -> None:
         self.rng = rng
-        self.is_coming = is_coming
         self.events = size.events
         self.theme = rng.choice(THEMES)
         self.window = rng.choice([1, 7, 1000, 300_000_000, 300_000_000])

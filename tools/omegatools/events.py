@@ -56,7 +56,7 @@ def events_of(lines: Iterable[Line], window: int) -> Iterator[Event]:
             commit = {'commit': place, 'scheduler': line[1]}
         elif kind == 'entries':
             at, commit = {}, {}
-        elif kind == 'use':
+        elif kind in ('use', 'end'):
             commit = {}
         yield {'event': str(kind), **at, **commit, **event_of(line)}
 

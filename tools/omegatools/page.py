@@ -8,7 +8,7 @@ from .common import Refusal
 from .figures import NARROW, WIDE, Draw, Size, conflicts_over_time, picture, runs_beside, use_over_time, waits_by_kind
 from .reports import KINDS, Report
 from .tables import options_of, results
-from .waits import Tables, Waits, Wish, quantile_rows
+from .waits import Tables, Wish, quantile_rows, wishes_of
 from .words import Words
 
 STYLE = """
@@ -57,12 +57,13 @@ class Run(NamedTuple):
     why_no_waits: str
 
 
-def waits_of(path: str, tables: Optional[Path], window: int) -> Tuple[Optional[List[Wish]], str]:
+def waits_of(path: str, tables: Optional[Path], window: int,
+             has_own_ends: bool) -> Tuple[Optional[List[Wish]], str]:
     """The waits of a report, or why there are none."""
     if tables is None:
         return None, 'The page wasn\'t told which tables the run had (--tables).'
     try:
-        return Waits(Tables(tables, window), path).wishes, ''
+        return wishes_of(Tables(tables, window), path, has_own_ends), ''
     except FileNotFoundError as fault:
         return None, '%s isn\'t there.' % fault.filename
     except Refusal as refusal:
@@ -161,7 +162,8 @@ def section(place: int, run: Run) -> str:
 EXPLAINED = """<p>Each figure is of a report that <code>omega</code> printed. A commit is in conflict if a claim of it
 isn't placed; the <em>conflict fraction</em> is the number of these for each commit that placed a task. What is used
 is told where a round ends, and stays so until the next round. A task waits from when it is submitted to the last row
-of the round in which it is first placed; one that ends in the trace before a round gives it a machine never runs.</p>"""
+of the round in which it is first placed; one that ends in the trace before a round gives it a machine never runs,
+unless tasks end by their own lives.</p>"""
 
 
 def page(title: str, runs: Sequence[Run]) -> str:

@@ -116,7 +116,8 @@ def lines_of(file: BinaryIO) -> Iterator[Line]:
 
 
 # The order of lines. A report of a run has rounds, each of them lines of rows, then of commits, then its use;
-# a summary has none. Both end with the same block; behind it may stand sums of times, and then the single ones.
+# a summary has none. On `simulate` a task may end behind commits, where tasks end by their own lives. Both end with the
+# same block; behind it may stand sums of times, and then the single ones.
 
 # What may follow what.
 NEXT = {
@@ -125,10 +126,11 @@ NEXT = {
     'round': ('displace', 'end', 'commit', 'use'),
     'displace': ('displace', 'end', 'commit', 'use'),
     'end': ('displace', 'end', 'commit', 'use'),
-    'commit': ('evict', 'place', 'refuse', 'commit', 'use'),
+    'commit': ('evict', 'place', 'refuse', 'own end', 'commit', 'use'),
     'evict': ('evict', 'place'),
-    'place': ('evict', 'place', 'refuse', 'commit', 'use'),
-    'refuse': ('evict', 'place', 'refuse', 'commit', 'use'),
+    'place': ('evict', 'place', 'refuse', 'own end', 'commit', 'use'),
+    'refuse': ('evict', 'place', 'refuse', 'own end', 'commit', 'use'),
+    'own end': ('own end', 'commit', 'use'),
     'use': ('round', 'entries'),
     'entries': ('scheduler',),
     'scheduler': ('scheduler', 'last use'),
@@ -158,6 +160,7 @@ class Order:
         self.jobs = 0           # how many jobs have commits, by the lines of waits
         self.told = {'time': 0, 'first': 0}     # how many commits and jobs have a line with their own times
         self.commits: Dict[int, int] = {}
+        self.has_own_ends = False   # whether a task ends behind commits
 
     def fault(self, line: Line) -> Optional[str]:
         """What is wrong with the next line, if something is."""
@@ -167,6 +170,8 @@ class Order:
             return 'it is no line of a report: %s' % shown(' '.join(map(str, line)))
         if kind == 'use' and self.before == 'scheduler':
             kind = 'last use'
+        if kind == 'end' and 'own end' in NEXT[self.before]:
+            kind, self.has_own_ends = 'own end', True
         if kind not in NEXT[self.before]:
             return 'a line %s follows on %s' % (shown(str(line[0])), shown(self.before))
         self.before = kind
@@ -213,7 +218,9 @@ class Order:
     def is_whole(self) -> bool:
         if self.before in self.told:
             return self.told == {'time': sum(self.commits.values()), 'first': self.jobs}
-        return self.before == 'waiting' or self.before == 'wait' and self.timed == self.schedulers
+        if self.before == 'waiting':
+            return not self.has_own_ends
+        return self.before == 'wait' and self.timed == self.schedulers
 
 
 def report_lines(path: str) -> Iterator[Line]:

@@ -11,8 +11,8 @@ Key = Tuple[int, int]   # job and index
 
 
 class Wish:
-    """A task from when it is submitted until it ends in the trace. One that is submitted again is another.
-    Times are in microseconds; what the schedulers do in a round happens at the time of the round's last row."""
+    """A task from when it is submitted until it ends. One that is submitted again is another. Times are in
+    microseconds; what isn't a row of the trace happens at the time of the last row of its round."""
     __slots__ = ('job', 'index', 'kind', 'submitted', 'placed', 'evicted', 'displaced', 'ended', 'runs')
 
     def __init__(self, key: Key, kind: str, submitted: int) -> None:
@@ -81,6 +81,10 @@ def numbers_of(tables: Path, table: str, columns: Iterable[int], needed: bool = 
             raise Refusal('%s row %d: it is no row of this table' % (tables / (table + '.csv'), number)) from fault
 
 
+# The codes of rows that ask for a task, and that end it.
+ASKING, ENDING = (0, 1), (3, 4, 5, 6)
+
+
 class Tables:
     """What the tables of a folder say of tasks, by the number of the window: the rows in order of time, and
     the time of the last row of any table."""
@@ -114,7 +118,7 @@ class Tables:
 
 
 class Waits:
-    """The wishes of a report, in order of their submission."""
+    """The wishes of a report, in order of their submission. Each ends with a row of the trace."""
 
     def __init__(self, tables: Tables, report: str) -> None:
         self.tables, self.report = tables, report
@@ -127,6 +131,8 @@ class Waits:
                 now = self.begin_round(int(line[1]))
             elif line[0] in ('place', 'evict', 'displace') and int(line[2]) < FIRST_EXTRA:
                 self.change(str(line[0]), (int(line[1]), int(line[2])), now)
+            elif line[0] == 'end' and int(line[2]) < FIRST_EXTRA:
+                self.end((int(line[1]), int(line[2])), now)
             elif line[0] == 'entries' and seen != len(tables.last):
                 raise self.strange('the tables have %d windows with rows, and the report has %d rounds' % (
                     len(tables.last), seen))
@@ -140,13 +146,22 @@ class Waits:
         if number not in self.tables.last:
             raise self.strange('the tables have no row in round %d' % number)
         for event in self.tables.events.get(number, ()):
-            if event.code in (0, 1) and event.key not in self.open:
-                wish = Wish(event.key, self.tables.kind(event.key[0]), event.time)
-                self.open[event.key] = wish
-                self.wishes.append(wish)
-            elif 3 <= event.code <= 6 and event.key in self.open:
-                self.open.pop(event.key).ended = event.time
+            self.take_row(event)
         return self.tables.last[number]
+
+    def take_row(self, event: Event) -> None:
+        if event.code in ASKING and event.key not in self.open:
+            self.begin(event.key, event.time)
+        elif event.code in ENDING and event.key in self.open:
+            self.open.pop(event.key).ended = event.time
+
+    def begin(self, key: Key, now: int) -> None:
+        wish = Wish(key, self.tables.kind(key[0]), now)
+        self.open[key] = wish
+        self.wishes.append(wish)
+
+    def end(self, key: Key, now: int) -> None:
+        """A task ends in the report, with a row that is taken already."""
 
     def change(self, what: str, key: Key, now: int) -> None:
         """A task is placed or stops. One that was displaced and ends in the same round isn't open any more."""
@@ -162,6 +177,40 @@ class Waits:
             wish.displaced.append(now)
         elif wish.placed is None:
             wish.placed = now
+
+
+class OwnWaits(Waits):
+    """The same where tasks run for as long as they ran in the trace. Each wish ends with a line of the report, and a
+    task that has come again in the trace by then is submitted with that end."""
+
+    def __init__(self, tables: Tables, report: str) -> None:
+        self.asked: Set[Key] = set()            # no row has ended these since one asked for them
+        self.held: Dict[Key, int] = {}          # how often rows of the trace have asked for a task too early
+        super().__init__(tables, report)
+
+    def take_row(self, event: Event) -> None:
+        if event.code in ASKING and event.key not in self.asked:
+            self.asked.add(event.key)
+            if event.key in self.open:
+                self.held[event.key] = self.held.get(event.key, 0) + 1
+            else:
+                self.begin(event.key, event.time)
+        elif event.code in ENDING:
+            self.asked.discard(event.key)
+
+    def end(self, key: Key, now: int) -> None:
+        wish = self.open.pop(key, None)
+        if wish is None or not wish.runs:
+            raise self.strange('task %d of job %d doesn\'t run where the report has its end' % (key[1], key[0]))
+        wish.ended = now
+        if self.held.get(key):
+            self.held[key] -= 1
+            self.begin(key, now)
+
+
+def wishes_of(tables: Tables, report: str, has_own_ends: bool) -> List[Wish]:
+    """The wishes of a report whose tasks end with rows of the trace, or by their own lives."""
+    return (OwnWaits if has_own_ends else Waits)(tables, report).wishes
 
 
 # Quantiles.

@@ -15,7 +15,7 @@ OPTIONS: Dict[str, Optional[str]] = {
     'tables': '.', 'seed': '0', 'batch': '1', 'rule': 'fine', 'mode': 'incremental', 'preempt': 'none',
     'extra': 'relative', 'cap': '60', 'tries': '5', 'give-up': '1000', 'window': '300000000', 'format': 'text',
     'machines': '64', 'jobs': '500', 't-job': '100000', 't-task': '5000', 'service-t-job': None,
-    'service-t-task': None, 'clock': 'rounds', 'times': 'no', 'kept': 'omega.db',
+    'service-t-task': None, 'clock': 'rounds', 'times': 'no', 'ends': 'trace', 'kept': 'omega.db',
 }
 DEFAULT_WINDOW = 300_000_000
 
@@ -35,6 +35,10 @@ class Words(NamedTuple):
         """How long a round is, in microseconds."""
         value = self.value('window')
         return int(value) if re.fullmatch('[0-9]{1,32}', value) and int(value) > 0 else DEFAULT_WINDOW
+
+    def has_own_ends(self) -> bool:
+        """Whether tasks run for as long as they ran in the trace."""
+        return (self.command, self.value('clock'), self.value('ends')) == ('simulate', 'free', 'own')
 
     def plain(self) -> List[str]:
         """The words one by one, the command first, in the order of the pages."""

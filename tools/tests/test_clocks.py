@@ -1,5 +1,5 @@
-"""What the reference says of the two clocks of `simulate`: where their reports are the same, what its judge says of
-them, and that random words name them."""
+"""What the reference says of the two clocks of `simulate` and of how tasks end: where reports are the same, what its
+judge says of them, and that random words name them."""
 import sys
 import unittest
 
@@ -21,7 +21,7 @@ class Clocks(unittest.TestCase):
     def test_judged(self) -> None:
         from judge import fault_in
         for folder in (TESTS / 'free-clock' / 'ties', TESTS / 'times' / 'by-rounds', TESTS / 'times' / 'json',
-                       TESTS / 'words' / 'clock-and-times-on-replay', ROOT / 'reference' / 'cases' / 'own-ends' / 'pieces'):
+                       TESTS / 'words' / 'clock-and-times-on-replay', TESTS / 'own-ends' / 'pieces'):
             with self.subTest(case=folder.name):
                 report = (folder / 'report.txt').read_bytes()
                 self.assertIsNone(fault_in(words_in(folder), report, str(folder)))
@@ -30,10 +30,10 @@ class Clocks(unittest.TestCase):
     def test_drawn(self) -> None:
         from drawing.cases import draw_case
         drawn = [word for number in range(60) for word in draw_case(number).words]
-        for word in ('--clock', '--times', 'free', 'rounds', 'yes', 'no'):
+        for word in ('--clock', '--times', '--ends', 'free', 'rounds', 'yes', 'no', 'trace', 'own'):
             self.assertIn(word, drawn)
         alone = [word for number in range(30) for word in draw_case(number, commands=['replay', 'audit']).words]
-        self.assertFalse([word for word in alone if word.startswith(('--clock', '--times'))])
+        self.assertFalse([word for word in alone if word.startswith(('--clock', '--times', '--ends'))])
 
 
 if __name__ == '__main__':

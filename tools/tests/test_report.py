@@ -19,6 +19,7 @@ import report as tool
 from omegatools import words
 
 CHOICES = ROOT / 'examples' / 'choices'
+OWN_ENDS = ROOT / 'tests' / 'own-ends'
 TEXT = CHOICES / 'batch-2' / 'report.txt'
 JSON = CHOICES / 'format-json' / 'report.txt'
 
@@ -165,6 +166,23 @@ class Refused(Reported):
                 for command in ('rounds', 'events', 'compare'):
                     self.refused(says, command, path)
 
+    # An end behind commits is of a task that ends by its own life, so of a report of `simulate`.
+    def test_ends_behind_commits(self) -> None:
+        text = (OWN_ENDS / 'placed-late-runs-as-long' / 'report.txt').read_text()
+        self.assertIn('round 6\nend 10 0 1\ncommit', text)
+        behind = text.replace('end 10 0 1\ncommit 1 5 12\n', 'commit 1 5 12\nend 10 0 1\n')
+        self.right('rounds', self.written(behind))
+        lines = behind.splitlines(True)
+        for count in range(1, len(lines)):
+            if lines[count].startswith('time 0 '):
+                self.right('rounds', self.written(''.join(lines[:count])))     # whole but for the single times
+            else:
+                self.refused('it ends behind line %d' % count, 'rounds', self.written(''.join(lines[:count])))
+        for more, says in (('displace 12 0 1', "'displace' follows on 'own end'"), ('place 12 0 1', "'place' follows on 'own end'"),
+                           ('evict 12 0 1\nend 12 0 1', "'evict' follows on 'own end'")):
+            self.refused(says, 'rounds', self.written(behind.replace('end 10 0 1\n', 'end 10 0 1\n%s\n' % more)))
+        self.of_all(TEXT.read_text().replace('place 4 0 1\n', 'evict 4 0 1\nend 4 0 1\n', 1), "'end' follows on 'evict'")
+
     def test_cut_at_each_byte_of_the_end(self) -> None:
         for text in (TEXT.read_text(), JSON.read_text()):
             for count in range(len(text) - 60, len(text) - 2):
@@ -299,6 +317,18 @@ class Shown(Reported):
                                          'committed': 1610000})
             self.assertEqual(found[-2], {'event': 'first', 'job': 5, 'scheduler': 1, 'arrived': 1500000, 'sync': 1500000})
 
+    # An end belongs to no commit, wherever it stands.
+    def test_events_of_ends_behind_commits(self) -> None:
+        report = OWN_ENDS / 'ends-behind-the-latest-time' / 'report.txt'
+        self.assertIn('place 10 0 1\nuse', report.read_text())
+        text = report.read_text().replace('place 10 0 1\nuse', 'place 10 0 1\nend 10 0 1\nuse').replace(
+            'round 8388607\nend 10 0 1\n', 'round 8388607\n')
+        for form in (text, as_json(text)):
+            found = [json.loads(line) for line in self.right('events', self.written(form)).out.splitlines()]
+            self.assertEqual([event['event'] for event in found[1:5]], ['round', 'commit', 'place', 'end'])
+            self.assertEqual(found[4], {'event': 'end', 'round': 0, 'time': 0, 'job': 10, 'index': 0, 'machine': 1,
+                                        'extra': False})
+
     # The other commands say of them what they say of the sums alone.
     def test_single_times_change_no_table(self) -> None:
         for command in ('rounds', 'schedulers', 'conflicts'):
@@ -369,6 +399,36 @@ class Shown(Reported):
         found = {(row['job'], row['index']): row
                  for row in rows(self.right('waits', CHOICES, CHOICES / 'preempt-service' / 'report.txt'))}
         self.assertEqual((found['10', '2']['evicted'], found['10', '2']['fate']), ('300000000', 'runs'))
+
+    # Tasks that run for as long as they did in the trace end with a line of the report, at the time of its round.
+    def test_waits_by_own_ends(self) -> None:
+        found = {}
+        for case in ('decided-on-after-its-life-in-the-trace', 'rows-of-a-later-piece-are-held', 'pieces',
+                     'evicted-task-waits-when-it-was-due', 'waits-although-the-trace-has-ended-it'):
+            answer = self.right('waits', OWN_ENDS / case, OWN_ENDS / case / 'report.txt')
+            found[case] = [tuple(row[name] for name in ('job', 'submitted', 'placed', 'evicted', 'ended', 'fate'))
+                           for row in rows(answer)]
+        self.assertEqual(found['decided-on-after-its-life-in-the-trace'], [
+            ('4', '0', '1000000', '', '', 'runs'), ('6', '0', '1000000', '', '1000000', 'ended'),
+            ('8', '8000000', '8000000', '', '', 'runs')])
+        self.assertEqual(found['pieces'], [
+            ('10', '0', '0', '', '3000000', 'ended'), ('10', '6000000', '6000000', '', '9000000', 'ended'),
+            ('11', '20000000', '20000000', '', '', 'runs')])
+        self.assertEqual(found['evicted-task-waits-when-it-was-due'][0], ('10', '0', '0', '2000000', '8000000', 'ended'))
+        self.assertEqual({row[-1] for row in found['waits-although-the-trace-has-ended-it']}, {'waits', 'runs'})
+        held = found['rows-of-a-later-piece-are-held']
+        self.assertEqual([row for row in held if row[0] == '10'][0][4], [row for row in held if row[0] == '10'][1][1])
+
+    # How tasks end is said by the words beside a report, or where it is read.
+    def test_waits_of_ends_that_are_chosen(self) -> None:
+        case = OWN_ENDS / 'decided-on-after-its-life-in-the-trace'
+        report = self.written((case / 'report.txt').read_bytes())
+        self.refused("task 0 of job 6 isn't wanted", 'waits', '--window', '1s', case, report)
+        self.refused("task 0 of job 6 isn't wanted", 'waits', '--ends', 'trace', case, case / 'report.txt')
+        self.assertEqual(self.right('waits', '--window', '1s', '--ends', 'own', case, report),
+                         self.right('waits', case, case / 'report.txt'))
+        ended = self.written((case / 'report.txt').read_text().replace('end 6 0 1', 'end 8 0 1'), 'other')
+        self.refused("task 0 of job 8 doesn't run where", 'waits', '--window', '1s', '--ends', 'own', case, ended)
 
     def test_waits_of_every_fate(self) -> None:
         (self.folder / 'machine_events.csv').write_text('0,1,0,p,1,1\n900000000,1,1,p,1,1\n')

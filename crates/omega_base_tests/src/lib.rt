@@ -12,6 +12,8 @@ mod generated;
 #[cfg(test)]
 mod lock;
 #[cfg(test)]
+mod pieces;
+#[cfg(test)]
 mod tables;
 #[cfg(test)]
 mod times;

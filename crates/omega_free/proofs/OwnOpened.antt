@@ -11,7 +11,6 @@ use Rattle.omega_model.specs.State.{state}
 use Rattle.omega_model.specs.Wanted.{WantedTask, attr_entry, ends, machine_entry, wanted}
 use Rattle.omega_model.specs.declared.cells.TaskKey.{TaskKey}
 use Rattle.omega_model.specs.declared.entries.Entry.{Entry}
-use Rattle.omega_model.specs.declared.entries.Entry.TheVariants.{Round as RoundEntry, MachineAdd, MachineUpdate, MachineRemove, AttrSet, AttrDelete, End, Commit}
 use Rattle.omega_model.specs.declared.rows.Row.{Row}
 use Rattle.omega_model.specs.declared.rows.Row.TheVariants.{Machine, Attr as AttrEvent, Task as TaskEvent}
 use Rattle.omega_model.specs.declared.rows.Round.{Round}
@@ -24,7 +23,7 @@ use Rattle.omega_pieces.specs.Due.{KeepsEnds}
 use Rattle.omega_pieces.specs.Kept.{KeepsPieces}
 use Rattle.omega_pieces.specs.declared.task_pieces.TaskPieces.{TaskPieces}
 use Rattle.omega_pieces.proofs.Counting.{counting_same}
-use Rattle.omega_pieces.proofs.EndsOn.{keeps_plain}
+use Rattle.omega_pieces.proofs.EndsOn.{keeps_plain, plain_ends_none}
 use Rattle.omega_pieces.proofs.PiecesOn.{keeps_entry}
 
 -- ---- which rows count
@@ -88,27 +87,17 @@ opened_alike trace rows one other history round = alike trace history rows round
 
 -- ---- no task ends while it opens
 
-pub plain_ends_none : (entry : Entry) → is_plain entry ≡ true → (key : TaskKey) → is_end_of key entry ≡ false
-plain_ends_none (RoundEntry number) plain key = refl
-plain_ends_none (MachineAdd machine cap) plain key = refl
-plain_ends_none (MachineUpdate machine cap) plain key = refl
-plain_ends_none (MachineRemove machine) plain key = refl
-plain_ends_none (AttrSet machine name value) plain key = refl
-plain_ends_none (AttrDelete machine name) plain key = refl
-plain_ends_none (End other machine) plain key = absurd (cc)
-plain_ends_none (Commit by seen txn reply) plain key = absurd (cc)
-
 module _ (trace : TraceTables) (some : List Row) (history : List Entry) (round : Round) where
   pub counting_opened : (rows : List Row) → counting rows (opened trace some history (without_ends round)).history ≡ counting rows history
   counting_opened rows =
       plain_opened (λ (later : List Entry). counting rows later ≡ counting rows history)
-      (λ later entry plain same. counting_same later entry rows (plain_ends_none entry plain) ∙ same) trace some history round refl
+      (λ later entry plain same. counting_same later entry rows (λ key. plain_ends_none key entry plain) ∙ same) trace some history round refl
 
   pub pieces_opened : (rows : List Row) (pieces : TaskPieces) → KeepsPieces trace rows history pieces
       → KeepsPieces trace rows (opened trace some history (without_ends round)).history pieces
   pieces_opened rows pieces keeps =
       plain_opened (λ (later : List Entry). KeepsPieces trace rows later pieces)
-      (λ later entry plain kept. keeps_entry trace rows later pieces entry (λ key low. plain_ends_none entry plain key) kept) trace some history round keeps
+      (λ later entry plain kept. keeps_entry trace rows later pieces entry (λ key low. plain_ends_none key entry plain) kept) trace some history round keeps
 
   pub ends_opened : (times : List Timed) (ends : List (TaskKey × ℕ)) → KeepsEnds trace history times ends
       → KeepsEnds trace (opened trace some history (without_ends round)).history times ends

@@ -36,7 +36,8 @@ time_of trace task placed number =
 abbrev pub placed_in : List (Claim × Judgement) → TaskKey → Bool
 placed_in decided key = list_any (λ (it : Claim × Judgement). admits it.1 && same_key it.0.key key) decided
 
-plain_ends_none : (key : TaskKey) (entry : Entry) → is_plain entry ≡ true → is_end_of key entry ≡ false
+-- such an entry ends no task
+pub plain_ends_none : (key : TaskKey) (entry : Entry) → is_plain entry ≡ true → is_end_of key entry ≡ false
 plain_ends_none key (RoundEntry number) plain = refl
 plain_ends_none key (MachineAdd machine cap) plain = refl
 plain_ends_none key (MachineUpdate machine cap) plain = refl

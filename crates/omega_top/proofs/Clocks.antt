@@ -1,9 +1,9 @@
 -- Runs by a clock: which clock the settings choose, and what follows of their histories.
 use Rattle.std.proofs.Common.{◌≡◌, ◌∙◌, List, Bool, true, false, refl, sym, ap, subst, arith}
 use Rattle.std.specs.Prelude.{if◌then◌else◌}
-use Rattle.omega_free.specs.FreeRuns.{reading_of, wanted_last}
+use Rattle.omega_free.specs.FreeRuns.{reading_by, reading_of, wanted_last}
 use Rattle.omega_free_laws.specs.Free.{FreeRun}
-use Rattle.omega_free_laws.proofs.LawsOfRuns.{holds_by_rows, holds_of_runs}
+use Rattle.omega_free_laws.proofs.LawsOfRuns.{holds_by_lives, holds_by_rows, holds_of_runs}
 use Rattle.omega_free_laws.proofs.OnlyFree.{only_free}
 use Rattle.omega_laws.specs.Simulated.{SimulatedWith}
 use Rattle.omega_laws.specs.VirtualTime.{Timed}
@@ -16,6 +16,8 @@ use Rattle.omega_model.specs.declared.settings.Clock.{Clock}
 use Rattle.omega_model.specs.declared.settings.Clock.TheVariants.{Free, Rounds}
 use Rattle.omega_model.specs.declared.settings.Command.{Command}
 use Rattle.omega_model.specs.declared.settings.Command.TheVariants.{Audit, Generate, Replay, Resume, Run, Simulate}
+use Rattle.omega_model.specs.declared.settings.Ends.{Ends}
+use Rattle.omega_model.specs.declared.settings.Ends.TheVariants.{Own, Trace}
 use Rattle.omega_model.specs.declared.settings.Settings.{Settings}
 use Rattle.omega_top.specs.Clocks.{IsFree, IsRunBy, IsTimedRun, freely_by, is_free, runs_freely, wanted_at_end}
 use Rattle.omega_top.specs.Commands.{takes_turns}
@@ -85,6 +87,11 @@ module _ (settings : Settings) (trace : TraceTables) (history : List Entry) wher
 -- ---- what holds of a free run
 
 module _ (settings : Settings) (trace : TraceTables) (history : List Entry) where
+  -- where it is known how tasks end, the trace is read so
+  read_so : (times : List Timed) (ends : Ends) → settings.ends ≡ ends → FreeRun settings (reading_of settings trace) history times
+      → FreeRun settings (reading_by ends trace) history times
+  read_so times ends is run = subst (λ (some : Ends). FreeRun settings (reading_by some trace) history times) is run
+
   pub keeps_free_laws : IsInRange settings → IsFree settings trace history → KeepsFreeLaws settings trace history
   keeps_free_laws range free =
       let window = range.window.0 in
@@ -92,7 +99,8 @@ module _ (settings : Settings) (trace : TraceTables) (history : List Entry) wher
         times = free.0;
         free = free.1;
         always = holds_of_runs settings (reading_of settings trace) history free.0 free.1;
-        by_rows = holds_by_rows settings trace history free.0 (omega (arith, window)) free.1;
+        by_rows = λ is. holds_by_rows settings trace history free.0 (omega (arith, window)) (read_so free.0 Trace is free.1);
+        by_lives = λ is. holds_by_lives settings trace history free.0 (omega (arith, window)) (read_so free.0 Own is free.1);
       }
 
   pub only_by_free : IsFree settings trace history → IsOnlyFree settings trace history

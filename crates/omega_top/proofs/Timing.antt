@@ -4,9 +4,10 @@ use Rattle.std.specs.Prelude.{All, unwrap_or, ◌==◌}
 use Rattle.std.specs.List.{filter, last_or}
 use Rattle.std.proofs.lemmas.List.Elements.{All-head, All-tail, All-same}
 use Rattle.omega_feed.proofs.Cutting.{rounds_have}
+use Rattle.omega_free.specs.EndsLeft.{left_of}
 use Rattle.omega_free.specs.FreeRuns.{reading_of}
-use Rattle.omega_free.proofs.FreeSums.{free_sums_fit, rows_tame}
-use Rattle.omega_free_laws.specs.StepsLeft.{none_left}
+use Rattle.omega_free.proofs.FreeSums.{free_sums_fit}
+use Rattle.omega_free.proofs.LivesTame.{tame_by}
 use Rattle.omega_laws.proofs.OnlyTimes.{simulated_times}
 use Rattle.omega_laws.specs.VirtualTime.{Timed}
 use Rattle.omega_model.specs.Feed.{feed, rounds, time_of}
@@ -65,7 +66,7 @@ pub timed_sums_fit : (clock : Clock) (settings : Settings) (trace : TraceTables)
 timed_sums_fit Rounds settings trace range bounds history times run =
     sums_fit settings trace range bounds history times (simulated_times settings trace history times run)
 timed_sums_fit Free settings trace range bounds history times run =
-    free_sums_fit settings (reading_of settings trace) range none_left (rows_tame trace bounds) history times run
+    free_sums_fit settings (reading_of settings trace) range (left_of settings trace) (tame_by settings.ends trace bounds) history times run
 
 -- the rounds of a world whose run is over are those of its trace
 pub rounds_of_trace : (settings : Settings) (trace : TraceTables) (world : WorldState)

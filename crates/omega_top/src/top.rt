@@ -57,8 +57,9 @@ use std::thread::Threads;
 /// Settings are answered unless the words weren't read; then no folder and no path was entered, and all
 /// tables are as they were. On `run` each scheduler has a thread of its own, which passes the gate, and the call may
 /// wait; on `simulate` the commits stand in the order of a virtual clock: by the clock of rounds a round opens
-/// when all have decided on the one before, and by the free clock when its rows are due, whoever decides. On
-/// the other commands that run a trace the schedulers take turns.
+/// when all have decided on the one before, and by the free clock when its rows are due, whoever decides. By the
+/// free clock and `--ends own` a task ends when it has run for as long as it did in the trace, and not where a row
+/// of the trace ends it. On the other commands that run a trace the schedulers take turns.
 pub fn omega<R: Threads + Wait + Sync, T: Tables, K: Sink, G: Gate + Sync, P: Keeper>(
     rt: &R,
     alloc: Global,
@@ -163,7 +164,7 @@ pub fn omega<R: Threads + Wait + Sync, T: Tables, K: Sink, G: Gate + Sync, P: Ke
 }
 
 /// What `omega` does once the words are read and folder and path are entered, under any settings in their
-/// ranges. How tasks end by the free clock, which no word says yet, isn't looked at: the trace's rows end them.
+/// ranges.
 pub fn omega_with<R: Threads + Wait + Sync, T: Tables, K: Sink, G: Gate + Sync, P: Keeper>(
     rt: &R,
     alloc: Global,

@@ -7,6 +7,7 @@ use Rattle.omega_model.specs.WordSettings.{default_settings}
 use Rattle.omega_model.specs.declared.claims.Rule.TheVariants.{Coarse}
 use Rattle.omega_model.specs.declared.settings.Clock.TheVariants as clock
 use Rattle.omega_model.specs.declared.settings.Command.TheVariants.{Audit, Generate, Resume, Run, Simulate}
+use Rattle.omega_model.specs.declared.settings.Ends.TheVariants.{Own}
 use Rattle.omega_words.specs.Built.{built_words}
 use Rattle.omega_words.specs.Taken.{folder_in, is_taken, kept_in, settings_in}
 use Rattle.omega_words.proofs.Sound.{is_sound}
@@ -53,6 +54,20 @@ of_the_free_clock = refl
 other_clock : is_taken built_words (codes "simulate" ∷ codes "--clock" ∷ codes "rounded" ∷ []) ≡ false
 unfolding built_words clap_on_literals
 other_clock = refl
+
+-- ---- how tasks end
+
+of_own_ends : settings_in built_words (codes "simulate" ∷ codes "--ends" ∷ codes "own" ∷ []) ≡ record default_settings { command = Simulate; ends = Own }
+unfolding built_words clap_on_literals
+of_own_ends = refl
+
+of_ends_of_the_trace : settings_in built_words (codes "simulate" ∷ codes "--ends=trace" ∷ []) ≡ record default_settings { command = Simulate }
+unfolding built_words clap_on_literals
+of_ends_of_the_trace = refl
+
+other_ends : is_taken built_words (codes "simulate" ∷ codes "--ends" ∷ codes "rows" ∷ []) ≡ false
+unfolding built_words clap_on_literals
+other_ends = refl
 
 -- ---- what is kept
 

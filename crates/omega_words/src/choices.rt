@@ -83,7 +83,7 @@ pub fn commands() -> [&'static str; 6]
 }
 
 /// The options of the table.
-pub fn table() -> [Choice<'static>; 21]
+pub fn table() -> [Choice<'static>; 22]
     ensures { map choice_of result ≡ built_words.choices }
 {
     [
@@ -108,6 +108,7 @@ pub fn table() -> [Choice<'static>; 21]
         make_choice("kept", Values::Path),
         make_choice("clock", Values::OneOf(&["rounds", "free"])),
         make_choice("times", Values::OneOf(&["no", "yes"])),
+        make_choice("ends", Values::OneOf(&["trace", "own"])),
     ]
 }
 

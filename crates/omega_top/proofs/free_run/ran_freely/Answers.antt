@@ -1,11 +1,14 @@
-use Rattle.std.proofs.Common.{◌∙◌, List, subst, sym, true≢false}
+use Rattle.std.proofs.Common.{◌∙◌, List, ap, length, subst, sym, true≢false}
 use Rattle.omega_feed.specs.Left.{AreLeft}
 use Rattle.omega_free.specs.FreeRuns.{reading_of}
+use Rattle.omega_free.proofs.ReadingsOf.{trace_by}
 use Rattle.omega_free_laws.proofs.RoundsCounted.{free_rounds_counted}
 use Rattle.omega_free_laws.proofs.Seen.{free_is_legal}
+use Rattle.omega_model.specs.Feed.{rounds}
 use Rattle.omega_model.specs.State.{state}
 use Rattle.omega_model.specs.Wanted.{WantedTask}
 use Rattle.omega_model.specs.declared.entries.Entry.{Entry}
+use Rattle.omega_model.specs.declared.rows.TraceTables.{TraceTables}
 use Rattle.omega_top.proofs.Clocks.{by_free, free_is_simulate, wanted_by_free}
 use Rattle.omega_top.proofs.TellingTimes.{told_simulated}
 use Rattle.omega_top.specs.Clocks.{IsTimedRun}
@@ -27,7 +30,8 @@ returns c =
         free = λ it. (times, run.runs);
         legal = free_is_legal settings (reading_of settings trace) history times run.runs;
       };
-      begins = free_rounds_counted settings (reading_of settings trace) history times run.runs;
+      begins = free_rounds_counted settings (reading_of settings trace) history times run.runs
+          ∙ ap (λ (read : TraceTables). length (rounds read settings.window)) (trace_by settings.ends trace);
       effects = run.effects;
       left = subst (λ (tasks : List WantedTask). AreLeft tasks (state history) c.in_ok-history.field-0.left)
           (sym (wanted_by_free settings trace history free)) run.left;

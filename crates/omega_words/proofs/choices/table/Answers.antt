@@ -25,4 +25,5 @@ returns c =
     (ap₂ ◌∷◌ c.make_choice-18.ensures
     (ap₂ ◌∷◌ c.make_choice-19.ensures
     (ap₂ ◌∷◌ c.make_choice-20.ensures
-    (ap₂ ◌∷◌ c.make_choice-21.ensures refl))))))))))))))))))))
+    (ap₂ ◌∷◌ c.make_choice-21.ensures
+    (ap₂ ◌∷◌ c.make_choice-22.ensures refl)))))))))))))))))))))
