@@ -1,5 +1,5 @@
 -- What is kept of ends stays kept, whichever way tasks end, where it stays so where they end of themselves.
-use Rattle.std.proofs.Common.{◌≡◌, ◌++◌, ◌∷◌, [], ℕ, List, Some, None, length}
+use Rattle.std.proofs.Common.{◌≡◌, ◌++◌, ◌∷◌, [], ℕ, List, Some, length}
 use Rattle.std.specs.Prelude.{Option}
 use Rattle.omega_feed.specs.Asked.{Asked}
 use Rattle.omega_laws.specs.VirtualTime.{Timed}

@@ -1,5 +1,5 @@
 -- Where tasks end of themselves, the times of a run by the free clock are small.
-use Rattle.std.proofs.Common.{◌≡◌, ◌≤◌, ◌<◌, ◌+◌, ◌-◌, ℕ, Bool, true, false, cond, not, List, [], ◌∷◌, ◌++◌, Option, Some, None, length, refl, sym, ap, subst, ◌∙◌, arith, length-append}
+use Rattle.std.proofs.Common.{◌≡◌, ◌≤◌, ◌<◌, ◌+◌, ◌-◌, ℕ, Bool, false, cond, not, List, [], ◌∷◌, ◌++◌, Option, Some, None, length, refl, ap, subst, arith, length-append}
 use Rattle.std.specs.Prelude.{◌==◌, slice_get}
 use Rattle.std.specs.List.{filter, filter_map, fold, last_or, AllByRecursion as Each}
 use Rattle.omega_board.proofs.Places.{each_get}
@@ -20,7 +20,7 @@ use Rattle.omega_model.specs.declared.settings.Ends.{Ends}
 use Rattle.omega_model.specs.declared.settings.Ends.TheVariants.{Own, Trace}
 use Rattle.omega_sim.specs.InBounds.{IsInBounds}
 use Rattle.omega_sim.proofs.Shorter.{feed_few}
-use Rattle.omega_free_laws.specs.Lives.{DueEnd, Pieces, counting, counting_behind, counts, cut_at, did_place, ended, first_own_end, lives_of, pieces_after, pieces_of, with_own_row}
+use Rattle.omega_free_laws.specs.Lives.{DueEnd, Pieces, counting_behind, counts, cut_at, did_place, ended, first_own_end, lives_of, pieces_after, pieces_of, with_own_row}
 use Rattle.omega_free_laws.specs.LivesLaws.{IsDueEnd, lives_left, lives_left_of, task_of_row, tasks_of}
 use Rattle.omega_free_laws.specs.Readings.{by_lives}
 use Rattle.omega_free_laws.proofs.DueEnds.{lives_bound, own_end_is}

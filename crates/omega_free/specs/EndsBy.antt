@@ -15,7 +15,6 @@ use Rattle.omega_model.specs.declared.settings.Settings.{Settings}
 use Rattle.omega_free_laws.specs.FreeSteps.{past_ended, past_opened}
 use Rattle.omega_free_laws.specs.Lives.{DueEnd}
 use Rattle.omega_free_laws.specs.Passes.{Past}
-use Rattle.omega_free_laws.specs.Readings.{Reading}
 use Rattle.omega_free.specs.FreeRuns.{reading_by}
 use Rattle.omega_free.specs.KeptEnds.{KeepsEndsBy, TellsPast}
 use Rattle.omega_free.specs.declared.next_round.NextRound.{NextRound}

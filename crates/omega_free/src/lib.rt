@@ -1,8 +1,8 @@
 //! Runs by the free clock, on which rounds open when their rows are due and no scheduler waits for another.
 //!
 //! A scheduler syncs, decides for a while on a plan that it keeps, and commits what is still wanted of it then. The
-//! loop, `in_free_time`, lets happen what is due first of a world, and `World` is that of a trace over one cell, whose
-//! tasks end by the trace's rows or of themselves, which `OwnEnds` keeps.
+//! loop, `in_free_time`, lets happen what is due first of a world, and `World` is that of a trace over one cell. Tasks end
+//! by the trace's rows, or of themselves, as the settings say; then `OwnEnds` knows which rows count and which end is due.
 //! `run_freely` runs a whole trace so: it is what `simulate --clock free` calls. `sums_of_free_runs` says that no sum
 //! over the times of such a run has more than 128 bits.
 #![tactic(auto)]

@@ -33,14 +33,17 @@ pub struct WholeRun {
 }
 
 /// Runs a trace by the free clock until no round is to come and nobody is deciding. Each round opens at the greatest
-/// time of its rows, whoever is deciding then. Takes the tables over, and gives their memory back but for the rows of
-/// the events and of constraints. Where memory runs out nothing is left of the run. A time of 2^128 microseconds or more
-/// is answered as want of memory; no memory has room for as many commits as that takes.
+/// time of its rows, whoever is deciding then. Tasks end by these rows, or each when it has run for as long as it did in
+/// the trace, as the settings say. Takes the tables over, and gives their memory back but for the rows of the events and
+/// of constraints. Where memory runs out nothing is left of the run. A time of 2^128 microseconds or more is answered as
+/// want of memory; no memory has room for as many commits as that takes.
 ///
 /// The history and the times are the only ones of these settings and this trace. Costs the rows of the trace with what
-/// their entries change, and a sort of tables of events that aren't in order of time; for each round a look at each
-/// scheduler, and for each that isn't deciding then a look at the jobs of which something may have to be placed; and for
-/// each commit a look at each scheduler, its claims, and the plan that its scheduler makes then.
+/// their entries change, and a sort of tables of events that aren't in order of time; for each round, and for each end
+/// that no row brings, a look at each scheduler, and for each that isn't deciding then a look at the jobs of which
+/// something may have to be placed; and for each commit a look at each scheduler, its claims, and the plan that its
+/// scheduler makes then. Where tasks end of themselves it costs besides the memory of a time for each task that was
+/// placed, of each life, and of the rows that wait for their task to end.
 pub fn run_freely(
     alloc: Global,
     settings: &Settings,
