@@ -1,6 +1,7 @@
 //! The running tasks.
-ghost use Rattle.std.specs.Prelude.{◌≡◌, ◌+◌, ◌^◌, ◌≤◌, ◌<◌, [], ◌∷◌, max, length, option_map, IsOk, IfOk, OnOk, is_some, None, vec_len, vec_capacity, if◌then◌else◌};
+ghost use Rattle.std.specs.Prelude.{◌≡◌, ◌+◌, ◌^◌, ◌≤◌, ◌<◌, ◌++◌, [], ◌∷◌, max, length, option_map, IsOk, IfOk, OnOk, is_some, None, vec_len, vec_capacity, if◌then◌else◌};
 ghost use Rattle.std.specs.List.{filter};
+ghost use Rattle.std.specs.List.Sorted.{IsPermutation};
 ghost use Rattle.omega_model.specs.Cell.{task_at, with_task, without, is_on, by_rank, keys_of};
 ghost use Rattle.omega_model.specs.ExtraTasks.{is_extra_of};
 ghost use Rattle.omega_model.specs.Jobs.{other_of_job};
@@ -168,6 +169,14 @@ impl Running {
         self.by_machine.collect(machine, &mut found)?;
         found.sort_unstable_by_key(|task| (task.key.job, task.key.index));
         Ok(Seq::of(found))
+    }
+
+    /// Appends the tasks on a machine, in any order. With k tasks on the machine, takes time k, and logarithmic in the
+    /// number of tasks.
+    pub fn append_on(&self, machine: u64, found: &mut Vec<Task>) -> Result<(), NoMemory>
+        ensures { OnOk result (IsPermutation (found.old.items ++ filter (is_on machine) self.now.tasks) found.new.items) }
+    {
+        self.by_machine.collect(machine, found)
     }
 
     /// What is left of an amount when each task of at least this precedence on a machine has taken its
