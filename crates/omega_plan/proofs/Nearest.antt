@@ -1,7 +1,8 @@
 -- Of some tasks the first few in order of eviction go. Where those make room that don't come behind one of them, the
 -- others stay.
-use Rattle.std.proofs.Common.{◌≡◌, ◌+◌, ◌<◌, ◌≤◌, ℕ, zero, suc, Bool, true, false, not, List, [], ◌∷◌, ◌++◌, length, length-append, get_or, take, drop, Option, Some, None, arith, refl, sym, ap, subst, ◌∙◌}
+use Rattle.std.proofs.Common.{◌≡◌, ◌+◌, ◌<◌, ◌≤◌, ℕ, zero, suc, Bool, true, false, not, List, [], ◌∷◌, ◌++◌, length, length-append, get_or, take, drop, Option, Some, None, arith, refl, sym, ap, subst, ◌∙◌, if◌then◌else◌}
 use Rattle.std.specs.List.{filter, find, range_with_len, AllByRecursion as Each}
+use Rattle.std.specs.List.Sorted.{IsPermutation}
 use Rattle.std.proofs.lemmas.Bool.{both_ways, false_from_ne_true, not-true}
 use Rattle.std.proofs.lemmas.List.{drop_more}
 use Rattle.std.proofs.lemmas.List.Elements.{filter-append}
@@ -18,12 +19,15 @@ use Rattle.omega_model.specs.declared.wishes.Wish.{Wish}
 use Rattle.omega_model.proofs.Amounts.{need_is, rank_total, total-append}
 use Rattle.omega_model.proofs.Lists.{by_answer, each_map, each_passes, filter_and, filter_every, filter_turned}
 use Rattle.omega_running.specs.Order.{IsInOrder}
+use Rattle.omega_running.specs.Staying.{stays_against}
 use Rattle.omega_running.specs.declared.orders.Order.TheVariants.{ByKey}
 use Rattle.omega_running.proofs.InOrder.{rank_strict}
 use Rattle.omega_running.proofs.Ranked.{each_ranked}
 use Rattle.omega_running.proofs.Strict.{ahead, trans}
 use Rattle.omega_plan.specs.Leaving.{AreFewest, GoFirst, evictable, leaves_enough, stays}
+use Rattle.omega_plan.specs.Telling.{freed_beside, freed_on}
 use Rattle.omega_plan.proofs.Leaving.{minus_plus, victims_fewest, victims_full}
+use Rattle.omega_plan.proofs.Moved.{filter_moved, total_moved}
 
 -- one more of those that pass a test takes what it needs
 pub passing_more : (p : Task → Bool) (left next whole : Need) (tasks : List Task) (i : ℕ) (d : Task) → i < length tasks → next ≡ minus left (total (filter p (get_or tasks i d ∷ [])))
@@ -37,6 +41,11 @@ passing_more p left next whole tasks i d below is so =
     ∙ ap (λ (ts : List Task). minus left (total ts)) (sym (filter-append p (t ∷ []) rest))
     ∙ ap (λ (ts : List Task). minus left (total (filter p ts))) (sym (drop_more tasks i d below))
     ∙ so
+
+-- what evictions could free on a machine, by its tasks in any order
+pub freed_there : (prec : ℕ) (tasks own : List Task) (machine : Machine) → IsPermutation (filter (is_on machine.id) tasks) own → freed_beside prec own machine ≡ freed_on prec tasks machine
+freed_there prec tasks own machine places =
+    ap (λ (n : Need). if machine.up then Some (minus machine.cap n) else None) (sym (total_moved _ _ (filter_moved (stays_against prec) (filter (is_on machine.id) tasks) own places)))
 
 -- a task that doesn't come behind another stands before those that do
 put_early : (pivot t : Task) (front back : List Task) → goes_before pivot t ≡ false → Each (λ y. goes_before pivot y ≡ true) back → put_by_rank t (front ++ back) ≡ put_by_rank t front ++ back
@@ -96,7 +105,7 @@ take_front (suc n) (x ∷ xs) ys le = ap (λ zs. x ∷ zs) (take_front n xs ys (
 
 -- what is found among some numbers is one of them, and is found among more by a test that answers the same of these
 found_below : (test : ℕ → Bool) (from k n : ℕ) → find test (range_with_len from k) ≡ Some n → n < from + k
-found_below test from zero n found = absurd (none-some found)
+found_below test from zero n found = absurd (none-some n found)
 found_below test from (suc k) n found =
     by_answer (test from)
     (λ t. let here : Some from ≡ Some n = rw t at found in subst (λ (o : Option ℕ). get_from o < from + suc k) here (omega arith))
@@ -108,7 +117,7 @@ found_below test from (suc k) n found =
 
 found_among : (test other : ℕ → Bool) (from k more n : ℕ) → ((m : ℕ) → from ≤ m → m < from + k → test m ≡ other m) → find test (range_with_len from k) ≡ Some n
     → find other (range_with_len from (k + more)) ≡ Some n
-found_among test other from zero more n same found = absurd (none-some found)
+found_among test other from zero more n same found = absurd (none-some n found)
 found_among test other from (suc k) more n same found =
     let longer : suc k + more ≡ suc (k + more) = omega arith in
     by_answer (test from)

@@ -6,7 +6,7 @@ ghost use Rattle.omega_plan.specs.Overlays.{cell_after, tasks_claimed};
 ghost use Rattle.omega_plan.specs.Telling.{freed_of};
 ghost use Rattle.std.specs.List.{filter, find, range_with_len};
 ghost use Rattle.std.specs.List.Sorted.{IsPermutation};
-ghost use Rattle.omega_model.specs.Cell.{by_rank, goes_before, machine_at, task_at, total};
+ghost use Rattle.omega_model.specs.Cell.{by_rank, goes_before, is_on, machine_at, task_at, total};
 ghost use Rattle.omega_model.specs.declared.cells.Task.{Task};
 ghost use Rattle.omega_running.specs.Order.{IsInOrder};
 ghost use Rattle.omega_running.specs.declared.orders.Order.TheVariants.{ByKey};

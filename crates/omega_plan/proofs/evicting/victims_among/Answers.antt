@@ -1,10 +1,10 @@
-use Rattle.std.proofs.Common.{◌≡◌, List, sym, ap, subst, ◌∙◌, rules}
+use Rattle.std.proofs.Common.{◌≡◌, ◌++◌, List, sym, ap, subst, ◌∙◌, rules}
 use Rattle.std.specs.List.{filter}
 use Rattle.std.specs.List.Sorted.{IsPermutation}
 use Rattle.std.proofs.lemmas.Bool.{both_ways, false_from_ne_true}
 use Rattle.std.proofs.lemmas.Fn.{filter_same}
 use Rattle.omega_model.specs.Cell.{by_rank, keys_of, total}
-use Rattle.omega_model.specs.Need.{Fits, fits, minus}
+use Rattle.omega_model.specs.Need.{Fits, minus}
 use Rattle.omega_model.specs.Plan.{gives_way}
 use Rattle.omega_model.specs.declared.cells.Need.{Need}
 use Rattle.omega_model.specs.declared.cells.Task.{Task}
@@ -26,7 +26,7 @@ pub returns-then-not-fits : goal.returns-then-not-fits
 returns-then-not-fits c = λ own rises places.
     let wish = c.args.wish.now in
     let left = left_there wish c.args.cap c.left_by_staying-left.result own c.args.tasks.now places c.left_by_staying-left.ensures in
-    false_from_ne_true _ (λ t. both_ways _ c.fits.result c.if-not-fits.true (c.fits.ensures.1 (subst (Fits wish.spec.need) (sym left) (fits_tested _ _ t))))
+    false_from_ne_true _ (λ t. both_ways c.fits.result c.if-not-fits.true (c.fits.ensures.1 (subst (Fits wish.spec.need) (sym left) (fits_tested _ _ t))))
 
 pub first_to_go-gone-requires : goal.first_to_go-gone-requires
 first_to_go-gone-requires c = record { room = fits_true _ _ (c.fits.ensures.0 c.if-not-fits.false) }

@@ -1,4 +1,4 @@
-use Rattle.std.proofs.Common.{◌<◌, ◌+◌, drop, length, arith, subst}
+use Rattle.std.proofs.Common.{◌+◌, drop, arith, subst}
 use Rattle.std.proofs.lemmas.List.{drop_more}
 use Rattle.omega_machines.specs.Table.{machines_of}
 use Rattle.omega_board.specs.Numbers.{is_among}
