@@ -24,5 +24,6 @@ pub mod Rooms
 pub mod StepsOf
 pub mod Planned
 pub mod Leaving
+pub mod Nearest
 pub mod Moved
 pub mod Whole

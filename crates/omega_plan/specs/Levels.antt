@@ -1,7 +1,9 @@
 -- What the indexes of several precedences tell of a cell.
-use Rattle.std.specs.Prelude.{◌≡◌, ◌≤◌, ◌+◌, ◌||◌, ℕ, Bool, false, List, IsSomeAnd, length, drop, slice_get}
+use Rattle.std.specs.Prelude.{◌≡◌, ◌≤◌, ◌+◌, ◌||◌, ℕ, Bool, false, List, Option, IfSome, IsSomeAnd, length, drop, slice_get}
 use Rattle.std.specs.List.{filter, AllByRecursion as Each}
+use Rattle.std.specs.List.Sorted.{IsPermutation}
 use Rattle.omega_model.specs.Cell.{Cell, is_on}
+use Rattle.omega_model.specs.declared.cells.Task.{Task}
 use Rattle.omega_model.specs.declared.entries.Entry.{Entry}
 use Rattle.omega_machines.specs.Table.{machines_of}
 use Rattle.omega_board.specs.Board.{BoardState}
@@ -9,6 +11,7 @@ use Rattle.omega_board.specs.Numbers.{is_among}
 use Rattle.omega_board.specs.Parts.{ChangedAlone}
 use Rattle.omega_model.specs.Touches.{is_touched_by}
 use Rattle.omega_fit.specs.Positions.{Positions}
+use Rattle.omega_plan.specs.declared.levels.Found.{Found}
 use Rattle.omega_plan.specs.declared.levels.Level.{Level}
 use Rattle.omega_plan.specs.declared.levels.Levels.{Levels}
 use Rattle.omega_plan.specs.Telling.{TellsBut, freed_of, placed}
@@ -16,6 +19,10 @@ use Rattle.omega_plan.specs.Telling.{TellsBut, freed_of, placed}
 -- a level tells what evictions for its precedence could free on each machine
 abbrev pub Tells : Cell → Level → Type 0
 Tells cell level = level.index.free ≡ freed_of level.prec cell
+
+-- tasks that were found on a machine are those that run there, in any order
+abbrev pub AreFound : List Task → Option Found → Type 0
+AreFound tasks found = IfSome found (λ some. IsPermutation (filter (is_on some.machine) tasks) some.tasks)
 
 -- the level at a place is that of this precedence
 abbrev pub IsLevelAt : List Level → ℕ → ℕ → Type 0

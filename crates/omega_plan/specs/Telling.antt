@@ -1,13 +1,14 @@
 -- What an index tells of the machines of a cell.
 use Rattle.std.specs.Prelude.{◌≡◌, ℕ, Bool, false, List, [], ◌∷◌, ◌++◌, Option, Some, None, not, ◌==◌, ◌||◌, length, map, drop, if◌then◌else◌}
 use Rattle.std.specs.Option.{option_map_or}
-use Rattle.omega_model.specs.Cell.{Cell, use_on}
+use Rattle.std.specs.List.{filter}
+use Rattle.omega_model.specs.Cell.{Cell, total, use_on}
 use Rattle.omega_model.specs.Need.{minus}
 use Rattle.omega_model.specs.declared.cells.Machine.{Machine}
 use Rattle.omega_model.specs.declared.cells.Need.{Need}
 use Rattle.omega_model.specs.declared.cells.Spec.{Spec}
 use Rattle.omega_model.specs.declared.cells.Task.{Task}
-use Rattle.omega_running.specs.Staying.{staying_on}
+use Rattle.omega_running.specs.Staying.{staying_on, stays_against}
 
 -- what is free on a machine while these tasks run, if it is up
 abbrev pub free_on : List Task → Machine → Option Need
@@ -21,7 +22,11 @@ frees_of cell = map (free_on cell.tasks) cell.machines
 abbrev pub freed_on : ℕ → List Task → Machine → Option Need
 freed_on prec tasks machine = if machine.up then Some (minus machine.cap (staying_on prec tasks machine.id)) else None
 
--- the same of each machine of a cell, in order of the list
+-- the same, where these are the tasks on it
+abbrev pub freed_beside : ℕ → List Task → Machine → Option Need
+freed_beside prec own machine = if machine.up then Some (minus machine.cap (total (filter (stays_against prec) own))) else None
+
+-- what is free once all tasks of a lower precedence are off, on each machine of a cell, in order of the list
 abbrev pub freed_of : ℕ → Cell → List (Option Need)
 freed_of prec cell = map (freed_on prec cell.tasks) cell.machines
 

@@ -1,30 +1,39 @@
 //! The tasks that make room for a wish, and the first machine on which they do.
-ghost use Rattle.std.specs.Prelude.{◌≡◌, ◌≤◌, ◌<◌, ◌+◌, None, Some, IfOk, IfSome, IsTrue, option_map, length};
+ghost use Rattle.std.specs.Prelude.{◌≡◌, ◌≤◌, ◌<◌, ◌+◌, ◌∷◌, [], List, None, Some, IfOk, IfSome, IsTrue, option_map, length};
 ghost use Rattle.omega_board.specs.Board.{cell_of};
 ghost use Rattle.omega_plan.specs.Indexes.{TellAll};
 ghost use Rattle.omega_plan.specs.Overlays.{cell_after, tasks_claimed};
 ghost use Rattle.omega_plan.specs.Telling.{freed_of};
 ghost use Rattle.std.specs.List.{filter, find, range_with_len};
-ghost use Rattle.omega_model.specs.Cell.{machine_at, task_at, total};
+ghost use Rattle.std.specs.List.Sorted.{IsPermutation};
+ghost use Rattle.omega_model.specs.Cell.{by_rank, goes_before, is_on, machine_at, task_at, total};
+ghost use Rattle.omega_model.specs.declared.cells.Task.{Task};
+ghost use Rattle.omega_running.specs.Order.{IsInOrder};
+ghost use Rattle.omega_running.specs.declared.orders.Order.TheVariants.{ByKey};
 ghost use Rattle.omega_model.specs.Legal.{Sound};
 ghost use Rattle.omega_model.specs.Need.{fits, minus};
 ghost use Rattle.omega_model.specs.Plan.{gives_way, victims};
 ghost use Rattle.omega_running.specs.Kept.{KeysRise};
 ghost use Rattle.omega_plan.specs.Kinds.{Serves};
 ghost use Rattle.omega_plan.specs.Trying.{AreVictimsAt, IsFirstToYield, Yields};
-ghost use Rattle.omega_plan.specs.Leaving.{leaves_enough, need_staying, stays};
+ghost use Rattle.omega_plan.specs.Leaving.{AreFewest, GoFirst, leaves_enough, need_staying, stays};
+ghost use Rattle.omega_plan.specs.Levels.{AreFound};
 ghost use Rattle.omega_fit.specs.Wrapped.{FirstBetween};
 
 use crate::indexes::Indexes;
+use crate::levels::{Found, Level};
 use crate::overlay::Overlay;
 use crate::progress::Progress;
 use crate::trying::has_rival;
 use omega_attrs::eligible;
 use omega_board::Board;
-use omega_fit::FitIndex;
 use omega_model::{Keys, Machine, Need, NoMemory, Task, Wish};
-use omega_running::keys_of;
+use omega_running::{key_lt, keys_of};
 use std::alloc::Global;
+
+/// So few tasks are sorted without a look at which of them may stay. It is also the share of the tasks at which the one
+/// stands that is looked at first: each of a machine's trees has its tasks in order of key, so it is an early one.
+const FEW: usize = 64;
 
 /// A position, and the victims that make room on the machine that stands there.
 #[derive(Debug, Drop)]
@@ -60,7 +69,7 @@ pub(crate) fn first_to_yield(
         return Ok(None);
     };
     let level = indexes.lend_level(alloc, overlay, wish.spec.prec)?;
-    let found = yielding_from(alloc, overlay, level.freed(), wish, begin);
+    let found = yielding_from(alloc, overlay, &level, wish, begin);
     indexes.take_back(level);
     found
 }
@@ -69,21 +78,22 @@ pub(crate) fn first_to_yield(
 fn yielding_from(
     alloc: Global,
     overlay: &Overlay,
-    freed: &FitIndex,
+    level: &Level,
     wish: &Wish,
     begin: usize,
 ) -> Result<Option<Candidate>, NoMemory>
     requires sound { Sound (cell_after overlay.now) }
-    requires freed { freed.now.free ≡ freed_of wish.now.spec.prec (cell_after overlay.now) }
+    requires freed { level.now.index.free ≡ freed_of wish.now.spec.prec (cell_after overlay.now) }
+    requires found { AreFound (tasks_claimed overlay.now) level.now.found }
     requires absent { task_at (tasks_claimed overlay.now) wish.now.key ≡ None }
     requires begin { begin ≤ length (cell_after overlay.now).machines }
     ensures first { IfOk result (λ found. IsFirstToYield (cell_after overlay.now) wish.now begin (option_map (λ f. f.position) found)) }
     ensures below { IfOk result (λ found. IfSome found (λ f. f.position < length overlay.now.board.table)) }
     ensures victims { IfOk result (λ found. IfSome found (λ f. AreVictimsAt (cell_after overlay.now) wish.now f.position (Some f.victims))) }
 {
-    match yielding_between(alloc, overlay, freed, wish, begin, freed.len())? {
+    match yielding_between(alloc, overlay, level, wish, begin, level.freed().len())? {
         Some(found) => Ok(Some(found)),
-        None => yielding_between(alloc, overlay, freed, wish, 0, begin),
+        None => yielding_between(alloc, overlay, level, wish, 0, begin),
     }
 }
 
@@ -91,22 +101,23 @@ fn yielding_from(
 fn yielding_between(
     alloc: Global,
     overlay: &Overlay,
-    freed: &FitIndex,
+    level: &Level,
     wish: &Wish,
     from: usize,
     to: usize,
 ) -> Result<Option<Candidate>, NoMemory>
     requires sound { Sound (cell_after overlay.now) }
-    requires freed { freed.now.free ≡ freed_of wish.now.spec.prec (cell_after overlay.now) }
+    requires freed { level.now.index.free ≡ freed_of wish.now.spec.prec (cell_after overlay.now) }
+    requires found { AreFound (tasks_claimed overlay.now) level.now.found }
     requires absent { task_at (tasks_claimed overlay.now) wish.now.key ≡ None }
-    requires to { to ≤ length freed.now.free }
+    requires to { to ≤ length level.now.index.free }
     ensures first { IfOk result (λ found. FirstBetween (Yields (cell_after overlay.now) wish.now) from to (option_map (λ f. f.position) found)) }
     ensures below { IfOk result (λ found. IfSome found (λ f. f.position < to)) }
     ensures victims { IfOk result (λ found. IfSome found (λ f. AreVictimsAt (cell_after overlay.now) wish.now f.position (Some f.victims))) }
 {
     let mut begin = from;
-    while let Some(position) = freed.next(begin, to, wish.spec.need) {
-        if let Some(victims) = victims_at(alloc, overlay, wish, position)? {
+    while let Some(position) = level.freed().next(begin, to, wish.spec.need) {
+        if let Some(victims) = victims_at(alloc, overlay, &level.found, wish, position)? {
             return Ok(Some(Candidate { position, victims }));
         }
         begin = position + 1;
@@ -114,13 +125,16 @@ fn yielding_between(
     Ok(None)
 }
 
-/// The victims on the machine at a position, if it suits the wish and evictions make room there.
+/// The victims on the machine at a position, if it suits the wish and evictions make room there. Where its tasks were
+/// found before they aren't collected anew.
 fn victims_at(
     alloc: Global,
     overlay: &Overlay,
+    found: &Option<Found>,
     wish: &Wish,
     position: usize,
 ) -> Result<Option<Keys>, NoMemory>
+    requires found { AreFound (tasks_claimed overlay.now) found.now }
     requires absent { task_at (tasks_claimed overlay.now) wish.now.key ≡ None }
     ensures { IfOk result (λ keys. AreVictimsAt (cell_after overlay.now) wish.now position keys) }
 {
@@ -131,7 +145,7 @@ fn victims_at(
     if !eligible(&wish.constraints, &machine.attrs) {
         return Ok(None);
     }
-    victims_on(alloc, overlay, wish, machine)
+    victims_on(alloc, overlay, found, wish, machine)
 }
 
 /// The fewest tasks on a machine that must go for a claim of the wish by rule `Fine` to be placed there:
@@ -140,7 +154,8 @@ fn victims_at(
 /// them go: for want of room, for a machine that isn't up, for a task that runs already, or for another
 /// of its job there where it wants different machines. Constraints aren't looked at.
 ///
-/// Costs the machine's tasks; where all that may go make room, these are sorted.
+/// Costs the machine's tasks; where all that may go make room, these are copied. Of those the ones are sorted of which
+/// it isn't seen at a glance that they may stay: where few go, few.
 pub fn victims(
     alloc: Global,
     board: &Board,
@@ -171,16 +186,18 @@ fn victims_beside(
     if overlay.runs(wish.key) {
         return Ok(None);
     }
-    victims_on(alloc, overlay, wish, listed)
+    victims_on(alloc, overlay, &None, wish, listed)
 }
 
 /// The same on a listed machine, of a wish whose task doesn't run.
 fn victims_on(
     alloc: Global,
     overlay: &Overlay,
+    found: &Option<Found>,
     wish: &Wish,
     machine: &Machine,
 ) -> Result<Option<Keys>, NoMemory>
+    requires found { AreFound (tasks_claimed overlay.now) found.now }
     requires ordered { KeysRise (tasks_claimed overlay.now) }
     requires absent { task_at (tasks_claimed overlay.now) wish.now.key ≡ None }
     requires listed { machine_at (cell_after overlay.now).machines machine.now.id ≡ Some machine.now }
@@ -192,16 +209,81 @@ fn victims_on(
     if has_rival(overlay, wish, machine.id) {
         return Ok(None);
     }
-    let mut tasks = overlay.tasks_on(alloc, machine.id)?.into_items();
-    let left = left_by_staying(wish, &tasks, machine.cap);
+    match found_on(found, machine.id) {
+        Some(tasks) => victims_among(alloc, wish, machine.cap, tasks),
+        None => {
+            let tasks = overlay.tasks_on(alloc, machine.id)?;
+            victims_among(alloc, wish, machine.cap, tasks.as_slice())
+        }
+    }
+}
+
+/// The tasks that were found, if it was on this machine.
+fn found_on(found: &Option<Found>, machine: u64) -> Option<&[Task]>
+    ensures { (tasks : List Task) → AreFound tasks found.now → IfSome result (λ own. IsPermutation (filter (is_on machine) tasks) own.now) }
+{
+    match found {
+        Some(found) if found.machine == machine => Some(found.tasks.as_slice()),
+        _ => None,
+    }
+}
+
+/// The fewest of the tasks on a machine of this capacity that must go for a wish, in order of eviction; `Ok(None)`
+/// exactly where there isn't enough even when all go that may. The tasks come in any order.
+fn victims_among(
+    alloc: Global,
+    wish: &Wish,
+    cap: Need,
+    tasks: &[Task],
+) -> Result<Option<Keys>, NoMemory>
+    ensures { IfOk result (λ keys. (own : List Task) → IsInOrder ByKey own → IsPermutation own tasks.now → AreFewest wish.now cap own keys) }
+{
+    let left = left_by_staying(wish, tasks, cap);
     if !wish.spec.need.fits(left) {
         return Ok(None);
     }
-    tasks.retain(|task| gives_way(wish, task));
-    tasks.sort_unstable_by_key(|task| (task.spec.prec, task.key.job, task.key.index));
-    let count = fewest(wish.spec.need, left, &tasks);
-    tasks.truncate(count);
-    Ok(Some(keys_of(alloc, &tasks)?))
+    let mut going = Vec::new(alloc);
+    going.extend_from_slice(tasks)?;
+    going.retain(|task| gives_way(wish, task));
+    let gone = first_to_go(wish.spec.need, left, going);
+    Ok(Some(keys_of(alloc, &gone)?))
+}
+
+/// The fewest of these tasks that must go for the others to leave enough for a need, in order of eviction; there is
+/// enough where all go. The tasks come in any order. Where there is enough while all stay that come behind one of them
+/// in this order, those aren't looked at any more, and so on while that leaves half of them or fewer; the rest is
+/// sorted.
+fn first_to_go(need: Need, left: Need, tasks: Vec<Task>) -> Vec<Task>
+    requires room { IsTrue (fits need left) }
+    ensures { (own : List Task) → IsInOrder ByKey own → IsPermutation own tasks.items → GoFirst need left (by_rank own) result.items }
+{
+    let count = tasks.len();
+    if count < FEW {
+        return first_sorted(need, left, tasks);
+    }
+    let other = tasks[count / FEW];
+    let less = left_behind(&other, &tasks, left);
+    if !need.fits(less) {
+        return first_sorted(need, left, tasks);
+    }
+    let mut before = tasks;
+    before.retain(|task| !is_behind(&other, task));
+    if before.len() > count / 2 {
+        return first_sorted(need, less, before);
+    }
+    first_to_go(need, less, before)
+}
+
+/// The same, by sorting all of them.
+fn first_sorted(need: Need, left: Need, tasks: Vec<Task>) -> Vec<Task>
+    requires room { IsTrue (fits need left) }
+    ensures { (own : List Task) → IsInOrder ByKey own → IsPermutation own tasks.items → GoFirst need left (by_rank own) result.items }
+{
+    let mut sorted = tasks;
+    sorted.sort_unstable_by_key(|task| (task.spec.prec, task.key.job, task.key.index));
+    let count = fewest(need, left, &sorted);
+    sorted.truncate(count);
+    sorted
 }
 
 /// What is left of an amount when each of some tasks that doesn't give way to a wish has taken its need.
@@ -223,6 +305,35 @@ fn left_by(wish: &Wish, task: &Task, amount: Need) -> Need
         return amount;
     }
     amount.minus(task.spec.need)
+}
+
+/// What is left of an amount when each of some tasks that comes behind another in order of eviction has taken its need.
+fn left_behind(other: &Task, tasks: &[Task], amount: Need) -> Need
+    ensures { result ≡ minus amount (total (filter (goes_before other.now) tasks.now)) }
+{
+    let mut left = amount;
+    for task in tasks {
+        left = left_if_behind(other, task, left);
+    }
+    left
+}
+
+/// What is left of an amount when a task, if it comes behind another in order of eviction, has taken its need.
+fn left_if_behind(other: &Task, task: &Task, amount: Need) -> Need
+    ensures { result ≡ minus amount (total (filter (goes_before other.now) (task.now ∷ []))) }
+{
+    if is_behind(other, task) {
+        return amount.minus(task.spec.need);
+    }
+    amount
+}
+
+/// Whether a task comes behind another in order of eviction.
+fn is_behind(other: &Task, task: &Task) -> bool
+    ensures { result ≡ goes_before other.now task.now }
+{
+    other.spec.prec < task.spec.prec
+        || (other.spec.prec == task.spec.prec && key_lt(other.key, task.key))
 }
 
 /// How many of these tasks must go at least, in their order, for the others to leave enough for a need;

@@ -9,8 +9,8 @@ ghost use Rattle.omega_board.specs.Numbers.{is_among};
 ghost use Rattle.omega_model.specs.Touches.{is_touched_by};
 ghost use Rattle.omega_plan.specs.Beside.{IsPlacedBeside};
 ghost use Rattle.omega_plan.specs.Indexes.{AreIndexesOf, HavePlaces, HaveRoom, MayGoOn, MayTell, MayTellClaim, TellAll};
-ghost use Rattle.omega_plan.specs.Levels.{Tells};
-ghost use Rattle.omega_plan.specs.Overlays.{cell_after, tasks_with};
+ghost use Rattle.omega_plan.specs.Levels.{AreFound, Tells};
+ghost use Rattle.omega_plan.specs.Overlays.{cell_after, tasks_claimed, tasks_with};
 ghost use Rattle.omega_plan.specs.Telling.{frees_of};
 
 use crate::levels::{Level, Levels};
@@ -108,6 +108,7 @@ impl Indexes {
         ensures tell { TellAll (cell_after overlay.now) self.new }
         ensures level { IfOk result (λ level. Tells (cell_after overlay.now) level) }
         ensures prec { IfOk result (λ level. level.prec ≡ prec) }
+        ensures found { IfOk result (λ level. AreFound (tasks_claimed overlay.now) level.found) }
         ensures seen { self.new.seen ≡ self.old.seen }
     {
         self.levels.lend(alloc, overlay, prec)

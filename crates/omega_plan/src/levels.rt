@@ -3,20 +3,24 @@
 //! A level is told what changed when it is asked for. Until then the machines that changed are noted in one list for
 //! all levels, and each level keeps how many of them it was told. List and levels are bounded: where there would be
 //! too many, levels are let go, since one is made anew when it is asked for next.
-ghost use Rattle.std.specs.Prelude.{◌≡◌, ◌≤◌, ◌<◌, ◌-◌, ℕ, Bool, [], IfOk, IfSome, length};
-ghost use Rattle.std.specs.List.{zip};
-ghost use Rattle.omega_model.specs.Cell.{Cell};
+ghost use Rattle.std.specs.Prelude.{◌≡◌, ◌≤◌, ◌<◌, ◌-◌, ◌∷◌, ℕ, Bool, [], Some, IfOk, IfSome, OnOk, drop, length, slice_get};
+ghost use Rattle.std.specs.List.{filter, zip};
+ghost use Rattle.omega_model.specs.Cell.{Cell, total};
+ghost use Rattle.omega_model.specs.Need.{minus};
+ghost use Rattle.omega_model.specs.declared.cells.Machine.{Machine};
+ghost use Rattle.omega_running.specs.Staying.{stays_against};
 ghost use Rattle.omega_machines.specs.Table.{machines_of};
 ghost use Rattle.omega_model.specs.Touches.{is_claimed, is_touched_by};
 ghost use Rattle.omega_board.specs.Numbers.{is_among};
-ghost use Rattle.omega_plan.specs.Levels.{IsLevelAt, LevelsTell, LevelsTellBut, Tells, TellsLate, no_number};
+ghost use Rattle.omega_plan.specs.Levels.{AreFound, IsLevelAt, LevelsTell, LevelsTellBut, Tells, TellsLate, no_number};
 ghost use Rattle.omega_plan.specs.Overlays.{cell_after, tasks_claimed};
-ghost use Rattle.omega_plan.specs.Telling.{TellsBut, freed_of, is_found, is_this_or};
+ghost use Rattle.omega_plan.specs.Telling.{TellsBut, freed_beside, freed_of, is_found, is_this_or};
 
 use crate::overlay::Overlay;
 use crate::telling::grow_to;
+use omega_board::Board;
 use omega_fit::FitIndex;
-use omega_model::{Claim, Entry, Judgement, NoMemory};
+use omega_model::{Claim, Entry, Judgement, Need, NoMemory, Task, Tasks};
 use std::alloc::Global;
 
 /// How many places levels have together at most, unless one alone has more: those of 16 levels over 65,536 machines,
@@ -27,13 +31,22 @@ const MOST_PLACES: usize = 1 << 20;
 /// more than its machines.
 const LEAST_NOTED: usize = 1 << 12;
 
+/// The tasks on a machine, in any order.
+#[derive(Drop)]
+pub(crate) struct Found {
+    pub machine: u64,
+    pub tasks: Tasks,
+}
+
 /// What is free on each machine of a board once all tasks of a lower precedence than this one are off it,
-/// in order of the board's list; `None` where the machine isn't up.
+/// in order of the board's list; `None` where the machine isn't up. While it is lent it has the tasks of the
+/// machine that it was told of last, if it was told of one.
 #[derive(Drop)]
 pub struct Level {
     pub(crate) prec: u8,
     pub(crate) index: FitIndex,
     pub(crate) told: usize,
+    pub(crate) found: Option<Found>,
 }
 
 impl Level {
@@ -57,18 +70,25 @@ impl Level {
         requires { TellsLate no_number (cell_after overlay.now) changed.now self }
         ensures tells { IfOk result (λ level. Tells (cell_after overlay.now) level) }
         ensures prec { IfOk result (λ level. level.prec ≡ self.prec) }
+        ensures found { IfOk result (λ level. AreFound (tasks_claimed overlay.now) level.found) }
     {
         let Level {
             prec,
             mut index,
             told,
+            ..
         } = self;
         let late = each_once(alloc, &changed[told..])?;
         let board = overlay.board();
         index.reserve(board.machines().len().saturating_sub(index.len()))?;
         grow_to(&mut index, board);
-        tell_late(&mut index, prec, overlay, &late);
-        Ok(Level { prec, index, told })
+        let found = tell_late(alloc, &mut index, prec, overlay, &late)?;
+        Ok(Level {
+            prec,
+            index,
+            told,
+            found,
+        })
     }
 }
 
@@ -103,6 +123,7 @@ impl Levels {
         ensures kept { LevelsTell (cell_after overlay.now) self.new }
         ensures tells { IfOk result (λ level. Tells (cell_after overlay.now) level) }
         ensures prec { IfOk result (λ level. level.prec ≡ prec) }
+        ensures found { IfOk result (λ level. AreFound (tasks_claimed overlay.now) level.found) }
     {
         match self.take_out(prec) {
             Some(level) => level.brought_up(alloc, overlay, &self.changed),
@@ -128,7 +149,13 @@ impl Levels {
         self.make_way(most_levels(machines));
         self.forget();
         let told = self.changed.len();
-        let _ = self.standing.push(Level { told, ..level });
+        let Level { prec, index, .. } = level;
+        let _ = self.standing.push(Level {
+            prec,
+            index,
+            told,
+            found: None,
+        });
     }
 
     /// Lets levels go until there are fewer than so many.
@@ -226,6 +253,7 @@ fn most_levels(machines: usize) -> usize
 fn level_of(alloc: Global, overlay: &Overlay, prec: u8) -> Result<Level, NoMemory>
     ensures tells { IfOk result (λ level. Tells (cell_after overlay.now) level) }
     ensures prec { IfOk result (λ level. level.prec ≡ prec) }
+    ensures found { IfOk result (λ level. AreFound (tasks_claimed overlay.now) level.found) }
 {
     let count = overlay.board().machines().len();
     let mut freed = Vec::with_capacity(alloc, count)?;
@@ -237,6 +265,7 @@ fn level_of(alloc: Global, overlay: &Overlay, prec: u8) -> Result<Level, NoMemor
         prec,
         index,
         told: 0,
+        found: None,
     })
 }
 
@@ -260,13 +289,34 @@ fn each_once(alloc: Global, numbers: &[u64]) -> Result<Vec<u64>, NoMemory>
 }
 
 /// Tells an index what evictions for its precedence could free on these machines after the claims of an overlay; it
-/// has told all else.
-fn tell_late(index: &mut FitIndex, prec: u8, overlay: &Overlay, machines: &[u64])
+/// has told all else. Answers the tasks of the last one, which are collected for that.
+fn tell_late(
+    alloc: Global,
+    index: &mut FitIndex,
+    prec: u8,
+    overlay: &Overlay,
+    machines: &[u64],
+) -> Result<Option<Found>, NoMemory>
     requires { TellsBut (is_among machines.now) prec (tasks_claimed overlay.now) index.old.free (machines_of overlay.now.board.table) }
-    ensures { index.new.free ≡ freed_of prec (cell_after overlay.now) }
+    ensures told { OnOk result (index.new.free ≡ freed_of prec (cell_after overlay.now)) }
+    ensures found { IfOk result (λ found. AreFound (tasks_claimed overlay.now) found) }
 {
-    for machine in machines {
-        tell_of(index, prec, overlay, *machine);
+    if machines.is_empty() {
+        return Ok(None);
+    }
+    let last = machines.len() - 1;
+    tell_first(index, prec, overlay, machines, last);
+    tell_last(alloc, index, prec, overlay, machines[last])
+}
+
+/// The same of so many machines from the first one on.
+fn tell_first(index: &mut FitIndex, prec: u8, overlay: &Overlay, machines: &[u64], count: usize)
+    requires within { count ≤ length machines.now }
+    requires told { TellsBut (is_among machines.now) prec (tasks_claimed overlay.now) index.old.free (machines_of overlay.now.board.table) }
+    ensures { TellsBut (is_among (drop count machines.now)) prec (tasks_claimed overlay.now) index.new.free (machines_of overlay.now.board.table) }
+{
+    for place in 0..count {
+        tell_of(index, prec, overlay, machines[place]);
     }
 }
 
@@ -279,4 +329,59 @@ fn tell_of(index: &mut FitIndex, prec: u8, overlay: &Overlay, machine: u64)
     if let Some(position) = overlay.board().machines().position(machine) {
         index.put(position, overlay.freed_at(prec, position));
     }
+}
+
+/// The same, with the machine's tasks as the answer.
+fn tell_last(
+    alloc: Global,
+    index: &mut FitIndex,
+    prec: u8,
+    overlay: &Overlay,
+    machine: u64,
+) -> Result<Option<Found>, NoMemory>
+    requires { length index.old.free ≡ length overlay.now.board.table }
+    ensures told { OnOk result ((stale : ℕ → Bool) → TellsBut (is_this_or machine stale) prec (tasks_claimed overlay.now) index.old.free (machines_of overlay.now.board.table)
+        → TellsBut stale prec (tasks_claimed overlay.now) index.new.free (machines_of overlay.now.board.table)) }
+    ensures found { IfOk result (λ found. AreFound (tasks_claimed overlay.now) found) }
+{
+    let board = overlay.board();
+    let Some(position) = board.machines().position(machine) else {
+        return Ok(None);
+    };
+    let tasks = overlay.tasks_on(alloc, machine)?;
+    index.put(position, freed_by(board, prec, position, tasks.as_slice()));
+    Ok(Some(Found { machine, tasks }))
+}
+
+/// What is free on the machine at a position, on which these tasks run, once those of a lower precedence are off it;
+/// `None` where it isn't up.
+fn freed_by(board: &Board, prec: u8, position: usize, tasks: &[Task]) -> Option<Need>
+    ensures { (machine : Machine) → slice_get (machines_of board.now.table) position ≡ Some machine → result ≡ freed_beside prec tasks.now machine }
+{
+    let machine = board.machines().at(position)?;
+    if !machine.up {
+        return None;
+    }
+    Some(left_against(prec, tasks, machine.cap))
+}
+
+/// What is left of an amount when each of some tasks that has at least this precedence has taken its need.
+fn left_against(prec: u8, tasks: &[Task], amount: Need) -> Need
+    ensures { result ≡ minus amount (total (filter (stays_against prec) tasks.now)) }
+{
+    let mut left = amount;
+    for task in tasks {
+        left = left_beside(prec, task, left);
+    }
+    left
+}
+
+/// What is left of an amount when a task, if it has at least this precedence, has taken its need.
+fn left_beside(prec: u8, task: &Task, amount: Need) -> Need
+    ensures { result ≡ minus amount (total (filter (stays_against prec) (task.now ∷ []))) }
+{
+    if task.spec.prec < prec {
+        return amount;
+    }
+    amount.minus(task.spec.need)
 }

@@ -15,7 +15,7 @@ ghost use Rattle.omega_plan.specs.Tenants.{AreBeside, GoesBeside, MayPlace, MayT
 
 use crate::placed::{Placed, put_all};
 use omega_board::Board;
-use omega_model::{Claim, Need, NoMemory, Task, TaskKey, Tasks};
+use omega_model::{Claim, Need, NoMemory, Seq, Task, TaskKey, Tasks};
 use omega_running::Running;
 use std::alloc::Global;
 use std::collections::BTreeSet;
@@ -77,17 +77,17 @@ impl Tenants {
         board.other_of_job(job, machine, &[]).is_some()
     }
 
-    /// The tasks on a machine, in any order. With k tasks on the machine, takes time k log k, or that of all tasks
-    /// here too.
+    /// The tasks on a machine, in any order. Takes the time of these, and here where there are trees of the logarithm
+    /// for each, or that of all tasks here.
     pub fn tasks_on(&self, alloc: Global, board: &Running, machine: u64) -> Result<Tasks, NoMemory>
         ensures { IfOk result (λ found. (tasks : List Task) → AreBeside self.now board.now.tasks tasks → IsPermutation (filter (is_on machine) tasks) found) }
     {
-        let mut found = self.own.tasks_on(alloc, machine)?;
+        let mut found = self.own.tasks_on(alloc, machine)?.into_items();
         if self.is_whole(machine) {
-            return Ok(found);
+            return Ok(Seq::of(found));
         }
-        found.extend_from_slice(board.tasks_on(alloc, machine)?.as_slice())?;
-        Ok(found)
+        board.append_on(machine, &mut found)?;
+        Ok(Seq::of(found))
     }
 
     /// What is left of an amount when each task of at least this precedence on a machine has taken its

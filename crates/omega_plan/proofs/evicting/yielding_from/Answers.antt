@@ -4,6 +4,7 @@ use Rattle.std.proofs.lemmas.List.{length-map}
 use Rattle.std.proofs.lemmas.Result.{IfOk-weaker}
 use Rattle.omega_plan.specs.Overlays.{cell_after}
 use Rattle.omega_plan.specs.Telling.{freed_on}
+use Rattle.omega_fit.specs.Positions.{Positions}
 use Rattle.omega_fit.specs.Wrapped.{FirstBetween}
 use Rattle.omega_fit.proofs.Firsts.{found_from_start, none_from_start}
 use Rattle.omega_plan.specs.Trying.{IsFirstToYield, Yields}
@@ -15,7 +16,7 @@ unfolding IsFirstToYield
 returns-in-Some-clause-first c =
     let cell = cell_after c.args.overlay.now in
     let wish = c.args.wish.now in
-    let long : c.len.result ≡ length cell.machines = c.len.ensures ∙ ap length c.requires.freed ∙ length-map cell.machines (freed_on wish.spec.prec cell.tasks) in
+    let long : c.len.result ≡ length cell.machines = c.len.ensures ∙ ap (λ (i : Positions). length i.free) c.freed.ensures ∙ ap length c.requires.freed ∙ length-map cell.machines (freed_on wish.spec.prec cell.tasks) in
     found_from_start (Yields cell wish) c.args.begin (length cell.machines) c.in-Some.found.position c.requires.begin
     (subst (λ (n : ℕ). FirstBetween (Yields cell wish) c.args.begin n (Some c.in-Some.found.position)) long
     (subst (λ (o : Option Candidate). FirstBetween (Yields cell wish) c.args.begin c.len.result (option_map (λ (f : Candidate). f.position) o)) c.in-Some.is c.in_ok-found.ensures.first))
@@ -25,7 +26,7 @@ unfolding IsFirstToYield
 returns-in-None-clause-first c =
     let cell = cell_after c.args.overlay.now in
     let wish = c.args.wish.now in
-    let long : c.len.result ≡ length cell.machines = c.len.ensures ∙ ap length c.requires.freed ∙ length-map cell.machines (freed_on wish.spec.prec cell.tasks) in
+    let long : c.len.result ≡ length cell.machines = c.len.ensures ∙ ap (λ (i : Positions). length i.free) c.freed.ensures ∙ ap length c.requires.freed ∙ length-map cell.machines (freed_on wish.spec.prec cell.tasks) in
     let none : FirstBetween (Yields cell wish) c.args.begin (length cell.machines) None =
     subst (λ (n : ℕ). FirstBetween (Yields cell wish) c.args.begin n None) long
     (subst (λ (o : Option Candidate). FirstBetween (Yields cell wish) c.args.begin c.len.result (option_map (λ (f : Candidate). f.position) o)) c.in-None.is c.in_ok-found.ensures.first) in

@@ -9,3 +9,9 @@ loop-self-preserved c = λ cell tell.
     let now = c.loop-self.self in
     subst (Each (TellsLate no_number cell now.changed.items)) (sym c.remove.ensures.items)
     (each_rest (TellsLate no_number cell now.changed.items) now.standing.items (c.loop-self.invariant cell tell))
+
+pub loop-self-preserved-in-loop-self : goal.loop-self-preserved-in-loop-self
+loop-self-preserved-in-loop-self c = λ cell tell.
+    let now = c.loop-self.self in
+    subst (Each (TellsLate no_number cell now.changed.items)) (sym c.remove.ensures.items)
+    (each_rest (TellsLate no_number cell now.changed.items) now.standing.items (c.loop-self.invariant cell tell))
