@@ -94,8 +94,8 @@ impl<'a> Overlay<'a> {
         self.tenants.has_of_job(self.running, job, machine)
     }
 
-    /// The tasks on a machine after the claims, in any order. Takes the time of these, with a logarithm for each on a
-    /// machine where a claim evicted something, and unless the claims are ready for machines that of a pass over them.
+    /// The tasks on a machine after the claims, in any order. Takes the time of these and, unless the claims are ready
+    /// for machines, that of a pass over them.
     pub fn tasks_on(&self, alloc: Global, machine: u64) -> Result<Tasks, NoMemory>
         ensures tasks { IfOk result (λ tasks. IsPermutation (filter (is_on machine) (tasks_claimed self.now)) tasks) }
         ensures ordered { KeysRise (tasks_claimed self.now) }

@@ -1,6 +1,7 @@
 //! The tasks that claims placed beside a board.
 ghost use Rattle.std.specs.Prelude.{◌≡◌, ◌+◌, ◌-◌, ◌<◌, ◌≤◌, ◌++◌, ◌∷◌, [], None, IfOk, OnOk, is_some, length, not, vec_len, vec_capacity};
 ghost use Rattle.std.specs.List.{filter, insert, list_any};
+ghost use Rattle.std.specs.List.Sorted.{IsPermutation};
 ghost use Rattle.omega_model.specs.Cell.{is_on, task_at, with_task, without};
 ghost use Rattle.omega_model.specs.Jobs.{stays_of_job};
 ghost use Rattle.omega_model.specs.Keys.{is_among};
@@ -12,7 +13,7 @@ ghost use Rattle.omega_running.specs.Staying.{staying_on};
 ghost use Rattle.omega_running.specs.declared.orders.Order.TheVariants.{ByKey};
 ghost use Rattle.omega_plan.specs.Tenants.{MayPutAll, put_all};
 
-use omega_model::{Need, NoMemory, Task, TaskKey, Tasks};
+use omega_model::{Need, NoMemory, Task, TaskKey};
 use omega_running::{Running, halves, is_among, key_lt, task_in};
 use std::alloc::Global;
 use std::marker::Model;
@@ -82,13 +83,13 @@ impl Placed {
         }
     }
 
-    /// The tasks on a machine in order of key. In a list, takes the time of all tasks.
-    pub fn tasks_on(&self, alloc: Global, machine: u64) -> Result<Tasks, NoMemory>
-        ensures { IfOk result (λ tasks. tasks ≡ filter (is_on machine) self.now.tasks) }
+    /// Appends the tasks on a machine, in any order. In a list, takes the time of all tasks.
+    pub fn append_on(&self, machine: u64, found: &mut Vec<Task>) -> Result<(), NoMemory>
+        ensures { OnOk result (IsPermutation (found.old.items ++ filter (is_on machine) self.now.tasks) found.new.items) }
     {
         match &self.trees {
-            Some(trees) => trees.tasks_on(alloc, machine),
-            None => tasks_on(alloc, self.list.as_slice(), machine),
+            Some(trees) => trees.append_on(machine, found),
+            None => append_on(self.list.as_slice(), machine, found),
         }
     }
 
@@ -279,17 +280,16 @@ fn has_of_job(tasks: &[Task], job: u64, machine: u64) -> bool
         .any(|task| task.key.job == job && task.machine == machine)
 }
 
-/// The tasks on a machine.
-fn tasks_on(alloc: Global, tasks: &[Task], machine: u64) -> Result<Tasks, NoMemory>
-    ensures { IfOk result (λ found. found ≡ filter (is_on machine) tasks.now) }
+/// Appends the tasks on a machine, in their order.
+fn append_on(tasks: &[Task], machine: u64, found: &mut Vec<Task>) -> Result<(), NoMemory>
+    ensures { OnOk result (found.new.items ≡ found.old.items ++ filter (is_on machine) tasks.now) }
 {
-    let mut found = Tasks::new(alloc);
     for task in tasks {
         if task.machine == machine {
             found.push(*task)?;
         }
     }
-    Ok(found)
+    Ok(())
 }
 
 /// What is left of an amount when each task of at least this precedence on a machine has taken its need.

@@ -77,12 +77,12 @@ impl Tenants {
         board.other_of_job(job, machine, &[]).is_some()
     }
 
-    /// The tasks on a machine, in any order. Takes the time of these, and here where there are trees of the logarithm
-    /// for each, or that of all tasks here.
+    /// The tasks on a machine, in any order. Takes the time of these, or that of all tasks here too.
     pub fn tasks_on(&self, alloc: Global, board: &Running, machine: u64) -> Result<Tasks, NoMemory>
         ensures { IfOk result (λ found. (tasks : List Task) → AreBeside self.now board.now.tasks tasks → IsPermutation (filter (is_on machine) tasks) found) }
     {
-        let mut found = self.own.tasks_on(alloc, machine)?.into_items();
+        let mut found = Vec::new(alloc);
+        self.own.append_on(machine, &mut found)?;
         if self.is_whole(machine) {
             return Ok(Seq::of(found));
         }
