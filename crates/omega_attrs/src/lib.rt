@@ -1,4 +1,6 @@
 //! Placement constraints: when a machine is eligible for a task.
+//!
+//! Promised: exactly whether a machine's attributes meet the constraints of a task.
 #![tactic(auto)]
 
 ghost use Rattle.std.specs.Prelude.{◌≡◌};

@@ -1,5 +1,8 @@
 //! Calls as lines of text: a line's words, what they say, how answers are put into words, and the steps of a
 //! board that the programs of cases have in common.
+//!
+//! Promised: what words of a line say, as numbers, tasks and claims, and how answers are put into words; where
+//! an entry is refused the board's machines and tasks stay as they were.
 #![tactic(auto)]
 
 mod answering;

@@ -1,5 +1,8 @@
 //! The first machine that passes a test, round from a start.
 //!
+//! Promised: the first position, round from a start, that has room and passes a test; the first of a stretch
+//! that has room; and what is free at a position.
+//!
 //! `first_fit` asks at one position after the other. `FitIndex` keeps an amount for each position:
 //! what is free on a machine, or what could be made free on it. It answers the first position whose
 //! amount holds a need and that passes a test, and passes over whole stretches without room. Both

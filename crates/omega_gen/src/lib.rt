@@ -1,5 +1,9 @@
 //! The tables of `generate`: nobody brings them, they are made of the words of a generator.
 //!
+//! Promised: six tables made of the words of a generator, or of a seed: their bytes are those of the
+//! definition, and so is what is left of the generator. A law over the definitions alone: tables of at most
+//! 4,096 machines and 20,000 jobs are refused for nothing, whatever the words.
+//!
 //! The first words go to the machines, one to each, and then come six for each job.
 #![tactic(auto)]
 

@@ -1,5 +1,9 @@
 //! The edges of the program: tables that are read, a sink that is written, and a gate.
 //!
+//! Promised: a read hands over the next bytes and a write appends bytes, in pieces of any size. A failed call
+//! takes and writes nothing and comes only with a count of faults that rose. The folder that is entered stays.
+//! `write_all` writes all, or a part and says so. Work is cut in one to eight pieces.
+//!
 //! The three traits say what a read, a write and a gate may do. The objects in memory serve
 //! tests, the steady tables never fail, and the real objects read a folder and write to standard
 //! output. Of the gates one returns at once, and one holds schedulers in an order. `pieces_on` says in how many

@@ -1,7 +1,7 @@
 //! A lock whose turns go by tickets, around a value with a list behind it.
 //!
-//! Each caller has a seat. `Lock::turn` hands the value out to a seat, and `Lock::release` takes it
-//! back, with the list as it was or with one more entry, which has the seat's number. Whatever the
+//! Promised: each caller has a seat. `Lock::turn` hands the value out to a seat, and `Lock::release` takes
+//! it back, with the list as it was or with one more entry, which has the seat's number. Whatever the
 //! other callers do on their threads, the list that a turn hands out goes on from all that its seat
 //! had seen, and a seat's own entries stand in it, each once and in order. `Lock::close` takes the
 //! seats back and hands out the value, whose list goes on from what each of them had seen and has

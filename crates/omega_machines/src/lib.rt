@@ -1,5 +1,8 @@
 //! The machines of a cell, with what is free on each and how often it was touched.
 //!
+//! Promised: a contract sees the table as the plain list of the machines' states, with what is free on each and
+//! how often it was touched; and what is used and what there is on the machines that are up is exact.
+//!
 //! The states stand in a list in order of first mention, and contracts speak of that list alone. A
 //! look-up by number looks at the two notes of the number, of 65,536, and where neither has its place
 //! it goes through a balanced tree from numbers to places. So it is mostly

@@ -1,4 +1,9 @@
 //! How many more extra tasks a MapReduce job gets, and requests whose wishes for them are counted.
+//!
+//! Promised: the number of extra tasks of a MapReduce job, exactly, for all amounts and any percentage. A
+//! request whose wishes for extra tasks are counted is seen as the one that has them all, and listed it is that
+//! one. No clause says what `first_asked` answers, here and at a desk: it only tells whether threads are worth
+//! it.
 #![tactic(auto)]
 
 ghost use Rattle.std.specs.Prelude.{◌≡◌, ◌≤◌};

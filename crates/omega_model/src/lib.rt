@@ -1,5 +1,10 @@
 //! The words of the whole program: cells, claims, histories, rows, settings and results.
 //!
+//! Promised: the calls of a list do what the plain list does; sums, differences and tests of needs are exact; a
+//! copied value equals the first; and how many schedulers there are and how each works. Two laws over the
+//! definitions alone: in every legal history the state after each number of entries is sound, and entries that
+//! are no commits of a scheduler change nothing of the work that is left to it.
+//!
 //! The definitions that every contract cites stand in `specs/`. They speak of plain lists and
 //! whole numbers, never of a counter, an index or a lock.
 //!

@@ -1,5 +1,12 @@
 //! Where a scheduler would put the tasks of a request, and what that stands on.
 //!
+//! Promised: the plan of a request on a board, whose indexes tell of it as before afterwards: each wish on the
+//! first machine that suits and takes it, with as few victims as make room where the policy preempts, and a
+//! gang whole or not at all. Indexes tell what is free on each machine of a board, go on to the board after a
+//! whole history by what changed since they were last used, and lend for each precedence at which evictions
+//! were tried another index, of what they could free. An overlay places claims beside a board and answers what
+//! the board would with them, tells the indexes of each, and takes all back.
+//!
 //! A plan reads a board and changes nothing of it: each wish is planned on the cell after the claims
 //! before it, which stand beside the board. A wish gets the first machine that suits it and takes it as
 //! it is, or else, where the policy preempts, the first on which evictions make room.

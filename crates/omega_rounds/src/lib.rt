@@ -1,5 +1,14 @@
 //! Rounds in which schedulers commit in an order.
 //!
+//! Promised: whatever steps schedulers do in whatever order over one cell, its history is lawful so far, and at
+//! the end of the last round lawful, and what the world says is left then is what waits at the end of the trace
+//! (`World`). A run in turns answers the one history that is lawful and in turns (`in_turns`). So does one that
+//! goes on from kept lines: it refuses these only where first rounds in turns show that they depart from the
+//! run, at the one place where they do (`kept_lines_depart_once`), and leaves its keeper with the lines of more
+//! whole rounds, in the end of all (`resume_turns`). A run by a virtual clock answers the history that is
+//! simulated, with its times (`in_time`), and a run with a thread for each scheduler a lawful one
+//! (`on_threads`).
+//!
 //! A world is a cell that schedulers share, with a desk for each of them. Where they take steps of the
 //! world, each plans on the cell's own board when it syncs; on a thread of its own it plans on a view of the
 //! cell that all share. Whatever steps they do in whatever order, its history is lawful so far; `in_turns` runs it

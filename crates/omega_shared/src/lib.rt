@@ -10,10 +10,12 @@
 //! that look and, if one of them still does, goes on with a copy of the cell; then it makes room, is
 //! judged and appended. Nothing is planned under a turn.
 //!
-//! Whatever the order of turns, what a pass has seen goes on from all that it had seen, its own commits
-//! stand in it, each once and in order, and each of them has the reply that is due on exactly the
-//! entries before it. In the end the cell's history goes on from what every pass had seen, with no
-//! other commit of its number.
+//! Promised, whatever the order of turns: what a pass has seen goes on from all that it had seen, its own
+//! commits stand in it, each once and in order, and each of them, be it of what was planned on a copy or
+//! on a view, is one entry of the pass's scheduler with the reply that is due on exactly the entries
+//! before it. After a sync a copy stands for all that its pass has seen, and a view that a pass takes has
+//! that history. In the end the cell's history goes on from what every pass had seen, with no other commit
+//! of its number.
 //!
 //! Nothing is said of time: not who comes first, nor that a turn comes soon, nor that it comes.
 #![tactic(auto)]

@@ -1,4 +1,6 @@
 //! Numbers in text, read exactly: whole numbers and quantities.
+//!
+//! Promised: a whole number and a quantity are read exactly, with the rounding that is asked for.
 #![tactic(auto)]
 
 ghost use Rattle.std.specs.Prelude.{◌≡◌, ◌≤◌, IfOk};

@@ -1,5 +1,8 @@
 //! The words of the command line, which `clap` reads as one command with options.
 //!
+//! Promised: plain words give exactly their settings, their folder and their path of what is kept, and words
+//! are refused only where they aren't taken.
+//!
 //! Which words there are is data: the table `whole_table` in the definitions of `omega_model`.
 #![tactic(auto)]
 
