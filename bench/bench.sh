@@ -11,8 +11,8 @@
 # run that took more than ten seconds.
 #
 # Elapsed is the time on the clock and Processor the time of all threads. Multiple is Processor as a
-# multiple of what `reading` takes for the same tables, so that machines can be compared. On a machine
-# that has other work Elapsed says nothing.
+# multiple of what `reading` takes for the same tables, so that machines can be compared; it is left out where
+# that is less than a tenth of a second. On a machine that has other work Elapsed says nothing.
 #
 # Tables are made once, in the folder BENCH_DATA (default: omega-bench in the folder for temporary files;
 # 1 GB at most). It needs Python 3, rustc for the measure, and GNU time.
@@ -103,7 +103,8 @@ measure() { # FIRST COLUMNS, FOLDER, WORDS..
     counted=$(counts "$data/report")
     awk -v first="$first" -v cells="$(cells "$seconds")" -v t="$seconds" -v base="$base" -v counted="$counted" 'BEGIN {
         split(t, at)
-        printf "%s | %s | %.1f | %s |\n", first, cells, at[4] / (base > 0.01 ? base : 0.01), counted }'
+        multiple = base < 0.1 ? "" : sprintf("%.1f", at[4] / base)
+        printf "%s | %s | %s | %s |\n", first, cells, multiple, counted }'
 }
 
 one() { # MACHINES ROWS LOAD WORDS..
