@@ -36,4 +36,5 @@ fi
 while read -r python; do
     tested "$python" || failed=1
 done <<<"$pythons"
+"$root/docs/words.py" >/dev/null || failed=1 # no page has more words than it may
 exit $failed
