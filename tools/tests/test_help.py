@@ -16,6 +16,7 @@ PROGRAM = r"""#!/bin/sh
 echo "in $PWD: $*"
 case "$1" in
 replay) exit 0 ;;
+pages) echo "${GLIBC_TUNABLES-nothing}"; exit 0 ;;
 tables) echo 'omega: cannot read machine_events' >&2; exit 3 ;;
 *) echo 'omega: the words are refused' >&2; exit 2 ;;
 esac
@@ -26,6 +27,8 @@ class Helped(unittest.TestCase):
     # A copy of the script beside a program that counts as built. It finds no toolchain, which it would ask for its
     # version at each call.
     def setUp(self) -> None:
+        self.bare = {name: value for name, value in os.environ.items() if name != 'GLIBC_TUNABLES'}
+        self.bare['PATH'] = '/usr/bin:/bin'
         self.root = Path(tempfile.mkdtemp())
         self.addCleanup(shutil.rmtree, self.root)
         out = self.root / 'crates' / 'omega' / 'out'
@@ -38,9 +41,9 @@ class Helped(unittest.TestCase):
         (out / 'omega').chmod(0o755)
         (out / 'omega.stamp').write_text(self.run_it('--digest').stdout)
 
-    def run_it(self, *words: str) -> 'subprocess.CompletedProcess[str]':
+    def run_it(self, *words: str, **more: str) -> 'subprocess.CompletedProcess[str]':
         return subprocess.run([str(self.root / 'omega.sh'), *words], capture_output=True, text=True, cwd='/',
-                              env={**os.environ, 'PATH': '/usr/bin:/bin'})
+                              env={**self.bare, **more})
 
     def test_help(self) -> None:
         answers = [self.run_it(*words) for words in ((), ('--help',), ('help',), ('-h',), ('--prove', '--help'))]
@@ -169,6 +172,17 @@ class Helped(unittest.TestCase):
         self.assertEqual((answer.returncode, answer.stdout, answer.stderr), (0, 'in /: replay --rule fine\n', ''))
         answer = self.run_it('tables')
         self.assertEqual((answer.returncode, answer.stderr), (3, 'omega: cannot read machine_events\n'))
+
+    # Memory is asked for in large pages where the system gives them, unless somebody has said how it is to be had.
+    def test_large_pages(self) -> None:
+        try:
+            given = re.search(r'\[(madvise|always)\]', Path('/sys/kernel/mm/transparent_hugepage/enabled').read_text())
+        except OSError:
+            given = None
+        usual = 'glibc.malloc.hugetlb=1' if given else 'nothing'
+        self.assertEqual(self.run_it('pages').stdout.splitlines()[-1:], [usual])
+        for said in ('glibc.malloc.check=0', ''):
+            self.assertEqual(self.run_it('pages', GLIBC_TUNABLES=said).stdout.splitlines()[1:], [said])
 
     def test_other_scripts(self) -> None:
         for script in ('bench/tables.py', 'bench/bench.sh', 'bench/study.py', 'tools/slice.py', 'tools/report.py',
