@@ -23,6 +23,8 @@ scale=${BENCH_SCALE:-1} # divides machines, rows and sizes, for a quick try of t
 runs=${BENCH_RUNS:-5}   # of each line
 memory=/dev/shm/omega-bench.db # a file that needs no sync
 status=0                # the script's own: 1 once a run has ended as none may
+# Memory is had in large pages where omega.sh has it so.
+[ -n "${GLIBC_TUNABLES+set}" ] || ! grep -q -e '\[madvise\]' -e '\[always\]' /sys/kernel/mm/transparent_hugepage/enabled 2>/dev/null || export GLIBC_TUNABLES=glibc.malloc.hugetlb=1
 
 # Runs a command in a folder, and prints of its elapsed and of its processor seconds the median, the least and
 # the greatest, and the greatest peak in KiB. Leaves its exit status in the file `status`.

@@ -37,4 +37,6 @@ fi
 while read -r python; do
     tested "$python" || failed=1
 done <<<"$pythons"
+"$root/docs/layers.py" --check || failed=1
+"$root/docs/believed.py" --check || failed=1
 exit $failed
