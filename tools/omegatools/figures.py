@@ -168,7 +168,7 @@ def of_times(axes: Any, axis: Axis, longest: float, of: str) -> None:
     legend(axes)
 
 
-def shares(by_kind: Dict[str, Tuple[Sequence[int], int]], axis: Axis, of: str) -> Draw:
+def shares(by_kind: Dict[str, Tuple[List[int], int]], axis: Axis, of: str) -> Draw:
     """Which part of some things of each kind comes within a time: the times of those that come, in microseconds, and
     how many there are."""
     pandas, _ = packages()

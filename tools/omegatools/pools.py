@@ -35,6 +35,11 @@ def pool_of(count: int, more: Callable[..., object] = nothing, *arguments: Any) 
         try:
             yield pool
         except BaseException:
-            for process in multiprocessing.active_children():
-                process.terminate()
+            end_all()
             raise
+
+
+def end_all() -> None:
+    """Ends the processes of all pools."""
+    for process in multiprocessing.active_children():
+        process.terminate()

@@ -2,7 +2,6 @@
 import bz2
 import contextlib
 import gzip
-import functools
 import json
 import lzma
 import os
@@ -12,7 +11,7 @@ import stat
 import sys
 import tempfile
 import zlib
-from typing import IO, BinaryIO, Dict, Iterator, List, NamedTuple, Optional, Tuple, Union
+from typing import IO, Dict, Iterator, List, NamedTuple, Optional, Tuple, Union
 
 from .common import Refusal, shown
 
@@ -36,13 +35,16 @@ FORMS = frozenset((
 
 # From bytes to lines.
 
-@functools.lru_cache(maxsize=None)
-def kept(path: str) -> IO[bytes]:
+copies: Dict[str, IO[bytes]] = {}   # of what can be read once only
+
+
+def copy_of(path: str) -> IO[bytes]:
     """What can be read once only, as standard input or a pipe, put where it can be read again."""
-    copy = tempfile.TemporaryFile()
-    with contextlib.ExitStack() as stack:
-        shutil.copyfileobj(sys.stdin.buffer if path == '-' else stack.enter_context(open(path, 'rb')), copy)
-    return copy
+    if path not in copies:
+        copies[path] = tempfile.TemporaryFile()
+        with contextlib.ExitStack() as stack:
+            shutil.copyfileobj(sys.stdin.buffer if path == '-' else stack.enter_context(open(path, 'rb')), copies[path])
+    return copies[path]
 
 
 def is_pipe(path: str) -> bool:
@@ -50,13 +52,13 @@ def is_pipe(path: str) -> bool:
 
 
 @contextlib.contextmanager
-def opened(path: str) -> Iterator[BinaryIO]:
+def opened(path: str) -> Iterator[IO[bytes]]:
     """A report's bytes: of a file, or of standard input where the path is `-`; unpacked where they are packed
     by gzip, bzip2 or xz."""
     with contextlib.ExitStack() as stack:
         file: IO[bytes]
         if is_pipe(path):
-            file = kept(path)
+            file = copy_of(path)
             file.seek(0)
         else:
             file = stack.enter_context(open(path, 'rb'))
@@ -76,7 +78,7 @@ def word_or_number(word: str) -> Union[int, str]:
     return int(word) if word.isdigit() and word.isascii() and len(word) < 40 else word
 
 
-def text_lines(file: BinaryIO, first: bytes) -> Iterator[Line]:
+def text_lines(file: IO[bytes], first: bytes) -> Iterator[Line]:
     """The lines of a text. Each must end with a line feed."""
     for number, data in enumerate(whole_lines(file, first), 1):
         if not data.endswith(b'\n'):
@@ -84,7 +86,7 @@ def text_lines(file: BinaryIO, first: bytes) -> Iterator[Line]:
         yield [word_or_number(word) for word in data[:-1].decode('latin-1').split(' ')]
 
 
-def whole_lines(file: BinaryIO, first: bytes) -> Iterator[bytes]:
+def whole_lines(file: IO[bytes], first: bytes) -> Iterator[bytes]:
     yield first + file.readline(MOST_BYTES_OF_LINE)
     while True:
         data = file.readline(MOST_BYTES_OF_LINE)
@@ -96,7 +98,7 @@ def whole_lines(file: BinaryIO, first: bytes) -> Iterator[bytes]:
 ITEM = re.compile(r'\s*(\[[^\[\]]*\])\s*([,\]])')
 
 
-def json_lines(file: BinaryIO) -> Iterator[Line]:
+def json_lines(file: IO[bytes]) -> Iterator[Line]:
     """The items of an array of arrays, read piece by piece. Its first bracket is already read."""
     text, number, closed = '', 0, False
     for block in iter(lambda: file.read(1 << 20), b''):
@@ -128,7 +130,7 @@ def json_item(text: str, number: int) -> Line:
     return [word_or_number(word) if isinstance(word, str) else word for word in item]
 
 
-def lines_of(file: BinaryIO) -> Iterator[Line]:
+def lines_of(file: IO[bytes]) -> Iterator[Line]:
     try:
         first = file.read(1)
         if not first:

@@ -1,34 +1,39 @@
-#!/usr/bin/env python3
 """Runs omega with every combination of lists of values, and keeps each run.
 
-    sweep.py FOLDER replay --tables slice --rule fine,coarse --batch 1,2,4,8 --seed 1..5
+    %(prog)s FOLDER replay --tables slice --rule fine,coarse --batch 1,2,4,8 --seed 1..5
 
 A list is values with commas between them; 1..5 stands for 1,2,3,4,5. Each run is kept in FOLDER under a name
 made of its words, with its words, report, seconds and status, a file each. What is there already isn't run
-again, unless the program or the tables have changed or it was ended from outside. At the end FOLDER/runs.csv
-has a row for each run, and FOLDER/seeds.csv and the printed table a row for all that differ in their seeds
-alone, with mean and range. The status is 0 where every run ended with status 0.
+again, unless the program or the tables have changed or it was ended from outside; tables that were moved are
+known by their bytes. At the end FOLDER/runs.csv has a row for each run, FOLDER/seeds.csv and the printed table a
+row for all that differ in their seeds alone, with mean, 95 per cent interval and range, and FOLDER/differences.csv
+what each choice changes against its first value, on the same tables and seeds. Tables that differ in the seed of
+their generator alone, by their file `workload`, are counted together. The status is 0 where every run ended with
+status 0.
 """
 import argparse
 import contextlib
 import importlib
 import os
 import shutil
-import signal
 import subprocess
 import sys
 import threading
 import uuid
-from concurrent.futures import FIRST_COMPLETED, ThreadPoolExecutor, wait
+from concurrent.futures import FIRST_COMPLETED, Future, ProcessPoolExecutor, ThreadPoolExecutor, wait
+from concurrent.futures.process import BrokenProcessPool
 from pathlib import Path
-from typing import Any, Dict, Generator, List, Optional, Sequence
+from typing import Any, Dict, Generator, Iterator, List, Optional, Sequence
 
-from omegatools import running
-from omegatools.common import Refusal, ends, processors
-from omegatools.sweeps import (Kept, Run, all_kept, command_line, groups_of, is_done, kept_in, result_of, runs_of,
-                               runs_table, seeds_table, text_table, write_csv)
+from . import running
+from .common import Refusal, ends, own_name, processors
+from .pools import end_all, pool_of
+from .run_numbers import kept_numbers, pack_reader, read_numbers, try_to_read
+from .sweep_tables import (Result, differences_table, groups_of, runs_table, seeds_table, text_table, write_csv)
+from .sweeps import Kept, Run, all_kept, command_line, digest, kept_in, runs_of, still_to_be_made
 
-ROOT = Path(__file__).resolve().parent.parent
+HERE = Path(__file__).resolve().parent
+ROOT = HERE.parent.parent       # of a repository, if this is in one
 BUILT = ROOT / 'crates' / 'omega' / 'out' / 'omega'
 
 DASK_PATIENCE = 20  # seconds
@@ -37,14 +42,39 @@ Outcome = Dict[str, object]     # what running.run_one answers
 
 
 def tell(words: str) -> None:
-    print('sweep.py: ' + words, file=sys.stderr, flush=True)
+    print('%s: %s' % (own_name(), words), file=sys.stderr, flush=True)
+
+
+# The program.
+
+def is_program(path: Path) -> bool:
+    return path.is_file() and os.access(path, os.X_OK)
 
 
 def program_of(chosen: Optional[Path]) -> Path:
-    program = (chosen or BUILT).resolve()
-    if not program.is_file() or not os.access(program, os.X_OK):
-        raise Refusal('there is no program %s%s' % (program, '' if chosen else '; omega.sh --prove builds it'))
-    return program
+    """The program that is named by --program, by OMEGA_PROGRAM, that is built in this repository, or on the path."""
+    named = [(chosen, ''), (os.environ.get('OMEGA_PROGRAM') or None, ', which OMEGA_PROGRAM names')]
+    for path, says in named:
+        if path is not None:
+            program = Path(path).resolve()
+            if not is_program(program):
+                raise Refusal('there is no program %s%s' % (program, says))
+            return program
+    on_path = shutil.which('omega')
+    if is_program(BUILT):
+        return BUILT
+    if on_path is not None:
+        return Path(on_path).resolve()
+    if (ROOT / 'omega.sh').is_file():
+        raise Refusal('there is no program %s; omega.sh --prove builds it' % BUILT)
+    raise Refusal('there is no program: it is named by --program or OMEGA_PROGRAM, or is `omega` on the path')
+
+
+# Making the runs.
+
+def form_of_numbers() -> str:
+    """Stands for the way in which numbers are read of a report: these are read anew where it has changed."""
+    return digest([HERE / 'reports.py', HERE / 'tables.py'])
 
 
 def arguments_of(run: Run, folder: Path, program: Path, sweep: str) -> List[Any]:
@@ -81,38 +111,56 @@ class Stoppable(running.Starter):
                 program.terminate()
 
 
+def make_and_read(call: List[Any], starter: running.Starter, readers: ProcessPoolExecutor, form: str) -> Outcome:
+    """Makes a run, and has its report read by a process beside this one."""
+    outcome = running.run_one(*call, chosen=starter)
+    if outcome['status'] == 0:
+        with contextlib.suppress(BrokenProcessPool):
+            readers.submit(try_to_read, Path(call[0]) / call[1], form).result()
+    return outcome
+
+
 def run_here(calls: Sequence[List[Any]], at_once: int) -> Generator[Outcome, None, None]:
     """Makes the runs on this machine, so many at once."""
-    starter = Stoppable()
-    with ThreadPoolExecutor(at_once) as pool:
-        futures = {pool.submit(running.run_one, *[*call, starter]) for call in calls}
+    starter, form = Stoppable(), form_of_numbers()
+    with pool_of(at_once) as readers, ThreadPoolExecutor(at_once) as pool:
+        futures = {pool.submit(make_and_read, call, starter, readers, form) for call in calls}
         try:
             while futures:
                 done, futures = wait(futures, return_when=FIRST_COMPLETED)
                 yield from (future.result() for future in done)
         except BaseException:
             starter.stop()
+            end_all()
             pool.shutdown(wait=True, cancel_futures=True)
             raise
 
 
-def run_by_dask(calls: Sequence[List[Any]], address: str) -> Generator[Outcome, None, None]:
-    """Hands the runs to the workers of a scheduler of dask. What a worker that goes was doing is done by
-    another."""
+def dask_client(address: str) -> Any:
+    """The package that has dask's scheduler, and a client of one. Its workers needn't have this package."""
     try:
         cloudpickle: Any = importlib.import_module('cloudpickle')
         distributed: Any = importlib.import_module('distributed')
     except ImportError as fault:
         raise Refusal('--dask needs the Python package distributed, which this Python hasn\'t (in Debian it is '
                       'python3-distributed, for /usr/bin/python3)') from fault
-    cloudpickle.register_pickle_by_value(running)   # the workers needn't have this file
+    cloudpickle.register_pickle_by_value(running)
     try:
-        client = distributed.Client(address, timeout=DASK_PATIENCE)
+        return distributed, distributed.Client(address, timeout=DASK_PATIENCE)
     except (OSError, ValueError) as fault:
         raise Refusal('no scheduler of dask answers at %s' % address) from fault
+
+
+def run_by_dask(calls: Sequence[List[Any]], address: str) -> Generator[Outcome, None, None]:
+    """Hands the runs to the workers of a scheduler of dask. What a worker that goes was doing is done by
+    another."""
+    distributed, client = dask_client(address)
+    packed = Path(calls[0][0]) / ('.%s-reader' % calls[0][-1])
+    pack_reader(packed)
+    reader = [str(packed), form_of_numbers()]
     with client:
         tell('%d workers are there' % len(client.scheduler_info()['workers']))
-        futures = [client.submit(running.run_one, *call, key='omega-%s-%d' % (call[-1], place), retries=10)
+        futures = [client.submit(running.run_and_read, *call, reader, key='omega-%s-%d' % (call[-1], place), retries=10)
                    for place, call in enumerate(calls)]
         for future in distributed.as_completed(futures):
             try:
@@ -134,19 +182,43 @@ def make_runs(todo: Sequence[Run], words: argparse.Namespace, folder: Path, prog
                     ' at %s' % outcome['where'] if words.dask else ''))
     finally:
         for left in folder.glob('.%s-*' % sweep):
-            shutil.rmtree(left, ignore_errors=True)
+            if left.is_dir():
+                shutil.rmtree(left, ignore_errors=True)
+            else:
+                left.unlink(missing_ok=True)
 
 
-def show_tables(folder: Path, kept: Sequence[Kept]) -> int:
-    """Writes both tables, prints the one for reading, and names the runs that failed."""
+# What came of them.
+
+def results_of(kept: Sequence[Kept], at_once: int) -> Iterator[Result]:
+    """The numbers of runs. What nobody has read yet is read by some processes."""
+    form = form_of_numbers()
+    known = {run.name: {} if run.status else kept_numbers(run.report.parent, form) for run in kept}
+    unread = [run for run in kept if known[run.name] is None]
+    with contextlib.ExitStack() as stack:
+        futures: Dict[str, 'Future[Dict[str, float]]'] = {}
+        if unread:
+            pool = stack.enter_context(pool_of(min(at_once, len(unread))))
+            futures = {run.name: pool.submit(read_numbers, run.report.parent, form) for run in unread}
+        for run in kept:
+            try:
+                numbers = known[run.name] if run.name not in futures else futures[run.name].result()
+            except BrokenProcessPool as fault:
+                raise Refusal('a process that read a report was ended from outside; perhaps memory ran out') from fault
+            yield Result(run, {'seconds': run.seconds, **numbers} if numbers else {})
+
+
+def show_tables(folder: Path, kept: Sequence[Kept], at_once: int) -> int:
+    """Writes the tables, prints the one for reading, and names the runs that failed."""
     if not kept:
         raise Refusal('no run is kept in %s' % folder)
     if len({run.inputs[0] for run in kept}) > 1:
         tell('these runs are not all of the same program')
-    found = [result_of(run) for run in kept]
+    found = list(results_of(kept, at_once))
     groups = groups_of(found)
     write_csv(folder / 'runs.csv', runs_table(found))
     write_csv(folder / 'seeds.csv', seeds_table(groups))
+    write_csv(folder / 'differences.csv', differences_table(groups))
     for line in text_table(groups):
         print(line)
     failed = [run for run in kept if run.status != 0]
@@ -159,32 +231,30 @@ def sweep(words: argparse.Namespace) -> int:
     folder, program = words.folder.absolute(), program_of(words.program)
     runs = runs_of(words.words, program, Path.cwd())
     folder.mkdir(parents=True, exist_ok=True)
-    todo = [run for run in runs if not is_done(folder, run)]
+    todo = still_to_be_made(folder, runs)
     if words.print:
         for run in todo:
             print(command_line(folder, run, program))
         return 0
     tell('%d runs, of which %d are there already' % (len(runs), len(runs) - len(todo)))
-    make_runs(todo, words, folder, program)
+    if todo:
+        make_runs(todo, words, folder, program)
     kept = [kept_in(folder, run.name) for run in runs]
-    return show_tables(folder, [run for run in kept if run is not None])
-
-
-def stop(*_: object) -> None:
-    raise KeyboardInterrupt
+    return show_tables(folder, [run for run in kept if run is not None], words.at_once)
 
 
 def parser() -> argparse.ArgumentParser:
     whole = argparse.ArgumentParser(
-        prog='sweep.py', description=__doc__, formatter_class=argparse.RawDescriptionHelpFormatter,
-        epilog='On one machine:      sweep.py FOLDER WORDS\n'
-               'On workers of dask:  sweep.py --dask tcp://HOST:8786 FOLDER WORDS\n'
-               'By GNU parallel:     sweep.py --print FOLDER WORDS | parallel; sweep.py --collect FOLDER\n'
-               'By Slurm:            sweep.py --print FOLDER WORDS >lines; then an array of jobs, each of which does\n'
-               '                     sed -n "${SLURM_ARRAY_TASK_ID}p" lines | sh; then sweep.py --collect FOLDER\n'
+        description=__doc__, formatter_class=argparse.RawDescriptionHelpFormatter,
+        epilog='On one machine:      %(prog)s FOLDER WORDS\n'
+               'On workers of dask:  %(prog)s --dask tcp://HOST:8786 FOLDER WORDS\n'
+               'By GNU parallel:     %(prog)s --print FOLDER WORDS | parallel; %(prog)s --collect FOLDER\n'
+               'By Slurm:            %(prog)s --print FOLDER WORDS >lines; then an array of jobs, each of which does\n'
+               '                     sed -n "${SLURM_ARRAY_TASK_ID}p" lines | sh; then %(prog)s --collect FOLDER\n'
                '\nProgram, tables and FOLDER lie where every machine finds them under the same path.')
-    whole.add_argument('--program', metavar='PROGRAM', type=Path, help='the built program; %s where it is left out'
-                       % BUILT.relative_to(ROOT))
+    whole.add_argument('--program', metavar='PROGRAM', type=Path, help='the built program; where it is left out that of '
+                       'OMEGA_PROGRAM, else the one that is built in the repository of this tool, else `omega` on the '
+                       'path')
     whole.add_argument('--at-once', metavar='N', type=int, default=processors(),
                        help='make so many runs at once; as many as there are processors where it is left out')
     ways = whole.add_mutually_exclusive_group()
@@ -201,13 +271,12 @@ def main(arguments: Optional[List[str]]) -> int:
     words = parser().parse_args(arguments)
     if words.at_once < 1:
         raise Refusal('--at-once is at least 1')
-    signal.signal(signal.SIGTERM, stop)
     if words.collect:
         if words.words:
             raise Refusal('with --collect there are no words: the tables are of all runs in the folder')
-        return show_tables(words.folder.absolute(), all_kept(words.folder))
+        return show_tables(words.folder.absolute(), all_kept(words.folder), words.at_once)
     return sweep(words)
 
 
-if __name__ == '__main__':
-    sys.exit(ends('sweep.py', main))
+def command() -> int:
+    return ends(own_name(), main)
