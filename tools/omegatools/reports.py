@@ -11,7 +11,7 @@ import stat
 import sys
 import tempfile
 import zlib
-from typing import IO, Dict, Iterator, List, NamedTuple, Optional, Tuple, Union
+from typing import IO, Any, Callable, Dict, Iterator, List, NamedTuple, Optional, Tuple, Union, cast
 
 from .common import Refusal, shown
 
@@ -62,15 +62,18 @@ def opened(path: str) -> Iterator[IO[bytes]]:
             file.seek(0)
         else:
             file = stack.enter_context(open(path, 'rb'))
-        first = file.peek(6)[:6]  # type: ignore[attr-defined]
-        if first.startswith(b'\x1f\x8b'):
-            yield stack.enter_context(gzip.GzipFile(fileobj=file))  # type: ignore[misc]
-        elif first.startswith(b'BZh'):
-            yield stack.enter_context(bz2.BZ2File(file))  # type: ignore[misc]
-        elif first.startswith(b'\xfd7zXZ'):
-            yield stack.enter_context(lzma.LZMAFile(file))  # type: ignore[misc]
-        else:
-            yield file
+        yield unpacked(file, stack)
+
+
+def unpacked(file: IO[bytes], stack: contextlib.ExitStack) -> IO[bytes]:
+    """The same bytes, or those that were packed, by what they begin with."""
+    first = file.peek(6)[:6]  # type: ignore[attr-defined]
+    ways: Dict[bytes, Callable[[Any], Any]] = {
+        b'\x1f\x8b': lambda it: gzip.GzipFile(fileobj=it), b'BZh': bz2.BZ2File, b'\xfd7zXZ': lzma.LZMAFile}
+    for mark, way in ways.items():
+        if first.startswith(mark):
+            return cast(IO[bytes], stack.enter_context(way(file)))
+    return file
 
 
 def word_or_number(word: str) -> Union[int, str]:

@@ -23,7 +23,7 @@ import uuid
 from concurrent.futures import FIRST_COMPLETED, Future, ProcessPoolExecutor, ThreadPoolExecutor, wait
 from concurrent.futures.process import BrokenProcessPool
 from pathlib import Path
-from typing import Any, Dict, Generator, Iterator, List, Optional, Sequence
+from typing import Any, Dict, Generator, Iterator, List, Optional, Sequence, Tuple
 
 from . import running
 from .common import Refusal, ends, own_name, processors
@@ -39,6 +39,7 @@ BUILT = ROOT / 'crates' / 'omega' / 'out' / 'omega'
 DASK_PATIENCE = 20  # seconds
 
 Outcome = Dict[str, object]     # what running.run_one answers
+Call = Tuple[str, str, str, List[str], List[str], str]     # and what it is called with
 
 
 def tell(words: str) -> None:
@@ -77,8 +78,8 @@ def form_of_numbers() -> str:
     return digest([HERE / 'reports.py', HERE / 'tables.py'])
 
 
-def arguments_of(run: Run, folder: Path, program: Path, sweep: str) -> List[Any]:
-    return [str(folder), run.name, str(program), run.words.plain(), run.inputs, sweep]
+def call_of(run: Run, folder: Path, program: Path, sweep: str) -> Call:
+    return str(folder), run.name, str(program), run.words.plain(), run.inputs, sweep
 
 
 class Stopped(Exception):
@@ -111,16 +112,16 @@ class Stoppable(running.Starter):
                 program.terminate()
 
 
-def make_and_read(call: List[Any], starter: running.Starter, readers: ProcessPoolExecutor, form: str) -> Outcome:
+def make_and_read(call: Call, starter: running.Starter, readers: ProcessPoolExecutor, form: str) -> Outcome:
     """Makes a run, and has its report read by a process beside this one."""
-    outcome = running.run_one(*call, chosen=starter)
+    outcome = running.run_one(*call, starter)
     if outcome['status'] == 0:
         with contextlib.suppress(BrokenProcessPool):
             readers.submit(try_to_read, Path(call[0]) / call[1], form).result()
     return outcome
 
 
-def run_here(calls: Sequence[List[Any]], at_once: int) -> Generator[Outcome, None, None]:
+def run_here(calls: Sequence[Call], at_once: int) -> Generator[Outcome, None, None]:
     """Makes the runs on this machine, so many at once."""
     starter, form = Stoppable(), form_of_numbers()
     with pool_of(at_once) as readers, ThreadPoolExecutor(at_once) as pool:
@@ -151,7 +152,7 @@ def dask_client(address: str) -> Any:
         raise Refusal('no scheduler of dask answers at %s' % address) from fault
 
 
-def run_by_dask(calls: Sequence[List[Any]], address: str) -> Generator[Outcome, None, None]:
+def run_by_dask(calls: Sequence[Call], address: str) -> Generator[Outcome, None, None]:
     """Hands the runs to the workers of a scheduler of dask. What a worker that goes was doing is done by
     another."""
     distributed, client = dask_client(address)
@@ -172,7 +173,7 @@ def run_by_dask(calls: Sequence[List[Any]], address: str) -> Generator[Outcome, 
 def make_runs(todo: Sequence[Run], words: argparse.Namespace, folder: Path, program: Path) -> None:
     """Makes the runs that aren't kept yet, and tells of each."""
     sweep = uuid.uuid4().hex[:12]
-    calls = [arguments_of(run, folder, program, sweep) for run in todo]
+    calls = [call_of(run, folder, program, sweep) for run in todo]
     outcomes = run_by_dask(calls, words.dask) if words.dask else run_here(calls, words.at_once)
     try:
         with contextlib.closing(outcomes):
