@@ -35,7 +35,7 @@ looked_over() {
 
 failed=0
 looked_over mypy --cache-dir=/dev/null || failed=1
-looked_over flake8 --max-line-length 125 ./*.py omegatools || failed=1
+looked_over flake8 --max-line-length 125 --exclude tests || failed=1
 pythons=$(for python in "$(command -v python3)" /usr/bin/python3; do
     [ -x "$python" ] && "$python" -c 'import sys; print(sys.executable)'
 done | awk '!seen[$0]++')

@@ -6,7 +6,7 @@ import signal
 import sys
 import threading
 from pathlib import Path
-from typing import Callable, Iterator, List, NoReturn, Optional
+from typing import Callable, Iterator, List, Optional
 
 MICROSECONDS = {'us': 1, 'ms': 1000, 's': 1_000_000, 'm': 60_000_000, 'h': 3_600_000_000, 'd': 86_400_000_000}
 GREATEST_TIME = 2 ** 63 - 1
@@ -57,8 +57,28 @@ def own_name() -> str:
     return Path(sys.argv[0]).name
 
 
-def terminated(*_: object) -> NoReturn:
-    raise Terminated
+class Asking:
+    """Whether the tool was asked to end while something went on that isn't left in the middle."""
+    is_held = False
+    was_asked = False
+
+
+def terminated(*_: object) -> None:
+    if not Asking.is_held:
+        raise Terminated
+    Asking.was_asked = True
+
+
+@contextlib.contextmanager
+def to_its_end() -> Iterator[None]:
+    """Has what is done here be done to its end, before the tool ends for being asked to."""
+    Asking.is_held, Asking.was_asked = True, False
+    try:
+        yield
+    finally:
+        Asking.is_held = False
+    if Asking.was_asked:
+        raise Terminated
 
 
 @contextlib.contextmanager

@@ -174,7 +174,7 @@ def shares(by_kind: Dict[str, Tuple[List[int], int]], axis: Axis, of: str) -> Dr
     pandas, _ = packages()
 
     def draw(axes: Any) -> None:
-        longest = max([axis.least, *(max(times) / 1e6 for times, _ in by_kind.values() if times)])
+        longest = max([axis.least, *(1.05 * max(times) / 1e6 for times, _ in by_kind.values() if times)])
         for kind, (times, count) in by_kind.items():
             if not count:
                 continue
@@ -201,7 +201,7 @@ def shares_within(by_kind: Dict[str, List[int]], says: str, of: str) -> Draw:
 
 
 # What such figures say of the waits of jobs and of decisions.
-JOBS = ('wait until its scheduler began to decide on it', 'jobs that were decided on')
+JOBS = ('wait until its scheduler began to decide on it', 'jobs')
 DECISIONS = ('how long a decision took', 'commits')
 
 

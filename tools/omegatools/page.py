@@ -24,10 +24,10 @@ img { width: 100%; max-width: 46rem; height: auto; display: block; }
 .scroll { overflow-x: auto; }
 table { border-collapse: collapse; font-size: .875rem; font-variant-numeric: tabular-nums; overflow-wrap: normal; }
 th, td { padding: .3rem .6rem; border-bottom: 1px solid #ddd; text-align: right; white-space: nowrap; }
-th { border-bottom: 2px solid #888; vertical-align: bottom; white-space: normal; min-width: 3.2rem; }
+th { border-bottom: 2px solid #888; vertical-align: bottom; white-space: normal; min-width: 4.6rem; }
 th:first-child { min-width: 0; }
 th.word { white-space: nowrap; }
-.scroll td a { white-space: normal; }
+.scroll td a { white-space: normal; overflow-wrap: anywhere; }
 .scroll td:has(a) { white-space: normal; min-width: 13rem; max-width: 18rem; }
 th:first-child, td:first-child, td.word, th.word { text-align: left; }
 code { font: .875em ui-monospace, monospace; background: #f3f3f3; padding: .1em .3em; border-radius: 3px; }
@@ -159,11 +159,11 @@ def times_table(by_kind: Dict[str, List[int]], what: str) -> str:
 def single_times(report: Report) -> List[str]:
     """How long jobs wait for a decision, and how long decisions take."""
     parts = []
-    for title, by_kind, (says, of), what in (
-            ('Waits of jobs for a decision', report.of_kinds(report.waits_of_jobs()), JOBS, 'jobs'),
-            ('Decisions', report.of_kinds(report.decision_times()), DECISIONS, 'commits')):
+    for title, by_kind, (says, of) in (
+            ('Waits of jobs for a decision', report.of_kinds(report.waits_of_jobs()), JOBS),
+            ('Decisions', report.of_kinds(report.decision_times()), DECISIONS)):
         parts += ['<h3>%s</h3>' % title, figure(shares_within(by_kind, says, of), 'part of the %s within a time' % of),
-                  times_table(by_kind, what)]
+                  times_table(by_kind, of)]
     return parts
 
 
@@ -191,7 +191,8 @@ EXPLAINED = """<p>Each figure is of a report that <code>omega</code> printed. A 
 isn't placed; the <em>conflict fraction</em> is the number of these for each commit that placed a task. What is used
 is told where a round ends, and stays so until the next round. A task waits from when it is submitted to the last row
 of the round in which it is first placed, or, where the run told its single times, to the commit that placed it; one that
-ends in the trace before that never runs, unless tasks end by their own lives.</p>"""
+ends in the trace before that never runs, unless tasks end by their own lives. A job waits from its first row until
+its scheduler began to decide on it; jobs on which nobody ever decided aren't counted.</p>"""
 
 
 def page(title: str, runs: Sequence[Run]) -> str:

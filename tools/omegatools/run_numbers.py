@@ -9,6 +9,7 @@ from .reports import Report
 from .tables import results
 
 Numbers = Dict[str, float]
+SHORT = 1 << 20     # a report of so many bytes is read more quickly than a process is started
 
 
 def stamp(report: Path, form: str) -> List[object]:
@@ -37,6 +38,10 @@ def read_numbers(place: Path, form: str) -> Numbers:
     part.write_text(json.dumps({'of': of, 'numbers': numbers}) + '\n')
     part.replace(place / 'numbers')
     return numbers
+
+
+def is_short(place: Path) -> bool:
+    return (place / 'report.txt').stat().st_size <= SHORT
 
 
 def try_to_read(place: Path, form: str) -> None:

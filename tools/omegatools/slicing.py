@@ -24,7 +24,7 @@ from functools import partial
 from pathlib import Path
 from typing import Any, BinaryIO, Callable, Dict, Iterator, List, Optional, Sequence, Set, Tuple
 
-from .common import Refusal, duration, ends, own_name, processors
+from .common import Refusal, duration, ends, own_name, processors, to_its_end
 from .pools import pool_of
 from .trace_parts import (LAYOUTS, READERS, Change, Cut, Part, Piece, Wanted, know_jobs, lines_of, share_of, table_up_to,
                           whole_table)
@@ -238,7 +238,8 @@ class Workers(Readers):
         self.pool = pool
 
     def submit(self, part: Part, cut: Cut, scratch: Path) -> Read:
-        return partial(result_of, self.pool.submit(READERS[part.table], part, cut, scratch))
+        with to_its_end():  # a process may be started for it
+            return partial(result_of, self.pool.submit(READERS[part.table], part, cut, scratch))
 
 
 def result_of(future: 'Future[Piece]') -> Piece:

@@ -28,7 +28,7 @@ from typing import Any, Dict, Generator, Iterator, List, Optional, Sequence, Tup
 from . import running
 from .common import Refusal, ends, own_name, processors
 from .pools import end_all, pool_of
-from .run_numbers import kept_numbers, pack_reader, read_numbers, try_to_read
+from .run_numbers import is_short, kept_numbers, pack_reader, read_numbers, try_to_read
 from .sweep_tables import (Result, differences_table, groups_of, runs_table, seeds_table, text_table, write_csv)
 from .sweeps import Kept, Run, all_kept, command_line, digest, kept_in, runs_of, still_to_be_made
 
@@ -113,18 +113,21 @@ class Stoppable(running.Starter):
 
 
 def make_and_read(call: Call, starter: running.Starter, readers: ProcessPoolExecutor, form: str) -> Outcome:
-    """Makes a run, and has its report read by a process beside this one."""
-    outcome = running.run_one(*call, starter)
-    if outcome['status'] == 0:
-        with contextlib.suppress(BrokenProcessPool):
-            readers.submit(try_to_read, Path(call[0]) / call[1], form).result()
+    """Makes a run, and has its report read, where it is long by a process beside this one."""
+    outcome, place = running.run_one(*call, starter), Path(call[0]) / call[1]
+    if outcome['status'] == 0 and place.exists():
+        if is_short(place):
+            try_to_read(place, form)
+        else:
+            with contextlib.suppress(BrokenProcessPool):
+                readers.submit(try_to_read, place, form).result()
     return outcome
 
 
 def run_here(calls: Sequence[Call], at_once: int) -> Generator[Outcome, None, None]:
     """Makes the runs on this machine, so many at once."""
     starter, form = Stoppable(), form_of_numbers()
-    with pool_of(at_once) as readers, ThreadPoolExecutor(at_once) as pool:
+    with pool_of(min(at_once, processors())) as readers, ThreadPoolExecutor(at_once) as pool:
         futures = {pool.submit(make_and_read, call, starter, readers, form) for call in calls}
         try:
             while futures:
@@ -192,10 +195,10 @@ def make_runs(todo: Sequence[Run], words: argparse.Namespace, folder: Path, prog
 # What came of them.
 
 def results_of(kept: Sequence[Kept], at_once: int) -> Iterator[Result]:
-    """The numbers of runs. What nobody has read yet is read by some processes."""
+    """The numbers of runs. Long reports that nobody has read yet are read by some processes."""
     form = form_of_numbers()
     known = {run.name: {} if run.status else kept_numbers(run.report.parent, form) for run in kept}
-    unread = [run for run in kept if known[run.name] is None]
+    unread = [run for run in kept if known[run.name] is None and not is_short(run.report.parent)]
     with contextlib.ExitStack() as stack:
         futures: Dict[str, 'Future[Dict[str, float]]'] = {}
         if unread:
@@ -203,9 +206,10 @@ def results_of(kept: Sequence[Kept], at_once: int) -> Iterator[Result]:
             futures = {run.name: pool.submit(read_numbers, run.report.parent, form) for run in unread}
         for run in kept:
             try:
-                numbers = known[run.name] if run.name not in futures else futures[run.name].result()
+                numbers = futures[run.name].result() if run.name in futures else known[run.name]
             except BrokenProcessPool as fault:
                 raise Refusal('a process that read a report was ended from outside; perhaps memory ran out') from fault
+            numbers = read_numbers(run.report.parent, form) if numbers is None else numbers
             yield Result(run, {'seconds': run.seconds, **numbers} if numbers else {})
 
 

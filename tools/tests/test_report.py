@@ -271,7 +271,7 @@ class Refused(Reported):
 
     # Nobody reads what is printed.
     def test_a_closed_pipe(self) -> None:
-        for said in (('events', TEXT), ('rounds', TEXT), ('--help',), ('waits', CHOICES, TEXT)):
+        for said in (('events', TEXT), ('rounds', TEXT), ('waits', CHOICES, TEXT)):
             out, into = os.pipe()
             os.close(out)
             answer = subprocess.run([sys.executable, str(TOOLS / 'report.py'), *map(str, said)], stdout=into,

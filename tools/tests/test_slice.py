@@ -468,7 +468,7 @@ class Refused(Sliced):
             time.sleep(0.1)
             running.send_signal(signal.SIGTERM)
             out, err = running.communicate(timeout=20)
-            self.assertEqual((running.returncode, out, err), (143, '', 'slice.py: terminated\n'))
+            self.assertEqual((running.returncode, out, err[:2000]), (143, '', 'slice.py: terminated\n'))
             self.assertEqual([entry.name for entry in self.folder.iterdir()], ['trace'])
 
 

@@ -15,7 +15,7 @@ from unittest import mock
 from called import ROOT, TOOLS, Answer, call, program
 
 from omegatools import sweeping as tool  # noqa: E402
-from omegatools import estimates, sweep_tables, sweeps  # noqa: E402
+from omegatools import estimates, run_numbers, sweep_tables, sweeps  # noqa: E402
 from omegatools.common import Refusal
 
 # Its commits in conflict are the seed, and of the rule `coarse` ten more. It notes each call.
@@ -257,7 +257,7 @@ class Here(Swept):
         for name in self.names():
             if not name.endswith('.csv'):
                 self.assertIn('"conflicted"', (self.runs / name / 'numbers').read_text())
-        with mock.patch.object(tool, 'read_numbers', side_effect=AssertionError):
+        with mock.patch.object(tool, 'read_numbers', side_effect=AssertionError('read again')):
             again = self.sweep(*words)
         self.assertEqual(again.out.split()[:-1], first.out.split()[:-1])
         report = self.runs / 'generate,seed=2' / 'report.txt'
@@ -267,6 +267,19 @@ class Here(Swept):
         self.assertEqual([row['waiting'] for row in self.table('runs.csv')], ['1', '7', '3'])
         report.write_text('omega 2\n')
         self.refused_at_the_end(self.sweep(*words))
+
+    # A long report is read by a process beside this one, where it was made or where it is asked for.
+    def test_long_reports(self) -> None:
+        words = ('generate', '--seed', '1..3')
+        with mock.patch.object(run_numbers, 'SHORT', 0):
+            first = self.sweep(*words, own=('--at-once', 2))
+            self.assertEqual(first.status, 0, first)
+            self.assertEqual(len(list(self.runs.glob('*/numbers'))), 3)
+            for numbers in list(self.runs.glob('*/numbers'))[:2]:
+                numbers.unlink()
+            again = self.sweep(*words)
+        self.assertEqual(again.out, first.out)
+        self.assertEqual(len(list(self.runs.glob('*/numbers'))), 3)
 
     def refused_at_the_end(self, answer: Answer) -> None:
         self.assertEqual((answer.status, answer.out), (1, ''))
@@ -366,7 +379,7 @@ class Here(Swept):
         self.slow(1)
         begin = time.monotonic()
         self.assertEqual(self.sweep('generate', '--seed', '1..8', own=('--at-once', 8)).status, 0)
-        self.assertLess(time.monotonic() - begin, 7)
+        self.assertLess(time.monotonic() - begin, 7.9)
 
     def test_of_the_program(self) -> None:
         self.program = program(self.folder)
