@@ -15,8 +15,8 @@ import subprocess
 import sys
 import tempfile
 from collections import Counter
+from concurrent.futures import ProcessPoolExecutor
 from functools import partial
-from multiprocessing import Pool
 from typing import NamedTuple
 
 from definitions.keep import DatabaseKeeper, MemoryKeeper
@@ -121,9 +121,9 @@ def parsed() -> argparse.Namespace:
 
 def main() -> int:
     args, kinds, failed = parsed(), Counter(), 0
-    with Pool(args.processors) as pool:
+    with ProcessPoolExecutor(args.processors) as pool:
         work = partial(one, args.program, args.keeper, args.commands)
-        for result in pool.imap(work, range(args.first, args.end), chunksize=4):
+        for result in pool.map(work, range(args.first, args.end), chunksize=4):
             kinds[result.kind] += 1
             if result.faults:
                 failed += 1

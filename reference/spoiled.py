@@ -18,8 +18,8 @@ import subprocess
 import sys
 import tempfile
 from collections import Counter
+from concurrent.futures import Executor, ProcessPoolExecutor
 from functools import partial
-from multiprocessing import Pool
 from typing import Iterable
 
 from compare import Result, compared
@@ -75,14 +75,14 @@ def audit_answer(lines: list[bytes]) -> str:
     return f'{entries} entries used {use[2]} {use[5]} {use[8]}'
 
 
-def by_cases(program: str, pool: Pool, numbers: range) -> Iterable[Result]:
+def by_cases(program: str, pool: Executor, numbers: range) -> Iterable[Result]:
     """The audits of the kept lines of all numbers, by one run of the program of cases."""
     lists = [spoiled_lines(number, OF_LINES[:1]).kept or [] for number in numbers]
     calls = ''.join('keep audit ' + ' '.join(map(as_word, lines)) + '\n' for lines in lists)
     done = subprocess.run([program], input=calls.encode(), capture_output=True)
     answers = done.stdout.decode().splitlines()
     answers += [f'none, since it ended with status {done.returncode}'] * (len(lists) - len(answers))
-    for number, got, wanted in zip(numbers, answers, pool.imap(audit_answer, lists, chunksize=8)):
+    for number, got, wanted in zip(numbers, answers, pool.map(audit_answer, lists, chunksize=8)):
         faults = [] if got == wanted else [f'the answer is {got}, and has to be {wanted}']
         yield Result(f'kept lines {number}', f'audit {"refused" if wanted.startswith("bad") else "done"}', faults)
 
@@ -120,15 +120,15 @@ def parsed() -> argparse.Namespace:
 def main() -> int:
     args = parsed()
     numbers, what, totals = range(args.first, args.end), args.what or ['tables', 'kept'], []
-    with Pool(args.processors) as pool:
+    with ProcessPoolExecutor(args.processors) as pool:
         if 'tables' in what:
             work = partial(of_tables, os.path.abspath(args.program))
-            totals.append(told('tables', pool.imap(work, numbers, chunksize=4)))
+            totals.append(told('tables', pool.map(work, numbers, chunksize=4)))
         if 'kept' in what and args.cases:
             totals.append(told('kept lines', by_cases(os.path.abspath(args.cases), pool, numbers)))
         elif 'kept' in what:
             work = partial(of_lines, os.path.abspath(args.program))
-            totals.append(told('kept lines', pool.imap(work, numbers, chunksize=4)))
+            totals.append(told('kept lines', pool.map(work, numbers, chunksize=4)))
     passed, failed = sum(good for good, _ in totals), sum(bad for _, bad in totals)
     print(f'{passed} passed, {failed} failed')
     return 1 if failed or not passed else 0

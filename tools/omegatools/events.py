@@ -1,6 +1,6 @@
 """The lines of a report as objects with names."""
 import json
-from typing import Dict, Iterable, Iterator, List, Union
+from typing import Callable, Dict, Iterable, Iterator, List, Optional, Union
 
 from .reports import COUNTS, FIRST_EXTRA, Line, use_of
 
@@ -42,14 +42,17 @@ def event_of(line: Line) -> Event:
     return event
 
 
-def events_of(lines: Iterable[Line], window: int) -> Iterator[Event]:
+def events_of(lines: Iterable[Line], window_of: Callable[[], int]) -> Iterator[Event]:
     """Each line with its round, the time at which that begins, in microseconds, and its commit: the place
-    among all commits, from 0, with its scheduler. What belongs to no round or no commit has none."""
+    among all commits, from 0, with its scheduler. What belongs to no round or no commit has none. How long a round is
+    is asked for with the first of them."""
     place, at = -1, {}  # type: int, Event
+    window: Optional[int] = None
     commit: Event = {}
     for line in lines:
         kind = line[0]
         if kind == 'round':
+            window = window_of() if window is None else window
             at, commit = {'round': int(line[1]), 'time': int(line[1]) * window}, {}
         elif kind == 'commit':
             place += 1
@@ -61,6 +64,6 @@ def events_of(lines: Iterable[Line], window: int) -> Iterator[Event]:
         yield {'event': str(kind), **at, **commit, **event_of(line)}
 
 
-def json_lines_of(lines: Iterable[Line], window: int) -> Iterator[str]:
-    for event in events_of(lines, window):
+def json_lines_of(lines: Iterable[Line], window_of: Callable[[], int]) -> Iterator[str]:
+    for event in events_of(lines, window_of):
         yield json.dumps(event, separators=(',', ':')) + '\n'

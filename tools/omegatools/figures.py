@@ -4,7 +4,7 @@ from typing import Any, Callable, Dict, List, NamedTuple, Optional, Sequence, Tu
 
 from .common import Refusal
 from .reports import AMOUNTS, KINDS, Report
-from .tables import HOUR, conflict_rows, hours, rounds_table
+from .tables import HOUR, Window, conflict_rows, hours, rounds_table
 from .waits import Wish
 
 NAMES = {'cpu': 'CPU', 'mem': 'memory', 'disk': 'disk'}
@@ -86,16 +86,16 @@ def steps(axes: Any, at: Sequence[float], values: Sequence[float], name: str, la
               linestyle=style, label=label)
 
 
-def use_over_time(report: Report, window: int) -> Draw:
+def use_over_time(report: Report, window_of: Window) -> Draw:
     """What part of the cell is used where each round ends, until the next round ends."""
     pandas, _ = packages()
-    columns, *rows = rounds_table(report, window)
+    columns, *rows = rounds_table(report, window_of)
     frame = pandas.DataFrame(rows, columns=columns).astype(float)
 
     def draw(axes: Any) -> None:
         if not len(frame):
             return
-        ends = [*frame['hours'], hours(report.rounds[-1][0] + 1, window)]
+        ends = [*frame['hours'], hours(report.rounds[-1][0] + 1, window_of())]
         for amount in AMOUNTS:
             if frame[amount].any():
                 steps(axes, ends, list(frame[amount]), amount, NAMES[amount])
@@ -107,17 +107,18 @@ def use_over_time(report: Report, window: int) -> Draw:
 
 def span_for(report: Report, window: int) -> int:
     """A length of spans of which there aren't too many, and which a window divides or is longer than."""
-    whole = (report.rounds[-1][0] + 1 - report.rounds[0][0]) * window if report.rounds else 0
+    whole = (report.rounds[-1][0] + 1 - report.rounds[0][0]) * window
     return next((span for span in SPANS if span >= window and whole <= span * MOST_SPANS), max(SPANS[-1], window))
 
 
-def conflicts_over_time(report: Report, window: int, per: Optional[int] = None) -> Draw:
+def conflicts_over_time(report: Report, window_of: Window, per: Optional[int] = None) -> Draw:
     """Commits in conflict for each that placed something, by kind of scheduler. Where nothing was placed there
     is no line."""
     pandas, _ = packages()
-    span = per or span_for(report, window)
-    frame = pandas.DataFrame(conflict_rows(report, window, span),
+    span = per or (span_for(report, window_of()) if report.rounds else HOUR)
+    frame = pandas.DataFrame(conflict_rows(report, window_of, span),
                              columns=['hours', 'scheduler', 'commits', 'placing', 'conflicted'])
+    frame = frame.astype({'hours': float, 'placing': float, 'conflicted': float})
     frame['kind'] = [report.kind(number) for number in frame['scheduler']]
     sums = frame.groupby(['kind', 'hours'])[['placing', 'conflicted']].sum()
 
@@ -137,36 +138,76 @@ def conflicts_over_time(report: Report, window: int, per: Optional[int] = None) 
     return draw
 
 
-# Of the axis of waits: seconds, their name, and whether a narrow figure has room for it.
-WAIT_TICKS = ((0, '0', True), (60, '1 min', True), (300, '5 min', False), (600, '10 min', True),
-              (1800, '30 min', False), (3600, '1 h', True), (10_800, '3 h', False), (36_000, '10 h', True),
-              (86_400, '1 d', False), (360_000, '100 h', True))
+# Of an axis of times: seconds, their name, and whether a narrow figure has room for it.
+Tick = Tuple[float, str, bool]
+WAIT_TICKS: Tuple[Tick, ...] = (
+    (0, '0', True), (60, '1 min', True), (300, '5 min', False), (600, '10 min', True),
+    (1800, '30 min', False), (3600, '1 h', True), (10_800, '3 h', False), (36_000, '10 h', True),
+    (86_400, '1 d', False), (360_000, '100 h', True))
+SHORT_TICKS: Tuple[Tick, ...] = (
+    (0, '0', True), (0.01, '10 ms', True), (0.1, '0.1 s', False), (1, '1 s', True), (10, '10 s', False),
+    (60, '1 min', True), (600, '10 min', False), (3600, '1 h', True), (36_000, '10 h', False), (360_000, '100 h', True))
+
+
+class Axis(NamedTuple):
+    """An axis of times: what it says; up to which time it is linear, and how far it goes at least, in seconds; and its
+    ticks."""
+    says: str
+    linear: float
+    least: float
+    ticks: Tuple[Tick, ...]
+
+
+def of_times(axes: Any, axis: Axis, longest: float, of: str) -> None:
+    """The axes of parts that come within a time."""
+    axes.set_xscale('symlog', linthresh=axis.linear)
+    ticks = [(at, name) for at, name, always in axis.ticks if at <= longest and (always or not is_narrow(axes))]
+    axes.set_xticks([at for at, _ in ticks], [name for _, name in ticks])
+    axes.minorticks_off()
+    axes.set(xlabel=axis.says, ylabel='part of the %s' % of, ylim=(0, 1.02), xlim=(0, longest))
+    legend(axes)
+
+
+def shares(by_kind: Dict[str, Tuple[List[int], int]], axis: Axis, of: str) -> Draw:
+    """Which part of some things of each kind comes within a time: the times of those that come, in microseconds, and
+    how many there are."""
+    pandas, _ = packages()
+
+    def draw(axes: Any) -> None:
+        longest = max([axis.least, *(1.05 * max(times) / 1e6 for times, _ in by_kind.values() if times)])
+        for kind, (times, count) in by_kind.items():
+            if not count:
+                continue
+            came = pandas.Series(times, dtype=float).div(1e6).value_counts().sort_index().cumsum() / count
+            colour, style = STYLES[kind]
+            axes.plot([0, *came.index, longest], [0, *came, came.iloc[-1] if len(came) else 0], drawstyle='steps-post',
+                      color=colour, linestyle=style, label='%s (%s)' % (kind, '{:,}'.format(count)))
+        of_times(axes, axis, longest, of)
+    return draw
 
 
 def waits_by_kind(wishes: Sequence[Wish]) -> Draw:
     """Which part of the tasks of each kind of job ran within a time. Those that never ran keep the line below 1."""
-    pandas, _ = packages()
-    frame = pandas.DataFrame([(wish.kind, wish.wait()) for wish in wishes], columns=['kind', 'wait'])
-    frame['wait'] = frame['wait'].astype(float) / 1e6
+    by_kind = {}
+    for kind in KINDS:
+        waits = [wish.wait() for wish in wishes if wish.kind == kind]
+        by_kind[kind] = [wait for wait in waits if wait is not None], len(waits)
+    return shares(by_kind, Axis('wait until it first ran', 60, 600, WAIT_TICKS), 'tasks')
 
-    def draw(axes: Any) -> None:
-        longest = max(600.0, frame['wait'].max() if frame['wait'].any() else 0)
-        for kind in KINDS:
-            waits = frame[frame['kind'] == kind]['wait']
-            if not len(waits):
-                continue
-            ran = waits.dropna().value_counts().sort_index().cumsum() / len(waits)
-            colour, style = STYLES[kind]
-            axes.plot([0, *ran.index, longest], [0, *ran, ran.iloc[-1] if len(ran) else 0], drawstyle='steps-post',
-                      color=colour, linestyle=style, label='%s (%s)' % (kind, '{:,}'.format(len(waits))))
-        axes.set_xscale('symlog', linthresh=60)
-        ticks = [(at, name) for at, name, always in WAIT_TICKS
-                 if at <= longest and (always or not is_narrow(axes))]
-        axes.set_xticks([at for at, _ in ticks], [name for _, name in ticks])
-        axes.minorticks_off()
-        axes.set(xlabel='wait until it first ran', ylabel='part of the tasks', ylim=(0, 1.02), xlim=(0, longest))
-        legend(axes)
-    return draw
+
+def shares_within(by_kind: Dict[str, List[int]], says: str, of: str) -> Draw:
+    """Which part of what single times are told of comes within a time, for each kind of scheduler."""
+    return shares({kind: (times, len(times)) for kind, times in by_kind.items()}, Axis(says, 0.01, 1, SHORT_TICKS), of)
+
+
+# What such figures say of the waits of jobs and of decisions.
+JOBS = ('wait until its scheduler began to decide on it', 'jobs')
+DECISIONS = ('how long a decision took', 'commits')
+
+
+def plain(name: str) -> str:
+    """A name as matplotlib shows it: what stands between two dollars would be read as a formula."""
+    return ''.join(letter if letter.isprintable() else '?' for letter in name).replace('$', r'\$')
 
 
 def runs_beside(names: Sequence[str], values: Sequence[Dict[str, Optional[float]]], label: str) -> Draw:
@@ -174,7 +215,7 @@ def runs_beside(names: Sequence[str], values: Sequence[Dict[str, Optional[float]
     room their names stand beside the numbers."""
     packages()
     numbers = [str(place) for place in range(1, len(names) + 1)]
-    longer = ['%s   %s' % pair for pair in zip(names, numbers)] if max(map(len, names)) <= 32 else numbers
+    longer = ['%s   %s' % pair for pair in zip(map(plain, names), numbers)] if max(map(len, names)) <= 32 else numbers
 
     def draw(axes: Any) -> None:
         for kind, marker in zip(KINDS, 'os^'):

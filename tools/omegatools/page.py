@@ -1,15 +1,15 @@
 """One page of HTML on some runs, which needs nothing else."""
 import base64
 import html
-from pathlib import Path
-from typing import Dict, Iterable, List, NamedTuple, Optional, Sequence, Tuple
+from typing import Callable, Dict, Iterable, List, NamedTuple, Optional, Sequence, Tuple
 
 from .common import Refusal
-from .figures import NARROW, WIDE, Draw, Size, conflicts_over_time, picture, runs_beside, use_over_time, waits_by_kind
+from .figures import (DECISIONS, JOBS, NARROW, WIDE, Draw, Size, conflicts_over_time, picture, runs_beside, shares_within,
+                      use_over_time, waits_by_kind)
 from .reports import KINDS, Report
-from .tables import options_of, results
+from .tables import options_of, results, spreads_table
 from .waits import Tables, Wish, quantile_rows, wishes_of
-from .words import Words
+from .words import Told, Words
 
 STYLE = """
 :root { color-scheme: light; }
@@ -24,10 +24,10 @@ img { width: 100%; max-width: 46rem; height: auto; display: block; }
 .scroll { overflow-x: auto; }
 table { border-collapse: collapse; font-size: .875rem; font-variant-numeric: tabular-nums; overflow-wrap: normal; }
 th, td { padding: .3rem .6rem; border-bottom: 1px solid #ddd; text-align: right; white-space: nowrap; }
-th { border-bottom: 2px solid #888; vertical-align: bottom; white-space: normal; min-width: 3.2rem; }
+th { border-bottom: 2px solid #888; vertical-align: bottom; white-space: normal; min-width: 4.6rem; }
 th:first-child { min-width: 0; }
 th.word { white-space: nowrap; }
-.scroll td a { white-space: normal; }
+.scroll td a { white-space: normal; overflow-wrap: anywhere; }
 .scroll td:has(a) { white-space: normal; min-width: 13rem; max-width: 18rem; }
 th:first-child, td:first-child, td.word, th.word { text-align: left; }
 code { font: .875em ui-monospace, monospace; background: #f3f3f3; padding: .1em .3em; border-radius: 3px; }
@@ -42,7 +42,8 @@ COLUMNS: Dict[str, Tuple[str, int]] = {
     'extras': ('extra tasks', 0), 'waiting': ('waiting at the end', 0), 'abandoned': ('jobs given up', 0),
     'mean_cpu': ('CPU in use', 3), 'mean_mem': ('memory in use', 3),
     'busy_services': ('services busy', 3), 'busy_batch': ('batch busy', 3),
-    'mean_wait_services': ('wait of services, s', 1), 'mean_wait_batch': ('wait of batch jobs, s', 1)}
+    'mean_wait_services': ('wait of services, s', 1), 'p90_wait_services': ('90 % of them within, s', 1),
+    'mean_wait_batch': ('wait of batch jobs, s', 1), 'p90_wait_batch': ('90 % of them within, s', 1)}
 
 
 MOST_SECTIONS = 12  # with more runs the page has no figures of single ones
@@ -52,18 +53,21 @@ class Run(NamedTuple):
     name: str
     report: Report
     words: Optional[Words]
-    window: int
+    window: Callable[[], int]
     waits: Optional[List[Wish]]
     why_no_waits: str
 
 
-def waits_of(path: str, tables: Optional[Path], window: int,
-             has_own_ends: bool) -> Tuple[Optional[List[Wish]], str]:
+def waits_of(report: Report, told: Told) -> Tuple[Optional[List[Wish]], str]:
     """The waits of a report, or why there are none."""
+    tables = told.tables()
     if tables is None:
         return None, 'The page wasn\'t told which tables the run had (--tables).'
+    if not report.rounds:
+        return None, 'The report is a summary.'
+    window = told.window()
     try:
-        return wishes_of(Tables(tables, window), path, has_own_ends), ''
+        return wishes_of(Tables(tables, window), told.report, told.has_own_ends(), report.decisions), ''
     except FileNotFoundError as fault:
         return None, '%s isn\'t there.' % fault.filename
     except Refusal as refusal:
@@ -120,7 +124,8 @@ def beside(runs: Sequence[Run]) -> str:
     parts = []
     for start, label in (('conflict_fraction_', 'conflicts per commit that placed a task'),
                          ('busy_', 'part of the time that the scheduler decides'),
-                         ('mean_wait_', 'mean wait of a job for its first decision, seconds')):
+                         ('mean_wait_', 'mean wait of a job for its first decision, seconds'),
+                         ('p90_wait_', 'wait of nine jobs of ten for their first decision, seconds')):
         values = [{kind: _float(result.get(start + kind)) for kind in KINDS} for result in found]
         if any(value is not None for by_kind in values for value in by_kind.values()):
             high = 1.2 + 0.28 * len(runs)
@@ -133,12 +138,33 @@ def _float(value: object) -> Optional[float]:
     return float(value) if isinstance(value, (int, float)) else None
 
 
+SPREAD = tuple((name, False) for name in ('mean, s', 'half within, s', '90 % within, s', '99 % within, s', 'longest, s'))
+
+
 def waits_table(wishes: List[Wish]) -> str:
-    head = [('jobs', True), ('tasks', False), ('ran', False), ('never ran', False), ('still wait', False),
-            *((name, False) for name in ('mean, s', 'half within, s', '90 % within, s', '99 % within, s', 'longest, s'))]
+    head = [('jobs', True), ('tasks', False), ('ran', False), ('never ran', False), ('still wait', False), *SPREAD]
     rows = [[html.escape(str(row[0])), *(number(cell, 0) for cell in row[1:5]), *(number(cell, 1) for cell in row[5:])]
             for row in quantile_rows(wishes) if row[1]]
     return table(head, rows)
+
+
+def times_table(by_kind: Dict[str, List[int]], what: str) -> str:
+    """How times that are told one by one are spread, for each kind of scheduler."""
+    _, *rows = spreads_table(by_kind, what)
+    return table([('schedulers', True), (what, False), *SPREAD],
+                 [[html.escape(str(row[0])), number(row[1], 0), *(number(cell, 3) for cell in row[2:])]
+                  for row in rows if row[1]])
+
+
+def single_times(report: Report) -> List[str]:
+    """How long jobs wait for a decision, and how long decisions take."""
+    parts = []
+    for title, by_kind, (says, of) in (
+            ('Waits of jobs for a decision', report.of_kinds(report.waits_of_jobs()), JOBS),
+            ('Decisions', report.of_kinds(report.decision_times()), DECISIONS)):
+        parts += ['<h3>%s</h3>' % title, figure(shares_within(by_kind, says, of), 'part of the %s within a time' % of),
+                  times_table(by_kind, of)]
+    return parts
 
 
 def section(place: int, run: Run) -> str:
@@ -156,14 +182,17 @@ def section(place: int, run: Run) -> str:
         parts.append('<p>%s</p>' % html.escape(run.why_no_waits))
     else:
         parts += [figure(waits_by_kind(run.waits), 'part of the tasks that ran within a time'), waits_table(run.waits)]
+    if run.report.decisions:
+        parts += single_times(run.report)
     return '\n'.join(parts)
 
 
 EXPLAINED = """<p>Each figure is of a report that <code>omega</code> printed. A commit is in conflict if a claim of it
 isn't placed; the <em>conflict fraction</em> is the number of these for each commit that placed a task. What is used
 is told where a round ends, and stays so until the next round. A task waits from when it is submitted to the last row
-of the round in which it is first placed; one that ends in the trace before a round gives it a machine never runs,
-unless tasks end by their own lives.</p>"""
+of the round in which it is first placed, or, where the run told its single times, to the commit that placed it; one that
+ends in the trace before that never runs, unless tasks end by their own lives. A job waits from its first row until
+its scheduler began to decide on it; jobs on which nobody ever decided aren't counted.</p>"""
 
 
 def page(title: str, runs: Sequence[Run]) -> str:

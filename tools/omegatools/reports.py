@@ -4,10 +4,14 @@ import contextlib
 import gzip
 import json
 import lzma
+import os
 import re
+import shutil
+import stat
 import sys
+import tempfile
 import zlib
-from typing import BinaryIO, Dict, Iterator, List, NamedTuple, Optional, Tuple, Union
+from typing import IO, Any, Callable, Dict, Iterator, List, NamedTuple, Optional, Tuple, Union, cast
 
 from .common import Refusal, shown
 
@@ -31,21 +35,45 @@ FORMS = frozenset((
 
 # From bytes to lines.
 
+copies: Dict[str, IO[bytes]] = {}   # of what can be read once only
+
+
+def copy_of(path: str) -> IO[bytes]:
+    """What can be read once only, as standard input or a pipe, put where it can be read again."""
+    if path not in copies:
+        copies[path] = tempfile.TemporaryFile()
+        with contextlib.ExitStack() as stack:
+            shutil.copyfileobj(sys.stdin.buffer if path == '-' else stack.enter_context(open(path, 'rb')), copies[path])
+    return copies[path]
+
+
+def is_pipe(path: str) -> bool:
+    return path == '-' or stat.S_ISFIFO(os.stat(path).st_mode)
+
+
 @contextlib.contextmanager
-def opened(path: str) -> Iterator[BinaryIO]:
+def opened(path: str) -> Iterator[IO[bytes]]:
     """A report's bytes: of a file, or of standard input where the path is `-`; unpacked where they are packed
     by gzip, bzip2 or xz."""
     with contextlib.ExitStack() as stack:
-        file = sys.stdin.buffer if path == '-' else stack.enter_context(open(path, 'rb'))
-        first = file.peek(6)[:6]  # type: ignore[attr-defined]
-        if first.startswith(b'\x1f\x8b'):
-            yield stack.enter_context(gzip.GzipFile(fileobj=file))  # type: ignore[misc]
-        elif first.startswith(b'BZh'):
-            yield stack.enter_context(bz2.BZ2File(file))  # type: ignore[misc]
-        elif first.startswith(b'\xfd7zXZ'):
-            yield stack.enter_context(lzma.LZMAFile(file))  # type: ignore[misc]
+        file: IO[bytes]
+        if is_pipe(path):
+            file = copy_of(path)
+            file.seek(0)
         else:
-            yield file
+            file = stack.enter_context(open(path, 'rb'))
+        yield unpacked(file, stack)
+
+
+def unpacked(file: IO[bytes], stack: contextlib.ExitStack) -> IO[bytes]:
+    """The same bytes, or those that were packed, by what they begin with."""
+    first = file.peek(6)[:6]  # type: ignore[attr-defined]
+    ways: Dict[bytes, Callable[[Any], Any]] = {
+        b'\x1f\x8b': lambda it: gzip.GzipFile(fileobj=it), b'BZh': bz2.BZ2File, b'\xfd7zXZ': lzma.LZMAFile}
+    for mark, way in ways.items():
+        if first.startswith(mark):
+            return cast(IO[bytes], stack.enter_context(way(file)))
+    return file
 
 
 def word_or_number(word: str) -> Union[int, str]:
@@ -53,7 +81,7 @@ def word_or_number(word: str) -> Union[int, str]:
     return int(word) if word.isdigit() and word.isascii() and len(word) < 40 else word
 
 
-def text_lines(file: BinaryIO, first: bytes) -> Iterator[Line]:
+def text_lines(file: IO[bytes], first: bytes) -> Iterator[Line]:
     """The lines of a text. Each must end with a line feed."""
     for number, data in enumerate(whole_lines(file, first), 1):
         if not data.endswith(b'\n'):
@@ -61,7 +89,7 @@ def text_lines(file: BinaryIO, first: bytes) -> Iterator[Line]:
         yield [word_or_number(word) for word in data[:-1].decode('latin-1').split(' ')]
 
 
-def whole_lines(file: BinaryIO, first: bytes) -> Iterator[bytes]:
+def whole_lines(file: IO[bytes], first: bytes) -> Iterator[bytes]:
     yield first + file.readline(MOST_BYTES_OF_LINE)
     while True:
         data = file.readline(MOST_BYTES_OF_LINE)
@@ -73,7 +101,7 @@ def whole_lines(file: BinaryIO, first: bytes) -> Iterator[bytes]:
 ITEM = re.compile(r'\s*(\[[^\[\]]*\])\s*([,\]])')
 
 
-def json_lines(file: BinaryIO) -> Iterator[Line]:
+def json_lines(file: IO[bytes]) -> Iterator[Line]:
     """The items of an array of arrays, read piece by piece. Its first bracket is already read."""
     text, number, closed = '', 0, False
     for block in iter(lambda: file.read(1 << 20), b''):
@@ -105,7 +133,7 @@ def json_item(text: str, number: int) -> Line:
     return [word_or_number(word) if isinstance(word, str) else word for word in item]
 
 
-def lines_of(file: BinaryIO) -> Iterator[Line]:
+def lines_of(file: IO[bytes]) -> Iterator[Line]:
     try:
         first = file.read(1)
         if not first:
@@ -258,6 +286,24 @@ class Times(NamedTuple):
     wait: int
 
 
+class Decision(NamedTuple):
+    """With the times of single commits: what a commit was of, when its scheduler began to decide, and when it was
+    done, in microseconds."""
+    job: int
+    scheduler: int
+    sync: int
+    committed: int
+
+
+class First(NamedTuple):
+    """With the times of single commits: when the first row of a job came, and when its scheduler began to decide on it
+    for the first time, in microseconds."""
+    job: int
+    scheduler: int
+    arrived: int
+    sync: int
+
+
 class Commits:
     """Counts of the commits of one scheduler in one round."""
     __slots__ = ('commits', 'placing', 'conflicted')
@@ -274,43 +320,81 @@ class Report:
         self.commits: Dict[Tuple[int, int], Commits] = {}   # by round and scheduler
         self.schedulers: List[Dict[str, int]] = []
         self.times: List[Times] = []
+        self.jobs: List[int] = []               # of the commits, in order
+        self.decisions: List[Decision] = []     # these and the next where times are told of single commits
+        self.firsts: List[First] = []
         self.entries = self.round_count = self.extras = self.waiting = self.abandoned = 0
         self.open = Commits()
         self.claims = [False, False]                        # whether the open commit has a claim placed, and one not
-        self.read(path)
-
-    def read(self, path: str) -> None:
-        round_, busy = 0, (0, 0)
+        self.round, self.busy, self.has_ended = 0, (0, 0), False
+        self.single: List[List[int]] = []                   # the times of single commits
         for line in report_lines(path):
-            kind, numbers = line[0], [word for word in line if isinstance(word, int)]
-            if kind == 'round':
-                round_ = numbers[0]
-            elif kind == 'commit':
-                self.close_commit()
-                self.open = self.commits.setdefault((round_, numbers[0]), Commits())
-                self.open.commits += 1
-            elif kind in ('place', 'refuse'):
-                self.claims[kind == 'refuse'] = True
-                self.extras += kind == 'place' and numbers[1] >= FIRST_EXTRA
-            elif kind == 'use' and not self.schedulers:
-                self.close_commit()
-                self.rounds.append((round_, use_of(line)))
-            elif kind == 'entries':
-                self.entries, self.round_count = numbers
-            elif kind == 'scheduler':
-                self.schedulers.append(dict(zip(COUNTS, numbers[1:])))
-            elif kind == 'waiting':
-                self.waiting, self.abandoned = numbers
-            elif kind == 'busy':
-                busy = numbers[1], numbers[2]
-            elif kind == 'wait':
-                self.times.append(Times(busy[0], busy[1], numbers[1], numbers[2]))
+            numbers = [word for word in line if isinstance(word, int)]
+            (self.take_end if self.has_ended else self.take)(line, numbers)
+        self.decisions = [Decision(job, *times) for job, times in zip(self.jobs, self.single)]
+
+    def take(self, line: Line, numbers: List[int]) -> None:
+        """A line of a round."""
+        kind = line[0]
+        if kind == 'round':
+            self.round = numbers[0]
+        elif kind == 'commit':
+            self.close_commit()
+            self.open = self.commits.setdefault((self.round, numbers[0]), Commits())
+            self.open.commits += 1
+            self.jobs.append(numbers[2])
+        elif kind in ('place', 'refuse'):
+            self.claims[kind == 'refuse'] = True
+            self.extras += kind == 'place' and numbers[1] >= FIRST_EXTRA
+        elif kind == 'use':
+            self.close_commit()
+            self.rounds.append((self.round, use_of(line)))
+        elif kind == 'entries':
+            self.entries, self.round_count = numbers
+            self.has_ended = True
+
+    def take_end(self, line: Line, numbers: List[int]) -> None:
+        """A line behind the rounds."""
+        kind = line[0]
+        if kind == 'scheduler':
+            self.schedulers.append(dict(zip(COUNTS, numbers[1:])))
+        elif kind == 'waiting':
+            self.waiting, self.abandoned = numbers
+        elif kind == 'busy':
+            self.busy = numbers[1], numbers[2]
+        elif kind == 'wait':
+            self.times.append(Times(*self.busy, numbers[1], numbers[2]))
+        elif kind == 'time':
+            self.single.append(numbers[1:])
+        elif kind == 'first':
+            self.firsts.append(First(*numbers))
 
     def close_commit(self) -> None:
         placing, conflicted = self.claims
         self.open.placing += placing
         self.open.conflicted += conflicted
         self.claims = [False, False]
+
+    def waits_of_jobs(self) -> Dict[int, List[int]]:
+        """By scheduler how long each of its jobs waited for its first decision, where single times are told."""
+        found: Dict[int, List[int]] = {}
+        for first in self.firsts:
+            found.setdefault(first.scheduler, []).append(first.sync - first.arrived)
+        return found
+
+    def decision_times(self) -> Dict[int, List[int]]:
+        """By scheduler how long each of its decisions took, where single times are told."""
+        found: Dict[int, List[int]] = {}
+        for decision in self.decisions:
+            found.setdefault(decision.scheduler, []).append(decision.committed - decision.sync)
+        return found
+
+    def of_kinds(self, found: Dict[int, List[int]]) -> Dict[str, List[int]]:
+        """The same by kind of scheduler."""
+        by_kind: Dict[str, List[int]] = {kind: [] for kind in KINDS}
+        for scheduler, values in found.items():
+            by_kind[self.kind(scheduler)] += values
+        return by_kind
 
     def total(self, count: str) -> int:
         return sum(counts[count] for counts in self.schedulers)

@@ -3,6 +3,7 @@ import os
 import shutil
 import socket
 import subprocess
+import sys
 import threading
 import time
 from typing import Any, Dict, List, Optional, Tuple
@@ -51,6 +52,16 @@ def run_one(folder: str, name: str, program: str, words: List[str], inputs: List
     finally:
         shutil.rmtree(own, ignore_errors=True)
     return {'name': name, 'status': status, 'seconds': round(seconds, 1), 'where': socket.gethostname()}
+
+
+def run_and_read(folder: str, name: str, program: str, words: List[str], inputs: List[str], sweep: str,
+                 reader: List[str]) -> Dict[str, object]:
+    """The same, and then the report is read by a Python program, which is called with the run's folder."""
+    outcome = run_one(folder, name, program, words, inputs, sweep)
+    if outcome['status'] == 0:
+        subprocess.run([sys.executable, *reader, os.path.join(folder, name)], stdin=subprocess.DEVNULL,
+                       stdout=subprocess.DEVNULL, stderr=subprocess.DEVNULL)
+    return outcome
 
 
 def put(folder: str, name: str, lines: List[str]) -> None:

@@ -1,16 +1,13 @@
-"""Many runs: words with lists of values, what of them is kept, and tables of what they come to."""
-import csv
+"""Many runs: words with lists of values, and what of them is kept."""
 import hashlib
 import itertools
 import re
 import shlex
 from pathlib import Path
-from typing import Dict, Iterable, Iterator, List, NamedTuple, Optional, Sequence, Tuple
+from typing import Dict, Iterable, List, NamedTuple, Optional, Sequence
 
 from .common import Refusal, shown
-from .reports import Report
-from .running import SETTLED
-from .tables import RESULTS, options_of, results
+from .running import SETTLED, put, take_place
 from .words import COMMANDS, OPTIONS, Words, split_words, words_of
 
 TABLES = ('machine_events', 'machine_attributes', 'task_events', 'task_constraints', 'mapreduce_jobs',
@@ -85,7 +82,7 @@ def name_of(words: Words) -> str:
 class Run(NamedTuple):
     name: str
     words: Words
-    inputs: List[str]       # which program and which tables, by their bytes
+    inputs: List[str]       # which program and which tables, by their bytes; and what workload these are
 
 
 def digest(paths: Iterable[Path]) -> str:
@@ -100,12 +97,26 @@ def digest(paths: Iterable[Path]) -> str:
     return whole.hexdigest()[:16]
 
 
+def workload_of(folder: Path) -> List[str]:
+    """What the tables of a folder were made as: the line of the file `workload`, which is the same for all that differ
+    in the seed of their generator alone."""
+    try:
+        lines = (folder / 'workload').read_text().splitlines()
+    except FileNotFoundError:
+        return []
+    except UnicodeDecodeError:
+        lines = []
+    if len(lines) != 1 or not lines[0].strip():
+        raise Refusal('%s is no line that names a workload' % (folder / 'workload'))
+    return ['workload ' + lines[0].strip()]
+
+
 class Inputs:
     """Tells which program and tables a run has. Each file is read once."""
 
     def __init__(self, program: Path) -> None:
         self.program = 'program ' + digest([program])
-        self.tables: Dict[str, str] = {}
+        self.tables: Dict[str, List[str]] = {}
 
     def of(self, words: Words) -> List[str]:
         if words.command == 'generate':
@@ -114,8 +125,9 @@ class Inputs:
         if folder not in self.tables:
             files = [Path(folder) / (table + '.csv') for table in TABLES]
             there = [file for file in files if file.is_file()]
-            self.tables[folder] = 'tables %s %s' % (digest(there), ' '.join(file.stem for file in there))
-        return [self.program, self.tables[folder]]
+            self.tables[folder] = ['tables %s %s' % (digest(there), ' '.join(file.stem for file in there)),
+                                   *workload_of(Path(folder))]
+        return [self.program, *self.tables[folder]]
 
 
 def runs_of(words: Sequence[str], program: Path, caller: Path) -> List[Run]:
@@ -152,6 +164,19 @@ class Kept(NamedTuple):
         said = lines_of(self.report.parent / 'fault.txt') or ['it said nothing']
         return 'status %d, %s' % (self.status, said[0])
 
+    def tables(self) -> str:
+        """Which tables it had, by their bytes."""
+        return next((line for line in self.inputs if line.startswith('tables ')), '')
+
+    def workload(self) -> Optional[str]:
+        return next((line.split(' ', 1)[1] for line in self.inputs if line.startswith('workload ')), None)
+
+
+def essence(words: Words, inputs: Sequence[str]) -> str:
+    """What decides how a run ends: its words but for the folder of tables, and the bytes of program and tables."""
+    plain = Words(words.command, {option: value for option, value in words.options.items() if option != 'tables'})
+    return '\n'.join([*plain.plain(), *(line for line in inputs if not line.startswith('workload '))])
+
 
 def kept_in(folder: Path, name: str) -> Optional[Kept]:
     """The run of this name, if it was run to its end."""
@@ -165,13 +190,38 @@ def kept_in(folder: Path, name: str) -> Optional[Kept]:
         raise Refusal('%s: its seconds or its status is no number' % place) from fault
 
 
-def is_done(folder: Path, run: Run) -> bool:
-    """Whether a run is kept that would end the same if it were run again."""
-    words = lines_of(folder / run.name / 'words')
-    if words is not None and words_of(words) != run.words:
-        raise Refusal('%s is there already, with other words' % (folder / run.name))
-    kept = kept_in(folder, run.name)
-    return kept is not None and kept.status in SETTLED and kept.inputs == run.inputs
+def is_settled(kept: Optional[Kept], run: Run) -> bool:
+    """Whether a kept run would end the same if it were run again, as this one."""
+    return kept is not None and kept.status in SETTLED and essence(kept.words, kept.inputs) == essence(run.words, run.inputs)
+
+
+def adopt(folder: Path, kept: Kept, run: Run) -> None:
+    """Makes a kept run this one: its tables may lie elsewhere now, or be told of otherwise."""
+    if (kept.words, kept.inputs) != (run.words, run.inputs):
+        put(str(folder / kept.name), 'words', run.words.plain())
+        put(str(folder / kept.name), 'inputs', run.inputs)
+    if kept.name != run.name:
+        take_place(str(folder / kept.name), str(folder / run.name))
+
+
+def still_to_be_made(folder: Path, runs: Sequence[Run]) -> List[Run]:
+    """Those of some runs that aren't kept. One whose tables were moved is found by their bytes."""
+    own = {run.name for run in runs}
+    others = {essence(kept.words, kept.inputs): kept for kept in all_kept(folder)
+              if kept.status in SETTLED and kept.name not in own}
+    todo = []
+    for run in runs:
+        kept = kept_in(folder, run.name)
+        if not is_settled(kept, run):
+            words = lines_of(folder / run.name / 'words')
+            if words is not None and words_of(words) != run.words:
+                raise Refusal('%s is there already, with other words' % (folder / run.name))
+            kept = others.pop(essence(run.words, run.inputs), None)
+        if kept is None:
+            todo.append(run)
+        else:
+            adopt(folder, kept, run)
+    return todo
 
 
 def all_kept(folder: Path) -> List[Kept]:
@@ -185,112 +235,7 @@ def command_line(folder: Path, run: Run, program: Path) -> str:
     words = ' '.join(map(shlex.quote, run.words.plain()))
     inputs = ' '.join(map(shlex.quote, run.inputs))
     place = shlex.quote(str(folder / run.name))
-    return ("mkdir -p %s && cd %s && rm -f status && printf '%%s\\n' %s >words && printf '%%s\\n' %s >inputs && "
+    return ("mkdir -p %s && cd %s && rm -f status numbers && printf '%%s\\n' %s >words && printf '%%s\\n' %s >inputs && "
             "{ t=$(date +%%s%%N); %s %s >report.txt 2>fault.txt; s=$?; t=$((($(date +%%s%%N) - t) / 1000000)); "
             "printf '%%d.%%03d\\n' $((t / 1000)) $((t %% 1000)) >seconds; echo $s >status; }") % (
                 place, place, words, inputs, shlex.quote(str(program)), words)
-
-
-# Tables of runs.
-
-def number(value: object) -> Optional[float]:
-    return float(value) if isinstance(value, (int, float)) else None
-
-
-class Result(NamedTuple):
-    kept: Kept
-    numbers: Dict[str, float]   # empty where the run has no report
-
-
-def result_of(kept: Kept) -> Result:
-    if kept.status != 0:
-        return Result(kept, {})
-    found = {name: number(value) for name, value in results(Report(str(kept.report))).items()}
-    return Result(kept, {'seconds': kept.seconds, **{name: value for name, value in found.items() if value is not None}})
-
-
-def columns_of(found: Sequence[Result]) -> List[str]:
-    return [name for name in (*RESULTS, 'seconds') if any(name in result.numbers for result in found)]
-
-
-def runs_table(found: Sequence[Result]) -> Iterator[List[object]]:
-    """A row for each run."""
-    options = options_of(result.kept.words for result in found)
-    columns = [name for name in columns_of(found) if name != 'seconds']
-    yield ['run', 'command', *options, 'status', 'seconds', *columns]
-    for kept, numbers in found:
-        yield [kept.name, kept.words.command, *(kept.words.value(option) for option in options), kept.status,
-               kept.seconds, *(numbers.get(column) for column in columns)]
-
-
-class Group(NamedTuple):
-    """Runs that differ in their seeds alone."""
-    words: Words
-    results: List[Result]
-
-    def spread(self, column: str) -> Optional[Tuple[float, float, float]]:
-        """The mean, the least and the greatest over the seeds, of the runs that have a value."""
-        values = [result.numbers[column] for result in self.results if column in result.numbers]
-        return (sum(values) / len(values), min(values), max(values)) if values else None
-
-
-def groups_of(found: Sequence[Result]) -> List[Group]:
-    groups: Dict[Tuple[object, ...], Group] = {}
-    for result in found:
-        words = result.kept.words
-        rest = {option: value for option, value in words.options.items() if option != 'seed'}
-        key = (words.command, tuple(sorted(rest.items())))
-        groups.setdefault(key, Group(Words(words.command, rest), [])).results.append(result)
-    return list(groups.values())
-
-
-def seeds_table(groups: Sequence[Group]) -> Iterator[List[object]]:
-    """A row for all runs that differ in their seeds alone, with mean and range of each column."""
-    options = options_of(group.words for group in groups)
-    columns = columns_of([result for group in groups for result in group.results])
-    yield ['command', *options, 'runs', 'failed',
-           *('%s_%s' % (column, part) for column in columns for part in ('mean', 'min', 'max'))]
-    for group in groups:
-        failed = sum(1 for result in group.results if not result.numbers)
-        spreads = (group.spread(column) or (None,) * 3 for column in columns)
-        yield [group.words.command, *(group.words.value(option) for option in options), len(group.results), failed,
-               *itertools.chain.from_iterable(spreads)]
-
-
-def write_csv(path: Path, rows: Iterable[Sequence[object]]) -> None:
-    part = path.with_name(path.name + '.part')
-    with open(part, 'w', newline='') as file:
-        for row in rows:
-            csv.writer(file, lineterminator='\n').writerow(
-                ['%.6g' % cell if isinstance(cell, float) else cell for cell in row])
-    part.replace(path)
-
-
-# The columns of the table for reading, and how they are headed.
-HEADS = {'conflict_fraction': 'conflict fraction', 'evicted': 'evicted', 'waiting': 'waiting', 'mean_cpu': 'CPU in use',
-         'busy_services': 'services busy', 'busy_batch': 'batch busy', 'mean_wait_services': 'services wait, s',
-         'mean_wait_batch': 'batch waits, s', 'seconds': 'seconds'}
-
-
-def text_of(spread: Optional[Tuple[float, float, float]]) -> str:
-    """The mean, and in brackets the range where there is one."""
-    if spread is None:
-        return '-'
-    mean, least, greatest = spread
-    return '%.4g' % mean if least == greatest else '%.4g (%.4g to %.4g)' % (mean, least, greatest)
-
-
-def text_table(groups: Sequence[Group]) -> Iterator[str]:
-    """The same for reading: the options that differ, and some of the columns."""
-    options = [option for option in options_of(group.words for group in groups)
-               if len({group.words.value(option) for group in groups}) > 1]
-    columns = [column for column in HEADS if any(group.spread(column) for group in groups)]
-    commands = len({group.words.command for group in groups}) > 1
-    rows = [[*(['command'] if commands else []), *('--' + option for option in options), 'runs',
-             *(HEADS[column] for column in columns)]]
-    for group in groups:
-        rows.append([*([group.words.command] if commands else []), *(group.words.value(option) for option in options),
-                     str(len(group.results)), *(text_of(group.spread(column)) for column in columns)])
-    widths = [max(map(len, column)) for column in zip(*rows)]
-    for row in rows:
-        yield '  '.join(cell.ljust(width) for cell, width in zip(row, widths)).rstrip()

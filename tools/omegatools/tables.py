@@ -2,7 +2,7 @@
 import csv
 import sys
 from pathlib import Path
-from typing import Dict, Iterable, Iterator, List, Optional, Sequence, TextIO, Tuple
+from typing import Callable, Dict, Iterable, Iterator, List, Optional, Sequence, TextIO, Tuple
 
 from .common import Refusal
 from .reports import AMOUNTS, COUNTS, KINDS, Report, share
@@ -26,32 +26,93 @@ def hours(number: int, window: int) -> float:
     return number * window / HOUR
 
 
-def rounds_table(report: Report, window: int) -> Iterator[Row]:
+Window = Callable[[], int]  # how long a round is; it is asked for where there are rounds
+
+
+def rounds_table(report: Report, window_of: Window) -> Iterator[Row]:
     """What is used where each round ends, as fractions of what there is."""
     yield ('round', 'hours') + AMOUNTS
+    window = window_of() if report.rounds else 0
     for number, use in report.rounds:
         yield (number, hours(number, window), *(share(*use[amount]) for amount in AMOUNTS))
+
+
+# Quantiles.
+
+SHARES = (50, 90, 99)
+QUANTILES = tuple('p%d' % part for part in SHARES)
+
+
+def quantile(ordered: Sequence[int], percent: int) -> int:
+    """The least value that so many per cent of the values don't pass."""
+    return ordered[max(0, -(-len(ordered) * percent // 100) - 1)]
+
+
+def quantiles(times: Iterable[int]) -> List[Optional[float]]:
+    """The quantiles of some times, in seconds; nothing where there are none."""
+    ordered = sorted(times)
+    return [quantile(ordered, part) / 1e6 if ordered else None for part in SHARES]
+
+
+def spread(times: Sequence[int]) -> List[Optional[float]]:
+    """The mean of some times, their quantiles and the greatest one, in seconds."""
+    if not times:
+        return [None] * (len(SHARES) + 2)
+    return [sum(times) / len(times) / 1e6, *quantiles(times), max(times) / 1e6]
+
+
+SPREAD = ('mean', *QUANTILES, 'max')
 
 
 def schedulers_table(report: Report) -> Iterator[Row]:
     """The counts of each scheduler, and how many of its commits were in conflict for each that placed
     something. A report of `simulate` has times, too: which part of the time a scheduler was busy, and how
-    many seconds a job waited for its first decision, on an average."""
+    many seconds a job waited for its first decision, on an average, and where single times are told by quantiles."""
     timed = ('busy', 'mean_wait') if report.times else ()
-    yield ('scheduler', 'name') + COUNTS + ('conflict_fraction',) + timed
+    single = tuple(name + '_wait' for name in QUANTILES) if report.firsts else ()
+    waits = report.waits_of_jobs()
+    yield ('scheduler', 'name') + COUNTS + ('conflict_fraction',) + timed + single
     for number, counts in enumerate(report.schedulers):
         row: List[object] = [number, report.name(number), *(counts[count] for count in COUNTS),
                              share(counts['conflicted'], counts['placing'])]
         if report.times:
             times = report.times[number]
             row += [share(times.busy, times.span), share(times.wait / 1e6, times.jobs)]
+        if single:
+            row += quantiles(waits.get(number, []))
         yield row
 
 
-def conflict_rows(report: Report, window: int, per: int) -> Iterator[Tuple[float, int, int, int, int]]:
+def jobs_table(report: Report) -> Iterator[Row]:
+    """Each job with a commit: when it came, when its scheduler began to decide on it for the first time, and the time
+    between, in microseconds."""
+    yield 'job', 'scheduler', 'kind', 'arrived', 'sync', 'wait'
+    for first in report.firsts:
+        yield (first.job, first.scheduler, report.kind(first.scheduler), first.arrived, first.sync,
+               first.sync - first.arrived)
+
+
+def commits_table(report: Report) -> Iterator[Row]:
+    """Each commit with when its scheduler began to decide, when it was done, and the time between, in microseconds."""
+    yield 'commit', 'job', 'scheduler', 'kind', 'sync', 'committed', 'decision'
+    for place, made in enumerate(report.decisions):
+        yield (place, made.job, made.scheduler, report.kind(made.scheduler), made.sync, made.committed,
+               made.committed - made.sync)
+
+
+def spreads_table(by_kind: Dict[str, List[int]], what: str) -> Iterator[Row]:
+    """For each kind of scheduler and for all how many times there are, and how they are spread, in seconds."""
+    yield ('kind', what) + SPREAD
+    everything = [time for times in by_kind.values() for time in times]
+    for kind, times in (*by_kind.items(), ('all', everything)):
+        yield (kind, len(times), *spread(times))
+
+
+def conflict_rows(report: Report, window_of: Window, per: int) -> Iterator[Tuple[float, int, int, int, int]]:
     """For each span of time and scheduler the commits, those that placed something, and those in conflict."""
     if not report.rounds:
         return
+    window = window_of()
     first, last = (report.rounds[end][0] * window // per for end in (0, -1))
     if (last - first + 1) * len(report.schedulers) > MOST_CELLS:
         raise Refusal('the spans of --per are too short: there would be more than a million')
@@ -66,9 +127,9 @@ def conflict_rows(report: Report, window: int, per: int) -> Iterator[Tuple[float
             yield span * per / HOUR, scheduler, commits_, placing, conflicted
 
 
-def conflicts_table(report: Report, window: int, per: int) -> Iterator[Row]:
+def conflicts_table(report: Report, window_of: Window, per: int) -> Iterator[Row]:
     yield 'hours', 'scheduler', 'commits', 'placing', 'conflicted', 'conflict_fraction'
-    for at, scheduler, commits, placing, conflicted in conflict_rows(report, window, per):
+    for at, scheduler, commits, placing, conflicted in conflict_rows(report, window_of, per):
         yield at, report.name(scheduler), commits, placing, conflicted, share(conflicted, placing)
 
 
@@ -87,7 +148,8 @@ RESULTS = (
     'rounds', 'entries', 'commits', 'empty', 'placing', 'conflicted', 'conflict_fraction',
     *('conflict_fraction_' + kind for kind in KINDS), 'placed', 'refused', 'withdrawn', 'evicted', 'extras',
     'waiting', 'abandoned', *('mean_' + amount for amount in AMOUNTS),
-    *('busy_' + kind for kind in KINDS), *('mean_wait_' + kind for kind in KINDS))
+    *('busy_' + kind for kind in KINDS), *('mean_wait_' + kind for kind in KINDS),
+    *('%s_wait_%s' % (name, kind) for name in QUANTILES for kind in KINDS))
 
 
 def by_kind(report: Report, part: List[float], whole: List[float]) -> Dict[str, Optional[float]]:
@@ -97,7 +159,8 @@ def by_kind(report: Report, part: List[float], whole: List[float]) -> Dict[str, 
 
 
 def results(report: Report) -> Dict[str, object]:
-    """What a report comes to, by name. Waits are in seconds; times are there for `simulate` alone."""
+    """What a report comes to, by name. Waits are in seconds; times are there for `simulate` alone, and quantiles where
+    it told single times."""
     found: Dict[str, object] = {'rounds': report.round_count, 'entries': report.entries, 'extras': report.extras,
                                 'waiting': report.waiting, 'abandoned': report.abandoned}
     found.update((count, report.total(count)) for count in COUNTS)
@@ -113,6 +176,8 @@ def results(report: Report) -> Dict[str, object]:
                         [float(times.jobs) for times in report.times])
         found.update(('busy_' + kind, value) for kind, value in busy.items())
         found.update(('mean_wait_' + kind, value) for kind, value in waits.items())
+    for kind, times in report.of_kinds(report.waits_of_jobs()).items():
+        found.update(('%s_wait_%s' % (name, kind), value) for name, value in zip(QUANTILES, quantiles(times)))
     return found
 
 

@@ -1,24 +1,27 @@
 """How long tasks waited: the tables tell when a task was submitted and ended, and the report when it was
-placed and stopped."""
+placed and stopped, to a round, or where it tells single times to the commit."""
 import csv
 from pathlib import Path
-from typing import Dict, Iterable, Iterator, List, NamedTuple, Optional, Set, Tuple
+from typing import Dict, Iterable, Iterator, List, NamedTuple, Optional, Sequence, Set, Tuple
 
 from .common import Refusal
-from .reports import FIRST_EXTRA, KINDS, report_lines
+from .reports import FIRST_EXTRA, KINDS, Decision, Line, report_lines
+from .tables import SPREAD, spread
 
 Key = Tuple[int, int]   # job and index
 
 
 class Wish:
     """A task from when it is submitted until it ends. One that is submitted again is another. Times are in
-    microseconds; what isn't a row of the trace happens at the time of the last row of its round."""
-    __slots__ = ('job', 'index', 'kind', 'submitted', 'placed', 'evicted', 'displaced', 'ended', 'runs')
+    microseconds. What isn't a row of the trace happens at the time of the last row of its round; where single times
+    are told a commit has its own, and what isn't a commit happens no sooner than the commits before it."""
+    __slots__ = ('job', 'index', 'kind', 'submitted', 'placed', 'since', 'evicted', 'displaced', 'ended', 'runs')
 
     def __init__(self, key: Key, kind: str, submitted: int) -> None:
         self.job, self.index = key
         self.kind, self.submitted = kind, submitted
         self.placed: Optional[int] = None       # for the first time
+        self.since = submitted                  # when it was placed for the last time
         self.evicted: List[int] = []
         self.displaced: List[int] = []
         self.ended: Optional[int] = None
@@ -83,6 +86,7 @@ def numbers_of(tables: Path, table: str, columns: Iterable[int], needed: bool = 
 
 # The codes of rows that ask for a task, and that end it.
 ASKING, ENDING = (0, 1), (3, 4, 5, 6)
+SCHEDULED = 1
 
 
 class Tables:
@@ -111,6 +115,19 @@ class Tables:
             number = time // window
             self.last[number] = max(time, self.last.get(number, 0))
 
+    def lives(self) -> Dict[Key, List[int]]:
+        """How long each task ran in the trace, each time: from the last row that scheduled it, or else the first that
+        submitted it, to the one that ended it."""
+        found: Dict[Key, List[int]] = {}
+        begun: Dict[Key, int] = {}
+        for number in sorted(self.events):
+            for event in self.events[number]:
+                if event.code == SCHEDULED or event.code in ASKING and event.key not in begun:
+                    begun[event.key] = event.time
+                elif event.code in ENDING and event.key in begun:
+                    found.setdefault(event.key, []).append(event.time - begun.pop(event.key))
+        return found
+
     def kind(self, job: int) -> str:
         if job in self.map_reduce:
             return KINDS[2]
@@ -118,42 +135,51 @@ class Tables:
 
 
 class Waits:
-    """The wishes of a report, in order of their submission. Each ends with a row of the trace."""
+    """The wishes of a report, in order of their submission. Each ends with a row of the trace. Where the report tells
+    single times these are its decisions, in order."""
 
-    def __init__(self, tables: Tables, report: str) -> None:
-        self.tables, self.report = tables, report
+    def __init__(self, tables: Tables, report: str, decisions: Sequence[Decision] = ()) -> None:
+        self.tables, self.report, self.decisions = tables, report, decisions
         self.wishes: List[Wish] = []
         self.open: Dict[Key, Wish] = {}
-        now, seen = 0, 0
+        self.now = self.latest = self.commits = self.rounds = 0
         for line in report_lines(report):
-            if line[0] == 'round':
-                seen += 1
-                now = self.begin_round(int(line[1]))
-            elif line[0] in ('place', 'evict', 'displace') and int(line[2]) < FIRST_EXTRA:
-                self.change(str(line[0]), (int(line[1]), int(line[2])), now)
-            elif line[0] == 'end' and int(line[2]) < FIRST_EXTRA:
-                self.end((int(line[1]), int(line[2])), now)
-            elif line[0] == 'entries' and seen != len(tables.last):
-                raise self.strange('the tables have %d windows with rows, and the report has %d rounds' % (
-                    len(tables.last), seen))
+            self.take(str(line[0]), line)
+
+    def take(self, kind: str, line: Line) -> None:
+        if kind == 'round':
+            self.rounds += 1
+            self.begin_round(int(line[1]))
+        elif kind == 'commit':
+            if self.decisions:
+                self.now = self.latest = self.decisions[self.commits].committed
+            self.commits += 1
+        elif kind in ('place', 'evict', 'displace') and int(line[2]) < FIRST_EXTRA:
+            self.change(kind, (int(line[1]), int(line[2])), self.now)
+        elif kind == 'end' and int(line[2]) < FIRST_EXTRA:
+            self.end((int(line[1]), int(line[2])), self.now)
+        elif kind == 'entries' and self.rounds != len(self.tables.last):
+            raise self.strange('the tables have %d windows with rows, and the report has %d rounds' % (
+                len(self.tables.last), self.rounds))
 
     def strange(self, what: str) -> Refusal:
         return Refusal('%s is no report of %s: %s (perhaps another --window was chosen)' % (
             self.report, self.tables.folder, what))
 
-    def begin_round(self, number: int) -> int:
-        """Applies the round's rows of tasks, and answers the time of its last row."""
+    def begin_round(self, number: int) -> None:
+        """Applies the round's rows of tasks, and takes the time of its last row."""
         if number not in self.tables.last:
             raise self.strange('the tables have no row in round %d' % number)
         for event in self.tables.events.get(number, ()):
             self.take_row(event)
-        return self.tables.last[number]
+        self.now = max(self.tables.last[number], self.latest)
 
     def take_row(self, event: Event) -> None:
         if event.code in ASKING and event.key not in self.open:
             self.begin(event.key, event.time)
         elif event.code in ENDING and event.key in self.open:
-            self.open.pop(event.key).ended = event.time
+            wish = self.open.pop(event.key)
+            wish.ended = max(event.time, self.latest) if wish.runs else event.time
 
     def begin(self, key: Key, now: int) -> None:
         wish = Wish(key, self.tables.kind(key[0]), now)
@@ -175,18 +201,21 @@ class Waits:
             wish.evicted.append(now)
         elif what == 'displace':
             wish.displaced.append(now)
-        elif wish.placed is None:
-            wish.placed = now
+        else:
+            wish.since = now
+            wish.placed = now if wish.placed is None else wish.placed
 
 
 class OwnWaits(Waits):
     """The same where tasks run for as long as they ran in the trace. Each wish ends with a line of the report, and a
-    task that has come again in the trace by then is submitted with that end."""
+    task that has come again in the trace by then is submitted with that end. Where single times are told that is its
+    life after it was placed."""
 
-    def __init__(self, tables: Tables, report: str) -> None:
+    def __init__(self, tables: Tables, report: str, decisions: Sequence[Decision] = ()) -> None:
         self.asked: Set[Key] = set()            # no row has ended these since one asked for them
         self.held: Dict[Key, int] = {}          # how often rows of the trace have asked for a task too early
-        super().__init__(tables, report)
+        self.lives = tables.lives() if decisions else {}    # those that aren't over, of each task
+        super().__init__(tables, report, decisions)
 
     def take_row(self, event: Event) -> None:
         if event.code in ASKING and event.key not in self.asked:
@@ -202,27 +231,23 @@ class OwnWaits(Waits):
         wish = self.open.pop(key, None)
         if wish is None or not wish.runs:
             raise self.strange('task %d of job %d doesn\'t run where the report has its end' % (key[1], key[0]))
+        if self.decisions:
+            if not self.lives.get(key):
+                raise self.strange('task %d of job %d ends once more than in the trace' % (key[1], key[0]))
+            now = wish.since + self.lives[key].pop(0)
+            self.latest = max(self.latest, now)
         wish.ended = now
         if self.held.get(key):
             self.held[key] -= 1
             self.begin(key, now)
 
 
-def wishes_of(tables: Tables, report: str, has_own_ends: bool) -> List[Wish]:
+def wishes_of(tables: Tables, report: str, has_own_ends: bool, decisions: Sequence[Decision]) -> List[Wish]:
     """The wishes of a report whose tasks end with rows of the trace, or by their own lives."""
-    return (OwnWaits if has_own_ends else Waits)(tables, report).wishes
+    return (OwnWaits if has_own_ends else Waits)(tables, report, decisions).wishes
 
 
-# Quantiles.
-
-SHARES = (50, 90, 99)
-QUANTILE_COLUMNS = ('kind', 'tasks', 'ran', 'never_ran', 'waits', 'mean') + tuple(
-    'p%d' % part for part in SHARES) + ('max',)
-
-
-def quantile(ordered: List[int], percent: int) -> int:
-    """The least value that so many per cent of the values don't pass."""
-    return ordered[max(0, -(-len(ordered) * percent // 100) - 1)]
+QUANTILE_COLUMNS = ('kind', 'tasks', 'ran', 'never_ran', 'waits') + SPREAD
 
 
 def quantile_rows(wishes: Iterable[Wish]) -> Iterator[Tuple[object, ...]]:
@@ -231,10 +256,6 @@ def quantile_rows(wishes: Iterable[Wish]) -> Iterator[Tuple[object, ...]]:
     kept = list(wishes)
     for kind in (*KINDS, 'all'):
         of_kind = [wish for wish in kept if kind in (wish.kind, 'all')]
-        waits = sorted(wait for wait in (wish.wait() for wish in of_kind) if wait is not None)
+        waits = [wait for wait in (wish.wait() for wish in of_kind) if wait is not None]
         fates = [wish.fate() for wish in of_kind]
-        seconds: List[Optional[float]] = [None] * (len(SHARES) + 2)
-        if waits:
-            mean = sum(waits) / len(waits)
-            seconds = [value / 1e6 for value in (mean, *(quantile(waits, part) for part in SHARES), waits[-1])]
-        yield (kind, len(of_kind), len(waits), fates.count('never ran'), fates.count('waits'), *seconds)
+        yield (kind, len(of_kind), len(waits), fates.count('never ran'), fates.count('waits'), *spread(waits))

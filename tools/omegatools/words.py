@@ -3,7 +3,7 @@ import re
 from pathlib import Path
 from typing import Dict, List, NamedTuple, Optional, Sequence, Tuple
 
-from .common import Refusal, shown
+from .common import Refusal, duration, shown
 
 # Those that end in a report of a run and keep nothing, so that a tool may call them.
 COMMANDS = ('replay', 'run', 'simulate', 'generate')
@@ -17,7 +17,6 @@ OPTIONS: Dict[str, Optional[str]] = {
     'machines': '64', 'jobs': '500', 't-job': '100000', 't-task': '5000', 'service-t-job': None,
     'service-t-task': None, 'clock': 'rounds', 'times': 'no', 'ends': 'trace', 'kept': 'omega.db',
 }
-DEFAULT_WINDOW = 300_000_000
 
 
 class Words(NamedTuple):
@@ -34,7 +33,9 @@ class Words(NamedTuple):
     def window(self) -> int:
         """How long a round is, in microseconds."""
         value = self.value('window')
-        return int(value) if re.fullmatch('[0-9]{1,32}', value) and int(value) > 0 else DEFAULT_WINDOW
+        if not re.fullmatch('[0-9]{1,32}', value) or int(value) == 0:
+            raise Refusal('%s is no length of a window' % shown(value))
+        return int(value)
 
     def has_own_ends(self) -> bool:
         """Whether tasks run for as long as they ran in the trace."""
@@ -82,7 +83,53 @@ def words_of(words: Sequence[str], allowed: Sequence[str] = COMMANDS) -> Words:
 
 def words_beside(report: Path) -> Optional[Words]:
     """The words of a run from the file `words` beside its report, a word a line, if there is one."""
+    path = report.parent / 'words'
     try:
-        return words_of((report.parent / 'words').read_text().splitlines(), REPORTS)
-    except (OSError, UnicodeDecodeError, Refusal):
+        words = words_of(path.read_text().splitlines(), REPORTS)
+        words.window()
+        return words
+    except FileNotFoundError:
         return None
+    except (UnicodeDecodeError, Refusal) as fault:
+        raise Refusal('%s has no words of a run, and is to say how %s was made: %s' % (
+            path, report.name, fault if isinstance(fault, Refusal) else 'it is no text')) from fault
+
+
+class Told:
+    """What is known of the run that made a report: by what the caller says, else by the file `words` beside it."""
+
+    def __init__(self, report: str, window: Optional[str] = None, ends: Optional[str] = None,
+                 tables: Optional[Path] = None) -> None:
+        self.report, self.said_window, self.said_ends, self.said_tables = report, window, ends, tables
+        if window is not None and duration(window) < 1:
+            raise Refusal('a window is at least a microsecond')
+
+    def words(self) -> Optional[Words]:
+        return None if self.report == '-' else words_beside(Path(self.report))
+
+    def window(self) -> int:
+        """How long a round is, in microseconds. It is asked for where something depends on it."""
+        if self.said_window is not None:
+            return duration(self.said_window)
+        words = self.words()
+        if words is None:
+            raise Refusal('how long a round of %s is has to be said by --window, as in --window 5m: it doesn\'t stand '
+                          'in a report, and there is no file of words beside it' % (
+                              'standard input' if self.report == '-' else self.report))
+        return words.window()
+
+    def has_own_ends(self) -> bool:
+        """Whether tasks end by their own lives."""
+        if self.said_ends is not None:
+            return self.said_ends == 'own'
+        words = self.words()
+        return words is not None and words.has_own_ends()
+
+    def tables(self) -> Optional[Path]:
+        """The folder of the tables that the report is of, if it is known."""
+        if self.said_tables is not None:
+            return self.said_tables
+        words = self.words()
+        if words is None or words.command == 'generate':
+            return None
+        return Path(self.report).parent / words.value('tables')

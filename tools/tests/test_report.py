@@ -1,11 +1,15 @@
 """Reports that are whole, cut and spoiled."""
+import base64
 import bz2
 import csv
 import gzip
+import html
 import importlib.util
 import io
 import json
 import lzma
+import os
+import re
 import shutil
 import subprocess
 import sys
@@ -15,8 +19,8 @@ from pathlib import Path
 
 from called import ROOT, TOOLS, Answer, call
 
-import report as tool
-from omegatools import words
+from omegatools import reporting as tool  # noqa: E402
+from omegatools import words  # noqa: E402
 
 CHOICES = ROOT / 'examples' / 'choices'
 OWN_ENDS = ROOT / 'tests' / 'own-ends'
@@ -86,6 +90,8 @@ class Reported(unittest.TestCase):
     def setUp(self) -> None:
         self.folder = Path(tempfile.mkdtemp())
         self.addCleanup(shutil.rmtree, self.folder)
+        self.words = self.folder / 'words'
+        self.words.write_text('replay\n')      # beside what is written; so a round is five minutes
 
     def written(self, text, name: str = 'report.txt') -> Path:
         path = self.folder / name
@@ -220,6 +226,38 @@ class Refused(Reported):
         self.refused('Is a directory', 'rounds', self.folder)
         self.refused('task_events.csv: No such file', 'waits', self.folder, TEXT)
 
+    # How long a round is has to be known where something depends on it, and is assumed nowhere.
+    def test_no_window(self) -> None:
+        path = self.written(SIMULATED)
+        self.words.unlink()
+        says = 'has to be said by --window, as in --window 5m'
+        for command in ('rounds', 'conflicts', 'events'):
+            self.refused(says, command, path)
+            self.right(command, '--window', '5m', path)
+        self.refused(says, 'waits', CHOICES, path)
+        for command in ('schedulers', 'compare'):
+            self.right(command, path)
+        for command in ('rounds', 'conflicts', 'events'):
+            self.right(command, self.written(SUMMARY))
+
+    def test_damaged_words(self) -> None:
+        path = self.written(SIMULATED)
+        for words_ in (b'', b'sim', b'simulate\n--window', b'simulate\n--nothing\n7\n', b'audit\n--kept\nk\n', b'replay\n--\n--window=9\n',
+                       b'simulate\n--window\n5m\n', b'simulate\n--window\n0\n', b'\xff\xfe', b'Aachen\nAal\n'):
+            with self.subTest(words=words_):
+                self.words.write_bytes(words_)
+                for said in (('rounds',), ('conflicts',), ('events',), ('compare',), ('waits', CHOICES)):
+                    self.refused('%s has no words of a run' % self.words, *said, path)
+                for said in (('rounds', '--window', '5m'), ('schedulers',)):
+                    self.right(*said, path)
+
+    # A pipe is read as often as it takes.
+    def test_a_pipe(self) -> None:
+        for command, words_ in (('rounds', ''), ('waits', CHOICES)):
+            answer = subprocess.run(['bash', '-c', '%s %s %s --window 5m %s <(cat %s)' % (
+                sys.executable, TOOLS / 'report.py', command, words_, TEXT)], capture_output=True, text=True)
+            self.assertEqual((answer.returncode, answer.stdout), (0, self.right(command, *filter(None, [words_]), TEXT).out), answer)
+
     def test_words(self) -> None:
         self.refused("'soon' is no time", 'rounds', '--window', 'soon', TEXT)
         self.refused('at least a microsecond', 'rounds', '--window', '0', TEXT)
@@ -228,6 +266,23 @@ class Refused(Reported):
         self.refused('more than a million', 'conflicts', '--per', '1us', self.written(lines))
         for said in ((), ('nothing',), ('rounds',), ('compare',), ('plot', TEXT)):
             self.assertEqual(self.call(*said).status, 2)
+        self.words.write_text('generate\n')
+        self.refused('need the folder of their tables', 'waits', self.written(SIMULATED))
+
+    # Nobody reads what is printed.
+    def test_a_closed_pipe(self) -> None:
+        for said in (('events', TEXT), ('rounds', TEXT), ('waits', CHOICES, TEXT)):
+            out, into = os.pipe()
+            os.close(out)
+            answer = subprocess.run([sys.executable, str(TOOLS / 'report.py'), *map(str, said)], stdout=into,
+                                    stderr=subprocess.PIPE)
+            os.close(into)
+            self.assertEqual((answer.returncode, answer.stderr), (141, b''), said)
+        out, into = os.pipe()
+        os.close(out)
+        answer = subprocess.run([sys.executable, str(TOOLS / 'report.py'), 'rounds', 'nowhere'], stderr=into)
+        os.close(into)
+        self.assertEqual(answer.returncode, 141)
 
     def test_tables_of_another_run(self) -> None:
         self.refused('is no report of', 'waits', ROOT / 'examples' / 'small-cell', TEXT)
@@ -262,7 +317,7 @@ class Shown(Reported):
 
     def test_standard_input(self) -> None:
         for data in (TEXT.read_bytes(), gzip.compress(TEXT.read_bytes())):
-            answer = subprocess.run([sys.executable, str(TOOLS / 'report.py'), 'rounds', '-'], input=data,
+            answer = subprocess.run([sys.executable, str(TOOLS / 'report.py'), 'rounds', '--window', '5m', '-'], input=data,
                                     capture_output=True)
             self.assertEqual((answer.returncode, answer.stderr), (0, b''))
             self.assertEqual(answer.stdout.decode(), self.right('rounds', TEXT).out)
@@ -329,10 +384,54 @@ class Shown(Reported):
             self.assertEqual(found[4], {'event': 'end', 'round': 0, 'time': 0, 'job': 10, 'index': 0, 'machine': 1,
                                         'extra': False})
 
-    # The other commands say of them what they say of the sums alone.
-    def test_single_times_change_no_table(self) -> None:
-        for command in ('rounds', 'schedulers', 'conflicts'):
+    # What doesn't show them stays as it is with the sums alone.
+    def test_single_times_change_no_other_table(self) -> None:
+        for command in ('rounds', 'conflicts'):
             self.assertEqual(self.right(command, self.written(TIMED)).out, self.right(command, self.written(SIMULATED)).out)
+
+    def test_schedulers_with_single_times(self) -> None:
+        text = TIMED.replace('wait 1 1 0', 'wait 1 3 9000000') + 'first 6 1 0 2000000\nfirst 7 1 0 7000000\n'
+        found = rows(self.right('schedulers', self.written(text)))
+        columns = ('mean_wait', 'p50_wait', 'p90_wait', 'p99_wait')
+        self.assertEqual([[row[column] for column in columns] for row in found],
+                         [['1.5'] * 4, ['3', '2', '7', '7'], [''] * 4])
+        found = rows(self.right('compare', self.written(text), self.written(SIMULATED, 'sums')))
+        columns = ('mean_wait_batch', 'p50_wait_batch', 'p90_wait_batch', 'p99_wait_batch', 'p99_wait_services')
+        self.assertEqual([[row[column] for column in columns] for row in found],
+                         [['3', '2', '7', '7', '1.5'], ['0', '', '', '', '']])
+
+    def test_waits_of_jobs_and_commits(self) -> None:
+        path = self.written(TIMED)
+        answer = self.right('waits', '--of', 'jobs', path)
+        self.assertEqual(answer.out, 'job,scheduler,kind,arrived,sync,wait\n5,1,batch,1500000,1500000,0\n'
+                         '4,0,services,0,1500000,1500000\n')
+        self.assertEqual(answer.err, self.right('waits', '--of', 'jobs', '--quantiles', path).out)
+        self.assertTrue(answer.err.startswith('kind,jobs,mean,p50,p90,p99,max\nservices,1,1.5,1.5,1.5,1.5,1.5\n'))
+        answer = self.right('waits', '--of', 'commits', path)
+        self.assertEqual(answer.out, 'commit,job,scheduler,kind,sync,committed,decision\n'
+                         '0,5,1,batch,1500000,1605000,105000\n1,4,0,services,1500000,1610000,110000\n'
+                         '2,4,0,services,1610000,1720000,110000\n')
+        self.assertEqual(answer.err.splitlines()[-1], 'all,3,0.108333,0.11,0.11,0.11,0.11')
+        for said in ('jobs', 'commits'):
+            self.refused('tells no single times', 'waits', '--of', said, self.written(SIMULATED))
+            self.refused('tells no single times', 'waits', '--of', said, TEXT)
+
+    # What a commit does has the time of the commit, by the clock of rounds, too, where a round begins late.
+    def test_waits_with_decision_times(self) -> None:
+        case = ROOT / 'tests' / 'times' / 'by-rounds'
+        found = {(row['job'], row['index']): row for row in rows(self.right('waits', case, case / 'report.txt'))}
+        lines = [line.split() for line in (case / 'report.txt').read_text().splitlines()]
+        committed = [int(line[4]) for line in lines if line[0] == 'time']
+        commit, placed = -1, {}
+        for line in lines:
+            commit += line[0] == 'commit'
+            if line[0] == 'place' and (line[1], line[2]) not in placed:
+                placed[line[1], line[2]] = str(committed[commit])
+        self.assertGreater(len(placed), 1)
+        self.assertEqual({key: found[key]['placed'] for key in placed}, placed)
+        for row in found.values():
+            self.assertEqual(row['wait'], row['placed'] and str(int(row['placed']) - int(row['submitted'])))
+            self.assertTrue(not row['placed'] or not row['ended'] or int(row['ended']) >= int(row['placed']), row)
 
     # A time may be above 2^64, and stands as a string in JSON then.
     def test_large_times(self) -> None:
@@ -353,6 +452,7 @@ class Shown(Reported):
             self.assertEqual(found['extra'], '2147483648' in line)
 
     def test_compare(self) -> None:
+        self.words.unlink()
         found = rows(self.right('compare', TEXT, CHOICES / 'rule-coarse' / 'report.txt', self.written(SIMULATED)))
         self.assertEqual([(row['command'], row['batch'], row['rule']) for row in found],
                          [('replay', '2', 'fine'), ('replay', '1', 'coarse'), ('', '', '')])
@@ -366,11 +466,12 @@ class Shown(Reported):
         path = self.written(SIMULATED)
         for text, expected in (('simulate\n--window=600000000\n--tables\nx', 600_000_000), ('simulate', 300_000_000),
                                ('--window\n7\nsimulate', 7), ('resume\n--kept\nk\n--window\n8', 8),
-                               ('--window=9\n--\nreplay', 9), ('replay\n--\n--window=9', None),
-                               ('audit\n--kept\nk', None), ('--nothing\n7\nsimulate', None), ('', None)):
-            (self.folder / 'words').write_text(text)
+                               ('--window=9\n--\nreplay', 9)):
+            self.words.write_text(text)
             found = words.words_beside(path)
             self.assertEqual(found and found.window(), expected)
+        self.words.unlink()
+        self.assertIsNone(words.words_beside(path))
         found = words.words_of(['simulate', '--t-job', '5', '--service-t-task', '6'])
         self.assertEqual([found.value(name) for name in ('service-t-job', 'service-t-task', 't-task', 'rule')],
                          ['5', '6', '5000', 'fine'])
@@ -409,15 +510,27 @@ class Shown(Reported):
             found[case] = [tuple(row[name] for name in ('job', 'submitted', 'placed', 'evicted', 'ended', 'fate'))
                            for row in rows(answer)]
         self.assertEqual(found['decided-on-after-its-life-in-the-trace'], [
-            ('4', '0', '1000000', '', '', 'runs'), ('6', '0', '1000000', '', '1000000', 'ended'),
-            ('8', '8000000', '8000000', '', '', 'runs')])
+            ('4', '0', '3005000', '', '', 'runs'), ('6', '0', '6010000', '', '7010000', 'ended'),
+            ('8', '8000000', '8105000', '', '', 'runs')])
         self.assertEqual(found['pieces'], [
-            ('10', '0', '0', '', '3000000', 'ended'), ('10', '6000000', '6000000', '', '9000000', 'ended'),
-            ('11', '20000000', '20000000', '', '', 'runs')])
-        self.assertEqual(found['evicted-task-waits-when-it-was-due'][0], ('10', '0', '0', '2000000', '8000000', 'ended'))
+            ('10', '0', '105000', '', '4105000', 'ended'), ('10', '6000000', '6105000', '', '9105000', 'ended'),
+            ('11', '20000000', '20105000', '', '', 'runs')])
+        self.assertEqual(found['evicted-task-waits-when-it-was-due'][0],
+                         ('10', '0', '105000', '2105000', '9210000', 'ended'))
         self.assertEqual({row[-1] for row in found['waits-although-the-trace-has-ended-it']}, {'waits', 'runs'})
         held = found['rows-of-a-later-piece-are-held']
         self.assertEqual([row for row in held if row[0] == '10'][0][4], [row for row in held if row[0] == '10'][1][1])
+
+    # Without single times it is the time of the last row of the round.
+    def test_waits_by_own_ends_to_a_round(self) -> None:
+        case = OWN_ENDS / 'pieces'
+        text = ''.join(line for line in (case / 'report.txt').read_text().splitlines(True)
+                       if not line.startswith(('time ', 'first ')))
+        answer = self.right('waits', '--window', '1s', '--ends', 'own', case, self.written(text))
+        self.assertEqual([tuple(row[name] for name in ('job', 'submitted', 'placed', 'ended', 'fate'))
+                          for row in rows(answer)], [
+            ('10', '0', '0', '3000000', 'ended'), ('10', '6000000', '6000000', '9000000', 'ended'),
+            ('11', '20000000', '20000000', '', 'runs')])
 
     # How tasks end is said by the words beside a report, or where it is read.
     def test_waits_of_ends_that_are_chosen(self) -> None:
@@ -474,14 +587,17 @@ class Drawn(Reported):
             self.assertEqual((self.folder / 'again' / (name + '.svg')).read_text(), svg)
 
     def test_forms(self) -> None:
+        self.words.write_text('generate\n')
         for form, first in (('png', b'\x89PNG'), ('pdf', b'%PDF')):
             self.right('plot', '--format', form, '--per', '10m', self.written(SIMULATED), self.folder)
             self.assertTrue((self.folder / ('use.' + form)).read_bytes().startswith(first))
 
     def test_nothing_to_draw(self) -> None:
+        self.words.unlink()
         empty = SUMMARY.replace('entries 250 rounds 20', 'entries 0 rounds 0')
-        self.right('plot', self.written(empty), self.folder)
-        self.right('page', self.written(SUMMARY), self.folder / 'page.html')
+        for answer in (self.right('plot', self.written(empty), self.folder),
+                       self.right('page', self.written(SUMMARY), self.folder / 'page.html')):
+            self.assertEqual(answer.err, '')
 
     def test_page(self) -> None:
         self.right('page', TEXT, self.written(SIMULATED), self.folder / 'page.html')
@@ -490,6 +606,43 @@ class Drawn(Reported):
             self.assertIn(says, page)
         for outside in ('src="http', 'href="http', '<script', '<link', '@import', 'url('):
             self.assertNotIn(outside, page)
+
+    def test_single_times(self) -> None:
+        case = OWN_ENDS / 'pieces'
+        answer = self.right('plot', case / 'report.txt', self.folder / 'plots')
+        self.assertEqual([Path(line).stem for line in answer.out.splitlines()],
+                         ['use', 'conflicts', 'waits', 'jobs', 'decisions'])
+        self.assertIn('>batch (2)<', (self.folder / 'plots' / 'jobs.svg').read_text())
+        self.assertIn('>how long a decision took<', (self.folder / 'plots' / 'decisions.svg').read_text())
+        self.right('page', case / 'report.txt', self.folder / 'page.html')
+        page = (self.folder / 'page.html').read_text()
+        for says in ('<h3>Waits of jobs for a decision</h3>', '<h3>Decisions</h3>', '<td>0.105</td>'):
+            self.assertIn(says, page)
+
+    # What has a meaning in a formula, in a page or in a text has none in the name of a folder.
+    def test_names_of_folders(self) -> None:
+        folders = [self.folder / name for name in ('$a$', r'$\frac$', r'a\b', r'\$x', '<b>&amp;', 'two\nlines', 'caf\udce9')]
+        for folder in folders:
+            folder.mkdir()
+            shutil.copy(TEXT, folder)
+            shutil.copy(TEXT.parent / 'words', folder)
+        self.right('page', '--tables', CHOICES, *(folder / 'report.txt' for folder in folders), self.folder / 'page.html')
+        page = (self.folder / 'page.html').read_text()
+        svgs = [base64.b64decode(data).decode() for data in re.findall('src="data:image/svg[^,]*,([^"]*)"', page)]
+        for folder in folders:
+            name = folder.name.replace('\udce9', '?')
+            self.assertIn(html.escape(name), page)
+            shown = html.escape(name.replace('\n', '?'), quote=False) + '   '
+            self.assertTrue(any(shown in svg for svg in svgs), shown)
+        for folder in folders:
+            self.right('plot', '--tables', CHOICES, folder / 'report.txt', folder / 'plots')
+
+    def test_no_window_is_known(self) -> None:
+        path = self.written(SIMULATED)
+        self.words.unlink()
+        for said in (('plot', path, self.folder / 'plots'), ('page', path, self.folder / 'page.html')):
+            self.refused('has to be said by --window', *said)
+        self.right('plot', '--window', '5m', path, self.folder / 'plots')
 
     def test_a_page_of_a_cut_report(self) -> None:
         self.refused('no whole report', 'page', self.written('omega 2\n'), self.folder / 'page.html')
@@ -501,7 +654,7 @@ class NotDrawn(Reported):
     def test_the_package_is_named(self) -> None:
         for said in (('plot', TEXT, self.folder / 'plots'), ('page', TEXT, self.folder / 'page.html')):
             self.refused('figures need the Python package %s' % lacking().split(',')[0], *said)
-        self.assertEqual(list(self.folder.iterdir()), [])
+        self.assertEqual(list(self.folder.iterdir()), [self.words])
 
 
 if __name__ == '__main__':

@@ -14,7 +14,8 @@ from unittest import mock
 
 from called import TOOLS, Answer, call, program
 
-import slice as tool
+from omegatools import slicing as tool  # noqa: E402
+from omegatools import trace_parts  # noqa: E402
 
 WORD_FAULTS = (
     (('25h', '25h'), 'FROM comes before TO'),
@@ -144,7 +145,7 @@ class Sliced(unittest.TestCase):
         self.trace = self.folder / 'trace'
         self.slice = self.folder / 'slice'
 
-    # With several workers the tool is called as a process of its own, since each worker reads its main file.
+    # With several workers the tool is called as a process of its own.
     def cut(self, *words: object, begin: object = 400, end: object = 700, workers: int = 1) -> Answer:
         said = ['--quiet', '--processors', workers, *words, self.trace, self.slice, begin, end]
         if workers == 1:
@@ -178,21 +179,21 @@ class Whole(Sliced):
     def test_changes_are_laid_down_in_between(self) -> None:
         trace = Trace(4)
         trace.write(self.trace, 3)
-        with mock.patch.object(tool, 'MOST_CHANGES', 7), mock.patch.object(tool, 'BLOCK', 100):
+        with mock.patch.object(trace_parts, 'MOST_CHANGES', 7):
             self.assertEqual(self.cut().status, 0)
         self.assertEqual(self.tables(), expected(trace, 400, 700))
 
     def test_share(self) -> None:
         trace = Trace()
         trace.write(self.trace, 3)
-        share = tool.share_of('1/4')
+        share = trace_parts.share_of('1/4')
         self.assertEqual(self.cut('--share', '1/4').status, 0)
         self.assertEqual(self.tables(), expected(trace, 400, 700, lambda number: share.takes(b'%d' % number)))
 
     # Also over numbers that have a remainder in common, and then by each remainder.
     def test_share_is_even(self) -> None:
         for step in (1, 2, 8, 16, 1000):
-            taken = [n for n in range(0, 8000 * step, step) if tool.share_of('1/8').takes(b'%d' % n)]
+            taken = [n for n in range(0, 8000 * step, step) if trace_parts.share_of('1/8').takes(b'%d' % n)]
             self.assertAlmostEqual(len(taken), 1000, delta=20)
             for remainder in range(4):
                 count = sum(1 for n in taken if n // step % 4 == remainder)
@@ -467,7 +468,7 @@ class Refused(Sliced):
             time.sleep(0.1)
             running.send_signal(signal.SIGTERM)
             out, err = running.communicate(timeout=20)
-            self.assertEqual((running.returncode, out), (130, ''), err)
+            self.assertEqual((running.returncode, out, err[:2000]), (143, '', 'slice.py: terminated\n'))
             self.assertEqual([entry.name for entry in self.folder.iterdir()], ['trace'])
 
 

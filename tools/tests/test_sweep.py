@@ -14,8 +14,8 @@ from unittest import mock
 
 from called import ROOT, TOOLS, Answer, call, program
 
-import sweep as tool
-from omegatools import sweeps
+from omegatools import sweeping as tool  # noqa: E402
+from omegatools import estimates, run_numbers, sweep_tables, sweeps  # noqa: E402
 from omegatools.common import Refusal
 
 # Its commits in conflict are the seed, and of the rule `coarse` ten more. It notes each call.
@@ -109,6 +109,28 @@ class Lists(unittest.TestCase):
         self.assertTrue(len(long) <= 200 and len(longer) <= 200 and long != longer)
 
 
+class Estimates(unittest.TestCase):
+    # Of Student's distribution, by a table of it.
+    def test_within(self) -> None:
+        for degrees, value in ((1, 12.7062), (2, 4.3027), (9, 2.2622), (10, 2.2281), (11, 2.2010), (15, 2.1314), (29, 2.0452),
+                               (100, 1.9840), (10_000, 1.9602)):
+            self.assertAlmostEqual(estimates.within(degrees), value, places=4)
+
+    def test_estimates(self) -> None:
+        self.assertIsNone(estimates.estimate([]))
+        self.assertEqual(estimates.estimate([3.0]), (3.0, None, None))
+        self.assertEqual(estimates.estimate([2.0, 2.0]), (2.0, 2.0, 2.0))
+        mean, low, high = estimates.estimate([1.0, 2.0, 3.0])
+        self.assertAlmostEqual(mean - low, 4.3027 / 3 ** 0.5)
+        self.assertAlmostEqual(high - mean, 4.3027 / 3 ** 0.5)
+
+    # The seeds of one trace aren't independent of each other where there are several traces.
+    def test_samples(self) -> None:
+        self.assertEqual(sweep_tables.samples([('one', 1), ('one', 2)]), [1, 2])
+        self.assertEqual(sweep_tables.samples([('one', 1), ('two', 5), ('one', 2)]), [1.5, 5])
+        self.assertEqual(sweep_tables.samples([]), [])
+
+
 class Here(Swept):
     def test_each_combination_is_kept(self) -> None:
         answer = self.sweep('replay', '--tables', self.tables, '--rule', 'fine,coarse', '--batch', '1,2', '--seed', '1..3')
@@ -120,7 +142,7 @@ class Here(Swept):
             'replay', '--tables', str(self.tables.resolve()), '--seed', '2', '--batch', '1', '--rule', 'coarse', ''])
         self.assertEqual(((kept / 'status').read_text(), (kept / 'fault.txt').read_text()), ('0\n', ''))
         self.assertGreaterEqual(float((kept / 'seconds').read_text()), 0)
-        self.assertEqual(len(self.names()), 14)
+        self.assertEqual(len(self.names()), 15)
         runs = {row['run']: row for row in self.table('runs.csv')}
         self.assertEqual((len(runs), runs[name]['rule'], runs[name]['conflict_fraction'], runs[name]['status']),
                          (12, 'coarse', '1.2', '0'))
@@ -128,7 +150,14 @@ class Here(Swept):
         self.assertEqual(len(seeds), 4)
         coarse = seeds['coarse', '2']
         self.assertEqual([coarse['conflict_fraction_' + part] for part in ('mean', 'min', 'max')], ['1.2', '1.1', '1.3'])
-        self.assertEqual((coarse['runs'], coarse['failed']), ('3', '0'))
+        self.assertEqual((coarse['runs'], coarse['traces'], coarse['failed']), ('3', '1', '0'))
+        half = 4.3027 * 0.1 / 3 ** 0.5
+        for part, value in (('low', 1.2 - half), ('high', 1.2 + half)):
+            self.assertAlmostEqual(float(coarse['conflict_fraction_' + part]), value, places=4)
+        differences = [row for row in self.table('differences.csv') if row['choice'] == 'rule']
+        self.assertEqual([(row['value'], row['against'], row['batch'], row['pairs'], row['conflict_fraction_mean'],
+                           row['conflict_fraction_low'], row['conflict_fraction_high']) for row in differences],
+                         [('coarse', 'fine', batch, '3', '1', '1', '1') for batch in '12'])
         lines = answer.out.splitlines()
         self.assertEqual(len(lines), 5)
         self.assertRegex(lines[0], '--batch +--rule +runs +conflict fraction +evicted')
@@ -161,6 +190,124 @@ class Here(Swept):
         self.assertEqual(len(self.calls()), 2)
         self.sweep(*words)
         self.assertEqual(self.calls(), [])
+
+    # Tables are known by their bytes: where their folder was moved or has another name, the runs stay, and say so.
+    def test_tables_that_were_moved(self) -> None:
+        words = ('replay', '--rule', 'fine,coarse', '--tables')
+        self.sweep(*words, self.tables)
+        self.assertEqual(len(self.calls()), 2)
+        for place in ('elsewhere/slice', 'elsewhere/other'):
+            moved = self.folder / place
+            moved.parent.mkdir(exist_ok=True)
+            self.tables.rename(moved)
+            self.tables = moved
+            answer = self.sweep(*words, moved)
+            self.assertEqual((answer.status, self.calls()), (0, []), answer)
+            self.assertIn('2 runs, of which 2 are there already', answer.err)
+            names = {'replay,tables=%s,rule=%s' % (moved.name, rule) for rule in ('fine', 'coarse')}
+            self.assertEqual({name for name in self.names() if not name.endswith('.csv')}, names)
+            for name in names:
+                self.assertIn(str(moved.resolve()), (self.runs / name / 'words').read_text().splitlines())
+        moved = self.folder / 'runs elsewhere'
+        self.runs.rename(moved)
+        self.runs = moved
+        self.assertEqual((self.sweep(*words, self.tables).status, self.calls()), (0, []))
+        both = self.folder / 'both'
+        shutil.copytree(self.tables, both)
+        self.assertEqual(self.sweep(*words, '%s,%s' % (self.tables, both)).status, 0)
+        self.assertEqual(len(self.calls()), 2)
+
+    # Traces that differ in the seed of their generator alone are of one workload.
+    def test_workloads(self) -> None:
+        traces = []
+        for number in range(3):
+            traces.append(self.folder / ('trace-%d' % number))
+            shutil.copytree(self.tables, traces[-1])
+            (traces[-1] / 'task_events.csv').write_text('%d\n' % number)
+            (traces[-1] / 'workload').write_text('steady --load 75\n')
+        other = self.folder / 'other'
+        shutil.copytree(self.tables, other)
+        (other / 'workload').write_text('steady --load 95\n')
+        words = ('--seed', '1,4', '--rule', 'fine,coarse', '--tables', ','.join(map(str, [*traces, other])))
+        answer = self.sweep('replay', *words)
+        self.assertEqual(answer.status, 0, answer)
+        found = {(row['workload'], row['rule']): row for row in self.table('seeds.csv')}
+        self.assertEqual(len(found), 4)
+        fine = found['steady --load 75', 'fine']
+        self.assertEqual([fine[name] for name in ('tables', 'runs', 'traces', 'conflict_fraction_mean', 'conflict_fraction_low',
+                                                  'conflict_fraction_min', 'conflict_fraction_max')],
+                         ['', '6', '3', '0.25', '0.25', '0.1', '0.4'])
+        self.assertEqual(found['steady --load 95', 'fine']['tables'], str(other.resolve()))
+        differences = {(row['workload'], row['choice']): row for row in self.table('differences.csv')}
+        self.assertEqual([differences['steady --load 75', 'rule'][name] for name in ('pairs', 'conflict_fraction_mean')], ['6', '1'])
+        self.assertEqual(len(self.table('runs.csv')), 16)
+        self.assertEqual({row['workload'] for row in self.table('runs.csv')}, {'steady --load 75', 'steady --load 95'})
+        self.calls()
+        (other / 'workload').write_text('steady --load 75\n')     # told of otherwise, and no other tables
+        self.assertEqual((self.sweep('replay', *words).status, self.calls()), (0, []))
+        self.assertEqual(len(self.table('seeds.csv')), 2)
+        for text in ('', 'one\ntwo\n', '\n'):
+            (other / 'workload').write_text(text)
+            self.refused('%s is no line that names a workload' % (other.resolve() / 'workload'), self.sweep('replay', *words))
+
+    # Reports are read where they were made, once.
+    def test_reports_are_read_once(self) -> None:
+        words = ('generate', '--seed', '1..3')
+        first = self.sweep(*words)
+        for name in self.names():
+            if not name.endswith('.csv'):
+                self.assertIn('"conflicted"', (self.runs / name / 'numbers').read_text())
+        with mock.patch.object(tool, 'read_numbers', side_effect=AssertionError('read again')):
+            again = self.sweep(*words)
+        self.assertEqual(again.out.split()[:-1], first.out.split()[:-1])
+        report = self.runs / 'generate,seed=2' / 'report.txt'
+        report.write_text(report.read_text().replace('waiting 2', 'waiting 7'))
+        (self.runs / 'generate,seed=1' / 'numbers').write_text('{')
+        self.sweep(*words)
+        self.assertEqual([row['waiting'] for row in self.table('runs.csv')], ['1', '7', '3'])
+        report.write_text('omega 2\n')
+        self.refused_at_the_end(self.sweep(*words))
+
+    # A long report is read by a process beside this one, where it was made or where it is asked for.
+    def test_long_reports(self) -> None:
+        words = ('generate', '--seed', '1..3')
+        with mock.patch.object(run_numbers, 'SHORT', 0):
+            first = self.sweep(*words, own=('--at-once', 2))
+            self.assertEqual(first.status, 0, first)
+            self.assertEqual(len(list(self.runs.glob('*/numbers'))), 3)
+            for numbers in list(self.runs.glob('*/numbers'))[:2]:
+                numbers.unlink()
+            again = self.sweep(*words)
+        self.assertEqual(again.out, first.out)
+        self.assertEqual(len(list(self.runs.glob('*/numbers'))), 3)
+
+    def refused_at_the_end(self, answer: Answer) -> None:
+        self.assertEqual((answer.status, answer.out), (1, ''))
+        self.assertIn('is no whole report', answer.err)
+
+    # By --program, else OMEGA_PROGRAM, else what this repository has built, else the path.
+    def test_the_program_is_found(self) -> None:
+        named = {}
+        for name in ('said', 'variable', 'built', 'bin/omega'):
+            named[name] = self.folder / name
+            named[name].parent.mkdir(exist_ok=True)
+            shutil.copy(self.program, named[name])
+        with mock.patch.object(tool, 'BUILT', named['built']), mock.patch.object(tool, 'ROOT', self.folder), \
+                mock.patch.dict(os.environ, {'OMEGA_PROGRAM': str(named['variable']), 'PATH': str(self.folder / 'bin')}):
+            for says, chosen in (('said', named['said']), ('variable', None)):
+                self.assertEqual(tool.program_of(chosen), named[says])
+            with self.assertRaisesRegex(Refusal, 'no program .*/none, which OMEGA_PROGRAM names'):
+                os.environ['OMEGA_PROGRAM'] = str(self.folder / 'none')
+                tool.program_of(None)
+            del os.environ['OMEGA_PROGRAM']
+            for says in ('built', 'bin/omega'):
+                self.assertEqual(tool.program_of(None), named[says])
+                named[says].unlink()
+            with self.assertRaisesRegex(Refusal, 'named by --program or OMEGA_PROGRAM, or is `omega` on the path'):
+                tool.program_of(None)
+            (self.folder / 'omega.sh').write_text('')
+            with self.assertRaisesRegex(Refusal, 'omega.sh --prove builds it'):
+                tool.program_of(None)
 
     def test_refused_words_are_kept(self) -> None:
         answer = self.sweep('generate', '--rule', 'fine,wrong')
@@ -199,6 +346,7 @@ class Here(Swept):
         self.refused('two runs would be called', self.sweep('replay', '--tables', '%s,%s' % (self.tables, other)))
         self.assertEqual((self.calls(), self.names()), ([], []))
         self.sweep('replay', '--tables', self.tables)
+        (other / 'task_events.csv').write_text('1\n')
         self.refused('is there already, with other words', self.sweep('replay', '--tables', other))
 
     def test_tables_are_the_callers_where_none_are_named(self) -> None:
@@ -219,7 +367,7 @@ class Here(Swept):
             time.sleep(0.01)
         started.send_signal(signal.SIGTERM)
         out, err = started.communicate(timeout=20)
-        self.assertEqual((started.returncode, out), (130, ''), err)
+        self.assertEqual((started.returncode, out), (143, ''), err)
         kept = self.names()
         self.assertTrue(2 <= len(kept) < 12 and not any(name.startswith('.') for name in kept), kept)
         self.calls()
@@ -231,7 +379,7 @@ class Here(Swept):
         self.slow(1)
         begin = time.monotonic()
         self.assertEqual(self.sweep('generate', '--seed', '1..8', own=('--at-once', 8)).status, 0)
-        self.assertLess(time.monotonic() - begin, 7)
+        self.assertLess(time.monotonic() - begin, 7.9)
 
     def test_of_the_program(self) -> None:
         self.program = program(self.folder)
@@ -319,7 +467,8 @@ class ByDask(Swept):
         self.assertEqual(swept.returncode, 0, err)
         self.assertIn('8 of 8: generate,seed=', err)
         self.assertEqual(len(self.table('runs.csv')), 8)
-        self.assertEqual(len(self.names()), 10)
+        self.assertEqual(len(self.names()), 11)
+        self.assertEqual(len(list(self.runs.glob('*/numbers'))), 8)
         self.assertGreaterEqual(len(self.calls()), 8)
 
     def test_no_scheduler(self) -> None:
