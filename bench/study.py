@@ -92,7 +92,7 @@ def main(words: Optional[List[str]] = None) -> int:
             print(line)
     elif said.check:
         print('study.py: ' + checking.pictures_note(place), file=sys.stderr)
-        return say(checking.check(place))
+        return say(list(checking.faults(place)))
     elif said.step is None or set(said.figures) - set(FIGURES):
         parser().error('there has to be one of %s; figures are %s' % (', '.join(STEPS), ', '.join(FIGURES)))
     else:

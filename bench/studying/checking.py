@@ -109,13 +109,18 @@ def call_drawing(place: Place, *words: str) -> 'subprocess.CompletedProcess[str]
 
 def faults(place: Place) -> Iterator[str]:
     """What is wrong with points, tables and pictures, each in a line."""
+    yield from faults_of_texts(place)
+    yield from faults_of_pictures(place)
+
+
+def faults_of_texts(place: Place) -> Iterator[str]:
+    """What is wrong with points and tables."""
     made, rows = read_made(place), rows_of(place)
     yield from faults_of_sources(made, rows)
     yield from faults_of_plan(made, rows)
     yield from faults_of_points(rows)
     if page_of(place, rows, made) != place.page().read_text(encoding='utf-8'):
         yield 'the tables of %s are not those of its points' % place.page().name
-    yield from faults_of_pictures(place)
 
 
 def faults_of_sources(made: Dict[str, object], rows: figures.Rows) -> Iterator[str]:
@@ -189,7 +194,3 @@ def pictures_note(place: Place) -> str:
     if drawing_python() is None:
         return 'pictures are not compared: there is no matplotlib'
     return 'pictures are compared where the same matplotlib drew them'
-
-
-def check(place: Place) -> List[str]:
-    return list(faults(place))

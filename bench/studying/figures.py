@@ -268,7 +268,7 @@ def plain(figure: Any, lines: Sequence[Line], labels: Tuple[str, str], limits: T
             axes.fill_between([dot.at for dot in known], [dot.value - (dot.half or 0) for dot in known],
                               [dot.value + (dot.half or 0) for dot in known], color=colour, alpha=0.15, linewidth=0)
     axes.set(xlabel=labels[0], ylabel=labels[1], ylim=limits)
-    axes.set_xlim(left=min(1.0, *(dot.at for line in lines for dot in line.dots)) if lines else 0)
+    axes.set_xlim(left=min([1.0, *(dot.at for line in lines for dot in line.dots)]))
     legend(figure, axes, 4)
 
 

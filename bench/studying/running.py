@@ -3,6 +3,7 @@ that was stopped goes on. A trace is made when the first of its runs is due, and
 import concurrent.futures
 import concurrent.futures.process
 import json
+import multiprocessing
 import os
 import shutil
 import signal
@@ -107,6 +108,9 @@ def run_one(program: str, run: Run, folder: str, facts: traces.Facts) -> Numbers
             numbers = measures.measured(process.stdout, facts, int(dict(run.words)['window']))
         except Refusal as refusal:
             fault = refusal
+        except BaseException:   # this worker is to end
+            process.kill()
+            raise
         status = process.wait()
         signal.alarm(0)
         if status != 0 or fault is not None:
@@ -153,9 +157,12 @@ class Making:
                 done, _ = concurrent.futures.wait(self.waited, return_when=concurrent.futures.FIRST_COMPLETED)
                 for future in done:
                     self.take(pool, future)
-            pool.shutdown()
+        except BaseException:
+            for worker in multiprocessing.active_children():
+                worker.terminate()
+            raise
         finally:
-            pool.shutdown(wait=False, cancel_futures=True)
+            pool.shutdown(wait=True, cancel_futures=True)
             shutil.rmtree(self.place, ignore_errors=True)
 
     def open_traces(self, pool: concurrent.futures.Executor) -> None:

@@ -1,6 +1,6 @@
 """The tables of docs/STUDY.md, each made of rows of points alone and put between its marks on the page."""
 import re
-from typing import Callable, Dict, Iterator, List, Optional, Sequence, Tuple
+from typing import Callable, Dict, List, Sequence, Tuple
 
 from .common import Refusal
 from .figures import ENDS, Rows, chosen, decision, number, policies
@@ -19,7 +19,7 @@ def value_of(row: Row, column: str, form: str) -> str:
     value, half = number(row, column), number(row, column + '_95')
     if value is None:
         return '-'
-    return form % value if half is None else ('%s ± %s' % (form, form)) % (value, half)
+    return form % value if half is None else ('%s ± %s' % (form, form.replace('+', ''))) % (value, half)
 
 
 def told(row: Row, kind: str, measure: str) -> str:
@@ -160,14 +160,15 @@ def loads(rows: Rows) -> List[str]:
 
 def about(rows: Rows, made: Made, digests: Dict[str, str]) -> List[str]:
     first = rows['busyness'][0]
-    yield_ = ['| What | Which |', '| --- | --- |',
-              '| program | `%s`%s |' % (first['program'], '' if made['stamped'] else ', without a stamp of its sources'),
-              '| its sources | `%s` |' % first['sources'],
-              '| what makes traces, runs and measures | `%s`, `%s` |' % (first['scripts'], made['points_by']),
-              '| runs | %s, on %s traces |' % (made['runs'], made['traces_made']),
-              '| traces of a point | %s; on maps and of scaling %s |' % (made['traces'], made['few']),
-              '| time | %s minutes of runs, one after the other; %s at once |' % (made['minutes'], made['at_once'])]
-    return yield_ + ['| `figures/%s` | `%s` |' % pair for pair in sorted(digests.items())]
+    return table(['what', 'which'], [
+        ['program', '`%s`%s' % (first['program'], '' if made['stamped'] else ', without a stamp of its sources')],
+        ['its sources', '`%s`' % first['sources']],
+        ['what makes traces and measures', '`%s`' % first['scripts']],
+        ['what makes points of runs', '`%s`' % made['points_by']],
+        ['runs', '%s, on %s traces' % (made['runs'], made['traces_made'])],
+        ['traces of a point', '%s; on maps and of scaling %s' % (made['traces'], made['few'])],
+        ['time', '%s minutes of runs, one after the other; %s went on at once' % (made['minutes'], made['at_once'])],
+        *(['`figures/%s`' % name, '`%s`' % digest] for name, digest in sorted(digests.items()))])
 
 
 TABLES: Dict[str, Callable[[Rows], List[str]]] = {
