@@ -196,6 +196,11 @@ def marked(page: str) -> List[str]:
     return re.findall('<!-- study: ([a-z-]+) -->', page)
 
 
+def has_tables(page: str) -> bool:
+    """Whether something stands between two marks."""
+    return any(page[page.index(mark(name)) + len(mark(name)):].lstrip()[:len(END)] != END for name in marked(page))
+
+
 def with_tables(page: str, tables: Dict[str, List[str]]) -> str:
     """The page with each table between its marks. Each table has a place, and each place a table."""
     names = marked(page)
