@@ -1,167 +1,117 @@
 #!/usr/bin/env python3
-"""Draws the figures of docs/STUDY.md: makes a trace in a steady state, runs `simulate` on it with lists of
-values, and draws what comes of it.
+"""Makes the runs of the study, and of them the points, figures and tables of docs/STUDY.md.
 
-    bench/study.py FIGURE..         some of the figures below, or `all`
+    bench/study.py --plan                   what there is to run, figure by figure
+    bench/study.py all                      all of it: runs, points, tables and figures
+    bench/study.py run [FIGURE..]           the runs alone, of some figures or of all; what is done is kept
+    bench/study.py write                    points, tables and figures of the runs that are kept
+    bench/study.py draw                     tables and figures of the points that stand in docs/figures
+    bench/study.py --check                  whether points, tables and figures belong together and to these sources
 
-It needs the built program and, for /usr/bin/python3 in Debian, python3-pandas and python3-matplotlib. Runs are
-kept, so that a second call only draws.
+It needs the program that `./omega.sh --prove` has built, and for figures matplotlib, which /usr/bin/python3 has from
+Debian's python3-matplotlib. A study that was stopped goes on where it was; what changes the runs, as another program,
+has them made anew. With --traces and --few the points are of fewer traces: for a quick look, and not for the page.
 """
 import argparse
-import csv
-import subprocess
+import os
+import signal
 import sys
-import tempfile
 from pathlib import Path
-from typing import Callable, Dict, List, NamedTuple, Optional, Sequence, Tuple
+from typing import List, Optional
 
 HERE = Path(__file__).resolve().parent
-sys.path.insert(0, str(HERE.parent / 'tools'))
+sys.path.insert(0, str(HERE))
 
-from omegatools.common import Refusal, ends, processors  # noqa: E402
-from omegatools.figures import Point, Size, lines_of_runs, picture  # noqa: E402
+from studying import checking, running  # noqa: E402
+from studying.common import ROOT, Refusal  # noqa: E402
+from studying.points import FEW, FIGURES, MANY, Cell, Study, plan_lines, runs_of  # noqa: E402
 
-SIZE = Size(6.4, 3.2)
-DECISIONS = ('100000', '300000', '1000000', '3000000', '10000000', '30000000', '100000000', '300000000')
-LOADS = ('55', '65', '75', '85', '95')
-WINDOW = '120000000'
-BATCH_DECISION = '500000'
-
-Row = Dict[str, str]
+STEPS = ('all', 'run', 'write', 'draw')
 
 
-class Line(NamedTuple):
-    label: str
-    column: str             # of the table of seeds, without what follows on its name
-    where: Dict[str, str]   # the words of its runs, by option
-
-
-class Figure(NamedTuple):
-    says: str
-    loads: Tuple[str, ...]
-    words: Tuple[str, ...]
-    at: Callable[[Row], float]
-    lines: Tuple[Line, ...]
-    labels: Tuple[str, str]
-    logarithmic: Tuple[bool, bool]
-    level: Optional[float] = None
-
-
-def seconds(row: Row) -> float:
-    return int(row['service-t-job']) / 1e6
-
-
-def load(row: Row) -> float:
-    return float(row['mean_cpu_mean'])
-
-
-def batch(row: Row) -> float:
-    return int(row['batch'])
-
-
-BY_DECISION = 'seconds that a decision on a service takes'
-CHOICES = (('fine, incremental', 'fine', 'incremental'), ('coarse, incremental', 'coarse', 'incremental'),
-           ('fine, gang', 'fine', 'gang'), ('coarse, gang', 'coarse', 'gang'))
-RULES = ('fine', 'coarse')
-
-FIGURES = {
-    'busyness': Figure(
-        'how busy schedulers are, against the decision time of services', ('75',),
-        ('--service-t-job', ','.join(DECISIONS)), seconds,
-        (Line('services', 'busy_services', {}), Line('batch', 'busy_batch', {})),
-        (BY_DECISION, 'part of the time that\na scheduler decides'), (True, False), 1),
-    'waits': Figure(
-        'how long jobs wait for their first decision, against the decision time of services', ('75',),
-        ('--service-t-job', ','.join(DECISIONS)), seconds,
-        (Line('services', 'mean_wait_services', {}), Line('batch', 'mean_wait_batch', {})),
-        (BY_DECISION, 'mean wait, seconds'), (True, True)),
-    'conflicts': Figure(
-        'conflicts of services against their decision time, by rule and mode', ('75',),
-        ('--service-t-job', ','.join(DECISIONS), '--rule', 'fine,coarse', '--mode', 'incremental,gang'), seconds,
-        tuple(Line(label, 'conflict_fraction_services', {'rule': rule, 'mode': mode}) for label, rule, mode in CHOICES),
-        (BY_DECISION, 'conflicts per commit\nthat placed a task'), (True, False)),
-    'schedulers': Figure(
-        'conflicts of batch jobs against the number of their schedulers', ('75',),
-        ('--batch', '1,2,4,8,16,30', '--rule', 'fine,coarse'), batch,
-        tuple(Line(rule + ' rule', 'conflict_fraction_batch', {'rule': rule}) for rule in RULES),
-        ('batch schedulers', 'conflicts per commit\nthat placed a task'), (True, False)),
-    'load': Figure(
-        'conflicts of all against what is used of the cell', LOADS, ('--batch', '8', '--rule', 'fine,coarse'), load,
-        tuple(Line(rule + ' rule', 'conflict_fraction', {'rule': rule}) for rule in RULES),
-        ('CPU in use on an average, as part of what there is', 'conflicts per commit\nthat placed a task'),
-        (False, False)),
-}
-
-
-def trace_of(words: argparse.Namespace, percent: str) -> Path:
-    """The folder of a trace, made where it is missing."""
-    folder: Path = words.data / ('steady-%d-%d-%s' % (words.machines, words.hours, percent))
-    if not (folder / 'made').exists():
-        subprocess.run([sys.executable, str(HERE / 'tables.py'), 'steady', str(folder), str(words.machines),
-                        str(words.hours), percent], check=True)
-        (folder / 'made').touch()
-    return folder
-
-
-def rows_of(words: argparse.Namespace, figure: Figure) -> List[Row]:
-    """Makes the runs of a figure that aren't kept yet, and answers the table of all of them."""
-    traces = ','.join(str(trace_of(words, percent)) for percent in figure.loads)
-    program = ['--program', str(words.program)] if words.program else []
-    runs = words.data / ('runs-%d-%d' % (words.machines, words.hours))
-    swept = subprocess.run([
-        sys.executable, str(HERE.parent / 'tools' / 'sweep.py'), *program, '--at-once', str(words.at_once), str(runs),
-        'simulate', '--tables', traces, '--window', WINDOW, '--t-job', BATCH_DECISION, *figure.words, '--seed',
-        words.seeds],
-        stdout=subprocess.DEVNULL, check=False)
-    if swept.returncode != 0:
-        raise Refusal('the runs failed; sweep.py says why')
-    with open(runs / 'seeds.csv', newline='') as file:
-        return list(csv.DictReader(file))
-
-
-def points_of(rows: Sequence[Row], figure: Figure, line: Line) -> List[Point]:
-    """A line's points; one where nothing is told, as of a scheduler that placed nothing, is left out."""
-    return [Point(figure.at(row), *(float(row['%s_%s' % (line.column, part)]) for part in ('mean', 'min', 'max')))
-            for row in rows if all(row[option] == value for option, value in line.where.items())
-            and row[line.column + '_mean']]
-
-
-def draw(words: argparse.Namespace, name: str) -> None:
-    figure = FIGURES[name]
-    rows = rows_of(words, figure)
-    lines = {line.label: points_of(rows, figure, line) for line in figure.lines}
-    data = picture(lines_of_runs(lines, figure.labels, figure.logarithmic, figure.level), 'svg', SIZE)
-    words.into.mkdir(parents=True, exist_ok=True)
-    path = words.into / (name + '.svg')
-    path.write_bytes(data)
-    print(path)
-    for label, points in lines.items():
-        print('  %-20s %s' % (label, '  '.join('%.3g: %.3g' % (point.at, point.mean) for point in sorted(points))))
+def processors() -> int:
+    return len(os.sched_getaffinity(0)) if hasattr(os, 'sched_getaffinity') else os.cpu_count() or 1
 
 
 def parser() -> argparse.ArgumentParser:
-    whole = argparse.ArgumentParser(
-        prog='study.py', description=__doc__, formatter_class=argparse.RawDescriptionHelpFormatter,
-        epilog='Figures:\n' + '\n'.join('  %-12s%s' % (name, figure.says) for name, figure in FIGURES.items()))
-    whole.add_argument('--program', metavar='PROGRAM', type=Path, help='the built program, if it lies elsewhere')
-    whole.add_argument('--data', metavar='FOLDER', type=Path, default=Path(tempfile.gettempdir()) / 'omega-study',
-                       help='where traces and runs are kept; %(default)s')
-    whole.add_argument('--into', metavar='FOLDER', type=Path, default=HERE.parent / 'docs' / 'figures',
-                       help='where the figures go; docs/figures')
-    whole.add_argument('--machines', type=int, default=2000, help='of the cell; %(default)s')
-    whole.add_argument('--hours', type=int, default=6, help='how long the trace is; %(default)s')
-    whole.add_argument('--seeds', default='1..3', help='one or a range, each a run; %(default)s')
-    whole.add_argument('--at-once', type=int, default=processors(), help='so many runs at once; %(default)s')
-    whole.add_argument('figures', metavar='FIGURE', nargs='+', choices=(*FIGURES, 'all'))
+    whole = argparse.ArgumentParser(prog='study.py', description=__doc__,
+                                    formatter_class=argparse.RawDescriptionHelpFormatter)
+    whole.add_argument('--program', metavar='PROGRAM', type=Path, default=ROOT / 'crates' / 'omega' / 'out' / 'omega',
+                       help='the built program; that of omega.sh')
+    whole.add_argument('--data', metavar='FOLDER', type=Path, default=HERE / 'out' / 'study',
+                       help='where the lines of runs are kept, and traces while they are needed; bench/out/study')
+    whole.add_argument('--docs', metavar='FOLDER', type=Path, default=ROOT / 'docs',
+                       help='where STUDY.md and the folder figures are; docs')
+    whole.add_argument('--traces', metavar='N', type=int, default=MANY, help='of a point; %(default)s')
+    whole.add_argument('--few', metavar='N', type=int, default=FEW, help='of a point on maps and of scaling; %(default)s')
+    whole.add_argument('--machines', metavar='N', type=int, default=2000, help='of the cell; %(default)s')
+    whole.add_argument('--hours', metavar='N', type=int, default=6, help='how long a trace is; %(default)s')
+    whole.add_argument('--at-once', metavar='N', type=int, default=processors(), help='so many runs at once; %(default)s')
+    whole.add_argument('--plan', action='store_true', help='print what there is to run')
+    whole.add_argument('--check', action='store_true', help='look whether what is there belongs together')
+    whole.add_argument('--pictures', action='store_true', help=argparse.SUPPRESS)
+    whole.add_argument('step', nargs='?', choices=STEPS)
+    whole.add_argument('figures', metavar='FIGURE', nargs='*', help='for `run`: ' + ', '.join(FIGURES))
     return whole
 
 
-def main(arguments: Optional[List[str]]) -> int:
-    words = parser().parse_args(arguments)
-    for name in FIGURES if 'all' in words.figures else words.figures:
-        draw(words, name)
+def make(said: argparse.Namespace, study: Study) -> None:
+    """The steps that need runs."""
+    kept = running.Kept(said.data, running.program_of(said.program))
+    if said.step == 'all' and checking.drawing_python() is None:
+        raise Refusal('figures need matplotlib: apt-get install python3-matplotlib')
+    if said.step in ('all', 'run'):
+        points = [point for point in study.points() if not said.figures or point.figure in said.figures]
+        running.make_runs(kept, runs_of(points), said.at_once)
+    if said.step in ('all', 'write'):
+        checking.write_points(kept, study, checking.Place(said.docs), said.at_once)
+
+
+def draw(place: checking.Place) -> None:
+    checking.write_page(place)
+    if checking.call_drawing(place, '--pictures', 'draw').returncode != 0:
+        raise Refusal('the figures couldn\'t be drawn')
+
+
+def say(lines: List[str]) -> int:
+    for line in lines:
+        print('study.py: ' + line)
+    return 1 if lines else 0
+
+
+def main(words: Optional[List[str]] = None) -> int:
+    said = parser().parse_args(words)
+    study, place = Study(Cell(said.machines, said.hours), said.traces, said.few), checking.Place(said.docs)
+    if said.pictures and said.step == 'draw':
+        checking.write_pictures(place)
+    elif said.pictures:
+        for line in checking.differing_pictures(place):
+            print(line)
+    elif said.plan:
+        for line in plan_lines(study.points()):
+            print(line)
+    elif said.check:
+        print('study.py: ' + checking.pictures_note(place), file=sys.stderr)
+        return say(list(checking.faults(place)))
+    elif said.step is None or set(said.figures) - set(FIGURES):
+        parser().error('there has to be one of %s; figures are %s' % (', '.join(STEPS), ', '.join(FIGURES)))
+    else:
+        if said.step != 'draw':
+            make(said, study)
+        if said.step != 'run':
+            draw(place)
     return 0
 
 
+def stopped(*_: object) -> None:
+    sys.exit(143)
+
+
 if __name__ == '__main__':
-    sys.exit(ends('study.py', main))
+    signal.signal(signal.SIGTERM, stopped)
+    try:
+        sys.exit(main())
+    except Refusal as refusal:
+        sys.exit('study.py: %s' % refusal)
+    except KeyboardInterrupt:
+        sys.exit('study.py: interrupted; what is done is kept')

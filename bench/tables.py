@@ -3,14 +3,22 @@
 
     tables.py trace FOLDER MACHINES ROWS LOAD [SEED]    a cluster's trace with so many rows of tasks
     tables.py picky FOLDER MACHINES ROWS LOAD [SEED]    the same, but that most tasks ask for one machine in a hundred
-    tables.py steady FOLDER MACHINES HOURS LOAD [SEED]  a cell that is as full at the beginning as at the end
+    tables.py steady FOLDER MACHINES HOURS LOAD [SEED] [--rate RATE] [--map-reduce PERCENT]
+                                                        a cell that is as full at the beginning as at the end
     tables.py SHAPE FOLDER SIZE                         tables of one extreme shape; without words they are listed
 
-SEED is 3 where it is left out. Tables that stand in FOLDER are overwritten. LOAD is in per cent of the CPU of all
-machines. In a steady cell it is what the tasks that run at a time ask for, on an average. In the other two it says
-how fast jobs come: the CPU time of all tasks is so much of what the machines have while jobs come. Many tasks live on
-when no more come, so what is in use at a time is less. The figures that the trace is made by are rough ones for a
-cluster of a few machine types in which most jobs have one task, a few have many, and services run long.
+SEED, which may also be said by --seed SEED, is 3 where it is left out. Tables that stand in FOLDER are overwritten, and
+beside them is a file `workload` with the words, without the folder and the seed: traces with the same one differ by
+chance alone. LOAD is in per cent of the CPU of all machines. In a steady cell it is what the tasks that run at a time
+ask for, on an average. In the other two it says how fast jobs come: the CPU time of all tasks is so much of what the
+machines have while jobs come. Many tasks live on when no more come, so what is in use at a time is less. The figures
+that the trace is made by are rough ones for a cluster of a few machine types in which most jobs have one task, a few
+have many, and services run long.
+
+In a steady cell what stands at the beginning is two jobs of the last scheduler, which stand in `mapreduce_jobs` without
+activities; from 600 seconds on services and batch jobs come. With --rate 2 twice as many batch jobs come and each lives
+for half as long, so that the load stays; RATE is a number such as 0.125. With --map-reduce 10 one in ten batch jobs is a
+MapReduce job.
 """
 import math
 import os
@@ -194,8 +202,8 @@ def put_trace(files, machines, rows, load, seed):
     return jobs
 
 
-# A cell in a steady state: as many jobs of a kind come as end, and where the trace begins as many are there
-# as at any time after. So what a scheduler does doesn't depend on when one looks.
+# A cell in a steady state: as many jobs of a kind come as end, and where the first of them comes as many tasks are
+# there as at any time after. So what a scheduler does doesn't depend on when one looks.
 
 class Kind:
     """Services or batch jobs: their part of the load, how many tasks they have at most, how long these live
@@ -206,45 +214,77 @@ class Kind:
 
     def tasks(self, dice):
         """What each task of a job asks for, of CPU and of memory."""
-        cpu = dice.between(0.006, 0.15)
+        cpu = dice.between(*CPU)
         mem = min(0.2, cpu * dice.between(0.3, 1.6))
         return [(cpu, mem)] * int(dice.between(1, self.most_tasks + 1))
 
+    def mean_of_job(self):
+        """The CPU that all tasks of a job ask for, on an average."""
+        most = self.most_tasks
+        tasks = sum(n * math.log((n + 1) / n) for n in range(1, most + 1)) / math.log(most + 1)
+        return tasks * (CPU[1] - CPU[0]) / math.log(CPU[1] / CPU[0])
 
+
+CPU = (0.006, 0.15)
 SERVICES = Kind(0.6, 30, 86_400, 2, 9)
 BATCH = Kind(0.4, 60, 600, 0, 1)
+STANDING = {SERVICES: 1, BATCH: 2}      # the numbers of the jobs that are there at the beginning
+MOST_ACTIVITIES_OF_TASK = 20
 
 
-def steady(folder, machines, hours, load, seed=3):
+def steady(folder, machines, hours, load, seed=3, rate=1.0, map_reduce=0):
     dice, files = Dice(seed), Files(folder)
-    whole, rows, number = 0.0, [], 1000
-    for machine in range(1, machines + 1):
-        cpu, mem = type_of(machine * 61 % 100)
-        whole += cpu
-        files.machine(machine, cpu, mem)
+    span, number = hours * 3600, 1000
+    whole, rows = steady_machines(files, machines), []
     for kind in (SERVICES, BATCH):
-        there, count = [], 0
-        while sum(cpu for cpu, _ in there) < kind.part * whole * load / 100:
-            there += kind.tasks(dice)
-            count += 1
-        # What is there at the beginning is one job, so that it is decided at once.
-        rows += job_rows(dice, kind, number, 0 if kind is SERVICES else BEGIN // 2, there)
-        for _ in range(round(count * hours * 3600 / kind.life)):
+        times = rate if kind is BATCH else 1.0
+        life, cpu = kind.life / times, kind.part * whole * load / 100
+        rows += standing_rows(dice, kind, cpu, life)
+        files.put('mapreduce_jobs', STANDING[kind], 0)
+        for _ in range(round(cpu / kind.mean_of_job() * span / life)):
             number += 1 + dice.below(1000)
-            rows += job_rows(dice, kind, number, BEGIN + int(dice.random() * hours * 3600 * SECOND), kind.tasks(dice))
+            tasks = kind.tasks(dice)
+            rows += job_rows(dice, kind, number, BEGIN + int(dice.random() * span * SECOND), tasks, life)
+            if kind is BATCH and map_reduce and dice.in_hundred(map_reduce):
+                each = dice.between(1, MOST_ACTIVITIES_OF_TASK)
+                files.put('mapreduce_jobs', number, int(len(tasks) * each))
         number += 1000
-    last = BEGIN + int(hours * 3600 * SECOND)
+    last = BEGIN + int(span * SECOND)
     out = files.files['task_events']
     for row in sorted(row for row in rows if row[0] <= last):
         out.write('%d,,%d,%d,,%d,u,%d,%d,%.4f,%.5f,,0\n' % row)
     files.close()
 
 
-def job_rows(dice, kind, number, submit, tasks):
+def steady_machines(files, machines):
+    """Puts the machines, and answers the CPU of all of them."""
+    whole = 0.0
+    for machine in range(1, machines + 1):
+        cpu, mem = type_of(machine * 61 % 100)
+        whole += cpu
+        files.machine(machine, cpu, mem)
+    return whole
+
+
+def standing_rows(dice, kind, cpu, life):
+    """The rows of what is there at the beginning: one job, submitted at time 0, whose tasks live on from when others
+    come. What is left of a life is as long as the whole, on an average."""
+    there = []
+    while cpu > 0:
+        tasks = kind.tasks(dice)
+        there += tasks
+        cpu -= len(tasks) * tasks[0][0]
+    for index, (each, mem) in enumerate(there):
+        end = BEGIN + 1 + int(dice.life(life) * SECOND)
+        for time, code in ((0, 0), (end, 4)):
+            yield time, STANDING[kind], index, code, kind.klass, kind.prio, each, mem
+
+
+def job_rows(dice, kind, number, submit, tasks, life):
     """A job's rows: each task is submitted and ends."""
     for index, (cpu, mem) in enumerate(tasks):
         yield submit, number, index, 0, kind.klass, kind.prio, cpu, mem
-        yield submit + 1 + int(dice.life(kind.life) * SECOND), number, index, 4, kind.klass, kind.prio, cpu, mem
+        yield submit + 1 + int(dice.life(life) * SECOND), number, index, 4, kind.klass, kind.prio, cpu, mem
 
 
 TRACES = {kind.__name__: kind for kind in (trace, picky, steady)}
@@ -756,13 +796,54 @@ def are_numbers(words):
     return all(word.isascii() and word.isdigit() for word in words) and all(map(int, words[:3]))
 
 
+def put_workload(folder, *words):
+    """The words of tables but for the folder and the seed, in a line beside them."""
+    with open(os.path.join(folder, 'workload'), 'w', encoding='ascii') as file:
+        file.write(' '.join(map(str, words)) + '\n')
+
+
+# Each option of a trace with its least and its greatest value, and whether only a steady one has it.
+OPTIONS = {'--seed': (int, 0, 2 ** 64 - 1, False), '--rate': (float, 0.001, 1000, True),
+           '--map-reduce': (int, 0, 100, True)}
+
+
+def options_of(kind, words):
+    """The values of options by name, or nothing where they are none or don't belong to the kind of trace."""
+    found = {}
+    for name, word in zip(words[::2], words[1::2]):
+        if name not in OPTIONS or name in found:
+            return None
+        form, least, most, of_steady = OPTIONS[name]
+        if not word.isascii() or not word.replace('.', '', form is float).isdigit():
+            return None
+        value = form(word)
+        if not least <= value <= most or of_steady and kind is not steady:
+            return None
+        found[name] = value
+    return {name[2:].replace('-', '_'): value for name, value in found.items()} if len(words) % 2 == 0 else None
+
+
+def make_trace(words):
+    """Makes a trace and its workload, and answers whether its words are as they should be."""
+    kind, count = TRACES[words[0]], next((at for at, word in enumerate(words) if word.startswith('--')), len(words))
+    plain, said = words[2:count], words[count:]
+    options = options_of(kind, said)
+    if len(plain) not in (3, 4) or not are_numbers(plain) or options is None or len(plain) == 4 and 'seed' in options:
+        return False
+    kind(words[1], *map(int, plain), **options)
+    others = [word for pair in zip(said[::2], said[1::2]) if pair[0] != '--seed' for word in pair]
+    put_workload(words[1], words[0], *plain[:3], *others)
+    return True
+
+
 def main(words):
-    if len(words) in (5, 6) and words[0] in TRACES and are_numbers(words[2:]):
-        TRACES[words[0]](words[1], *map(int, words[2:]))
-    elif len(words) == 3 and words[0] in SHAPES and are_numbers(words[2:]):
+    if len(words) >= 5 and words[0] in TRACES and make_trace(words):
+        return 0
+    if len(words) == 3 and words[0] in SHAPES and are_numbers(words[2:]):
         files = Files(words[1])
         SHAPES[words[0]](files, int(words[2]))
         files.close()
+        put_workload(words[1], words[0], words[2])
     elif words in (['--help'], ['-h']):
         print(__doc__, end='')
     elif not words:
