@@ -21,6 +21,8 @@ from .points import Run, Trace
 Numbers = Dict[str, Any]
 Waited = 'concurrent.futures.Future[Any]'
 LONGEST_RUN = 3600      # seconds; one that takes longer is ended, and has failed
+# Where the system says whether it gives memory in large pages.
+PAGES = Path('/sys/kernel/mm/transparent_hugepage/enabled')
 
 
 class Program(NamedTuple):
@@ -46,6 +48,17 @@ def program_of(path: Path) -> Program:
     if built not in (None, here):
         raise Refusal('%s was built of other sources than those that are here' % path)
     return Program(path.resolve(), digest_of_files([path], path.parent), here, built is not None)
+
+
+def ask_for_large_pages() -> None:
+    """Has the C library of the program ask for memory in large pages, where the system gives them on request and nobody
+    has said how memory is had: as omega.sh does."""
+    try:
+        said = PAGES.read_text()
+    except OSError:
+        return
+    if '[madvise]' in said or '[always]' in said:
+        os.environ.setdefault('GLIBC_TUNABLES', 'glibc.malloc.hugetlb=1')
 
 
 # What is kept.
@@ -217,6 +230,7 @@ MOST_POOLS = 5
 def make_runs(kept: Kept, runs: List[Run], at_once: int) -> None:
     """Makes the runs that aren't there yet. Where one fails twice it is told, once all others are done. A worker that is
     ended from outside, as where memory is short, ends all others; then new ones go on."""
+    ask_for_large_pages()
     for _ in range(MOST_POOLS):
         making = Making(kept, runs, at_once)
         if making.count < len(runs):

@@ -32,6 +32,9 @@ from .run_numbers import is_short, kept_numbers, pack_reader, read_numbers, try_
 from .sweep_tables import (Result, differences_table, groups_of, runs_table, seeds_table, text_table, write_csv)
 from .sweeps import Kept, Run, all_kept, command_line, digest, kept_in, runs_of, still_to_be_made
 
+# Where the system says whether it gives memory in large pages.
+PAGES = Path('/sys/kernel/mm/transparent_hugepage/enabled')
+
 HERE = Path(__file__).resolve().parent
 ROOT = HERE.parent.parent       # of a repository, if this is in one
 BUILT = ROOT / 'crates' / 'omega' / 'out' / 'omega'
@@ -272,6 +275,17 @@ def parser() -> argparse.ArgumentParser:
     return whole
 
 
+def ask_for_large_pages() -> None:
+    """Has the C library of programs that are started ask for memory in large pages, where the system gives them on
+    request and nobody has said how memory is had: as omega.sh does."""
+    try:
+        said = PAGES.read_text()
+    except OSError:
+        return
+    if '[madvise]' in said or '[always]' in said:
+        os.environ.setdefault('GLIBC_TUNABLES', 'glibc.malloc.hugetlb=1')
+
+
 def main(arguments: Optional[List[str]]) -> int:
     words = parser().parse_args(arguments)
     if words.at_once < 1:
@@ -280,6 +294,7 @@ def main(arguments: Optional[List[str]]) -> int:
         if words.words:
             raise Refusal('with --collect there are no words: the tables are of all runs in the folder')
         return show_tables(words.folder.absolute(), all_kept(words.folder), words.at_once)
+    ask_for_large_pages()
     return sweep(words)
 
 

@@ -53,10 +53,11 @@ class Helped(unittest.TestCase):
             self.assertIn(word, answers[0].stdout)
         self.assertTrue(all(len(line) <= 110 for line in answers[0].stdout.splitlines()))
 
-    # The version is that of the first head of the log of changes.
+    # The version is that of the first head of the log of changes, and of the tools as a package.
     def test_version(self) -> None:
         head = re.search('^## ([0-9.]+)', (ROOT / 'CHANGELOG.md').read_text(), re.MULTILINE)
         self.assertIsNotNone(head)
+        self.assertIn('version = "%s"\n' % head.group(1), (ROOT / 'tools' / 'pyproject.toml').read_text())
         line = 'omega, version %s\n' % head.group(1)
         for words in (('--version',), ('--prove', '--version')):
             answer = self.run_it(*words)
