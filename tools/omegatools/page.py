@@ -125,7 +125,7 @@ def beside(runs: Sequence[Run]) -> str:
     for start, label in (('conflict_fraction_', 'conflicts per commit that placed a task'),
                          ('busy_', 'part of the time that the scheduler decides'),
                          ('mean_wait_', 'mean wait of a job for its first decision, seconds'),
-                         ('p90_wait_', 'wait of nine jobs of ten for their first decision, seconds')):
+                         ('p90_wait_', 'wait that 90 % of jobs do not pass, seconds')):
         values = [{kind: _float(result.get(start + kind)) for kind in KINDS} for result in found]
         if any(value is not None for by_kind in values for value in by_kind.values()):
             high = 1.2 + 0.28 * len(runs)
