@@ -70,16 +70,21 @@ def decision(row: Row) -> float:
 
 # Parts of figures.
 
-def put_line(axes: Any, line: Line, place: int, is_thin: bool = False) -> None:
+def shade(axes: Any, known: Sequence[Dot], colour: str) -> None:
+    """The intervals of points that have values."""
+    edges = [((dot.value or 0.0) - (dot.half or 0.0), (dot.value or 0.0) + (dot.half or 0.0)) for dot in known]
+    axes.fill_between([dot.at for dot in known], [low for low, _ in edges], [high for _, high in edges], color=colour,
+                      alpha=0.15, linewidth=0)
+
+
+def put_line(axes: Any, line: Line, place: int) -> None:
     """A line through the points, and around it their intervals. Points of those that are overtaken are hollow; one that
     has no value stands at the upper edge. A cross marks much time for empty commits."""
     colour, style, marker = COLOURS[place % 6], STYLES[place % 6], MARKERS[place % 6]
     known = [dot for dot in line.dots if dot.value is not None]
-    axes.plot([dot.at for dot in known], [dot.value for dot in known], color=colour, linestyle=style,
-              linewidth=0.9 if is_thin else 1.4, marker='none', label=line.label)
-    halves = [dot.half or 0 for dot in known]
-    axes.fill_between([dot.at for dot in known], [dot.value - half for dot, half in zip(known, halves)],
-                      [dot.value + half for dot, half in zip(known, halves)], color=colour, alpha=0.15, linewidth=0)
+    axes.plot([dot.at for dot in known], [dot.value for dot in known], color=colour, linestyle=style, marker='none',
+              label=line.label)
+    shade(axes, known, colour)
     for dot in known:
         axes.plot([dot.at], [dot.value], marker, color=colour, markersize=4.5,
                   markerfacecolor='white' if dot.is_overtaken else colour)
@@ -265,8 +270,7 @@ def plain(figure: Any, lines: Sequence[Line], labels: Tuple[str, str], limits: T
         axes.plot([dot.at for dot in known], [dot.value for dot in known], color=colour, linestyle=STYLES[place],
                   label=line.label)
         if any(dot.half for dot in known):
-            axes.fill_between([dot.at for dot in known], [dot.value - (dot.half or 0) for dot in known],
-                              [dot.value + (dot.half or 0) for dot in known], color=colour, alpha=0.15, linewidth=0)
+            shade(axes, known, colour)
     axes.set(xlabel=labels[0], ylabel=labels[1], ylim=limits)
     axes.set_xlim(left=min([1.0, *(dot.at for line in lines for dot in line.dots)]))
     legend(figure, axes, 4)

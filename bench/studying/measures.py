@@ -4,7 +4,7 @@ All is counted between the first row of a job that isn't there at the beginning 
 that goes on across one of these times is cut there. Jobs that are there at the beginning are counted nowhere.
 """
 import hashlib
-from typing import Any, BinaryIO, Dict, Iterator, List, NamedTuple, Optional, Sequence, Tuple
+from typing import IO, Any, Dict, Iterator, List, NamedTuple, Optional, Sequence, Tuple
 
 from .common import DIGITS, Refusal
 from .traces import KINDS, Facts
@@ -23,7 +23,7 @@ class Commit:
         self.scheduler, self.job, self.claims, self.placed, self.extra = scheduler, job, 0, 0, 0
 
 
-def lines_in(file: BinaryIO, digest: Any) -> Iterator[List[bytes]]:
+def lines_in(file: IO[bytes], digest: Any) -> Iterator[List[bytes]]:
     """The lines of a file, some thousands at a time, without their ends; the digest takes all bytes."""
     rest = b''
     for block in iter(lambda: file.read(1 << 18), b''):
@@ -39,7 +39,7 @@ NO_COMMIT = Commit(0, 0)    # to which a line of a claim belongs that stands bef
 class Report:
     """A report of `simulate --times yes`, as far as it is measured."""
 
-    def __init__(self, file: BinaryIO) -> None:
+    def __init__(self, file: IO[bytes]) -> None:
         self.commits: List[Commit] = []
         self.rounds: List[Tuple[int, int, float]] = []      # number, commits up to its end, part of the CPU in use
         self.times: List[Tuple[int, int, int]] = []         # scheduler, sync and commit
@@ -232,7 +232,7 @@ def speedups(report: Report, facts: Facts) -> List[float]:
     return sorted((own[job] + extra[job]) / own[job] for job in own if own[job])
 
 
-def measured(file: BinaryIO, facts: Facts, window: int) -> Dict[str, Any]:
+def measured(file: IO[bytes], facts: Facts, window: int) -> Dict[str, Any]:
     """The numbers of a run, from its report."""
     report = Report(file)
     fault = report.fault()

@@ -19,7 +19,6 @@ from .common import DIGITS, ROOT, Refusal, digest_of_files, measuring
 from .points import Run, Trace
 
 Numbers = Dict[str, Any]
-Waited = 'concurrent.futures.Future[Any]'
 LONGEST_RUN = 3600      # seconds; one that takes longer is ended, and has failed
 # Where the system says whether it gives memory in large pages.
 PAGES = Path('/sys/kernel/mm/transparent_hugepage/enabled')
@@ -152,7 +151,7 @@ class Making:
         self.begun = time.monotonic()
         self.failed: List[Tuple[Run, str]] = []
         self.again: Set[Run] = set()
-        self.waited: Dict[Waited, Tuple[str, Any]] = {}     # whether it is a trace or a run, and which
+        self.waited: Dict['concurrent.futures.Future[Any]', Tuple[str, Any]] = {}     # whether it is a trace or a run, and which
         self.open: Dict[Trace, int] = {}                    # traces that are there or being made: runs that are left
 
     def folder(self, trace: Trace) -> Path:
@@ -186,7 +185,7 @@ class Making:
             self.open[trace] = len(self.left[trace])
             self.waited[pool.submit(make_one, trace, str(self.folder(trace)))] = 'trace', (trace, self.left.pop(trace))
 
-    def take(self, pool: concurrent.futures.Executor, future: Waited) -> None:
+    def take(self, pool: concurrent.futures.Executor, future: 'concurrent.futures.Future[Any]') -> None:
         what, which = self.waited.pop(future)
         if what == 'trace':
             trace, runs = which
@@ -201,7 +200,7 @@ class Making:
         facts = self.kept.facts[run.trace.name()]
         self.waited[pool.submit(run_one, str(self.kept.program.path), run, str(self.folder(run.trace)), facts)] = 'run', run
 
-    def take_run(self, pool: concurrent.futures.Executor, run: Run, future: Waited) -> None:
+    def take_run(self, pool: concurrent.futures.Executor, run: Run, future: 'concurrent.futures.Future[Any]') -> None:
         try:
             self.kept.put_run(run, future.result())
         except Refusal as refusal:

@@ -150,7 +150,7 @@ def map_reduce(rows: Rows) -> List[str]:
 
 def loads(rows: Rows) -> List[str]:
     """For each kind of trace what it was made for, what its tasks ask for, and what is in use."""
-    found = {}
+    found: Dict[str, Row] = {}
     for row in (*rows['busyness'], *rows['load'], *rows['scaling'], *rows['map-reduce']):
         found.setdefault(row['workload'], row)
     lines = [['`%s`' % workload, row['seeds'], row['asked'], row['wanted'], value_of(row, 'load', '%.3f'),
