@@ -215,7 +215,7 @@ COMMANDS = {
                      'of job (seconds). Of `simulate --times yes` what a commit did has the time of the commit; '
                      'elsewhere it has that of its round\'s last row, and decisions take no time', of_waits),
     'compare': Command(compare, 'a row for each report, with the words of its run where they stand in the file '
-                       '`words` beside it', of_reports),
+                       '`words` beside it; means of what is used weigh each round by how long it lasted', of_reports),
     'plot': Command(plot, 'use and conflicts over time, and waits by kind of job, as figures in a folder; of '
                     '`simulate --times yes` also how long jobs wait for a decision, and how long decisions take',
                     of_plot),

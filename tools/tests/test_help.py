@@ -74,7 +74,7 @@ class Helped(unittest.TestCase):
         self.assertTrue(self.run_it('--help', 'audit').stdout.startswith('audit\n    reads no tables'))
         answer = self.run_it('--help', 'speed')
         self.assertEqual((answer.returncode, answer.stdout), (2, ''))
-        self.assertIn("there is no word 'speed'", answer.stderr)
+        self.assertIn("there is no command or option 'speed'", answer.stderr)
 
     # Each word of the page has a help of its own, and each anchor that it names is a head of the page.
     def test_every_word_has_its_help(self) -> None:
@@ -114,7 +114,7 @@ class Helped(unittest.TestCase):
             answer = self.run_it(*words)
             self.assertEqual((answer.returncode, answer.stdout), (2, 'in /: %s\n' % ' '.join(words)))
             self.assertEqual(answer.stderr, 'omega: the words are refused\n'
-                             'omega.sh: several of them are wrong; omega.sh --help prints the words and examples\n')
+                             'omega.sh: more than one thing is wrong; omega.sh --help prints the words and examples\n')
 
     # What it says of words in which one thing is wrong, beside the program's own line.
     def reason(self, *words: str) -> str:
@@ -144,7 +144,7 @@ class Helped(unittest.TestCase):
             '--speed 5 run': "'--speed' is no option; there is --tables, --seed",
             'run audit': "'audit' is a word too many: there is one command, here 'run'",
             'run -- --cap 5': "'--cap' stands behind --, where nothing is an option any more",
-            'run --help': '--help stands first or not at all, and omega.sh answers it',
+            'run --help': '--help stands alone or not at all, and omega.sh answers it',
         }.items():
             self.assertEqual(self.reason(*shlex.split(line))[:len(reason)], reason, line)
 
