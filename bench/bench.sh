@@ -253,7 +253,7 @@ chosen() {
     shape overtaken 50000 simulate --clock free --window 1000000 --batch 8
     shape due_at_once 200000 simulate --clock free --ends own --window 1000000
     shape held_back 200000 simulate --clock free --ends own --window 1000000
-    shape ends_beside_extras 100000 simulate --clock free --ends own --window 1000000 --extra cap --cap 0
+    shape ends_beside_extras 5000 simulate --clock free --ends own --window 1000000 --extra cap --cap 0
     shape comes_back 10000 replay
     shape given_up 2000 replay --give-up 1
     shape large_job 500000 replay
