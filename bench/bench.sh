@@ -303,7 +303,7 @@ sized() { # NAME SIZE WORDS..
 
 # What it costs to keep a run in a file, to go on from a whole one, and to audit it. In memory a file needs no sync.
 kept() {
-    local folder base=$data/kept.db
+    local folder n base=$data/kept.db
     folder=$(trace $((12500 / scale)) $((1000000 / scale)) 75) || exit 1
     echo '| What is done | Elapsed | Processor | Memory |'
     echo '|---|---|---|---|'
@@ -315,8 +315,26 @@ kept() {
     kept_anew "$folder" "$base" ''
     part '`resume` of the whole file' "$folder" resume --kept "$base"
     part '`audit` of it' "$folder" audit --kept "$base"
+    for n in $((1000 / scale)) $((2000 / scale)); do
+        viewed "$data/viewed.db" "$n"
+        part "\`audit\` of a database without lines that has $n views" "$folder" audit --kept "$data/viewed.db"
+    done
     echo
     echo "The file has $(($(stat -c %s "$base") / 1048576)) MiB: $(tail -c 2000 "$data/kept-report" | sed -n 's/^entries \([0-9]*\) rounds \([0-9]*\)$/\1 entries of \2 rounds/p')."
+}
+
+# Makes a database that has so many views and nothing else.
+viewed() { # FILE COUNT
+    rm -f "$1"
+    python3 - "$@" <<'END'
+import sqlite3
+import sys
+
+base = sqlite3.connect(sys.argv[1])
+for number in range(int(sys.argv[2])):
+    base.execute('CREATE VIEW view_%d AS SELECT 1 AS place, 2 AS line' % number)
+base.commit()
+END
 }
 
 # A line: a run that is kept in a new file, each time it is made.

@@ -124,6 +124,18 @@ class ByTheScript(Seen):
         self.seen('k.db', 'changes stand in %s-journal that SQLite has still to take back' % path,
                   'what it has as kept is no table: view')
 
+    # A refusal at the opening leaves a log without lines; beside a log that has some the file alone says nothing.
+    def test_a_log_beside_it(self) -> None:
+        path = self.database('CREATE VIEW kept AS SELECT 1 AS place')
+        (self.folder / 'k.db-wal').write_bytes(b'x' * 41)
+        self.seen('k.db', 'what it has as kept is no table: view')
+        damaged = self.folder / 'd.db'
+        damaged.write_bytes(path.read_bytes()[:100] + bytes(8) + path.read_bytes()[108:])
+        (self.folder / 'd.db-wal').write_bytes(b'x' * 41)
+        self.assertIn('it is damaged', self.run_it('audit', '--kept', 'd.db').stderr)
+        (self.folder / 'k.db-wal').write_bytes(b'x' * 512)
+        self.seen('k.db', NOTHING)
+
     def test_a_file_in_use(self) -> None:
         base = sqlite3.connect(self.database(GOOD), isolation_level=None)
         self.addCleanup(base.close)

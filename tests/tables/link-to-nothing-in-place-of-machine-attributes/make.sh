@@ -1,0 +1,1 @@
+ln -s not-mounted/machine_attributes.csv machine_attributes.csv

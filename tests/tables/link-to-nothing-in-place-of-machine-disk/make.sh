@@ -1,0 +1,1 @@
+ln -s not-mounted/machine_disk.csv machine_disk.csv

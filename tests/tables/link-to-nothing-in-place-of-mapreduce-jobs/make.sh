@@ -1,0 +1,1 @@
+ln -s not-mounted/mapreduce_jobs.csv mapreduce_jobs.csv
