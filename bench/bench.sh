@@ -15,7 +15,7 @@
 # that is less than a tenth of a second. On a machine that has other work Elapsed says nothing.
 #
 # Tables are made once, in the folder BENCH_DATA (default: omega-bench in the folder for temporary files;
-# 1 GB at most). It needs Python 3, rustc for the measure, and GNU time.
+# 1.5 GB at most). It needs Python 3, rustc for the measure, and GNU time.
 set -u
 here=$(cd "$(dirname "$(readlink -f "${BASH_SOURCE[0]}")")" && pwd)
 data=${BENCH_DATA:-${TMPDIR:-/tmp}/omega-bench}
