@@ -9,7 +9,7 @@ from .spread import MUCH_EMPTY, Row
 AIMED_WAIT = 30     # seconds, which the published study aims at
 COLOURS = ('#cc3377', '#0072b2', '#d08a00', '#009e73', '#56b4e9', '#333333')
 STYLES = ('-', '--', '-.', ':', (0, (5, 1, 1, 1, 1, 1)), (0, (1, 1)))
-MARKERS = 'os^Dv*'
+MARKERS = 'os^Dvp'
 KINDS = ('services', 'batch')
 
 
@@ -97,9 +97,12 @@ def put_line(axes: Any, line: Line, place: int) -> None:
 
 
 def logarithmic(axes: Any, values: Sequence[float]) -> None:
+    ticks = sorted(set(values))
     axes.set_xscale('log')
-    axes.set_xticks(sorted(set(values)), ['%g' % value for value in sorted(set(values))])
+    axes.set_xticks(ticks, ['%g' % value for value in ticks])
     axes.minorticks_off()
+    if any(after < 2.5 * value for value, after in zip(ticks, ticks[1:])):
+        axes.tick_params(axis='x', labelrotation=60)
 
 
 def legend(figure: Any, axes: Any, columns: int) -> None:

@@ -7,9 +7,9 @@ made of its words, with its words, report, seconds and status, a file each. What
 again, unless the program or the tables have changed or it was ended from outside; tables that were moved are
 known by their bytes. At the end FOLDER/runs.csv has a row for each run, FOLDER/seeds.csv a row for all that differ
 in their seeds alone, with mean, 95 per cent interval and range (the printed table has mean and range), and
-FOLDER/differences.csv what each choice changes against its first value, on the same tables and seeds. Tables that differ in the seed of
-their generator alone, by their file `workload`, are counted together. The status is 0 where every run ended with
-status 0.
+FOLDER/differences.csv what each choice changes against its first value, on the same tables and seeds. Tables that
+differ in the seed of their generator alone, by their file `workload`, are counted together. The status is 0 where
+every run ended with status 0.
 """
 import argparse
 import contextlib
