@@ -72,6 +72,7 @@ class Helped(unittest.TestCase):
         self.assertIn('once it has run for as long as it did there (own)', answer.stdout)
         self.assertTrue(answer.stdout.endswith('docs/FORMATS.md#own-ends.\n'))
         self.assertTrue(self.run_it('--help', 'audit').stdout.startswith('audit\n    reads no tables'))
+        self.assertEqual(self.run_it('--help', 'coarse').stdout, self.run_it('--help', 'rule').stdout)
         answer = self.run_it('--help', 'speed')
         self.assertEqual((answer.returncode, answer.stdout), (2, ''))
         self.assertIn("there is no command or option 'speed'", answer.stderr)
@@ -110,7 +111,7 @@ class Helped(unittest.TestCase):
         self.assertEqual(len(said.split('Examples:\n')[1].split('\n\n')[0].splitlines()), 3)
 
     def test_refused_words_name_the_help(self) -> None:
-        for words in (('-V',), ('--tables',), ('play', '--tries', '0'), ('run', '--batch', '0', '--cap', '101')):
+        for words in (('-V', '-W'), ('--tables', '--cap'), ('play', '--tries', '0'), ('run', '--batch', '0', '--cap', '101')):
             answer = self.run_it(*words)
             self.assertEqual((answer.returncode, answer.stdout), (2, 'in /: %s\n' % ' '.join(words)))
             self.assertEqual(answer.stderr, 'omega: the words are refused\n'
@@ -141,6 +142,8 @@ class Helped(unittest.TestCase):
             'run --tables -x': "--tables '-x': what begins with a hyphen has to be joined, --tables='-x'",
             'run --times yes --times yes': '--times stands there twice, and each option may stand once',
             'run --trie 5': "'--trie' is no option; there is --tries",
+            '--versoin': "'--versoin' is no option; there is --tables, --seed",
+            '--batch': '--batch has no value: ' + allowed + 'a whole number, 1 to 30',
             '--speed 5 run': "'--speed' is no option; there is --tables, --seed",
             'run audit': "'audit' is a word too many: there is one command, here 'run'",
             'run -- --cap 5': "'--cap' stands behind --, where nothing is an option any more",
