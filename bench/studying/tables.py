@@ -109,8 +109,10 @@ def maps(rows: Rows) -> List[str]:
 
 
 def scaling(rows: Rows) -> List[str]:
-    return table(['batch schedulers', 'rate', 'batch busy', 'conflicts', 'mean wait, s', *JOBS, EMPTY], [
-        [row['batch'], row['rate'], told(row, 'batch', 'busy'), told(row, 'batch', 'conflict_fraction'),
+    return table(['batch schedulers', 'rate', 'rate decided on', 'CPU in use', 'batch busy', 'conflicts', 'mean wait, s', *JOBS,
+                  EMPTY], [
+        [row['batch'], row['rate'], '%.2f' % (float(row['rate']) * int(row['batch_decided']) / int(row['batch_came'])),
+         value_of(row, 'load', '%.3f'), told(row, 'batch', 'busy'), told(row, 'batch', 'conflict_fraction'),
          told(row, 'batch', 'wait'), *jobs(row, 'batch'), share_of(row, 'batch')] for row in rows['scaling']])
 
 
@@ -141,18 +143,21 @@ def map_reduce(rows: Rows) -> List[str]:
     for policy, row in zip(policies(rows['speedup']), rows['map-reduce']):
         own = {each['quantile']: each for each in rows['speedup'] if each['policy'] == policy}
         lines.append([policy, value_of(row, 'load', '%.3f'), *(value_of(own[at], 'ratio', '%.2f') for at in QUANTILES),
-                      told(row, 'map_reduce', 'wait'), *jobs(row, 'map_reduce'), share_of(row, 'map_reduce'),
-                      told(row, 'batch', 'wait')])
+                      told(row, 'map_reduce', 'wait'), *jobs(row, 'map_reduce'), told(row, 'batch', 'wait'),
+                      *(share_of(row, kind) for kind in NAMES)])
     return table(['policy', 'CPU in use', *('tasks for each own one, %d per cent of jobs' % round(100 * float(at))
                                            for at in QUANTILES),
-                  'mean wait of MapReduce, s', *JOBS, EMPTY, 'mean wait of batch, s'], lines)
+                  'mean wait of MapReduce, s', *JOBS, 'mean wait of batch, s',
+                  *('%s, %s' % (EMPTY, name) for name in NAMES.values())], lines)
 
 
 def loads(rows: Rows) -> List[str]:
     """For each kind of trace what it was made for, what its tasks ask for, and what is in use."""
     found: Dict[str, Row] = {}
-    for row in (*rows['busyness'], *rows['load'], *rows['scaling'], *rows['map-reduce']):
+    for row in (*rows['busyness'], *rows['load'], *rows['map-reduce']):
         found.setdefault(row['workload'], row)
+    # Of scaling the run with the most schedulers, which come last.
+    found.update({row['workload']: row for row in rows['scaling'] if row['workload'] not in found})
     lines = [['`%s`' % workload, row['seeds'], row['asked'], row['wanted'], value_of(row, 'load', '%.3f'),
               *(row[kind + '_came'] for kind in NAMES)] for workload, row in found.items()]
     return table(['trace', 'seeds', 'asked for', 'wanted by its tasks', 'in use', 'services', 'batch jobs', 'MapReduce jobs'], lines)
